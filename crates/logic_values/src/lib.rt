@@ -1,0 +1,10 @@
+//! Four-valued logic, vectors of it, integers, and the values of a model.
+#![tactic(auto)]
+
+mod byte_text;
+mod kinds;
+mod planes;
+
+pub use byte_text::Text;
+pub use kinds::{Digit, Sign, Value};
+pub use planes::Lv;
