@@ -1,0 +1,5 @@
+pub mod Vocabulary
+pub mod Leaves
+pub mod Tree
+pub mod Views
+pub mod Limits
