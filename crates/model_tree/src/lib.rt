@@ -1,6 +1,7 @@
 //! The model language as data: words, names, the tree of a text.
 #![tactic(auto)]
 
+mod designs;
 mod expressions;
 mod faults;
 mod items;
@@ -12,6 +13,7 @@ mod types;
 mod vocabulary;
 mod whole;
 
+pub use designs::{Binding, CodeId, Design, Object, ObjectForm, Objects};
 pub use expressions::{BinaryOp, Conversion, Expression, NamedConstant, UnaryOp};
 pub use faults::{CheckStop, Fault, Kind, NameId, ParseStop, RunFault};
 pub use items::{

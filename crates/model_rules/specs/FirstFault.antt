@@ -1,0 +1,95 @@
+-- The first broken rule of a tree. The passes go in their order, each over the constructs in text order,
+-- and the first pass with a fault decides.
+use Rattle.std.specs.Prelude.{ℕ, Bool, true, false, List, [], ◌∷◌, ◌++◌, Option, Some, None, bytes_eq, if◌then◌else◌, not}
+use Rattle.std.specs.List.{list_any}
+use Rattle.model_tree.specs.Tree as tree
+use Rattle.model_tree.specs.declared.faults.Fault.{Fault}
+use Rattle.model_tree.specs.declared.faults.Kind.{Kind}
+use Rattle.model_tree.specs.declared.faults.Kind.TheVariants as kind
+
+-- the first of two findings
+abbrev pub or_else : Option Fault → Option Fault → Option Fault
+or_else None other = other
+or_else (Some fault) other = Some fault
+
+-- the line of an item's first token
+abbrev pub item_line : tree.Item → ℕ
+item_line (tree.signal line s) = line
+item_line (tree.resolved line name) = line
+item_line (tree.clock line c) = line
+item_line (tree.fifo line t name size) = line
+item_line (tree.plain line kind name) = line
+item_line (tree.semaphore line name c) = line
+item_line (tree.memory line name size) = line
+item_line (tree.variable line t name c) = line
+item_line (tree.port line i name size) = line
+item_line (tree.export line i name) = line
+item_line (tree.initiator line name role) = line
+item_line (tree.target line name role) = line
+item_line (tree.instance line kind name) = line
+item_line (tree.bind line left right) = line
+item_line (tree.function line f) = line
+item_line (tree.process line p) = line
+
+-- the name that an item declares; a binding declares none
+abbrev pub item_name : tree.Item → Option (List ℕ)
+item_name (tree.signal line s) = Some s.name
+item_name (tree.resolved line name) = Some name
+item_name (tree.clock line c) = Some c.name
+item_name (tree.fifo line t name size) = Some name
+item_name (tree.plain line kind name) = Some name
+item_name (tree.semaphore line name c) = Some name
+item_name (tree.memory line name size) = Some name
+item_name (tree.variable line t name c) = Some name
+item_name (tree.port line i name size) = Some name
+item_name (tree.export line i name) = Some name
+item_name (tree.initiator line name role) = Some name
+item_name (tree.target line name role) = Some name
+item_name (tree.instance line kind name) = Some name
+item_name (tree.bind line left right) = None
+item_name (tree.function line f) = Some f.name
+item_name (tree.process line p) = Some p.name
+
+-- whether an item declares this name
+abbrev pub is_name_of : List ℕ → Option (List ℕ) → Bool
+is_name_of name None = false
+is_name_of name (Some declared) = bytes_eq declared name
+
+abbrev pub declares : List ℕ → tree.Item → Bool
+declares name item = is_name_of name (item_name item)
+
+-- whether one of these items, or modules, declares this name
+abbrev pub is_item_name : List tree.Item → List ℕ → Bool
+is_item_name items name = list_any (declares name) items
+
+abbrev pub is_module_name : List tree.Module → List ℕ → Bool
+is_module_name modules name = list_any (λ m. bytes_eq m.name name) modules
+
+-- a fault of this kind, line and name where the rule is broken
+abbrev pub broken_if : Bool → Kind → ℕ → List ℕ → Option Fault
+broken_if false k line name = None
+broken_if true k line name = Some (record { kind = k; line = line; name = name })
+
+-- names in one module differ: an item is at fault whose name an item before it has
+abbrev pub double_name : List tree.Item → ℕ → Option (List ℕ) → Option Fault
+double_name before line None = None
+double_name before line (Some name) = broken_if (is_item_name before name) kind.DoubleName line name
+
+abbrev pub double_item : List tree.Item → List tree.Item → Option Fault
+double_item before [] = None
+double_item before (i ∷ is) = or_else (double_name before (item_line i) (item_name i)) (double_item (before ++ i ∷ []) is)
+
+-- names of modules differ: a module is at fault whose name a module before it has
+abbrev pub double_module : List tree.Module → List tree.Module → Option Fault
+double_module before [] = None
+double_module before (m ∷ ms) =
+    or_else (broken_if (is_module_name before m.name) kind.DoubleName m.line m.name)
+    (or_else (double_item [] m.items) (double_module (before ++ m ∷ []) ms))
+
+-- every name that is used is declared
+abbrev pub unknown_top : tree.Model → Option Fault
+unknown_top m = broken_if (not (is_module_name m.modules m.top.module)) kind.UnknownName m.top.line m.top.module
+
+-- the first broken rule of a model
+abbrev pub first_fault : tree.Model → Option Fault
+first_fault m = or_else (double_module [] m.modules) (unknown_top m)

@@ -1,0 +1,2 @@
+//! Definitions of what a tree must be, and of the objects that it stands for.
+#![tactic(auto)]

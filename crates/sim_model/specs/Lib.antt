@@ -1,0 +1,4 @@
+pub mod SameValue
+pub mod Signals
+pub mod Configuration
+pub mod Phases

@@ -1,0 +1,60 @@
+-- The phases of the scheduler (IEEE 1666-2011, 4.2.1): initialization, update, delta and timed notification.
+use Rattle.std.specs.Prelude.{ℕ, Bool, true, false, List, [], ◌∷◌, map, fold, slice_get, slice_set, Option, Some, None, unwrap_or}
+use Rattle.sim_time.specs.declared.moments.Time.{Time}
+use Rattle.sim_model.specs.Configuration.{Config, Cycle, Channels}
+use Rattle.sim_model.specs.Signals.{settled, announced}
+use Rattle.sim_model.specs.declared.plain.Phase.{Phase}
+use Rattle.sim_model.specs.declared.plain.Phase.TheVariants as phase
+use Rattle.sim_model.specs.declared.plain.Signal.{Signal}
+use Rattle.sim_model.specs.declared.plain.Pending.{Pending}
+use Rattle.sim_model.specs.declared.plain.Pending.TheVariants as pending
+
+-- signals and events after the update of signal i
+pub record Updated : Type 0 where
+  pub signals : List Signal
+  pub events : List Pending
+
+abbrev pub updated_at : Updated → ℕ → Option Signal → Updated
+updated_at u i None = u
+updated_at u i (Some s) = record { signals = slice_set u.signals i (settled s); events = announced u.events i s }
+
+abbrev pub update_one : Updated → ℕ → Updated
+update_one u i = updated_at u i (slice_get u.signals i)
+
+-- the update phase: update is called exactly once for each channel that asked for it
+abbrev pub update_all : List Signal → List Pending → List ℕ → Updated
+update_all signals events requests = fold update_one (record { signals = signals; events = events }) requests
+
+abbrev pub with_update : Config → Updated → Config
+with_update c u = record c { events = u.events; channels = record { signals = u.signals; requests = [] } }
+
+abbrev pub update_phase : Config → Config
+update_phase c = with_update c (update_all c.channels.signals c.events c.channels.requests)
+
+-- the delta notification phase takes the pending delta notifications away
+abbrev pub without_delta : Pending → Pending
+without_delta pending.Nothing = pending.Nothing
+without_delta pending.Delta = pending.Nothing
+without_delta (pending.At t) = pending.At t
+
+abbrev pub delta_phase : Config → Config
+delta_phase c = record c { events = map without_delta c.events }
+
+abbrev pub in_phase : Config → Phase → Config
+in_phase c p = record c { cycle = record c.cycle { phase = p } }
+
+-- initialization: the update phase, then the delta notification phase; evaluation follows
+abbrev pub initialization : Config → Config
+initialization c = in_phase (delta_phase (update_phase c)) phase.Evaluate
+
+-- with nothing to evaluate, the update phase; the delta notification phase follows
+abbrev pub update_step : Config → Config
+update_step c = in_phase (update_phase c) phase.Notify
+
+-- the delta notification phase; with nothing woken, the timed phase follows
+abbrev pub delta_step : Config → Config
+delta_step c = in_phase (delta_phase c) phase.Timed
+
+-- the timed phase with nothing pending: now becomes the run's end, if it has one, and the run is over
+abbrev pub timed_step : Config → Config
+timed_step c = record c { cycle = record c.cycle { phase = phase.Idle; now = unwrap_or c.cycle.end c.cycle.now } }
