@@ -2,9 +2,11 @@
 #![tactic(auto)]
 
 mod byte_text;
+mod integers;
 mod kinds;
 mod planes;
 
 pub use byte_text::Text;
+pub use integers::{add, cut, div, lt, mul, rem, shl, shr, sub};
 pub use kinds::{Digit, Sign, Value};
 pub use planes::Lv;
