@@ -1,1 +1,2 @@
 mod IntegerLemmas
+mod PlaneLemmas
