@@ -67,5 +67,9 @@ pub fn resolve(drivers: &[Digit]) -> Digit
     requires { 0 < length drivers.now }
     ensures { result ≡ resolved drivers.now }
 {
-    drivers.iter().fold(Digit::Z, |wire, driver| wire.resolved_with(*driver))
+    let mut wire = Digit::Z;
+    for driver in drivers {
+        wire = wire.resolved_with(*driver);
+    }
+    wire
 }
