@@ -2,9 +2,15 @@
 #![tactic(auto)]
 
 mod byte_text;
+mod integers;
 mod kinds;
 mod planes;
+mod tables;
+mod vectors;
 
 pub use byte_text::Text;
+pub use integers::{add, cut, div, lt, mul, rem, shl, shr, sub};
 pub use kinds::{Digit, Sign, Value};
 pub use planes::Lv;
+pub use tables::resolve;
+pub use vectors::{and, concat, digit, not, or, slice, xor};

@@ -1,0 +1,3 @@
+mod IntegerLemmas
+mod PlaneLemmas
+mod ResolvedLemmas
