@@ -44,6 +44,6 @@ objects_of m =
     instance_objects m.top.name m.top.line 0 (position_or_len (is_module m.top.module) m.modules)
     (items_of (find (is_module m.top.module) m.modules))
 
--- the design of a model without a first fault
+-- the design of a model without a first fault; ports, sockets and code have no objects yet
 abbrev pub design_of : tree.Model → Design
-design_of m = record { objects = record { list = objects_of m; binds = [] } }
+design_of m = record { objects = record { list = objects_of m; binds = [] }; channels = []; hops = []; names = [] }

@@ -141,9 +141,24 @@ pub struct Objects {
     pub binds: Items<Binding>,
 }
 
+/// A hop: an initiator socket with the target socket to which it leads, by their object numbers.
+#[derive(Clone, Copy)]
+pub struct Hop {
+    /// The initiator socket.
+    pub initiator: u32,
+    /// The target socket.
+    pub target: u32,
+}
+
 /// A design that can be run.
 #[derive(Drop)]
 pub struct Design {
     /// Its objects.
     pub objects: Objects,
+    /// The channels of each port, by their object numbers: a list for each object, empty but for ports.
+    pub channels: Items<Items<u32>>,
+    /// Its hops, numbered from 0.
+    pub hops: Items<Hop>,
+    /// The names of the tree, numbered from 0.
+    pub names: Items<Text>,
 }

@@ -13,7 +13,7 @@ mod types;
 mod vocabulary;
 mod whole;
 
-pub use designs::{Binding, CodeId, Design, Object, ObjectForm, Objects};
+pub use designs::{Binding, CodeId, Design, Hop, Object, ObjectForm, Objects};
 pub use expressions::{BinaryOp, Conversion, Expression, NamedConstant, UnaryOp};
 pub use faults::{CheckStop, Fault, Kind, NameId, ParseStop, RunFault};
 pub use items::{

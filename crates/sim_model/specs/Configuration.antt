@@ -1,5 +1,5 @@
 -- The configuration of a run: all that its next step and its texts depend on.
-use Rattle.std.specs.Prelude.{ℕ, ◌*◌, Bool, true, false, List, [], ◌∷◌, map, filter, replicate, length, Option, Some, None}
+use Rattle.std.specs.Prelude.{ℕ, ◌*◌, Bool, true, false, List, [], ◌∷◌, map, filter, replicate, length, Option, Some, None, is_some, unwrap_or}
 use Rattle.logic_values.specs.declared.kinds.Value.{Value}
 use Rattle.logic_values.specs.declared.kinds.Value.TheVariants as value
 use Rattle.logic_values.specs.declared.kinds.Digit.TheVariants as digit
@@ -22,10 +22,9 @@ pub record Cycle : Type 0 where
   pub end : Option ℕ
   pub stopped : Bool
 
--- the channels: the signals in object order, and which of them asked for an update
+-- the channels: the signals in object order
 pub record Channels : Type 0 where
   pub signals : List Signal
-  pub requests : List ℕ
 
 -- what is seen of the run from outside: the report lines so far
 pub record Trace : Type 0 where
@@ -46,25 +45,16 @@ initial_of form.Resolved = Some (value.Logic digit.X)
 initial_of (form.Clock period high start code) = Some (value.Bool false)
 initial_of other = None
 
--- a visible object: its path, and its first value
-pub record Visible : Type 0 where
-  pub path : List ℕ
-  pub initial : Value
-
-abbrev pub with_visible : Object → Option Value → List Visible → List Visible
-with_visible o None rest = rest
-with_visible o (Some v) rest = (record { path = o.path; initial = v }) ∷ rest
+-- whether an object has values to be seen
+abbrev pub is_visible : Object → Bool
+is_visible o = is_some (initial_of o.form)
 
 -- the objects that have values to be seen, in object order; signals are numbered by their places here
-abbrev pub visible_of : List Object → List Visible
-visible_of [] = []
-visible_of (o ∷ os) = with_visible o (initial_of o.form) (visible_of os)
+abbrev pub visible : Design → List Object
+visible design = filter is_visible design.objects.list
 
-abbrev pub visible : Design → List Visible
-visible design = visible_of design.objects.list
-
-abbrev pub first_signal : Visible → Signal
-first_signal v = record { value = v.initial; next = v.initial }
+abbrev pub first_signal : Object → Signal
+first_signal o = let v = unwrap_or (initial_of o.form) (value.Bool false) in record { value = v; next = v; asked = false }
 
 -- the configuration before the first command: Idle at 0, with first values and nothing pending
 abbrev pub start : Design → List Command → Config
@@ -72,7 +62,7 @@ start design script = record {
   design = design;
   cycle = record { phase = phase.Idle; begun = false; now = 0; end = None; stopped = false };
   events = replicate (3 * length (visible design)) pending.Nothing;
-  channels = record { signals = map first_signal (visible design); requests = [] };
+  channels = record { signals = map first_signal (visible design) };
   script = script;
   trace = record { lines = [] };
 }

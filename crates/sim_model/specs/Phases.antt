@@ -2,34 +2,19 @@
 use Rattle.std.specs.Prelude.{ℕ, Bool, true, false, List, [], ◌∷◌, map, fold, slice_get, slice_set, Option, Some, None, unwrap_or}
 use Rattle.sim_time.specs.declared.moments.Time.{Time}
 use Rattle.sim_model.specs.Configuration.{Config, Cycle, Channels}
-use Rattle.sim_model.specs.Signals.{settled, announced}
+use Rattle.sim_model.specs.Signals.{settled, announced_from}
 use Rattle.sim_model.specs.declared.plain.Phase.{Phase}
 use Rattle.sim_model.specs.declared.plain.Phase.TheVariants as phase
 use Rattle.sim_model.specs.declared.plain.Signal.{Signal}
 use Rattle.sim_model.specs.declared.plain.Pending.{Pending}
 use Rattle.sim_model.specs.declared.plain.Pending.TheVariants as pending
 
--- signals and events after the update of signal i
-pub record Updated : Type 0 where
-  pub signals : List Signal
-  pub events : List Pending
-
-abbrev pub updated_at : Updated → ℕ → Option Signal → Updated
-updated_at u i None = u
-updated_at u i (Some s) = record { signals = slice_set u.signals i (settled s); events = announced u.events i s }
-
-abbrev pub update_one : Updated → ℕ → Updated
-update_one u i = updated_at u i (slice_get u.signals i)
-
 -- the update phase: update is called exactly once for each channel that asked for it
-abbrev pub update_all : List Signal → List Pending → List ℕ → Updated
-update_all signals events requests = fold update_one (record { signals = signals; events = events }) requests
-
-abbrev pub with_update : Config → Updated → Config
-with_update c u = record c { events = u.events; channels = record { signals = u.signals; requests = [] } }
-
 abbrev pub update_phase : Config → Config
-update_phase c = with_update c (update_all c.channels.signals c.events c.channels.requests)
+update_phase c = record c {
+  events = announced_from 0 c.channels.signals c.events;
+  channels = record { signals = map settled c.channels.signals };
+}
 
 -- the delta notification phase takes the pending delta notifications away
 abbrev pub without_delta : Pending → Pending

@@ -1,6 +1,5 @@
 -- Signals: what a write and an update do, and which notifications an update makes.
-use Rattle.std.specs.Prelude.{ℕ, ◌+◌, ◌*◌, Bool, true, false, ◌&&◌, not, List, [], ◌∷◌, ◌++◌, nat_eq, slice_get, slice_set, Option, Some, None, if◌then◌else◌}
-use Rattle.std.specs.List.{list_any}
+use Rattle.std.specs.Prelude.{ℕ, ◌+◌, ◌*◌, Bool, true, false, ◌&&◌, not, List, [], ◌∷◌, ◌++◌, suc, slice_get, slice_set, Option, Some, None, if◌then◌else◌}
 use Rattle.logic_values.specs.declared.kinds.Value.{Value}
 use Rattle.logic_values.specs.declared.kinds.Value.TheVariants as value
 use Rattle.logic_values.specs.declared.kinds.Digit.{Digit}
@@ -21,27 +20,17 @@ is_zero (value.Bool b) = not b
 is_zero (value.Logic digit.Zero) = true
 is_zero v = false
 
--- the signals after a write to one: its next value is this, and the last write counts
-abbrev pub with_next : List Signal → ℕ → Value → Option Signal → List Signal
-with_next signals i v None = signals
-with_next signals i v (Some s) = slice_set signals i (record s { next = v })
+-- a write: the signal asks for an update with this value, and the last write counts
+abbrev pub written : Value → Signal → Signal
+written v s = record { value = s.value; next = v; asked = true }
 
-abbrev pub written : List Signal → ℕ → Value → List Signal
-written signals i v = with_next signals i v (slice_get signals i)
-
--- the update requests after one more: each channel is asked for once
-abbrev pub is_asked : List ℕ → ℕ → Bool
-is_asked requests i = list_any (λ r. nat_eq r i) requests
-
-abbrev pub asked : List ℕ → ℕ → List ℕ
-asked requests i = if is_asked requests i then requests else requests ++ i ∷ []
-
--- an update: the value becomes the next value
+-- an update, which is called only where it was asked for: the value becomes the next value
 abbrev pub settled : Signal → Signal
-settled s = record { value = s.next; next = s.next }
+settled s = record { value = (if s.asked then s.next else s.value); next = s.next; asked = false }
 
+-- whether the update changes the value
 abbrev pub changes : Signal → Bool
-changes s = not (is_same s.value s.next)
+changes s = s.asked && not (is_same s.value s.next)
 
 -- the events of signal i: value changed, a change to 1, a change to 0
 abbrev pub changed_event : ℕ → ℕ
@@ -54,13 +43,26 @@ abbrev pub negedge_event : ℕ → ℕ
 negedge_event i = 3 * i + 2
 
 -- a delta notification of an event, where one is made: it comes before every timed one
-abbrev pub notified : Bool → List Pending → ℕ → List Pending
-notified false events e = events
-notified true events e = slice_set events e pending.Delta
+abbrev pub notified : Bool → ℕ → List Pending → List Pending
+notified false e events = events
+notified true e events = slice_set events e pending.Delta
 
 -- the notifications of an update of signal i
-abbrev pub announced : List Pending → ℕ → Signal → List Pending
-announced events i s =
-    notified (changes s && is_zero s.next)
-    (notified (changes s && is_one s.next) (notified (changes s) events (changed_event i)) (posedge_event i))
-    (negedge_event i)
+abbrev pub announced : ℕ → Signal → List Pending → List Pending
+announced i s events =
+    notified (changes s && is_zero s.next) (negedge_event i)
+    (notified (changes s && is_one s.next) (posedge_event i) (notified (changes s) (changed_event i) events))
+
+-- those of the updates of the signals from number i on
+abbrev pub announced_from : ℕ → List Signal → List Pending → List Pending
+announced_from i [] events = events
+announced_from i (s ∷ ss) events = announced_from (suc i) ss (announced i s events)
+
+-- a change at one place of a list, where there is such a place
+abbrev pub changed_at : {A : Type 0} → (A → A) → List A → ℕ → Option A → List A
+changed_at f xs i None = xs
+changed_at f xs i (Some x) = slice_set xs i (f x)
+
+-- the signals after a write to signal i
+abbrev pub write_to : List Signal → ℕ → Value → List Signal
+write_to signals i v = changed_at (written v) signals i (slice_get signals i)

@@ -39,13 +39,16 @@ pub enum Pending {
     At(Time),
 }
 
-/// A signal: its value, and the value that it has after the next update (IEEE 1666-2011, 6.4).
+/// A signal: its value, the value that it has after the next update, and whether it asked for that
+/// update (IEEE 1666-2011, 6.4).
 #[derive(Clone, Copy)]
 pub struct Signal {
     /// The value that is read.
     pub value: Value,
     /// The value that was written last.
     pub next: Value,
+    /// Whether it asked for an update.
+    pub asked: bool,
 }
 
 /// How a session ended.

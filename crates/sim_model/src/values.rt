@@ -1,7 +1,7 @@
-use logic_values::{Digit, Value};
-
 ghost use Rattle.std.specs.Prelude.{◌≡◌};
 ghost use Rattle.sim_model.specs.SameValue as spec;
+
+use logic_values::{Digit, Value};
 
 fn digit_number(digit: Digit) -> u8
     ensures { result ≡ spec.digit_number digit }
@@ -30,14 +30,8 @@ pub fn is_same(a: Value, b: Value) -> bool
 {
     match (a, b) {
         (Value::Bool(a), Value::Bool(b)) => a == b,
-        (
-            Value::Int { width: v, bits: a },
-            Value::Int { width: w, bits: b },
-        ) => v == w && a == b,
-        (
-            Value::Uint { width: v, bits: a },
-            Value::Uint { width: w, bits: b },
-        ) => v == w && a == b,
+        (Value::Int { width: v, bits: a }, Value::Int { width: w, bits: b }) => v == w && a == b,
+        (Value::Uint { width: v, bits: a }, Value::Uint { width: w, bits: b }) => v == w && a == b,
         (Value::Logic(a), Value::Logic(b)) => digit_number(a) == digit_number(b),
         (Value::Vector(a), Value::Vector(b)) => {
             a.width == b.width && a.ones == b.ones && a.unknown == b.unknown

@@ -1,0 +1,84 @@
+-- One step of a run: the next command in Idle, or the step of the phase.
+use Rattle.std.specs.Prelude.{ℕ, ◌+◌, ◌^◌, Bool, true, false, List, [], ◌∷◌, ◌++◌, slice_get, nat_lt, Option, Some, None, if◌then◌else◌, codes}
+use Rattle.std.specs.Fmt.{decimal}
+use Rattle.logic_values.specs.declared.kinds.Value.{Value}
+use Rattle.logic_values.specs.ValueText.{text_of}
+use Rattle.model_tree.specs.declared.designs.Object.{Object}
+use Rattle.model_tree.specs.declared.faults.RunFault.{RunFault}
+use Rattle.model_tree.specs.declared.faults.RunFault.TheVariants as run_fault
+use Rattle.sim_time.specs.declared.moments.Time.{Time}
+use Rattle.sim_model.specs.Configuration.{Config, Cycle, Channels, Trace, visible}
+use Rattle.sim_model.specs.Phases.{initialization, update_step, delta_step, timed_step, in_phase}
+use Rattle.sim_model.specs.Signals.{write_to}
+use Rattle.sim_model.specs.declared.plain.Phase.{Phase}
+use Rattle.sim_model.specs.declared.plain.Phase.TheVariants as phase
+use Rattle.sim_model.specs.declared.plain.Command.{Command}
+use Rattle.sim_model.specs.declared.plain.Command.TheVariants as command
+use Rattle.sim_model.specs.declared.plain.Signal.{Signal}
+
+-- what a step does: it goes to a configuration and leaves these choices; or it is a run fault, which
+-- changes nothing; or it is a taking and the next choice is missing or not runnable; or there is none,
+-- since the session has ended
+pub data Outcome : Type 0 where
+  went : Config → List ℕ → Outcome
+  faulted : RunFault → Outcome
+  not_ready : Outcome
+  ended : Outcome
+
+-- the line of a show: the time, the word script, the path and the value
+abbrev pub show_line : ℕ → List ℕ → Value → List ℕ
+show_line now path v = decimal now ++ codes " script " ++ path ++ codes " " ++ text_of v ++ 10 ∷ []
+
+abbrev pub with_line : Config → List ℕ → Config
+with_line c line = record c { trace = record { lines = c.trace.lines ++ line ∷ [] } }
+
+abbrev pub shown : Config → Option Object → Option Signal → Config
+shown c (Some o) (Some s) = with_line c (show_line c.cycle.now o.path s.value)
+shown c o s = c
+
+-- show: one report line
+abbrev pub show : Config → ℕ → Config
+show c i = shown c (slice_get (visible c.design) i) (slice_get c.channels.signals i)
+
+-- set: the signal asks for an update with the value
+abbrev pub set_signal : Config → ℕ → Value → Config
+set_signal c i v = record c { channels = record { signals = write_to c.channels.signals i v } }
+
+-- run: the first time initialization comes next, later evaluation
+abbrev pub first_phase : Bool → Phase
+first_phase false = phase.Start
+first_phase true = phase.Evaluate
+
+abbrev pub begun : Config → Option ℕ → Config
+begun c end = record c { cycle = record c.cycle { phase = first_phase c.cycle.begun; begun = true; end = end } }
+
+-- a run for a time ends then; a sum past 2^64 - 1 ps is a fault
+abbrev pub begin_until : Config → ℕ → List ℕ → Bool → Outcome
+begin_until c end choices true = went (begun c (Some end)) choices
+begin_until c end choices false = faulted run_fault.TimeOverflow
+
+abbrev pub begin_run : Config → Option Time → List ℕ → Outcome
+begin_run c None choices = went (begun c None) choices
+begin_run c (Some d) choices = begin_until c (c.cycle.now + d.0) choices (nat_lt (c.cycle.now + d.0) (2 ^ 64))
+
+abbrev pub carry_out : Config → Command → List ℕ → Outcome
+carry_out c (command.Run d) choices = begin_run c d choices
+carry_out c (command.Set i v) choices = went (set_signal c i v) choices
+carry_out c (command.Show i) choices = went (show c i) choices
+
+-- the next command of the script
+abbrev pub next_command : Config → List Command → List ℕ → Outcome
+next_command c [] choices = ended
+next_command c (k ∷ ks) choices = carry_out (record c { script = ks }) k choices
+
+-- the step of a phase
+abbrev pub step_in : Phase → Config → List ℕ → Outcome
+step_in phase.Idle c choices = next_command c c.script choices
+step_in phase.Start c choices = went (initialization c) choices
+step_in phase.Evaluate c choices = went (update_step c) choices
+step_in phase.Notify c choices = went (delta_step c) choices
+step_in phase.Timed c choices = went (timed_step c) choices
+
+-- the step that a configuration makes with these choices to come
+abbrev pub step : Config → List ℕ → Outcome
+step c choices = if c.cycle.stopped then ended else step_in c.cycle.phase c choices
