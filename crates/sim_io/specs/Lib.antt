@@ -1,0 +1,4 @@
+pub mod Told
+pub mod Cause
+pub mod Keeps
+pub mod Taken

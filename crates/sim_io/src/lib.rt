@@ -1,0 +1,9 @@
+//! The outside of the simulator: a shelf of files and a sink for bytes, as traits whose contracts
+//! say all that a caller may rely on, and loops over them that read or write whole texts.
+#![tactic(auto)]
+
+mod outside;
+mod transfer;
+
+pub use outside::{Shelf, Sink, Trouble};
+pub use transfer::{Bytes, ReadStop, read_all, write_all, write_file};
