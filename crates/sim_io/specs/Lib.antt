@@ -2,3 +2,4 @@ pub mod Told
 pub mod Cause
 pub mod Keeps
 pub mod Taken
+pub mod Memory

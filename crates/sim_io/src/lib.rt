@@ -2,8 +2,10 @@
 //! say all that a caller may rely on, and loops over them that read or write whole texts.
 #![tactic(auto)]
 
+mod memory_sink;
 mod outside;
 mod transfer;
 
+pub use memory_sink::MemorySink;
 pub use outside::{Shelf, Sink, Trouble};
 pub use transfer::{Bytes, ReadStop, read_all, write_all, write_file};
