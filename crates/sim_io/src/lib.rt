@@ -2,6 +2,7 @@
 //! say all that a caller may rely on, and loops over them that read or write whole texts.
 #![tactic(auto)]
 
+mod memory_shelf;
 mod memory_sink;
 mod outside;
 mod transfer;

@@ -1,0 +1,153 @@
+//! A shelf that keeps its files in memory.
+ghost use Rattle.std.specs.Prelude.{◌≡◌, ◌<◌, ◌≤◌, ◌+◌, ◌^◌, ◌↔◌, ◌⊎◌, ℕ, List, [], ◌∷◌, ◌++◌, Option, Some, Contains, IsTrue, length, take, drop, min, nat_eq, nat_lt, unwrap_or, IfOk, IfSome, IsErrOf, MatchResult, MatchOption, position, option_copied, vec_len, is_ok, if◌then◌else◌, slice_index_or, bytes_eq, string_bytes};
+ghost use Rattle.std.specs.List.{list_any};
+ghost use Rattle.std.specs.Io.KnownBytes.{ReadConsumes};
+ghost use Rattle.sim_io.specs.Memory.{entries, named, contents, place_of, put, bytes_at, rest_of, moved, with_empty};
+
+use super::outside::{Shelf, Trouble};
+use std::alloc::{AllocError, Global};
+use std::marker::Model;
+
+// A file that is being read: its place, and how many of its bytes were given.
+#[derive(Clone, Copy)]
+pub(crate) struct Reader {
+    file: usize,
+    at: usize,
+}
+
+// The place of the first pair whose text is this name.
+fn find_name(files: &[(String, Vec<u8>)], name: &str) -> Option<usize>
+    ensures { result ≡ position (λ file. bytes_eq (string_bytes file.0) name.now) files.now }
+{
+    files.iter().position(|file| file.0.as_str() == name)
+}
+
+// The place of the first file of this name.
+fn find_file(files: &[(String, Vec<u8>)], name: &str) -> Option<usize>
+    ensures { result ≡ position (named name.now) (entries files.now) }
+{
+    find_name(files, name)
+}
+
+// Makes the file at a place empty.
+fn empty_file(files: &mut Vec<(String, Vec<u8>)>, place: usize)
+    requires { place < vec_len files.old }
+    ensures { entries files.new.items ≡ put (entries files.old.items) place [] }
+{
+    let file = &mut files[place];
+    file.1.clear();
+}
+
+// Adds an empty file of this name at the end.
+fn add_file(alloc: Global, files: &mut Vec<(String, Vec<u8>)>, name: &str) -> Result<(), AllocError>
+    ensures { entries files.new.items ≡ (if is_ok result
+        then entries files.old.items ++ (record { name = name.now; bytes = [] }) ∷ []
+        else entries files.old.items) }
+{
+    let name = String::from_str(alloc, name)?;
+    files.push((name, Vec::new(alloc)))?;
+    Ok(())
+}
+
+// Appends a piece to the file at a place.
+fn append_to(
+    files: &mut Vec<(String, Vec<u8>)>,
+    place: usize,
+    piece: &[u8],
+) -> Result<(), AllocError>
+    requires { place < vec_len files.old }
+    ensures { entries files.new.items ≡ (if is_ok result
+        then put (entries files.old.items) place (bytes_at (entries files.old.items) place ++ piece.now)
+        else entries files.old.items) }
+{
+    let file = &mut files[place];
+    file.1.extend_from_slice(piece)
+}
+
+// What a reader has still to give.
+fn rest_for(files: &[(String, Vec<u8>)], reader: Reader) -> &[u8]
+    ensures rest { result.now ≡ rest_of (entries files.now) reader }
+    ensures fits { reader.at + length result.now < 2 ^ 64 }
+{
+    match files.get(reader.file) {
+        Some(file) => {
+            if reader.at <= file.1.len() {
+                &file.1[reader.at..]
+            } else {
+                &[]
+            }
+        }
+        None => &[],
+    }
+}
+
+// Copies what fits to the front of a slice.
+fn copy_front(rest: &[u8], into: &mut [u8]) -> usize
+    ensures count { result ≡ min (length into.old) (length rest.now) }
+    ensures front { take result into.new ≡ take result rest.now }
+{
+    let count = rest.len().min(into.len());
+    into[..count].copy_from_slice(&rest[..count]);
+    count
+}
+
+// Moves a reader on.
+fn move_reader(readers: &mut Vec<Reader>, id: usize, count: usize)
+    requires id { id < vec_len readers.old }
+    requires fits { (slice_index_or readers.old.items id (record { file = 0; at = 0 })).at + count < 2 ^ 64 }
+    ensures { readers.new.items ≡ moved readers.old.items id count }
+{
+    let reader = &mut readers[id];
+    reader.at += count;
+}
+
+/// A shelf in memory, with faults at chosen calls, for tests and for callers that want the files back.
+///
+/// Contracts see it as a `ShelfState`. Its calls are numbered from 0; the last value of a `u64` is the
+/// number of all calls from there on. A call that is refused memory has no number.
+#[derive(Drop)]
+pub struct MemoryShelf {
+    alloc: Global,
+    stored: Vec<(String, Vec<u8>)>,
+    opened: Vec<Reader>,
+    listed: Vec<u64>,
+    number: u64,
+    failed_reads: u64,
+    failed_writes: u64,
+}
+
+impl Model for MemoryShelf {
+    ghost use Rattle.sim_io.specs.Memory.{ShelfState, entries};
+
+    ghost Value = { ShelfState };
+
+    ghost view = { λ s. record { files = entries s.stored.items; readers = s.opened.items; failing = s.listed.items; calls = s.number; reads = s.failed_reads; writes = s.failed_writes } };
+}
+
+impl MemoryShelf {
+    /// A shelf with these files, which fails at the calls whose numbers are listed. Of two files of
+    /// one name the first counts.
+    pub fn new(alloc: Global, files: Vec<(String, Vec<u8>)>, failing: Vec<u64>) -> MemoryShelf
+        ensures { result ≡ record { files = entries files.items; readers = []; failing = failing.items; calls = 0; reads = 0; writes = 0 } }
+    {
+        MemoryShelf {
+            alloc,
+            stored: files,
+            opened: Vec::new(alloc),
+            listed: failing,
+            number: 0,
+            failed_reads: 0,
+            failed_writes: 0,
+        }
+    }
+
+    /// The bytes of the file of this name.
+    pub fn file(&self, name: &str) -> Option<&[u8]>
+        ensures { option_copied result ≡ contents self.now.files name.now }
+    {
+        match find_file(&self.stored, name) {
+            Some(place) => Some(self.stored[place].1.as_slice()),
+            None => None,
+        }
+    }
+}
