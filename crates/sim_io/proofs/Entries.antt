@@ -1,6 +1,6 @@
 -- Which file a name finds after a change of the list of files.
 use Rattle.std.proofs.Common.{◌≡◌, ◌≢◌, ◌<◌, ◌≤◌, ◌+◌, ℕ, Bool, true, false, cond, List, [], ◌∷◌, ◌++◌, length, map, get_or, set, drop, take, Option, None, Some, refl, sym, ◌∙◌, ap, subst, arith, length-append, nat_lt}
-use Rattle.std.specs.Prelude.{bytes_eq, find, not, position, slice_get, string_bytes, String, Vec, eqb}
+use Rattle.std.specs.Prelude.{bytes_eq, find, not, position, slice_get, string_bytes, String, Vec, eqb, MatchOption}
 use Rattle.std.specs.List.{position_or_len, prefix_len}
 use Rattle.std.specs.Option.{option_map, option_or}
 use Rattle.std.proofs.lemmas.List.{length-map, length-set, map-set, map-append, get_or-map}
@@ -140,6 +140,14 @@ position-entries {Z} files name =
     sym (ap (λ n. cond (nat_lt n (length (map f files))) (Some n) None) place
     ∙ ap (λ n. cond (nat_lt (prefix_len (λ file. not (bytes_eq (string_bytes file.0) name)) files) n) (Some (prefix_len (λ file. not (bytes_eq (string_bytes file.0) name)) files)) None) size)
 
+-- a look-up of a place: it is there, or past the end
+pub found_place : (files : List Entry) (name : List ℕ) (result : Option ℕ) → result ≡ position (named name) files → MatchOption result (length files ≤ place_of files name) (λ place. (place ≡ place_of files name) × (place < length files))
+found_place files name result is = by_cases (nat_lt (place_of files name) (length files)) refl is
+  where
+    by_cases : (b : Bool) → nat_lt (place_of files name) (length files) ≡ b → result ≡ cond b (Some (place_of files name)) None → MatchOption result (length files ≤ place_of files name) (λ place. (place ≡ place_of files name) × (place < length files))
+    by_cases true there at = rw at (refl, ltb-true (place_of files name) (length files) there)
+    by_cases false past at = rw at (ltb-false (place_of files name) (length files) past)
+
 -- other bytes in the pair at a place
 pub entries-put : {Z : Type 0} (files : List (String Z × Vec ℕ Z)) (place : ℕ) (file : String Z × Vec ℕ Z) (new : Vec ℕ Z) → place < length files → file ≡ get_or files place file → entries (set files place (file.0, new)) ≡ put (entries files) place new.items
 entries-put {Z} files place file new within value =
@@ -159,3 +167,8 @@ entries-put_same {Z} files place file new value same =
     let f : (String Z × Vec ℕ Z) → Entry = λ pair. record { name = string_bytes pair.0; bytes = pair.1.items } in
     map-set_same f files place (file.0, new) file
     (ap (λ items. record { name = string_bytes file.0; bytes = items }) same ∙ ap f value)
+
+pub length-entries : {Z : Type 0} (files : List (String Z × Vec ℕ Z)) → length (entries files) ≡ length files
+length-entries {Z} files =
+    let f : (String Z × Vec ℕ Z) → Entry = λ pair. record { name = string_bytes pair.0; bytes = pair.1.items } in
+    length-map files f

@@ -1,9 +1,11 @@
 //! A shelf that keeps its files in memory.
-ghost use Rattle.std.specs.Prelude.{◌≡◌, ◌<◌, ◌≤◌, ◌+◌, ◌^◌, ◌↔◌, ◌⊎◌, ℕ, List, [], ◌∷◌, ◌++◌, Option, Some, Contains, IsTrue, length, take, drop, min, nat_eq, nat_lt, unwrap_or, IfOk, IfSome, IsErrOf, MatchResult, MatchOption, position, option_copied, vec_len, is_ok, if◌then◌else◌, slice_index_or, bytes_eq, string_bytes};
+ghost use Rattle.std.specs.Prelude.{◌≡◌, ◌<◌, ◌≤◌, ◌+◌, ◌^◌, ◌↔◌, ◌⊎◌, ℕ, List, [], ◌∷◌, ◌++◌, Option, Some, Contains, IsTrue, length, take, drop, min, nat_eq, nat_lt, unwrap_or, IfOk, IfSome, OnOk, IsErrOf, MatchResult, MatchOption, position, option_copied, vec_len, is_ok, if◌then◌else◌, slice_index_or, bytes_eq, string_bytes};
 ghost use Rattle.std.specs.List.{list_any};
 ghost use Rattle.std.specs.Io.KnownBytes.{ReadConsumes};
-ghost use Rattle.sim_io.specs.Memory.{entries, named, contents, place_of, put, bytes_at, rest_of, moved, with_empty};
+ghost use Rattle.sim_io.specs.Told.{Lacks};
+ghost use Rattle.sim_io.specs.Memory.{next, entries, named, contents, place_of, put, bytes_at, rest_of, moved, with_empty, told, is_listed, IsListed, opened, given, emptied, appended};
 
+use super::memory_sink::is_listed_in;
 use super::outside::{Shelf, Trouble};
 use std::alloc::{AllocError, Global};
 use std::marker::Model;
@@ -24,7 +26,9 @@ fn find_name(files: &[(String, Vec<u8>)], name: &str) -> Option<usize>
 
 // The place of the first file of this name.
 fn find_file(files: &[(String, Vec<u8>)], name: &str) -> Option<usize>
-    ensures { result ≡ position (named name.now) (entries files.now) }
+    ensures { MatchOption result
+        (length (entries files.now) ≤ place_of (entries files.now) name.now)
+        (λ place. (place ≡ place_of (entries files.now) name.now) × (place < length (entries files.now))) }
 {
     find_name(files, name)
 }
@@ -109,7 +113,7 @@ fn move_reader(readers: &mut Vec<Reader>, id: usize, count: usize)
 pub struct MemoryShelf {
     alloc: Global,
     stored: Vec<(String, Vec<u8>)>,
-    opened: Vec<Reader>,
+    reading: Vec<Reader>,
     listed: Vec<u64>,
     number: u64,
     failed_reads: u64,
@@ -121,7 +125,7 @@ impl Model for MemoryShelf {
 
     ghost Value = { ShelfState };
 
-    ghost view = { λ s. record { files = entries s.stored.items; readers = s.opened.items; failing = s.listed.items; calls = s.number; reads = s.failed_reads; writes = s.failed_writes } };
+    ghost view = { λ s. record { files = entries s.stored.items; readers = s.reading.items; failing = s.listed.items; calls = s.number; reads = s.failed_reads; writes = s.failed_writes } };
 }
 
 impl MemoryShelf {
@@ -133,7 +137,7 @@ impl MemoryShelf {
         MemoryShelf {
             alloc,
             stored: files,
-            opened: Vec::new(alloc),
+            reading: Vec::new(alloc),
             listed: failing,
             number: 0,
             failed_reads: 0,
@@ -149,5 +153,80 @@ impl MemoryShelf {
             Some(place) => Some(self.stored[place].1.as_slice()),
             None => None,
         }
+    }
+
+    // Counts a call of `open_read` or `read` that failed.
+    fn fail_read(&mut self)
+        ensures { self.new ≡ record self.old { calls = next self.old.calls; reads = next self.old.reads } }
+    {
+        self.number = self.number.saturating_add(1);
+        self.failed_reads = self.failed_reads.saturating_add(1);
+    }
+
+    // Counts a call of `create` or `write` that failed.
+    fn fail_write(&mut self)
+        ensures { self.new ≡ record self.old { calls = next self.old.calls; writes = next self.old.writes } }
+    {
+        self.number = self.number.saturating_add(1);
+        self.failed_writes = self.failed_writes.saturating_add(1);
+    }
+
+    // Counts a call.
+    fn count_call(&mut self)
+        ensures { self.new ≡ record self.old { calls = next self.old.calls } }
+    {
+        self.number = self.number.saturating_add(1);
+    }
+
+    // Whether the next call is to fail.
+    fn is_next_listed(&self) -> bool
+        ensures value { result ≡ is_listed self.now }
+        ensures listed { IsTrue result ↔ IsListed self.now }
+    {
+        is_listed_in(&self.listed, self.number)
+    }
+
+    // The place of the first file of a name.
+    fn place(&self, name: &str) -> Option<usize>
+        ensures { MatchOption result
+            (Lacks (told self.now) name.now)
+            (λ place. (place ≡ place_of self.now.files name.now) × (place < length self.now.files)) }
+    {
+        find_file(&self.stored, name)
+    }
+
+    // Adds a reader at the first byte of a file.
+    fn add_reader(&mut self, place: usize) -> Result<u32, AllocError>
+        ensures id { IfOk result (λ id. id ≡ length self.old.readers) }
+        ensures after { self.new ≡ (if is_ok result
+            then record self.old { readers = self.old.readers ++ (record { file = place; at = 0 }) ∷ [] }
+            else self.old) }
+    {
+        let Ok(id) = u32::try_from(self.reading.len()) else {
+            return Err(AllocError);
+        };
+        self.reading.push(Reader { file: place, at: 0 })?;
+        Ok(id)
+    }
+
+    fn open(&mut self, name: &str) -> Result<u32, Trouble>
+        ensures exact { IsErrOf result Trouble.Failed ↔ (IsListed self.old ⊎ Lacks (told self.old) name.now) }
+        ensures id { IfOk result (λ id. id ≡ length self.old.readers) }
+        ensures there { OnOk result (place_of self.old.files name.now < length self.old.files) }
+        ensures after { self.new ≡ opened self.old name.now result }
+    {
+        if self.is_next_listed() {
+            self.fail_read();
+            return Err(Trouble::Failed);
+        }
+        let Some(place) = self.place(name) else {
+            self.count_call();
+            return Err(Trouble::Failed);
+        };
+        let Ok(id) = self.add_reader(place) else {
+            return Err(Trouble::NoMemory);
+        };
+        self.count_call();
+        Ok(id)
     }
 }

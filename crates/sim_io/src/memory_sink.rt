@@ -1,5 +1,6 @@
 //! A sink that keeps its bytes in memory.
-ghost use Rattle.std.specs.Prelude.{◌≡◌, ◌<◌, ◌≤◌, ◌↔◌, ◌⊎◌, ℕ, List, [], Option, Some, Contains, IsTrue, length, IfOk, IsErrOf};
+ghost use Rattle.std.specs.Prelude.{◌≡◌, ◌<◌, ◌≤◌, ◌↔◌, ◌⊎◌, ℕ, List, [], Option, Some, Contains, IsTrue, length, IfOk, IsErrOf, nat_eq};
+ghost use Rattle.std.specs.List.{list_any};
 ghost use Rattle.sim_io.specs.Told.{Grew};
 ghost use Rattle.sim_io.specs.Cause.{HasCause};
 ghost use Rattle.sim_io.specs.Taken.{taken};
@@ -54,8 +55,9 @@ impl MemorySink {
 }
 
 // Whether a call's number is listed.
-pub(crate) fn is_listed(listed: &[u64], number: u64) -> bool
-    ensures { IsTrue result ↔ Contains listed.now number }
+pub(crate) fn is_listed_in(listed: &[u64], number: u64) -> bool
+    ensures value { result ≡ list_any (λ other. nat_eq other number) listed.now }
+    ensures listed { IsTrue result ↔ Contains listed.now number }
 {
     listed.contains(&number)
 }
@@ -66,7 +68,7 @@ fn write_fails(listed: &[u64], number: u64, left: Option<u64>) -> bool
 {
     match left {
         Some(0) => true,
-        _ => is_listed(listed, number),
+        _ => is_listed_in(listed, number),
     }
 }
 
