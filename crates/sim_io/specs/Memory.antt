@@ -76,6 +76,10 @@ abbrev pub with_empty : List Entry → List ℕ → List Entry
 with_empty files name =
     if nat_lt (place_of files name) (length files) then put files (place_of files name) [] else files ++ (record { name = name; bytes = [] }) ∷ []
 
+-- the reader of an id
+abbrev pub reader_at : List Reader → ℕ → Reader
+reader_at readers id = slice_index_or readers id (record { file = 0; at = 0 })
+
 -- what a reader has still to give
 abbrev pub rest_of : List Entry → Reader → List ℕ
 rest_of files reader = drop reader.at (bytes_at files reader.file)
@@ -127,8 +131,7 @@ opened s name (Err NoMemory) = s
 
 abbrev pub moved : List Reader → ℕ → ℕ → List Reader
 moved readers id count =
-    let reader = slice_index_or readers id (record { file = 0; at = 0 }) in
-    slice_set readers id (record { file = reader.file; at = reader.at + count })
+    slice_set readers id (record { file = (reader_at readers id).file; at = (reader_at readers id).at + count })
 
 abbrev pub given : ShelfState → ℕ → Result ℕ Trouble → ShelfState
 given s id (Ok count) = record s { readers = moved s.readers id count; calls = next s.calls }

@@ -1,9 +1,9 @@
 //! A shelf that keeps its files in memory.
-ghost use Rattle.std.specs.Prelude.{◌≡◌, ◌<◌, ◌≤◌, ◌+◌, ◌^◌, ◌↔◌, ◌⊎◌, ℕ, List, [], ◌∷◌, ◌++◌, Option, Some, Contains, IsTrue, length, take, drop, min, nat_eq, nat_lt, unwrap_or, IfOk, IfSome, OnOk, IsErrOf, MatchResult, MatchOption, position, option_copied, vec_len, is_ok, if◌then◌else◌, slice_index_or, bytes_eq, string_bytes};
+ghost use Rattle.std.specs.Prelude.{◌≡◌, ◌<◌, ◌≤◌, ◌+◌, ◌^◌, ◌↔◌, ◌⊎◌, ℕ, List, [], ◌∷◌, ◌++◌, Option, Some, Contains, IsTrue, length, take, drop, min, nat_eq, nat_lt, unwrap_or, IfOk, IfSome, OnOk, IsErrOf, MatchResult, MatchOption, position, option_copied, vec_len, is_ok, if◌then◌else◌, bytes_eq, string_bytes};
 ghost use Rattle.std.specs.List.{list_any};
 ghost use Rattle.std.specs.Io.KnownBytes.{ReadConsumes};
 ghost use Rattle.sim_io.specs.Told.{Lacks};
-ghost use Rattle.sim_io.specs.Memory.{next, entries, named, contents, place_of, put, bytes_at, rest_of, moved, with_empty, told, is_listed, IsListed, opened, given, emptied, appended};
+ghost use Rattle.sim_io.specs.Memory.{next, entries, named, contents, place_of, put, bytes_at, rest_of, reader_at, moved, with_empty, told, is_listed, IsListed, opened, given, emptied, appended};
 
 use super::memory_sink::is_listed_in;
 use super::outside::{Shelf, Trouble};
@@ -98,7 +98,7 @@ fn copy_front(rest: &[u8], into: &mut [u8]) -> usize
 // Moves a reader on.
 fn move_reader(readers: &mut Vec<Reader>, id: usize, count: usize)
     requires id { id < vec_len readers.old }
-    requires fits { (slice_index_or readers.old.items id (record { file = 0; at = 0 })).at + count < 2 ^ 64 }
+    requires fits { (reader_at readers.old.items id).at + count < 2 ^ 64 }
     ensures { readers.new.items ≡ moved readers.old.items id count }
 {
     let reader = &mut readers[id];
@@ -189,7 +189,7 @@ impl MemoryShelf {
     // The place of the first file of a name.
     fn place(&self, name: &str) -> Option<usize>
         ensures { MatchOption result
-            (Lacks (told self.now) name.now)
+            (Lacks (told self.now) name.now × (place_of self.now.files name.now ≡ length self.now.files))
             (λ place. (place ≡ place_of self.now.files name.now) × (place < length self.now.files)) }
     {
         find_file(&self.stored, name)
@@ -228,5 +228,104 @@ impl MemoryShelf {
         };
         self.count_call();
         Ok(id)
+    }
+
+    // Copies what a reader has still to give, as far as it fits, and moves the reader on.
+    fn hand_out(&mut self, id: usize, into: &mut [u8]) -> usize
+        requires { id < length self.old.readers }
+        ensures count { result ≡ min (length into.old) (length (rest_of self.old.files (reader_at self.old.readers id))) }
+        ensures front { take result into.new ≡ take result (rest_of self.old.files (reader_at self.old.readers id)) }
+        ensures after { self.new ≡ record self.old { readers = moved self.old.readers id result } }
+    {
+        let reader = self.reading[id];
+        let count = copy_front(rest_for(&self.stored, reader), into);
+        move_reader(&mut self.reading, id, count);
+        count
+    }
+
+    fn give(&mut self, id: usize, into: &mut [u8]) -> Result<usize, Trouble>
+        requires { id < length self.old.readers }
+        ensures exact { IsErrOf result Trouble.Failed ↔ IsListed self.old }
+        ensures count { IfOk result (λ count.
+            count ≡ min (length into.old) (length (rest_of self.old.files (reader_at self.old.readers id)))) }
+        ensures front { IfOk result (λ count.
+            take count into.new ≡ take count (rest_of self.old.files (reader_at self.old.readers id))) }
+        ensures after { self.new ≡ given self.old id result }
+    {
+        if self.is_next_listed() {
+            self.fail_read();
+            return Err(Trouble::Failed);
+        }
+        let count = self.hand_out(id, into);
+        self.count_call();
+        Ok(count)
+    }
+
+    // Makes the first file of a name empty, or adds an empty one.
+    fn make_empty(&mut self, name: &str) -> Result<u32, AllocError>
+        ensures id { IfOk result (λ id. id ≡ place_of self.old.files name.now) }
+        ensures after { self.new ≡ (if is_ok result
+            then record self.old { files = with_empty self.old.files name.now }
+            else self.old) }
+    {
+        match self.place(name) {
+            Some(place) => {
+                let Ok(id) = u32::try_from(place) else {
+                    return Err(AllocError);
+                };
+                empty_file(&mut self.stored, place);
+                Ok(id)
+            }
+            None => {
+                let Ok(id) = u32::try_from(self.stored.len()) else {
+                    return Err(AllocError);
+                };
+                add_file(self.alloc, &mut self.stored, name)?;
+                Ok(id)
+            }
+        }
+    }
+
+    fn clear(&mut self, name: &str) -> Result<u32, Trouble>
+        ensures exact { IsErrOf result Trouble.Failed ↔ IsListed self.old }
+        ensures id { IfOk result (λ id. id ≡ place_of self.old.files name.now) }
+        ensures after { self.new ≡ emptied self.old name.now result }
+    {
+        if self.is_next_listed() {
+            self.fail_write();
+            return Err(Trouble::Failed);
+        }
+        let Ok(id) = self.make_empty(name) else {
+            return Err(Trouble::NoMemory);
+        };
+        self.count_call();
+        Ok(id)
+    }
+
+    // Appends a piece to the file at a place.
+    fn extend(&mut self, place: usize, piece: &[u8]) -> Result<(), AllocError>
+        requires { place < length self.old.files }
+        ensures { self.new ≡ (if is_ok result
+            then record self.old { files = put self.old.files place (bytes_at self.old.files place ++ piece.now) }
+            else self.old) }
+    {
+        append_to(&mut self.stored, place, piece)
+    }
+
+    fn append(&mut self, place: usize, piece: &[u8]) -> Result<usize, Trouble>
+        requires { place < length self.old.files }
+        ensures exact { IsErrOf result Trouble.Failed ↔ IsListed self.old }
+        ensures count { IfOk result (λ count. count ≡ length piece.now) }
+        ensures after { self.new ≡ appended self.old place piece.now result }
+    {
+        if self.is_next_listed() {
+            self.fail_write();
+            return Err(Trouble::Failed);
+        }
+        if self.extend(place, piece).is_err() {
+            return Err(Trouble::NoMemory);
+        }
+        self.count_call();
+        Ok(piece.len())
     }
 }

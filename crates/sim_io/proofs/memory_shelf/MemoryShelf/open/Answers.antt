@@ -3,7 +3,7 @@ use Rattle.sim_io.proofs.Steps.{neither, not_lacking}
 use Rattle.sim_io.proofs.memory_shelf.MemoryShelf.open.Goals as goal
 
 pub returns-in_default-clause-exact : goal.returns-in_default-clause-exact
-returns-in_default-clause-exact c = (λ _. inr c.in_default.ensures, λ _. refl)
+returns-in_default-clause-exact c = (λ _. inr c.in_default.ensures.0, λ _. refl)
 
 pub returns-in_default-add_reader-clause-exact : goal.returns-in_default-add_reader-clause-exact
 returns-in_default-add_reader-clause-exact c = (
