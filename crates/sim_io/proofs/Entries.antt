@@ -5,7 +5,7 @@ use Rattle.std.specs.List.{position_or_len, prefix_len}
 use Rattle.std.specs.Option.{option_map, option_or}
 use Rattle.std.proofs.lemmas.List.{length-map, length-set, map-set, map-append, get_or-map}
 use Rattle.std.proofs.Math.Seq.{map-set_same}
-use Rattle.std.proofs.lemmas.List.Sums.{passes_at_first}
+use Rattle.std.proofs.lemmas.List.Sums.{passes_at_first, prefix_len-le-length}
 use Rattle.std.proofs.lemmas.List.Folds.{find_at, find-set, find_past, find-append, position_or_len-set, position_or_len_push}
 use Rattle.std.proofs.lemmas.Option.{slice_get-get_or, slice_get_past}
 use Rattle.std.proofs.lemmas.Slice.Eq.{bytes_eq-Decides}
@@ -172,3 +172,20 @@ pub length-entries : {Z : Type 0} (files : List (String Z × Vec ℕ Z)) → len
 length-entries {Z} files =
     let f : (String Z × Vec ℕ Z) → Entry = λ pair. record { name = string_bytes pair.0; bytes = pair.1.items } in
     length-map files f
+
+-- an empty file of a name stands at the place of its name
+pub place_in-with_empty : (files : List Entry) (name : List ℕ) → (place_of (with_empty files name) name ≡ place_of files name) × (place_of files name < length (with_empty files name))
+place_in-with_empty files name =
+    with_empty_elim (λ new. (place_of new name ≡ place_of files name) × (place_of files name < length new)) files name
+    (λ within. (place_of-put files (place_of files name) [] name, omega (arith, within, length-put files (place_of files name) [])))
+    (λ past. (last past, omega (arith, at_end past, length-append files ((record { name = name; bytes = [] }) ∷ []))))
+  where
+    at_end : length files ≤ place_of files name → place_of files name ≡ length files
+    at_end past = omega (arith, past, prefix_len-le-length (λ entry. not (named name entry)) files)
+
+    at_last : (b : Bool) → place_of files name ≡ length files → cond b (length files + cond (named name (record { name = name; bytes = [] })) 0 1) (place_of files name) ≡ place_of files name
+    at_last true at = ap (λ own. length files + cond own 0 1) (named_itself name []) ∙ omega (arith, at)
+    at_last false at = refl
+
+    last : length files ≤ place_of files name → place_of (files ++ (record { name = name; bytes = [] }) ∷ []) name ≡ place_of files name
+    last past = position_or_len_push (named name) files (record { name = name; bytes = [] }) ∙ at_last (eqb (place_of files name) (length files)) (at_end past)

@@ -7,6 +7,7 @@ mod memory_sink;
 mod outside;
 mod transfer;
 
+pub use memory_shelf::MemoryShelf;
 pub use memory_sink::MemorySink;
 pub use outside::{Shelf, Sink, Trouble};
 pub use transfer::{Bytes, ReadStop, read_all, write_all, write_file};

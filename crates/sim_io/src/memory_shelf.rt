@@ -2,8 +2,11 @@
 ghost use Rattle.std.specs.Prelude.{◌≡◌, ◌<◌, ◌≤◌, ◌+◌, ◌^◌, ◌↔◌, ◌⊎◌, ℕ, List, [], ◌∷◌, ◌++◌, Option, Some, Contains, IsTrue, length, take, drop, min, nat_eq, nat_lt, unwrap_or, IfOk, IfSome, OnOk, IsErrOf, MatchResult, MatchOption, position, option_copied, vec_len, is_ok, if◌then◌else◌, bytes_eq, string_bytes};
 ghost use Rattle.std.specs.List.{list_any};
 ghost use Rattle.std.specs.Io.KnownBytes.{ReadConsumes};
-ghost use Rattle.sim_io.specs.Told.{Lacks};
-ghost use Rattle.sim_io.specs.Memory.{next, entries, named, contents, place_of, put, bytes_at, rest_of, reader_at, moved, with_empty, told, is_listed, IsListed, opened, given, emptied, appended};
+ghost use Rattle.sim_io.specs.Told.{text_of, Lacks, Unchanged, AfterTold, Grows};
+ghost use Rattle.sim_io.specs.Cause.{HasCause, HasCauseOrLacks};
+ghost use Rattle.sim_io.specs.Keeps.{ReadKeeps, WriteKeeps};
+ghost use Rattle.sim_io.specs.Taken.{taken, Creates};
+ghost use Rattle.sim_io.specs.Memory.{next, entries, named, contents, place_of, put, bytes_at, rest_of, reader_at, moved, with_empty, told, IsReading, left_of, IsCreated, StandsFor, reads_of, writes_of, is_listed, IsListed, opened, given, emptied, appended};
 
 use super::memory_sink::is_listed_in;
 use super::outside::{Shelf, Trouble};
@@ -157,7 +160,8 @@ impl MemoryShelf {
 
     // Counts a call of `open_read` or `read` that failed.
     fn fail_read(&mut self)
-        ensures { self.new ≡ record self.old { calls = next self.old.calls; reads = next self.old.reads } }
+        ensures after { self.new ≡ record self.old { calls = next self.old.calls; reads = next self.old.reads } }
+        ensures later { self.old.reads ≤ self.new.reads }
     {
         self.number = self.number.saturating_add(1);
         self.failed_reads = self.failed_reads.saturating_add(1);
@@ -165,7 +169,8 @@ impl MemoryShelf {
 
     // Counts a call of `create` or `write` that failed.
     fn fail_write(&mut self)
-        ensures { self.new ≡ record self.old { calls = next self.old.calls; writes = next self.old.writes } }
+        ensures after { self.new ≡ record self.old { calls = next self.old.calls; writes = next self.old.writes } }
+        ensures later { self.old.writes ≤ self.new.writes }
     {
         self.number = self.number.saturating_add(1);
         self.failed_writes = self.failed_writes.saturating_add(1);
@@ -214,6 +219,7 @@ impl MemoryShelf {
         ensures id { IfOk result (λ id. id ≡ length self.old.readers) }
         ensures there { OnOk result (place_of self.old.files name.now < length self.old.files) }
         ensures after { self.new ≡ opened self.old name.now result }
+        ensures cause { HasCauseOrLacks (reads_of self.old) (reads_of self.new) (Lacks (told self.old) name.now) result }
     {
         if self.is_next_listed() {
             self.fail_read();
@@ -251,6 +257,7 @@ impl MemoryShelf {
         ensures front { IfOk result (λ count.
             take count into.new ≡ take count (rest_of self.old.files (reader_at self.old.readers id))) }
         ensures after { self.new ≡ given self.old id result }
+        ensures cause { HasCause (reads_of self.old) (reads_of self.new) result }
     {
         if self.is_next_listed() {
             self.fail_read();
@@ -290,6 +297,7 @@ impl MemoryShelf {
         ensures exact { IsErrOf result Trouble.Failed ↔ IsListed self.old }
         ensures id { IfOk result (λ id. id ≡ place_of self.old.files name.now) }
         ensures after { self.new ≡ emptied self.old name.now result }
+        ensures cause { HasCause (writes_of self.old) (writes_of self.new) result }
     {
         if self.is_next_listed() {
             self.fail_write();
@@ -317,6 +325,7 @@ impl MemoryShelf {
         ensures exact { IsErrOf result Trouble.Failed ↔ IsListed self.old }
         ensures count { IfOk result (λ count. count ≡ length piece.now) }
         ensures after { self.new ≡ appended self.old place piece.now result }
+        ensures cause { HasCause (writes_of self.old) (writes_of self.new) result }
     {
         if self.is_next_listed() {
             self.fail_write();
@@ -327,5 +336,95 @@ impl MemoryShelf {
         }
         self.count_call();
         Ok(piece.len())
+    }
+}
+
+impl Shelf for MemoryShelf {
+    ghost files = { told };
+
+    ghost reading = { IsReading };
+
+    ghost left = { left_of };
+
+    ghost created = { IsCreated };
+
+    ghost stands = { StandsFor };
+
+    ghost reads = { reads_of };
+
+    ghost writes = { writes_of };
+
+    fn open_read(&mut self, name: &str) -> Result<u32, Trouble>
+        // exactly what it answers, and what it leaves
+        ensures exact { IsErrOf result Trouble.Failed ↔ (IsListed self.old ⊎ Lacks (told self.old) name.now) }
+        ensures after { self.new ≡ opened self.old name.now result }
+
+        // what every shelf promises
+        ensures id { IfOk result (λ id. IsReading self.new id) }
+        ensures bytes { IfOk result (λ id. IfSome (told self.old)
+            (λ files. left_of self.new id ≡ Some (text_of (files name.now)))) }
+        ensures kept { ReadKeeps told writes_of IsReading IsCreated StandsFor self.old self.new }
+        ensures cause { HasCauseOrLacks (reads_of self.old) (reads_of self.new)
+            (Lacks (told self.old) name.now) result }
+        ensures memory { IsErrOf result Trouble.NoMemory → Unchanged (told self.old) (told self.new) }
+    {
+        self.open(name)
+    }
+
+    fn read(&mut self, id: u32, into: &mut [u8]) -> Result<usize, Trouble>
+        requires id { IsReading self.old id }
+        requires room { 0 < length into.old }
+
+        // exactly what it answers, and what it leaves
+        ensures exact { IsErrOf result Trouble.Failed ↔ IsListed self.old }
+        ensures count { IfOk result (λ count.
+            count ≡ min (length into.old) (length (rest_of self.old.files (reader_at self.old.readers id)))) }
+        ensures after { self.new ≡ given self.old id result }
+
+        // what every shelf promises
+        ensures bound { IfOk result (λ count. count ≤ length into.new) }
+        ensures bytes { ReadConsumes (left_of self.old id) (left_of self.new id) result into.new }
+        ensures kept { ReadKeeps told writes_of IsReading IsCreated StandsFor self.old self.new }
+        ensures cause { HasCause (reads_of self.old) (reads_of self.new) result }
+        ensures memory { IsErrOf result Trouble.NoMemory → Unchanged (told self.old) (told self.new) }
+    {
+        self.give(id as usize, into)
+    }
+
+    fn create(&mut self, name: &str) -> Result<u32, Trouble>
+        // exactly what it answers, and what it leaves
+        ensures exact { IsErrOf result Trouble.Failed ↔ IsListed self.old }
+        ensures place { IfOk result (λ id. id ≡ place_of self.old.files name.now) }
+        ensures after { self.new ≡ emptied self.old name.now result }
+
+        // what every shelf promises
+        ensures id { IfOk result (λ id. IsCreated self.new id) }
+        ensures file { IfOk result (λ id. IfSome (told self.new) (λ _. StandsFor self.new id name.now)) }
+        ensures files { AfterTold (told self.old) (told self.new) (Creates name.now result) }
+        ensures kept { WriteKeeps reads_of IsReading IsCreated StandsFor self.old self.new }
+        ensures cause { HasCause (writes_of self.old) (writes_of self.new) result }
+        ensures memory { IsErrOf result Trouble.NoMemory → Unchanged (told self.old) (told self.new) }
+    {
+        self.clear(name)
+    }
+
+    fn write(&mut self, id: u32, piece: &[u8]) -> Result<usize, Trouble>
+        requires id { IsCreated self.old id }
+        requires some { 0 < length piece.now }
+
+        // exactly what it answers, and what it leaves
+        ensures exact { IsErrOf result Trouble.Failed ↔ IsListed self.old }
+        ensures count { IfOk result (λ count. count ≡ length piece.now) }
+        ensures after { self.new ≡ appended self.old id piece.now result }
+
+        // what every shelf promises
+        ensures bound { IfOk result (λ count. (0 < count) × (count ≤ length piece.now)) }
+        ensures bytes { (name : List ℕ) → StandsFor self.old id name →
+            AfterTold (told self.old) (told self.new) (Grows name (taken result piece.now)) }
+        ensures kept { WriteKeeps reads_of IsReading IsCreated StandsFor self.old self.new }
+        ensures cause { HasCause (writes_of self.old) (writes_of self.new) result }
+        ensures memory { IsErrOf result Trouble.NoMemory → Unchanged (told self.old) (told self.new) }
+    {
+        self.append(id as usize, piece)
     }
 }
