@@ -7,7 +7,7 @@ use Rattle.sim_io.specs.Told.{Files, Others, Same, Lacks, Unchanged, AfterTold, 
 use Rattle.sim_io.specs.Keeps.{IdsStay, ReadKeeps, WriteKeeps}
 use Rattle.sim_io.specs.Cause.{Rose, HasCause, HasCauseOrLacks}
 use Rattle.sim_io.specs.Taken.{taken, Creates}
-use Rattle.sim_io.specs.Memory.{next, Entry, named, contents, place_of, entry_at, bytes_at, put, with_empty, rest_of, reader_at, moved, ShelfState, told, IsReading, left_of, IsCreated, StandsFor, reads_of, writes_of, IsListed, is_listed, opened, given, emptied, appended}
+use Rattle.sim_io.specs.Memory.{Entry, named, contents, place_of, entry_at, bytes_at, put, with_empty, rest_of, reader_at, moved, ShelfState, told, IsReading, left_of, IsCreated, StandsFor, reads_of, writes_of, IsListed, is_listed, opened, given, emptied, appended}
 use Rattle.sim_io.specs.declared.outside.Trouble.{Trouble}
 use Rattle.sim_io.specs.declared.outside.Trouble.TheVariants.{Failed, NoMemory}
 use Rattle.sim_io.specs.declared.memory_shelf.Reader.{Reader}

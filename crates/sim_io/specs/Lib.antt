@@ -3,3 +3,4 @@ pub mod Cause
 pub mod Keeps
 pub mod Taken
 pub mod Memory
+pub mod Host

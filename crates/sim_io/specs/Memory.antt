@@ -3,13 +3,10 @@ use Rattle.std.specs.Prelude.{◌≡◌, ◌<◌, ◌+◌, ◌-◌, ◌^◌, ◌
 use Rattle.std.specs.List.{position_or_len, slice_index_or, list_any}
 use Rattle.std.specs.Option.{option_map}
 use Rattle.sim_io.specs.Told.{Files}
+use Rattle.sim_io.specs.Cause.{next}
 use Rattle.sim_io.specs.declared.memory_shelf.Reader.{Reader}
 use Rattle.sim_io.specs.declared.outside.Trouble.{Trouble}
 use Rattle.sim_io.specs.declared.outside.Trouble.TheVariants.{Failed, NoMemory}
-
--- one more, or the last value of a u64
-abbrev pub next : ℕ → ℕ
-next count = min (count + 1) (2 ^ 64 - 1)
 
 -- a sink in memory: what it took, what room is left if that is bounded, the numbers of the calls that
 -- are to fail, the number of the next call, and how many failed

@@ -2,11 +2,13 @@
 //! say all that a caller may rely on, and loops over them that read or write whole texts.
 #![tactic(auto)]
 
+mod host;
 mod memory_shelf;
 mod memory_sink;
 mod outside;
 mod transfer;
 
+pub use host::{HostShelf, HostSink};
 pub use memory_shelf::MemoryShelf;
 pub use memory_sink::MemorySink;
 pub use outside::{Shelf, Sink, Trouble};
