@@ -1,6 +1,7 @@
 //! The outside as the operating system gives it: real files, and any stream that takes bytes.
-ghost use Rattle.std.specs.Prelude.{◌≡◌, ◌<◌, ◌≤◌, ℕ, List, None, length, IfOk, OnOk, IsErrOf, vec_len, vec_capacity};
-ghost use Rattle.sim_io.specs.Cause.{faults_with, faults_after};
+ghost use Rattle.std.specs.Prelude.{◌≡◌, ◌<◌, ◌≤◌, ◌↔◌, ℕ, List, None, length, IfOk, OnOk, IsErrOf, vec_len, vec_capacity};
+ghost use Rattle.sim_io.specs.Cause.{faults_with, faults_after, HasCause};
+ghost use Rattle.std.specs.IoError.{error_kind};
 ghost use Rattle.sim_io.specs.Host.{HostState, one_more};
 
 use super::outside::{Shelf, Sink, Trouble};
@@ -11,7 +12,9 @@ use std::rt::Files;
 use std::{fs, io};
 
 // What an error of the operating system is to the simulator.
-fn trouble_of(error: &io::Error) -> Trouble {
+fn trouble_of(error: &io::Error) -> Trouble
+    ensures { (result ≡ Trouble.NoMemory) ↔ (error_kind error.now ≡ ErrorKind.OutOfMemory) }
+{
     match error.kind() {
         ErrorKind::OutOfMemory => Trouble::NoMemory,
         _ => Trouble::Failed,
@@ -87,7 +90,16 @@ impl<W: Write> Sink for HostSink<W> {
 
     ghost faults = { λ s. s };
 
-    fn write(&mut self, piece: &[u8]) -> Result<usize, Trouble> {
+    fn write(&mut self, piece: &[u8]) -> Result<usize, Trouble>
+        requires { 0 < length piece.now }
+
+        // exactly what it counts
+        ensures after { self.new ≡ faults_after self.old result }
+
+        // what every sink promises
+        ensures bound { IfOk result (λ count. (0 < count) × (count ≤ length piece.now)) }
+        ensures cause { HasCause self.old self.new result }
+    {
         match self.stream.write(piece) {
             Ok(0) => Err(self.count(Trouble::Failed)),
             Ok(count) => Ok(count),
@@ -169,7 +181,14 @@ impl<R: Files> Shelf for HostShelf<R> {
 
     ghost writes = { λ s. s.writes };
 
-    fn open_read(&mut self, name: &str) -> Result<u32, Trouble> {
+    fn open_read(&mut self, name: &str) -> Result<u32, Trouble>
+        // exactly what it counts
+        ensures after { self.new ≡ record self.old { opened = one_more self.old.opened result; reads = faults_after self.old.reads result } }
+
+        // what every shelf promises
+        ensures id { IfOk result (λ id. id ≡ self.old.opened) }
+        ensures later { self.old.reads ≤ self.new.reads }
+    {
         let Ok(id) = next_id(&mut self.readers) else {
             return Err(Trouble::NoMemory);
         };
@@ -182,14 +201,31 @@ impl<R: Files> Shelf for HostShelf<R> {
         }
     }
 
-    fn read(&mut self, id: u32, into: &mut [u8]) -> Result<usize, Trouble> {
+    fn read(&mut self, id: u32, into: &mut [u8]) -> Result<usize, Trouble>
+        requires id { id < self.old.opened }
+        requires room { 0 < length into.old }
+
+        // exactly what it counts
+        ensures after { self.new ≡ record self.old { reads = faults_after self.old.reads result } }
+
+        // what every shelf promises
+        ensures bound { IfOk result (λ count. count ≤ length into.new) }
+        ensures later { self.old.reads ≤ self.new.reads }
+    {
         match self.readers[id as usize].read(into) {
             Ok(count) => Ok(count),
             Err(error) => Err(self.count_read(trouble_of(&error))),
         }
     }
 
-    fn create(&mut self, name: &str) -> Result<u32, Trouble> {
+    fn create(&mut self, name: &str) -> Result<u32, Trouble>
+        // exactly what it counts
+        ensures after { self.new ≡ record self.old { created = one_more self.old.created result; writes = faults_after self.old.writes result } }
+
+        // what every shelf promises
+        ensures id { IfOk result (λ id. id ≡ self.old.created) }
+        ensures later { self.old.writes ≤ self.new.writes }
+    {
         let Ok(id) = next_id(&mut self.writers) else {
             return Err(Trouble::NoMemory);
         };
@@ -202,7 +238,17 @@ impl<R: Files> Shelf for HostShelf<R> {
         }
     }
 
-    fn write(&mut self, id: u32, piece: &[u8]) -> Result<usize, Trouble> {
+    fn write(&mut self, id: u32, piece: &[u8]) -> Result<usize, Trouble>
+        requires id { id < self.old.created }
+        requires some { 0 < length piece.now }
+
+        // exactly what it counts
+        ensures after { self.new ≡ record self.old { writes = faults_after self.old.writes result } }
+
+        // what every shelf promises
+        ensures bound { IfOk result (λ count. (0 < count) × (count ≤ length piece.now)) }
+        ensures later { self.old.writes ≤ self.new.writes }
+    {
         match self.writers[id as usize].write(piece) {
             Ok(0) => Err(self.count_write(Trouble::Failed)),
             Ok(count) => Ok(count),
