@@ -13,3 +13,6 @@ pub use memory_shelf::MemoryShelf;
 pub use memory_sink::MemorySink;
 pub use outside::{Shelf, Sink, Trouble};
 pub use transfer::{Bytes, ReadStop, read_all, write_all, write_file};
+
+#[cfg(test)]
+mod tests;

@@ -163,6 +163,7 @@ pub fn write_file<S: Shelf>(shelf: &mut S, id: u32, piece: &[u8]) -> Result<(), 
         FileTook name (S.files shelf.old) (S.files shelf.new) piece.now result }
     ensures cause { RoseIf (S.writes shelf.old) (S.writes shelf.new) (IsErrOf result Trouble.Failed) }
     ensures kept { WriteKeeps S.reads S.reading S.created S.stands shelf.old shelf.new }
+    ensures created { S.created shelf.new id }
     ensures empty { piece.now ≡ [] → shelf.new ≡ shelf.old }
 {
     let mut done = 0;
