@@ -1,13 +1,11 @@
 -- What each call of a shelf in memory makes of it, said in the words of a shelf.
-use Rattle.std.proofs.Common.{◌≡◌, ◌≢◌, ◌<◌, ◌≤◌, ◌+◌, ◌-◌, ◌^◌, ◌⊎◌, inl, inr, min, ℕ, Bool, true, false, cond, List, [], ◌∷◌, ◌++◌, length, get_or, set, drop, take, Option, None, Some, refl, sym, ◌∙◌, ap, subst, arith, append-nil}
-use Rattle.std.specs.Prelude.{Result, Ok, Err, IsErrOf, slice_get, IfOk, OnOk, MatchOption, not}
+use Rattle.std.proofs.Common.{◌≡◌, ◌<◌, ◌≤◌, ◌+◌, ◌⊎◌, inl, inr, min, ℕ, List, [], ◌∷◌, ◌++◌, length, set, drop, take, Option, None, Some, refl, sym, ◌∙◌, ap, subst, arith, append-nil}
+use Rattle.std.specs.Prelude.{Result, Ok, Err, IfOk, OnOk, MatchOption, not}
 use Rattle.std.specs.Option.{option_map}
 use Rattle.std.proofs.lemmas.List.Sums.{prefix_len-le-length}
-use Rattle.sim_io.specs.Told.{Files, Others, Same, Lacks, Unchanged, AfterTold, Grows, text_of}
-use Rattle.sim_io.specs.Keeps.{IdsStay, ReadKeeps, WriteKeeps}
-use Rattle.sim_io.specs.Cause.{Rose, HasCause, HasCauseOrLacks}
+use Rattle.sim_io.specs.Told.{Lacks, Grows, text_of}
 use Rattle.sim_io.specs.Taken.{taken, Creates}
-use Rattle.sim_io.specs.Memory.{Entry, named, contents, place_of, entry_at, bytes_at, put, with_empty, rest_of, reader_at, moved, ShelfState, told, IsReading, left_of, IsCreated, StandsFor, reads_of, writes_of, IsListed, is_listed, opened, given, emptied, appended}
+use Rattle.sim_io.specs.Memory.{Entry, named, contents, place_of, bytes_at, with_empty, rest_of, reader_at, ShelfState, left_of, StandsFor, opened, given, emptied, appended}
 use Rattle.sim_io.specs.declared.outside.Trouble.{Trouble}
 use Rattle.sim_io.specs.declared.outside.Trouble.TheVariants.{Failed, NoMemory}
 use Rattle.sim_io.specs.declared.memory_shelf.Reader.{Reader}

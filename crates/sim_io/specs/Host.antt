@@ -1,6 +1,5 @@
 -- What a shelf of real files keeps count of.
 use Rattle.std.specs.Prelude.{ℕ, ◌+◌, Result, Ok, Err}
-use Rattle.sim_io.specs.Cause.{faults_after}
 use Rattle.sim_io.specs.declared.outside.Trouble.{Trouble}
 
 -- the files that were opened for reading, those that were created, and how many calls that read and

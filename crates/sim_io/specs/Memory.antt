@@ -1,5 +1,5 @@
 -- What a sink and a shelf in memory hold, and what each call makes of it.
-use Rattle.std.specs.Prelude.{◌≡◌, ◌<◌, ◌+◌, ◌-◌, ◌^◌, ◌⊎◌, ℕ, Bool, min, List, [], ◌∷◌, ◌++◌, length, map, take, drop, find, nat_eq, nat_lt, if◌then◌else◌, Option, None, Some, Result, Ok, Err, unwrap_or, bytes_eq, slice_get, slice_set, Contains, String, Vec, string_bytes}
+use Rattle.std.specs.Prelude.{◌≡◌, ◌<◌, ◌+◌, ◌-◌, ◌⊎◌, ℕ, Bool, min, List, [], ◌∷◌, ◌++◌, length, map, take, drop, find, nat_eq, nat_lt, if◌then◌else◌, Option, None, Some, Result, Ok, Err, bytes_eq, slice_get, slice_set, Contains, String, Vec, string_bytes}
 use Rattle.std.specs.List.{position_or_len, slice_index_or, list_any}
 use Rattle.std.specs.Option.{option_map}
 use Rattle.sim_io.specs.Told.{Files}

@@ -1,5 +1,5 @@
 -- What a write took of a piece.
-use Rattle.std.specs.Prelude.{◌≡◌, ◌<◌, ◌⊎◌, ℕ, List, [], ◌++◌, length, take, Option, Some, Result, Ok, Err, ⊤}
+use Rattle.std.specs.Prelude.{◌≡◌, ◌<◌, ◌⊎◌, ℕ, List, [], length, take, Option, Some, Result, Ok, Err}
 use Rattle.sim_io.specs.Told.{Files, AfterTold, Grows, Grew, Others, Same}
 use Rattle.sim_io.specs.declared.outside.Trouble.{Trouble}
 use Rattle.sim_io.specs.declared.outside.Trouble.TheVariants.{Failed, NoMemory}

@@ -1,6 +1,6 @@
-use Rattle.std.proofs.Common.{◌≡◌, ◌<◌, ◌∙◌, ◌++◌, ℕ, Bool, true, false, cond, List, length, refl, ap, sym, arith}
+use Rattle.std.proofs.Common.{◌≡◌, ◌<◌, ◌∙◌, ◌++◌, Bool, true, false, cond, length, ap, sym, arith}
 use Rattle.std.specs.Prelude.{is_ok, slice_set}
-use Rattle.sim_io.specs.Memory.{Entry, entries, put, bytes_at}
+use Rattle.sim_io.specs.Memory.{entries, put, bytes_at}
 use Rattle.sim_io.proofs.Entries.{entries-put, entries-put_same, bytes_at-entries}
 use Rattle.sim_io.proofs.memory_shelf.append_to.Goals as goal
 

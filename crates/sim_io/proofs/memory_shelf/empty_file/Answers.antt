@@ -1,4 +1,4 @@
-use Rattle.std.proofs.Common.{◌≡◌, ◌<◌, ◌∙◌, List, [], length, ap, arith}
+use Rattle.std.proofs.Common.{◌<◌, ◌∙◌, length, ap, arith}
 use Rattle.sim_io.specs.Memory.{entries, put}
 use Rattle.sim_io.proofs.Entries.{entries-put}
 use Rattle.sim_io.proofs.memory_shelf.empty_file.Goals as goal

@@ -1,4 +1,4 @@
-use Rattle.std.proofs.Common.{◌≡◌, ◌≤◌, ◌+◌, length, arith}
+use Rattle.std.proofs.Common.{◌≤◌, ◌+◌, length, arith}
 use Rattle.sim_io.proofs.Chains.{piece_within, piece_grew_on}
 use Rattle.sim_io.proofs.transfer.write_all.Goals as goal
 

@@ -1,4 +1,4 @@
-use Rattle.std.proofs.Common.{◌≡◌, ◌≤◌, ◌+◌, length, take, refl, arith}
+use Rattle.std.proofs.Common.{◌≤◌, ◌+◌, length, take, refl, arith}
 use Rattle.sim_io.proofs.Chains.{piece_within, piece_file_on, file_grew_none_on, write_keeps_on}
 use Rattle.sim_io.proofs.transfer.write_file.Goals as goal
 

@@ -1,5 +1,4 @@
-use Rattle.std.proofs.Common.{◌≡◌, ◌<◌, ◌∙◌, List, ℕ, Option, None, Some, length, sym, ap, subst, arith}
-use Rattle.std.proofs.lemmas.List.{length-map}
+use Rattle.std.proofs.Common.{◌≡◌, ◌<◌, ◌∙◌, None, Some, length, sym, ap, subst, arith}
 use Rattle.sim_io.specs.Memory.{ShelfState, contents, entries}
 use Rattle.sim_io.proofs.Entries.{contents_at, contents_none, bytes_at-entries, length-entries}
 use Rattle.sim_io.proofs.memory_shelf.MemoryShelf.file.Goals as goal

@@ -1,4 +1,4 @@
-use Rattle.std.proofs.Common.{inl, inr, refl}
+use Rattle.std.proofs.Common.{inr, refl}
 use Rattle.sim_io.proofs.Steps.{neither, not_lacking}
 use Rattle.sim_io.proofs.memory_shelf.MemoryShelf.open.Goals as goal
 
