@@ -79,7 +79,7 @@ int_shr_is z n m r small least e =
     let again : to_z w64 (of_z w64 (int_shr z m)) ≡ int_shr z m = to_z-of_z w64 (int_shr z m) shifted in
     let first : of_z w64 (to_z w64 (of_z w64 (int_shr (to_z w64 (of_z w64 z)) m))) ≡ of_z w64 (int_shr z m) = rw back (ap (of_z w64) again) in
     let same : int_shr z m ≡ int_shr z n = ⊎_elim
-      (λ (near : n < 63). let is : m ≡ n = omega arith in ap (int_shr z) is)
-      (λ (far : 63 ≤ n). let is : m ≡ 63 = omega arith in ap (int_shr z) is ∙ sym (int_shr_far z n small far))
-      (cases_lt n 63) in
+    (λ (near : n < 63). let is : m ≡ n = omega arith in ap (int_shr z) is)
+    (λ (far : 63 ≤ n). let is : m ≡ 63 = omega arith in ap (int_shr z) is ∙ sym (int_shr_far z n small far))
+    (cases_lt n 63) in
     e ∙ first ∙ ap (of_z w64) same

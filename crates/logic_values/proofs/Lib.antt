@@ -1,3 +1,4 @@
 mod IntegerLemmas
 mod PlaneLemmas
 mod ResolvedLemmas
+mod TextLemmas

@@ -69,7 +69,7 @@ pub and_planes : (n ua oa ub ob : ℕ) → digits_in n (bit_and (bit_and (bit_or
 and_planes zero ua oa ub ob = refl
 and_planes (suc n) ua oa ub ob =
     let first : digit_of_bits (bit_and (bit_and (bit_or (oa % 2) (ua % 2)) (bit_or (ob % 2) (ub % 2))) (bit_or (ua % 2) (ub % 2))) (bit_and (bit_or (oa % 2) (ua % 2)) (bit_or (ob % 2) (ub % 2))) ≡ and_of (digit_of_bits (ua % 2) (oa % 2)) (digit_of_bits (ub % 2) (ob % 2)) =
-      rw ((lowest ua).1, (lowest oa).1, (lowest ub).1, (lowest ob).1) (and_place (lowest ua).0 (lowest oa).0 (lowest ub).0 (lowest ob).0) in
+    rw ((lowest ua).1, (lowest oa).1, (lowest ub).1, (lowest ob).1) (and_place (lowest ua).0 (lowest oa).0 (lowest ub).0 (lowest ob).0) in
     let rest = and_planes n (ua / 2) (oa / 2) (ub / 2) (ob / 2) in
     simp (half_and, half_or, low_and, low_or) (rw (first, rest) refl)
 
@@ -102,7 +102,7 @@ pub xor_planes : (n ua oa ub ob : ℕ) → digits_in n (bit_or ua ub) (bit_or (b
 xor_planes zero ua oa ub ob = refl
 xor_planes (suc n) ua oa ub ob =
     let first : digit_of_bits (bit_or (ua % 2) (ub % 2)) (bit_or (bit_xor (oa % 2) (ob % 2)) (bit_or (ua % 2) (ub % 2))) ≡ xor_of (digit_of_bits (ua % 2) (oa % 2)) (digit_of_bits (ub % 2) (ob % 2)) =
-      rw ((lowest ua).1, (lowest oa).1, (lowest ub).1, (lowest ob).1) (xor_place (lowest ua).0 (lowest oa).0 (lowest ub).0 (lowest ob).0) in
+    rw ((lowest ua).1, (lowest oa).1, (lowest ub).1, (lowest ob).1) (xor_place (lowest ua).0 (lowest oa).0 (lowest ub).0 (lowest ob).0) in
     let rest = xor_planes n (ua / 2) (oa / 2) (ub / 2) (ob / 2) in
     simp (half_or, half_xor, low_or, low_xor) (rw (first, rest) refl)
 
@@ -122,7 +122,7 @@ not_planes (suc n) u o mask e =
     let odd : mask % 2 ≡ 1 = omega arith in
     let half : mask / 2 + 1 ≡ 2 ^ n = omega arith in
     let first : digit_of_bits (u % 2) (bit_or (bit_xor (o % 2) 1) (u % 2)) ≡ not_of (digit_of_bits (u % 2) (o % 2)) =
-      rw ((lowest u).1, (lowest o).1) (not_place (lowest u).0 (lowest o).0) in
+    rw ((lowest u).1, (lowest o).1) (not_place (lowest u).0 (lowest o).0) in
     let rest = not_planes n (u / 2) (o / 2) (mask / 2) half in
     simp (half_or, half_xor, low_or, low_xor, odd) (rw (first, rest) refl)
 
@@ -231,13 +231,13 @@ shifted_or_fits a j b k ha hb h =
     rw (shifted_or a j b k ha hb h, power) within
 
 pub shifted_or_digits : (wa ua oa wb ub ob : ℕ) → ua < 2 ^ wa → oa < 2 ^ wa → ub < 2 ^ wb → ob < 2 ^ wb → wa + wb ≤ 64
-  → digits_in (wa + wb) (bit_or ((ua * 2 ^ wb) % 2 ^ 64) ub) (bit_or ((oa * 2 ^ wb) % 2 ^ 64) ob) ≡ digits_in wb ub ob ++ digits_in wa ua oa
+    → digits_in (wa + wb) (bit_or ((ua * 2 ^ wb) % 2 ^ 64) ub) (bit_or ((oa * 2 ^ wb) % 2 ^ 64) ob) ≡ digits_in wb ub ob ++ digits_in wa ua oa
 shifted_or_digits wa ua oa wb ub ob hua hoa hub hob h =
     rw (shifted_or ua wa ub wb hua hub h, shifted_or oa wa ob wb hoa hob h)
     (concat_planes wb wa (wa + wb) (omega arith) ua oa ub ob hub hob)
 
 pub slice_digits : (low w k u o ru ro : ℕ) → low + w ≤ k → ru ≡ u / 2 ^ low % 2 ^ w → ro ≡ o / 2 ^ low % 2 ^ w
-  → digits_in w ru ro ≡ take w (drop low (digits_in k u o))
+    → digits_in w ru ro ≡ take w (drop low (digits_in k u o))
 slice_digits low w k u o ru ro h eu eo =
     rw (eu, eo, drop_planes low (k - low) k u o (omega arith))
     (sym (take_planes w (k - low - w) (k - low) (u / 2 ^ low) (o / 2 ^ low) (omega arith)))

@@ -34,7 +34,11 @@ pub fn div(s: Sign, a: u64, b: u64) -> Option<u64>
         return None;
     }
     match s {
-        Sign::Signed => Some(a.cast_signed().wrapping_div(b.cast_signed()).cast_unsigned()),
+        Sign::Signed => Some(
+            a.cast_signed()
+                .wrapping_div(b.cast_signed())
+                .cast_unsigned(),
+        ),
         Sign::Unsigned => Some(a / b),
     }
 }
@@ -47,7 +51,11 @@ pub fn rem(s: Sign, a: u64, b: u64) -> Option<u64>
         return None;
     }
     match s {
-        Sign::Signed => Some(a.cast_signed().wrapping_rem(b.cast_signed()).cast_unsigned()),
+        Sign::Signed => Some(
+            a.cast_signed()
+                .wrapping_rem(b.cast_signed())
+                .cast_unsigned(),
+        ),
         Sign::Unsigned => Some(a % b),
     }
 }
