@@ -2,3 +2,4 @@ mod IntegerLemmas
 mod PlaneLemmas
 mod ResolvedLemmas
 mod TextLemmas
+pub mod VectorLaws
