@@ -3,3 +3,4 @@ mod PlaneLemmas
 mod ResolvedLemmas
 mod TextLemmas
 pub mod VectorLaws
+mod ConversionLemmas

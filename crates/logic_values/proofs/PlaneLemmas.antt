@@ -13,19 +13,19 @@ use Rattle.logic_values.specs.Vectors.{digit_by_digit}
 
 -- ---- one bit
 
-abbrev bit : Bool → ℕ
+abbrev pub bit : Bool → ℕ
 bit false = 0
 bit true = 1
 
 -- the lowest bit of a number
-lowest : (n : ℕ) → (b : Bool) × (n % 2 ≡ bit b)
+pub lowest : (n : ℕ) → (b : Bool) × (n % 2 ≡ bit b)
 lowest n =
     ⊎_elim
     (λ (e : n % 2 < 1). (false, omega arith))
     (λ (e : 1 ≤ n % 2). (true, omega arith))
     (cases_lt (n % 2) 1)
 
-half_and : (a b : ℕ) → bit_and a b / 2 ≡ bit_and (a / 2) (b / 2)
+pub half_and : (a b : ℕ) → bit_and a b / 2 ≡ bit_and (a / 2) (b / 2)
 half_and a b = and_shr a b 1
 
 half_or : (a b : ℕ) → bit_or a b / 2 ≡ bit_or (a / 2) (b / 2)
@@ -34,7 +34,7 @@ half_or a b = or_shr a b 1
 half_xor : (a b : ℕ) → bit_xor a b / 2 ≡ bit_xor (a / 2) (b / 2)
 half_xor a b = xor_shr a b 1
 
-low_and : (a b : ℕ) → bit_and a b % 2 ≡ bit_and (a % 2) (b % 2)
+pub low_and : (a b : ℕ) → bit_and a b % 2 ≡ bit_and (a % 2) (b % 2)
 low_and a b = and_mod a b 1
 
 low_or : (a b : ℕ) → bit_or a b % 2 ≡ bit_or (a % 2) (b % 2)
@@ -187,23 +187,23 @@ drop_planes (suc i) m (suc k) u o e =
     let down_o : o / 2 / 2 ^ i ≡ o / 2 ^ suc i = shr-shr o 1 i ∙ ap (λ j. o / 2 ^ j) next in
     rw (← down_u, ← down_o) (drop_planes i m k (u / 2) (o / 2) (omega arith))
 
-low_of_field : (n j : ℕ) → n % 2 ^ suc j % 2 ≡ n % 2
+pub low_of_field : (n j : ℕ) → n % 2 ^ suc j % 2 ≡ n % 2
 low_of_field n j =
     let next : j + 1 ≡ suc j = omega arith in
     let parts : n % 2 ^ (j + 1) ≡ (n / 2 % 2 ^ j) * 2 + n % 2 = mod-pow-add n j 1 in
     rw (← next) (rw parts (omega arith))
+
+pub half_of_field : (n j : ℕ) → n % 2 ^ suc j / 2 ≡ n / 2 % 2 ^ j
+half_of_field n j =
+    let next : j + 1 ≡ suc j = omega arith in
+    ap (λ i. n % 2 ^ i / 2) (sym next) ∙ field_of n j 1
 
 -- the lowest places of the planes
 pub take_planes : (j m k u o : ℕ) → k ≡ j + m → take j (digits_in k u o) ≡ digits_in j (u % 2 ^ j) (o % 2 ^ j)
 take_planes zero m k u o e = refl
 take_planes (suc j) m zero u o e = absurd (omega arith)
 take_planes (suc j) m (suc k) u o e =
-    let next : j + 1 ≡ suc j = omega arith in
-    let low_u : u % 2 ^ suc j % 2 ≡ u % 2 = low_of_field u j in
-    let low_o : o % 2 ^ suc j % 2 ≡ o % 2 = low_of_field o j in
-    let half_u : u % 2 ^ suc j / 2 ≡ u / 2 % 2 ^ j = ap (λ i. u % 2 ^ i / 2) (sym next) ∙ field_of u j 1 in
-    let half_o : o % 2 ^ suc j / 2 ≡ o / 2 % 2 ^ j = ap (λ i. o % 2 ^ i / 2) (sym next) ∙ field_of o j 1 in
-    rw (low_u, low_o, half_u, half_o, take_planes j m k (u / 2) (o / 2) (omega arith)) refl
+    rw (low_of_field u j, low_of_field o j, half_of_field u j, half_of_field o j, take_planes j m k (u / 2) (o / 2) (omega arith)) refl
 
 -- one place of the planes
 pub place_of_planes : (i k u o : ℕ) → i < k → slice_get (digits_in k u o) i ≡ Some (digit_of_bits (u / 2 ^ i % 2) (o / 2 ^ i % 2))

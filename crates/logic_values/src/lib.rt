@@ -2,6 +2,7 @@
 #![tactic(auto)]
 
 mod byte_text;
+mod conversions;
 mod integers;
 mod kinds;
 mod planes;
