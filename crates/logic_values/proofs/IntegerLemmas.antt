@@ -8,14 +8,6 @@ use Rattle.std.proofs.lemmas.Int.{to_z-of_z}
 use Rattle.std.proofs.lemmas.Bool.{cases_lt}
 use Rattle.std.specs.Int.{cast_signed, int_shr}
 use Rattle.std.specs.Int.Signed.{mag}
-use Rattle.logic_values.specs.Integers.{sign_extended}
-
--- a power of two is twice the one below it
-twice_half : (width : ℕ) → 1 ≤ width → 2 ^ width ≡ 2 * 2 ^ (width - 1)
-twice_half zero some = absurd (omega arith)
-twice_half (suc k) some =
-    let back : suc k - 1 ≡ k = omega arith in
-    rw back (pow-suc 2 k ∙ mul_comm (2 ^ k) 2)
 
 -- 63 places down nothing is left of less than 2^63
 shr_same : (a n : ℕ) → a < 2 ^ 63 → 63 ≤ n → a / 2 ^ n ≡ a / 2 ^ 63
@@ -38,18 +30,6 @@ pub and_low_mask : (a mask width : ℕ) → mask + 1 ≡ 2 ^ width → bit_and a
 and_low_mask a mask width e =
     let is : mask ≡ 2 ^ width - 1 = omega arith in
     rw is (and_mask a width)
-
--- twice the low number reaches 2^width exactly past the half of the mask
-pub past_half : (low mask width : ℕ) → 1 ≤ width → mask + 1 ≡ 2 ^ width → mask / 2 < low → 2 ^ width ≤ 2 * low
-past_half low mask width some e past =
-    let p : ℕ = 2 ^ (width - 1) in
-    let twice : 2 ^ width ≡ 2 * 2 ^ (width - 1) = twice_half width some in
-    omega arith
-
-pub up_to_half : (low mask width : ℕ) → 1 ≤ width → mask + 1 ≡ 2 ^ width → low ≤ mask / 2 → 2 * low < 2 ^ width
-up_to_half low mask width some e up =
-    let twice : 2 ^ width ≡ 2 * 2 ^ (width - 1) = twice_half width some in
-    omega arith
 
 -- nothing is left 64 places up
 pub shl_far : (a n : ℕ) → 64 ≤ n → 0 ≡ (a * 2 ^ n) % 2 ^ 64
