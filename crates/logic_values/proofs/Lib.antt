@@ -4,3 +4,4 @@ mod ResolvedLemmas
 mod TextLemmas
 pub mod VectorLaws
 mod ConversionLemmas
+pub mod IntegerLaws
