@@ -10,7 +10,7 @@ pub record StandsFor (k : Kernel) (c : Config) : Type 0 where
   pub design : k.design ≡ c.design
   pub phase : k.phase ≡ c.cycle.phase
   pub begun : k.begun ≡ c.cycle.begun
-  pub now : k.now.0 ≡ c.cycle.now
+  pub time : k.time.0 ≡ c.cycle.now
   pub end : option_map (λ t. t.0) k.end ≡ c.cycle.end
   pub stopped : k.stopped ≡ c.cycle.stopped
   pub events : k.events.items ≡ c.events

@@ -42,7 +42,7 @@ pub fn begin_run(k: &mut Kernel, duration: Option<Time>) -> Result<(), RunFault>
 {
     let end = match duration {
         None => None,
-        Some(duration) => match add(k.now, duration) {
+        Some(duration) => match add(k.time, duration) {
             None => return Err(RunFault::TimeOverflow),
             Some(end) => Some(end),
         },

@@ -18,8 +18,8 @@ pub struct Kernel {
     pub phase: Phase,
     /// Whether a run has begun.
     pub begun: bool,
-    /// The time.
-    pub now: Time,
+    /// The time that it is.
+    pub time: Time,
     /// When the run ends, where it has an end.
     pub end: Option<Time>,
     /// Whether the model stopped the session.
@@ -96,7 +96,7 @@ impl Kernel {
             design,
             phase: Phase::Idle,
             begun: false,
-            now: Time(0),
+            time: Time(0),
             end: None,
             stopped: false,
             events,

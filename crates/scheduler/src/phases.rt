@@ -77,7 +77,7 @@ fn timed_step(k: &mut Kernel)
     ensures sound { vec_len k.new.events ≡ 3 * vec_len k.new.signals }
 {
     if let Some(end) = k.end {
-        k.now = end;
+        k.time = end;
     }
     k.phase = Phase::Idle;
 }
