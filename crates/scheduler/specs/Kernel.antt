@@ -2,7 +2,7 @@
 use Rattle.std.specs.Prelude.{◌≡◌, ℕ, List, Option, Some, None, Result, Ok, Err, option_map, ◌++◌, [], ◌∷◌}
 use Rattle.model_tree.specs.declared.faults.RunFault.{RunFault}
 use Rattle.sim_model.specs.Configuration.{Config}
-use Rattle.sim_model.specs.Steps.{Outcome, went, faulted, not_ready, ended}
+use Rattle.sim_model.specs.Steps.{Outcome, went, faulted, ended}
 use Rattle.scheduler.specs.declared.kernel.Kernel.{Kernel}
 
 -- one clause for each part that is kept; the rest of the script and the lines are not
@@ -25,29 +25,26 @@ abbrev pub with_line : List (List ℕ) → Option (List ℕ) → List (List ℕ)
 with_line lines None = lines
 with_line lines (Some line) = lines ++ line ∷ []
 
--- a step went to a configuration that the kernel stands for now, with the same choices to come and the
--- same rest of the script, and this line more where there is one
-abbrev pub GoesTo : Kernel → Option (List ℕ) → Config → List ℕ → Outcome → Type 0
-GoesTo new line c choices (went d left) =
-    StandsFor new d × (left ≡ choices) × (d.script ≡ c.script) × (d.trace.lines ≡ with_line c.trace.lines line)
-GoesTo new line c choices (faulted f) = ⊥
-GoesTo new line c choices not_ready = ⊥
-GoesTo new line c choices ended = ⊥
+-- a step went to a configuration that the kernel stands for now, with the same rest of the script, and
+-- this line more where there is one
+abbrev pub GoesTo : Kernel → Option (List ℕ) → Config → Outcome → Type 0
+GoesTo new line c (went d) = StandsFor new d × (d.script ≡ c.script) × (d.trace.lines ≡ with_line c.trace.lines line)
+GoesTo new line c (faulted f) = ⊥
+GoesTo new line c ended = ⊥
 
--- whatever configuration the kernel stood for, and whatever choices are to come
-abbrev pub Goes : Kernel → Kernel → Option (List ℕ) → (Config → List ℕ → Outcome) → Type 0
-Goes old new line f = (c : Config) (choices : List ℕ) → StandsFor old c → GoesTo new line c choices (f c choices)
+-- whatever configuration the kernel stood for
+abbrev pub Goes : Kernel → Kernel → Option (List ℕ) → (Config → Outcome) → Type 0
+Goes old new line f = (c : Config) → StandsFor old c → GoesTo new line c (f c)
 
 -- a step that may be a run fault: the fault is the step's, and the kernel stands for what it stood for
 abbrev pub IsFault : Kernel → RunFault → Config → Outcome → Type 0
-IsFault new f c (went d left) = ⊥
+IsFault new f c (went d) = ⊥
 IsFault new f c (faulted g) = (f ≡ g) × StandsFor new c
-IsFault new f c not_ready = ⊥
 IsFault new f c ended = ⊥
 
-abbrev pub FollowsAt : Kernel → Result Unit RunFault → Config → List ℕ → Outcome → Type 0
-FollowsAt new (Ok done) c choices outcome = GoesTo new None c choices outcome
-FollowsAt new (Err f) c choices outcome = IsFault new f c outcome
+abbrev pub FollowsAt : Kernel → Result Unit RunFault → Config → Outcome → Type 0
+FollowsAt new (Ok done) c outcome = GoesTo new None c outcome
+FollowsAt new (Err f) c outcome = IsFault new f c outcome
 
-abbrev pub Follows : Kernel → Kernel → Result Unit RunFault → (Config → List ℕ → Outcome) → Type 0
-Follows old new result f = (c : Config) (choices : List ℕ) → StandsFor old c → FollowsAt new result c choices (f c choices)
+abbrev pub Follows : Kernel → Kernel → Result Unit RunFault → (Config → Outcome) → Type 0
+Follows old new result f = (c : Config) → StandsFor old c → FollowsAt new result c (f c)

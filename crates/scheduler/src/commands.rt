@@ -26,7 +26,7 @@ fn write_signal(signals: &mut [Signal], number: usize, value: Value)
 /// Asks for an update of a signal with a value. Signals are numbered from 0 in object order.
 pub fn set_signal(k: &mut Kernel, number: u32, value: Value)
     requires sound { vec_len k.old.events ≡ 3 * vec_len k.old.signals }
-    ensures steps { Goes k.old k.new None (λ c choices. spec.went (spec.set_signal c number value) choices) }
+    ensures steps { Goes k.old k.new None (λ c. spec.went (spec.set_signal c number value)) }
     ensures sound { vec_len k.new.events ≡ 3 * vec_len k.new.signals }
     ensures phase { k.new.phase ≡ k.old.phase }
 {
@@ -37,7 +37,7 @@ pub fn set_signal(k: &mut Kernel, number: u32, value: Value)
 /// run fault TimeOverflow, and nothing changes.
 pub fn begin_run(k: &mut Kernel, duration: Option<Time>) -> Result<(), RunFault>
     requires sound { vec_len k.old.events ≡ 3 * vec_len k.old.signals }
-    ensures steps { Follows k.old k.new result (λ c choices. spec.begin_run c duration choices) }
+    ensures steps { Follows k.old k.new result (λ c. spec.begin_run c duration) }
     ensures sound { vec_len k.new.events ≡ 3 * vec_len k.new.signals }
 {
     let end = match duration {
