@@ -1,9 +1,11 @@
 -- How a session went, and what it wrote.
-use Rattle.std.specs.Prelude.{◌≡◌, ◌<◌, ◌≤◌, ℕ, List, length, take, Option, Some, None}
+use Rattle.std.specs.Prelude.{◌≡◌, ◌<◌, ◌≤◌, ℕ, Bool, true, false, List, [], ◌∷◌, length, take, Option, Some, None, ⊤, if◌then◌else◌}
 use Rattle.sim_io.specs.Told.{Grew}
-use Rattle.sim_model.specs.Configuration.{Config, Trace}
+use Rattle.scheduler.specs.declared.kernel.Kernel.{Kernel}
+use Rattle.sim_model.specs.Steps.{Outcome, went, faulted, ended}
+use Rattle.sim_model.specs.Configuration.{Config}
 use Rattle.sim_model.specs.Runs.{after, stop_of}
-use Rattle.sim_model.specs.Texts.{joined, closing, report}
+use Rattle.sim_model.specs.Texts.{joined, report}
 use Rattle.sim_model.specs.declared.plain.Stop.{Stop}
 use Rattle.sim_model.specs.declared.plain.Stop.TheVariants as stop
 
@@ -32,3 +34,38 @@ pub record Ran (first : Config) (budget : ℕ) (choices : List ℕ) (steps : ℕ
   pub is_run : after steps choices first ≡ Some last
   pub within : steps ≤ budget
   pub wrote : Wrote last (stop_of last steps budget) old new s
+
+-- the bytes of a step's line, where it has one
+abbrev pub line_bytes : Option (List ℕ) → List ℕ
+line_bytes None = []
+line_bytes (Some line) = line
+
+-- an end of the run itself, and no cut
+abbrev pub IsEnd : Stop → Type 0
+IsEnd stop.WriteFault = ⊥
+IsEnd stop.NoMemory = ⊥
+IsEnd s = ⊤
+
+-- how a session whose kernel has no step left came to its end
+abbrev pub IsEndedAs : Kernel → Stop → Type 0
+IsEndedAs k s = s ≡ (if k.stopped then stop.Stopped else stop.Done)
+
+-- whether there is no step
+abbrev pub IsOverAs : Bool → Outcome → Type 0
+IsOverAs true (went d) = ⊥
+IsOverAs true (faulted f) = ⊥
+IsOverAs true ended = ⊤
+IsOverAs false (went d) = ⊤
+IsOverAs false (faulted f) = ⊤
+IsOverAs false ended = ⊥
+
+-- what became of the closing text: written whole, or cut
+abbrev pub Closes : List ℕ → Option (List ℕ) → Option (List ℕ) → Stop → Stop → Type 0
+Closes text old new asked stop.WriteFault = WroteShort old new text
+Closes text old new asked stop.NoMemory = WroteFront old new text
+Closes text old new asked s = (s ≡ asked) × Grew old new text
+
+-- whether a list has nothing
+abbrev pub is_empty : {A : Type 0} → List A → Bool
+is_empty [] = true
+is_empty (x ∷ xs) = false

@@ -1,5 +1,5 @@
 -- What a step of a session has to be.
-use Rattle.std.specs.Prelude.{◌≡◌, ℕ, List, Option}
+use Rattle.std.specs.Prelude.{◌≡◌, List}
 use Rattle.sim_model.specs.Configuration.{Config}
 use Rattle.sim_model.specs.Steps.{Outcome, went, faulted, ended}
 use Rattle.sim_model.specs.declared.plain.Command.{Command}

@@ -1,12 +1,12 @@
+ghost use Rattle.std.specs.Prelude.{◌≡◌, ◌≤◌, ◌*◌, ℕ, List, drop, length, vec_len};
+ghost use Rattle.sim_model.specs.Steps as spec;
+ghost use Rattle.session.specs.Made.{Makes, StepsOn};
+
 use super::texts::show;
 use model_tree::{Line, RunFault};
 use scheduler::{Kernel, begin_run, set_signal, step};
 use sim_model::{Command, Phase};
 use std::alloc::Global;
-
-ghost use Rattle.std.specs.Prelude.{◌≡◌, ◌≤◌, ◌*◌, ℕ, List, drop, length, vec_len};
-ghost use Rattle.sim_model.specs.Steps as spec;
-ghost use Rattle.session.specs.Made.{Makes, StepsOn};
 
 /// What became of a step.
 #[derive(Drop)]

@@ -1,9 +1,3 @@
-use logic_values::{Value, value_text};
-use model_tree::{Design, Line, Object, RunFault};
-use scheduler::{Kernel, is_visible};
-use sim_model::{Signal, Stop};
-use std::alloc::{AllocError, Global};
-
 ghost use Rattle.std.specs.Prelude.{◌≡◌, ◌++◌, ◌∷◌, [], ℕ, List, Option, IfOk, OnOk, filter, slice_get, option_map, unwrap_or, codes};
 ghost use Rattle.std.specs.Option.{option_copied};
 ghost use Rattle.std.specs.Fmt.{decimal};
@@ -12,6 +6,12 @@ ghost use Rattle.sim_model.specs.Configuration as config;
 ghost use Rattle.sim_model.specs.Steps.{show_line as line_of_show};
 ghost use Rattle.sim_model.specs.Texts as spec;
 ghost use Rattle.session.specs.Show.{line_for, line_at, closing_of};
+
+use logic_values::{Value, value_text};
+use model_tree::{Design, Line, Object, RunFault};
+use scheduler::{Kernel, is_visible};
+use sim_model::{Signal, Stop};
+use std::alloc::{AllocError, Global};
 
 fn push_bytes(text: &mut Vec<u8>, piece: &[u8]) -> Result<(), AllocError>
     ensures { OnOk result (text.new.items ≡ text.old.items ++ piece.now) }
@@ -83,7 +83,13 @@ pub fn show(alloc: Global, k: &Kernel, number: u32) -> Result<Option<Line>, Allo
     match (object, signal) {
         (Some(object), Some(signal)) => {
             let mut text = Vec::new(alloc);
-            push_show(alloc, &mut text, k.time.0, object.path.items(), signal.value)?;
+            push_show(
+                alloc,
+                &mut text,
+                k.time.0,
+                object.path.items(),
+                signal.value,
+            )?;
             Ok(Some(Line::new(text)))
         }
         _ => Ok(None),
