@@ -2,7 +2,7 @@
 use Rattle.std.proofs.Common.{◌⊎◌, inl, inr, Result, ◌≡◌, ◌<◌, ◌≤◌, ◌+◌, ◌-◌, ℕ, List, [], ◌++◌, length, take, drop, Option, None, Some, refl, sym, ◌∙◌, ap, arith, append_assoc, append-nil, subst, length-take, length-drop}
 use Rattle.std.proofs.lemmas.List.{take-take}
 use Rattle.std.proofs.Math.Seq.{take-add}
-use Rattle.std.specs.Io.KnownBytes.{append_known}
+use Rattle.std.specs.Io.KnownBytes.{append_known, Consumes}
 use Rattle.sim_io.specs.Told.{Files, Same, AfterTold, Grows, Grew, Lacks, IsText, IsLarge, IsWhole, IsPastLimit, text_of}
 use Rattle.sim_io.specs.Cause.{Rose}
 use Rattle.std.specs.Io.{StartsWith}
@@ -160,3 +160,10 @@ took_on old mid new first piece result a (bytes, grew, taken) = (bytes, grew_on 
 -- what a file took of a piece after other bytes
 pub file_took_on : (name : List ℕ) (old mid new : Option Files) (first piece : List ℕ) (result : Result Unit Trouble) → AfterTold old mid (Grows name first) → FileTook name mid new piece result → (bytes : List ℕ) × AfterTold old new (Grows name (first ++ bytes)) × PieceTaken piece bytes result
 file_took_on name old mid new first piece result a (bytes, grew, taken) = (bytes, file_grew_on name first bytes old mid new a grew, taken)
+
+-- bytes that were consumed twice
+pub consumes_on : (old mid new : Option (List ℕ)) (first second : List ℕ) → Consumes old mid first → Consumes mid new second → Consumes old new (first ++ second)
+consumes_on None mid new first second a b = tt
+consumes_on (Some old) None new first second a b = absurd a
+consumes_on (Some old) (Some mid) None first second a b = absurd b
+consumes_on (Some old) (Some mid) (Some new) first second a b = a ∙ ap (λ rest. first ++ rest) b ∙ sym (append_assoc first second new)
