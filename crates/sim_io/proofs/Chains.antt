@@ -1,15 +1,17 @@
 -- How the facts of single calls join to those of several.
-use Rattle.std.proofs.Common.{◌≡◌, ◌<◌, ◌≤◌, ◌+◌, ◌-◌, ℕ, List, [], ◌++◌, length, take, drop, Option, None, Some, refl, sym, ◌∙◌, ap, arith, append_assoc, append-nil, subst, length-take, length-drop}
+use Rattle.std.proofs.Common.{◌⊎◌, inl, inr, Result, ◌≡◌, ◌<◌, ◌≤◌, ◌+◌, ◌-◌, ℕ, List, [], ◌++◌, length, take, drop, Option, None, Some, refl, sym, ◌∙◌, ap, arith, append_assoc, append-nil, subst, length-take, length-drop}
 use Rattle.std.proofs.lemmas.List.{take-take}
 use Rattle.std.proofs.Math.Seq.{take-add}
-use Rattle.std.specs.Io.KnownBytes.{append_known}
+use Rattle.std.specs.Io.KnownBytes.{append_known, Consumes}
 use Rattle.sim_io.specs.Told.{Files, Same, AfterTold, Grows, Grew, Lacks, IsText, IsLarge, IsWhole, IsPastLimit, text_of}
 use Rattle.sim_io.specs.Cause.{Rose}
 use Rattle.std.specs.Io.{StartsWith}
+use Rattle.sim_io.specs.Taken.{PieceTaken, TookOf, FileTook}
+use Rattle.sim_io.specs.declared.outside.Trouble.{Trouble}
 use Rattle.sim_io.specs.Keeps.{IdsStay, ReadKeeps, WriteKeeps}
 
 -- a text that begins with one byte more than the limit is past the limit
-longer_than_front : (limit : ℕ) (text bytes : List ℕ) → length bytes ≡ limit + 1 → StartsWith text bytes → limit < length text
+pub longer_than_front : (limit : ℕ) (text bytes : List ℕ) → length bytes ≡ limit + 1 → StartsWith text bytes → limit < length text
 longer_than_front limit text bytes count begins = omega (arith, ap length begins, length-take (length bytes) text)
 
 -- bytes that grew twice grew by both
@@ -145,3 +147,23 @@ read_keeps_same files_of writes_of Reading Created StandsFor shelf = record {
 
 pub write_keeps_same : {S : Type 0} (reads_of : S → ℕ) (Reading : S → ℕ → Type 0) (Created : S → ℕ → Type 0) (StandsFor : S → ℕ → List ℕ → Type 0) (shelf : S) → WriteKeeps reads_of Reading Created StandsFor shelf shelf
 write_keeps_same reads_of Reading Created StandsFor shelf = record { reads = refl; ids = ids_stay_same Reading Created StandsFor shelf }
+
+-- why a later file could not be read, said from before the calls that read earlier ones
+pub read_failed_on : (old mid : Option Files) (name : List ℕ) (earlier before now later : ℕ) → AfterTold old mid Same → earlier ≤ before → now ≤ later → Rose before now ⊎ Lacks mid name → Rose earlier later ⊎ Lacks old name
+read_failed_on old mid name earlier before now later same a b (inl rose) = inl (rose_on earlier before now later a rose b)
+read_failed_on old mid name earlier before now later same a b (inr lacks) = inr (lacks_before old mid name same lacks)
+
+-- what a sink took of a piece after other bytes
+pub took_on : (old mid new : Option (List ℕ)) (first piece : List ℕ) (result : Result Unit Trouble) → Grew old mid first → TookOf mid new piece result → (bytes : List ℕ) × Grew old new (first ++ bytes) × PieceTaken piece bytes result
+took_on old mid new first piece result a (bytes, grew, taken) = (bytes, grew_on old mid new first bytes a grew, taken)
+
+-- what a file took of a piece after other bytes
+pub file_took_on : (name : List ℕ) (old mid new : Option Files) (first piece : List ℕ) (result : Result Unit Trouble) → AfterTold old mid (Grows name first) → FileTook name mid new piece result → (bytes : List ℕ) × AfterTold old new (Grows name (first ++ bytes)) × PieceTaken piece bytes result
+file_took_on name old mid new first piece result a (bytes, grew, taken) = (bytes, file_grew_on name first bytes old mid new a grew, taken)
+
+-- bytes that were consumed twice
+pub consumes_on : (old mid new : Option (List ℕ)) (first second : List ℕ) → Consumes old mid first → Consumes mid new second → Consumes old new (first ++ second)
+consumes_on None mid new first second a b = tt
+consumes_on (Some old) None new first second a b = absurd a
+consumes_on (Some old) (Some mid) None first second a b = absurd b
+consumes_on (Some old) (Some mid) (Some new) first second a b = a ∙ ap (λ rest. first ++ rest) b ∙ sym (append_assoc first second new)

@@ -110,6 +110,7 @@ fn read_rest<S: Shelf>(
     requires { S.reading shelf.old id }
     ensures taken { IfOk result (λ v. Consumes (S.left shelf.old id) (S.left shelf.new id) v.items) }
     ensures end { OnOk result (IsAtEnd (S.left shelf.new id)) }
+    ensures at_most { (bytes : List ℕ) × Consumes (S.left shelf.old id) (S.left shelf.new id) bytes × (length bytes ≤ limit + 1) }
     ensures within { IfOk result (λ v. length v.items ≤ limit) }
     ensures large { (most : ℕ) → IsErrOf result (ReadStop.TooLarge most) →
         (most ≡ limit) × ((bytes : List ℕ) × Consumes (S.left shelf.old id) (S.left shelf.new id) bytes × (length bytes ≡ limit + 1)) }
