@@ -81,7 +81,7 @@ value_planes zero u o h = let less : bit_and u o ≤ o = and_le_r u o in omega a
 value_planes (suc n) u o h =
     let twice = double n in
     let first : digit_value (digit_of_bits (u % 2) (o % 2)) + bit_and (u % 2) (o % 2) ≡ o % 2 =
-      rw ((lowest u).1, (lowest o).1) (value_place (lowest u).0 (lowest o).0) in
+    rw ((lowest u).1, (lowest o).1) (value_place (lowest u).0 (lowest o).0) in
     let rest = value_planes n (u / 2) (o / 2) (omega arith) in
     let low = low_and u o in
     let half = half_and u o in
