@@ -1,12 +1,10 @@
-use Rattle.std.proofs.Common.{ℕ, zero, suc, ◌≡◌, ◌+◌, ◌-◌, ◌*◌, ◌/◌, ◌%◌, ◌^◌, ◌<◌, ◌≤◌, bit_and, Bool, true, false, List, [], ◌∷◌, ◌++◌, take, length, refl, sym, ap, ◌∙◌, inl, inr, ⊎_elim, arith}
+use Rattle.std.proofs.Common.{ℕ, zero, suc, ◌≡◌, ◌+◌, ◌-◌, ◌*◌, ◌/◌, ◌%◌, ◌^◌, ◌<◌, ◌≤◌, bit_and, Bool, true, false, ◌∷◌, ◌++◌, take, refl, sym, ap, ◌∙◌, arith}
 use Rattle.std.specs.Prelude.{replicate}
 use Rattle.std.proofs.Math.Nat.{pow-suc, mul_comm, zero-mod, pow-le-pow_right}
 use Rattle.std.proofs.lemmas.Nat.{and_comm, and-not, and_le_r}
-use Rattle.std.proofs.lemmas.Bool.{cases_lt}
-use Rattle.logic_values.specs.declared.kinds.Digit.{Digit}
 use Rattle.logic_values.specs.declared.kinds.Digit.TheVariants.{Zero, One, Z, X}
 use Rattle.logic_values.specs.Digits.{digit_of_bits, digits_in}
-use Rattle.logic_values.specs.Vectors.{binary_digit, binary_digits, digit_value, value_of, resized}
+use Rattle.logic_values.specs.Vectors.{binary_digit, binary_digits, digit_value, value_of}
 use Rattle.logic_values.proofs.PlaneLemmas.{half_and, low_and, lowest, bit, low_of_field, half_of_field}
 
 double : (n : ℕ) → 2 ^ suc n ≡ 2 * 2 ^ n
