@@ -1,12 +1,10 @@
-use Rattle.std.proofs.Common.{ℕ, zero, suc, ◌≡◌, ◌+◌, ◌-◌, ◌*◌, ◌/◌, ◌%◌, ◌^◌, ◌<◌, ◌≤◌, bit_and, Bool, true, false, List, [], ◌∷◌, ◌++◌, take, length, refl, sym, ap, ◌∙◌, inl, inr, ⊎_elim, arith}
+use Rattle.std.proofs.Common.{ℕ, zero, suc, ◌≡◌, ◌+◌, ◌-◌, ◌*◌, ◌/◌, ◌%◌, ◌^◌, ◌<◌, ◌≤◌, bit_and, Bool, true, false, ◌∷◌, ◌++◌, take, refl, sym, ap, ◌∙◌, arith}
 use Rattle.std.specs.Prelude.{replicate}
 use Rattle.std.proofs.Math.Nat.{pow-suc, mul_comm, zero-mod, pow-le-pow_right}
 use Rattle.std.proofs.lemmas.Nat.{and_comm, and-not, and_le_r}
-use Rattle.std.proofs.lemmas.Bool.{cases_lt}
-use Rattle.logic_values.specs.declared.kinds.Digit.{Digit}
 use Rattle.logic_values.specs.declared.kinds.Digit.TheVariants.{Zero, One, Z, X}
 use Rattle.logic_values.specs.Digits.{digit_of_bits, digits_in}
-use Rattle.logic_values.specs.Vectors.{binary_digit, binary_digits, digit_value, value_of, resized}
+use Rattle.logic_values.specs.Vectors.{binary_digit, binary_digits, digit_value, value_of}
 use Rattle.logic_values.proofs.PlaneLemmas.{half_and, low_and, lowest, bit, low_of_field, half_of_field}
 
 double : (n : ℕ) → 2 ^ suc n ≡ 2 * 2 ^ n
@@ -81,7 +79,7 @@ value_planes zero u o h = let less : bit_and u o ≤ o = and_le_r u o in omega a
 value_planes (suc n) u o h =
     let twice = double n in
     let first : digit_value (digit_of_bits (u % 2) (o % 2)) + bit_and (u % 2) (o % 2) ≡ o % 2 =
-      rw ((lowest u).1, (lowest o).1) (value_place (lowest u).0 (lowest o).0) in
+    rw ((lowest u).1, (lowest o).1) (value_place (lowest u).0 (lowest o).0) in
     let rest = value_planes n (u / 2) (o / 2) (omega arith) in
     let low = low_and u o in
     let half = half_and u o in

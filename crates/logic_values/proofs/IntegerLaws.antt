@@ -1,5 +1,5 @@
-use Rattle.std.proofs.Common.{ℕ, zero, suc, ◌≡◌, ◌+◌, ◌-◌, ◌*◌, ◌/◌, ◌%◌, ◌^◌, ◌<◌, ◌≤◌, nat_lt, Bool, true, false, ℤ, pos, negsuc, refl, sym, ap, ◌∙◌, inl, inr, ⊎_elim, arith, w64, to_z, of_z}
-use Rattle.std.specs.Prelude.{neg_ℤ, if◌then◌else◌}
+use Rattle.std.proofs.Common.{ℕ, zero, suc, ◌≡◌, ◌+◌, ◌-◌, ◌*◌, ◌%◌, ◌^◌, ◌<◌, ◌≤◌, pos, refl, sym, ap, ◌∙◌, ⊎_elim, arith, w64}
+use Rattle.std.specs.Prelude.{neg_ℤ}
 use Rattle.std.proofs.Math.Nat.{pow-le-pow_right, mod-mod, mod-eq_of_lt}
 use Rattle.std.proofs.lemmas.Nat.{pow_pos, pow-add, mod-mul-add, mod_below}
 use Rattle.std.proofs.lemmas.Int.{to_z-of_z}

@@ -1,12 +1,12 @@
-use Rattle.std.proofs.Common.{ℕ, zero, suc, ◌≡◌, ◌+◌, ◌-◌, ◌*◌, ◌/◌, ◌%◌, ◌^◌, ◌<◌, ◌≤◌, min, bit_and, ℤ, pos, negsuc, refl, sym, ap, ◌∙◌, inl, inr, ⊎_elim, arith, w64, to_z, of_z}
-use Rattle.std.proofs.Math.Nat.{div-eq_of_lt, mul-mod_left, pow-le-pow_right, mul_assoc, mul_comm, pow-suc}
+use Rattle.std.proofs.Common.{ℕ, ◌≡◌, ◌+◌, ◌-◌, ◌*◌, ◌/◌, ◌%◌, ◌^◌, ◌<◌, ◌≤◌, min, bit_and, ℤ, pos, negsuc, sym, ap, ◌∙◌, ⊎_elim, arith, w64, to_z, of_z}
+use Rattle.std.proofs.Math.Nat.{div-eq_of_lt, mul-mod_left, pow-le-pow_right, mul_assoc}
 use mir.Val.{SFits}
 use lib.Signed.{mag_shr}
 use Rattle.std.proofs.lemmas.Nat.{and_mask, pow_pos, pow-add}
 use Rattle.std.proofs.lemmas.Nat.Bits.{ones_shr}
 use Rattle.std.proofs.lemmas.Int.{to_z-of_z}
 use Rattle.std.proofs.lemmas.Bool.{cases_lt}
-use Rattle.std.specs.Int.{cast_signed, int_shr}
+use Rattle.std.specs.Int.{int_shr}
 use Rattle.std.specs.Int.Signed.{mag}
 
 -- 63 places down nothing is left of less than 2^63

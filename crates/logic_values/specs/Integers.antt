@@ -1,4 +1,4 @@
-use Rattle.std.specs.Prelude.{ℕ, ◌+◌, ◌-◌, ◌*◌, ◌/◌, ◌%◌, ◌^◌, nat_lt, ◌==◌, if◌then◌else◌, Bool, ℤ, pos, neg_ℤ, int_lt, int_div, int_rem, Option, Some, None}
+use Rattle.std.specs.Prelude.{ℕ, ◌+◌, ◌-◌, ◌*◌, ◌%◌, ◌^◌, nat_lt, ◌==◌, if◌then◌else◌, Bool, ℤ, pos, neg_ℤ, int_lt, int_div, int_rem, Option, Some, None}
 use Rattle.std.specs.Int.{w64, cast_signed, cast_unsigned, int_shr}
 use Rattle.logic_values.specs.declared.kinds.Sign.{Sign}
 use Rattle.logic_values.specs.declared.kinds.Sign.TheVariants.{Signed, Unsigned}

@@ -65,5 +65,5 @@ lv_of ds = record {
   not_empty = clipped_some ds;
   at_most_64 = clipped_most ds;
   ones_fit = plane_of-lt one_bit one_bit-le (clipped ds);
-  unknown_fit = plane_of-lt unknown_bit unknown_bit-le (clipped ds)
+  unknown_fit = plane_of-lt unknown_bit unknown_bit-le (clipped ds);
 }

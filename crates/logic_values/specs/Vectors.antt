@@ -1,6 +1,6 @@
 use Rattle.std.specs.Prelude.{ℕ, zero, suc, ◌+◌, ◌*◌, ◌/◌, ◌%◌, List, [], ◌∷◌, ◌++◌, take, replicate}
 use Rattle.logic_values.specs.declared.kinds.Digit.{Digit}
-use Rattle.logic_values.specs.declared.kinds.Digit.TheVariants.{Zero, One, Z, X}
+use Rattle.logic_values.specs.declared.kinds.Digit.TheVariants.{Zero, One}
 
 -- An operator on vectors of one width works on each digit of one and the digit at the same place of the other.
 abbrev pub digit_by_digit : (Digit → Digit → Digit) → List Digit → List Digit → List Digit

@@ -9,7 +9,8 @@ use super::planes::Lv;
 impl Lv {
     /// The vector of one digit.
     pub fn single(d: Digit) -> Lv
-        ensures { digits result ≡ d ∷ [] }
+        ensures width { result.width ≡ 1 }
+        ensures each_digit { digits result ≡ d ∷ [] }
     {
         Lv::filled(1, d)
     }
@@ -23,10 +24,26 @@ impl Lv {
     {
         let mask = low_mask(width);
         match d {
-            Digit::Zero => Lv { width, ones: 0, unknown: 0 },
-            Digit::One => Lv { width, ones: mask, unknown: 0 },
-            Digit::Z => Lv { width, ones: 0, unknown: mask },
-            Digit::X => Lv { width, ones: mask, unknown: mask },
+            Digit::Zero => Lv {
+                width,
+                ones: 0,
+                unknown: 0,
+            },
+            Digit::One => Lv {
+                width,
+                ones: mask,
+                unknown: 0,
+            },
+            Digit::Z => Lv {
+                width,
+                ones: 0,
+                unknown: mask,
+            },
+            Digit::X => Lv {
+                width,
+                ones: mask,
+                unknown: mask,
+            },
         }
     }
 

@@ -34,11 +34,10 @@ pub fn div(s: Sign, a: u64, b: u64) -> Option<u64>
         return None;
     }
     match s {
-        Sign::Signed => Some(
-            a.cast_signed()
-                .wrapping_div(b.cast_signed())
-                .cast_unsigned(),
-        ),
+        Sign::Signed => {
+            let quotient = a.cast_signed().wrapping_div(b.cast_signed());
+            Some(quotient.cast_unsigned())
+        }
         Sign::Unsigned => Some(a / b),
     }
 }
@@ -51,11 +50,10 @@ pub fn rem(s: Sign, a: u64, b: u64) -> Option<u64>
         return None;
     }
     match s {
-        Sign::Signed => Some(
-            a.cast_signed()
-                .wrapping_rem(b.cast_signed())
-                .cast_unsigned(),
-        ),
+        Sign::Signed => {
+            let remainder = a.cast_signed().wrapping_rem(b.cast_signed());
+            Some(remainder.cast_unsigned())
+        }
         Sign::Unsigned => Some(a % b),
     }
 }

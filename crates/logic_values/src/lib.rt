@@ -7,6 +7,8 @@ mod integers;
 mod kinds;
 mod planes;
 mod tables;
+#[cfg(test)]
+mod tests;
 mod texts;
 mod vectors;
 

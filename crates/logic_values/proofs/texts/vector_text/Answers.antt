@@ -1,6 +1,5 @@
-use Rattle.std.proofs.Common.{ap, sym, ◌∙◌, arith, ◌≡◌, ◌<◌, ◌++◌, ◌∷◌, [], map, reverse, drop}
+use Rattle.std.proofs.Common.{arith}
 use Rattle.logic_values.specs.Digits.{digits}
-use Rattle.logic_values.specs.ValueText.{letter_of}
 use Rattle.logic_values.proofs.TextLemmas.{drop_digits, letters_more}
 use Rattle.logic_values.proofs.texts.vector_text.Goals as goal
 

@@ -7,7 +7,7 @@ returns-clause-each_digit c =
     let width = c.args.width in
     let mask = c.low_mask-mask in
     elim c.match-d.branch [
-      in-Zero w ↦ rw (w.result-is, w.in-Zero.is) (all_zero width)
+      | in-Zero w ↦ rw (w.result-is, w.in-Zero.is) (all_zero width)
       | in-One w ↦ rw (w.result-is, w.in-One.is) (all_one width mask.result mask.ensures)
       | in-Z w ↦ rw (w.result-is, w.in-Z.is) (all_z width mask.result mask.ensures)
       | in-X w ↦ rw (w.result-is, w.in-X.is) (all_x width mask.result mask.ensures)
