@@ -1,5 +1,5 @@
 -- That the token at the front is the longest front that has a form.
-use Rattle.std.proofs.Common.{◌≡◌, ℕ, zero, suc, ◌+◌, ◌<◌, ◌≤◌, Bool, true, false, cond, leb, List, [], ◌∷◌, length, take, get_or, Option, Some, None, min, sym, ◌∙◌, refl, ap, ⊎_elim, arith}
+use Rattle.std.proofs.Common.{◌≡◌, ℕ, zero, suc, ◌+◌, ◌<◌, ◌≤◌, Bool, true, false, leb, List, [], ◌∷◌, length, take, get_or, Option, Some, None, min, ◌∙◌, refl, ap, ⊎_elim, arith}
 use Rattle.std.specs.Prelude.{is_some}
 use Rattle.std.specs.List.{find, list_all, prefix_len}
 use Rattle.std.specs.Str.{bytes_eq}

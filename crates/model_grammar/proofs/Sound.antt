@@ -1,12 +1,11 @@
 -- That the tokens of a text keep their limits, and that a tree that a text reads as does.
-use Rattle.std.proofs.Common.{◌≡◌, ℕ, zero, suc, ◌+◌, ◌-◌, ◌≤◌, Bool, true, false, ◌&&◌, cond, List, [], ◌∷◌, length, take, Option, Some, None, sym, ◌∙◌, refl, ap, subst, ⊎_elim, arith}
+use Rattle.std.proofs.Common.{◌≡◌, ℕ, zero, suc, ◌-◌, Bool, true, false, ◌&&◌, cond, List, [], ◌∷◌, take, Option, Some, None, refl, subst, ⊎_elim}
 use Rattle.std.specs.Prelude.{IfSome, option_map, ◌==◌}
 use Rattle.std.proofs.lemmas.Bool.{cases_Bool, and_parts, and_from}
 use Rattle.model_tree.specs.declared.vocabulary.Word.{Word}
 use Rattle.model_tree.specs.declared.vocabulary.Symbol.{Symbol}
 use Rattle.model_tree.specs.declared.vocabulary.Word.TheVariants as w
 use Rattle.model_tree.specs.declared.vocabulary.Symbol.TheVariants as s
-use Rattle.model_tree.specs.declared.types.SignalType.{SignalType}
 use Rattle.model_tree.specs.declared.types.TypeForm.{TypeForm}
 use Rattle.model_tree.specs.declared.types.TypeForm.TheVariants as form
 use Rattle.model_tree.specs.declared.types.Constant.{Constant}
@@ -18,8 +17,8 @@ use Rattle.model_tree.specs.Leaves.{is_letter, is_name}
 use Rattle.model_tree.specs.Limits.{is_sound, fits_form, fits_constant, fits_item, fits_items, fits_modules}
 use Rattle.model_tree.specs.Tree as tree
 use Rattle.model_grammar.specs.Tokens.{Token, Tokens, name, word, symbol, Piece, blank, line_end, token, nothing, is_limited, are_limited, symbol_of, word_or_name, meaning, token_len, of_meaning, piece_at, is_blank, after_piece, cut, tokens_of}
-use Rattle.model_grammar.specs.Rules.{Rule, ◌⨾◌, At, Takes, Nothing, Never, Each}
-use Rattle.model_grammar.specs.Grammar.{DerivesForm, DerivesKind, DerivesMany, DerivesInitial, DerivesItem, DerivesModule, DerivesModules, DerivesTop, Derives}
+use Rattle.model_grammar.specs.Rules.{Takes, Each}
+use Rattle.model_grammar.specs.Grammar.{DerivesForm, DerivesKind, DerivesMany, DerivesInitial, DerivesItem, DerivesModules, DerivesTop}
 use Rattle.model_grammar.specs.Reads.{Reads}
 
 Limited : Token → Type 0

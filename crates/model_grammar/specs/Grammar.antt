@@ -9,7 +9,6 @@ use Rattle.model_tree.specs.declared.types.TypeForm.TheVariants as form
 use Rattle.model_tree.specs.declared.types.Constant.{Constant}
 use Rattle.model_tree.specs.declared.items.SignalKind.{SignalKind}
 use Rattle.model_tree.specs.declared.items.SignalKind.TheVariants as kind
-use Rattle.model_tree.specs.declared.items.SignalItem.{SignalItem}
 use Rattle.model_tree.specs.declared.items.Top.{Top}
 use Rattle.model_grammar.specs.Tokens.{name, word, symbol}
 use Rattle.model_grammar.specs.Rules.{Rule, ◌⨾◌, At, Takes, Nothing, Never, Each}

@@ -1,5 +1,5 @@
 -- The tokens of a text: what each means, and the cut of bytes into the longest of them.
-use Rattle.std.specs.Prelude.{◌≡◌, ℕ, zero, suc, ◌+◌, ◌-◌, ◌<◌, ◌≤◌, ◌==◌, Bool, true, false, ◌&&◌, ◌||◌, cond, if◌then◌else◌, is_some, List, [], ◌∷◌, length, nat_lt, nat_le, take, Option, Some, None, option_map, find}
+use Rattle.std.specs.Prelude.{◌≡◌, ℕ, zero, suc, ◌+◌, ◌-◌, ◌<◌, ◌≤◌, ◌==◌, Bool, true, false, ◌&&◌, ◌||◌, if◌then◌else◌, is_some, List, [], ◌∷◌, length, nat_lt, nat_le, take, Option, Some, None, option_map, find}
 use Rattle.std.specs.List.{prefix_len}
 use Rattle.std.specs.Str.{bytes_eq}
 use Rattle.logic_values.specs.declared.kinds.Digit.{Digit}

@@ -1,5 +1,5 @@
 -- What each turn of the loop over a text's pieces keeps.
-use Rattle.std.proofs.Common.{◌≡◌, ℕ, zero, suc, ◌+◌, ◌-◌, ◌<◌, ◌≤◌, Bool, true, false, cond, List, [], ◌∷◌, ◌++◌, length, take, drop, min, Option, Some, None, sym, ◌∙◌, refl, ap, ⊎_elim, append_assoc, arith}
+use Rattle.std.proofs.Common.{◌≡◌, ℕ, zero, suc, ◌+◌, ◌-◌, ◌<◌, ◌≤◌, true, false, List, [], ◌∷◌, ◌++◌, length, take, drop, min, Option, Some, None, ◌∙◌, refl, ap, ⊎_elim, append_assoc, arith}
 use Rattle.std.specs.Prelude.{option_map, ◌==◌}
 use Rattle.std.specs.List.{prefix_len}
 use Rattle.std.proofs.Math.ListN.{length-take}
@@ -8,7 +8,7 @@ use Rattle.std.proofs.lemmas.List.Sums.{prefix_len-le-length}
 use Rattle.model_tree.specs.declared.vocabulary.Symbol.{Symbol}
 use Rattle.model_tree.specs.Vocabulary.{symbol_text}
 use Rattle.model_tree.specs.Leaves.{is_letter, is_word_byte}
-use Rattle.model_grammar.specs.Tokens.{Token, Tokens, Piece, blank, line_end, token, nothing, symbol_of, symbol_len, meaning, token_len, of_meaning, is_blank, piece_at, after_piece, cut}
+use Rattle.model_grammar.specs.Tokens.{Token, Tokens, blank, line_end, token, nothing, symbol_of, symbol_len, meaning, token_len, of_meaning, is_blank, piece_at, cut}
 use Rattle.model_grammar.proofs.Longest.{symbol_of_spells}
 
 -- the tokens found so far, in front of what is still to come

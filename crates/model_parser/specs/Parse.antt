@@ -1,6 +1,6 @@
 -- Parser functions on lists of tokens, one for each parsing function of the code. They are no definition of
 -- the language: the grammar is, and no public clause names them.
-use Rattle.std.specs.Prelude.{◌≡◌, ◌≢◌, ℕ, zero, suc, ◌+◌, ◌++◌, Bool, true, false, cond, if◌then◌else◌, List, [], ◌∷◌, length, Option, Some, None, option_map, Result, Ok, Err}
+use Rattle.std.specs.Prelude.{◌≡◌, ◌≢◌, ℕ, zero, suc, ◌+◌, ◌++◌, Bool, false, cond, List, [], ◌∷◌, length, Option, Some, None, Result, Ok, Err}
 use Rattle.std.specs.Global.{Vec}
 use denote.Enum.Bare.{sameb}
 use Rattle.model_tree.specs.contracts.vocabulary.Word.{the_type as the_word}

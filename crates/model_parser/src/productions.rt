@@ -43,6 +43,7 @@ fn signal_item(alloc: Global, tokens: &mut Cursor<'_>) -> Result<Item, ParseStop
 }
 
 /// The items of a module, up to its closing brace.
+#[tactic(auto, unfolding(crate::specs::Parse::items))]
 fn items(alloc: Global, tokens: &mut Cursor<'_>) -> Result<Vec<Item>, ParseStop>
     ensures { spec.Parses (λ found. map item_of found.items) spec.items tokens.old result tokens.new }
 {
