@@ -7,3 +7,6 @@ mod parsing;
 mod productions;
 
 pub use parsing::{one_tree, parse};
+
+#[cfg(test)]
+mod tests;

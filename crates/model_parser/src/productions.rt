@@ -29,7 +29,7 @@ fn signal_item(alloc: Global, tokens: &mut Cursor<'_>) -> Result<Item, ParseStop
     let line = tokens.word(Word::Signal)?;
     let value_type = signal_type(tokens)?;
     let name = tokens.name(alloc)?;
-    let _end = tokens.symbol(Symbol::Semicolon)?;
+    let _semicolon = tokens.symbol(Symbol::Semicolon)?;
     Ok(Item::Signal(
         line,
         SignalItem {
