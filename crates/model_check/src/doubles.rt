@@ -48,17 +48,17 @@ fn double_item(items: &[Item]) -> Option<Finding<'_>>
 
 /// The finding of a module that comes behind others, if it has one of their names or an item of its own
 /// is at fault.
-fn double_in<'a>(before: &[Module], module: &'a Module) -> Option<Finding<'a>>
-    ensures { faults_of result ≡ spec.or_else (spec.broken_if (spec.is_module_name (modules_of before.now) module.now.name) Kind.DoubleName module.now.line module.now.name) (spec.double_item [] (map item_of module.now.items.items)) }
+fn double_in<'a>(before: &[Module], owner: &'a Module) -> Option<Finding<'a>>
+    ensures { faults_of result ≡ spec.or_else (spec.broken_if (spec.is_module_name (modules_of before.now) owner.now.name) Kind.DoubleName owner.now.line owner.now.name) (spec.double_item [] (map item_of owner.now.items.items)) }
 {
-    if is_module_name(before, module.name.bytes()) {
+    if is_module_name(before, owner.name.bytes()) {
         return Some(Finding {
             kind: Kind::DoubleName,
-            line: module.line,
-            name: module.name.bytes(),
+            line: owner.line,
+            name: owner.name.bytes(),
         });
     }
-    double_item(module.items.as_slice())
+    double_item(owner.items.as_slice())
 }
 
 /// The first module that has the name of a module before it, or an item that has the name of an item
