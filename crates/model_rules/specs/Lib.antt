@@ -1,2 +1,4 @@
 pub mod FirstFault
 pub mod FlatDesign
+pub mod Stops
+pub mod Seen

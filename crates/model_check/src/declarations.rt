@@ -1,0 +1,64 @@
+ghost use Rattle.std.specs.Prelude.{◌≡◌, map, bytes_eq};
+ghost use Rattle.std.specs.Option.{option_copied};
+ghost use Rattle.model_tree.specs.Views.{item_of};
+ghost use Rattle.model_rules.specs.FirstFault as spec;
+
+use model_tree::{Item, Name};
+
+/// The line of an item's first token.
+pub(crate) fn item_line(item: &Item) -> u32
+    ensures { result ≡ spec.item_line (item_of item.now) }
+{
+    match item {
+        Item::Signal(line, _)
+        | Item::Resolved(line, _)
+        | Item::Clock(line, _)
+        | Item::Fifo(line, _, _, _)
+        | Item::Plain(line, _, _)
+        | Item::Semaphore(line, _, _)
+        | Item::Memory(line, _, _)
+        | Item::Variable(line, _, _, _)
+        | Item::Port(line, _, _, _)
+        | Item::Export(line, _, _)
+        | Item::Initiator(line, _, _)
+        | Item::Target(line, _, _)
+        | Item::Instance(line, _, _)
+        | Item::Bind(line, _, _)
+        | Item::Function(line, _)
+        | Item::Process(line, _) => *line,
+    }
+}
+
+/// The name that an item declares; a binding declares none.
+pub(crate) fn item_name(item: &Item) -> Option<&[u8]>
+    ensures { option_copied result ≡ spec.item_name (item_of item.now) }
+{
+    match item {
+        Item::Signal(_, signal) => Some(signal.name.bytes()),
+        Item::Resolved(_, name)
+        | Item::Fifo(_, _, name, _)
+        | Item::Plain(_, _, name)
+        | Item::Semaphore(_, name, _)
+        | Item::Memory(_, name, _)
+        | Item::Variable(_, _, name, _)
+        | Item::Port(_, _, name, _)
+        | Item::Export(_, _, name)
+        | Item::Initiator(_, name, _)
+        | Item::Target(_, name, _)
+        | Item::Instance(_, _, name) => Some(name.bytes()),
+        Item::Clock(_, clock) => Some(clock.name.bytes()),
+        Item::Bind(_, _, _) => None,
+        Item::Function(_, function) => Some(function.name.bytes()),
+        Item::Process(_, process) => Some(process.name.bytes()),
+    }
+}
+
+/// Whether an item declares this name.
+pub(crate) fn declares(name: &[u8], item: &Item) -> bool
+    ensures { result ≡ spec.declares name.now (item_of item.now) }
+{
+    match item_name(item) {
+        Some(declared) => declared == name,
+        None => false,
+    }
+}

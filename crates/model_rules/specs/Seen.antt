@@ -1,0 +1,7 @@
+-- A tree as the definitions speak of it.
+use Rattle.model_tree.specs.Tree as tree
+use Rattle.model_tree.specs.Views.{modules_of}
+use Rattle.model_tree.specs.declared.whole.Tree.{Tree}
+
+abbrev pub model_of : Tree → tree.Model
+model_of t = record { modules = modules_of t.modules.items; top = t.top }
