@@ -1,0 +1,113 @@
+-- Causes that exclude each other.
+use Rattle.std.proofs.Common.{◌≡◌, ◌<◌, ◌≤◌, ⊎_elim, ℕ, List, length, Option, Some, None, IsSome, Ok, Err, subst, ◌∙◌, ap, arith}
+use Rattle.sim_io.specs.Told.{Files, Lacks, IsText, IsLarge, text_of}
+use Rattle.model_tree.specs.Tree as tree
+use Rattle.model_tree.specs.declared.faults.Fault.{Fault}
+use Rattle.model_grammar.specs.Reads.{Reads}
+use Rattle.model_rules.specs.FirstFault.{first_fault}
+use Rattle.model_rules.specs.FlatDesign.{design_of}
+use Rattle.sim_model.specs.Configuration.{visible}
+use Rattle.sim_model.specs.declared.plain.Command.{Command}
+use Rattle.script_text.specs.ScriptText.{read_script}
+use Rattle.script_text.specs.NamedScript.{name_script}
+use Rattle.script_text.specs.declared.forms.TextCommand.{TextCommand}
+use Rattle.tlmsim.specs.Line.{Names, line_of}
+use Rattle.tlmsim.specs.Call.{Call, Texts, model_limit, script_limit}
+use Rattle.tlmsim.specs.Judged.{IsBrokenModel, AcceptsModel, IsBrokenScript, Accepts}
+use Rattle.tlmsim.specs.Headline.{ReadFailed, TooLarge, Given}
+
+-- no text reads as two trees
+abbrev pub OneTree : Type 0
+OneTree = (text : List ℕ) (m n : tree.Model) → Reads text m → Reads text n → m ≡ n
+
+same_names : (words : List (List ℕ)) (a b : Names) → line_of words ≡ Some a → line_of words ≡ Some b → a ≡ b
+same_names words a b p q = cc
+
+-- where a file is there, its text is its bytes
+text_there : (file : Option (List ℕ)) (bytes : List ℕ) → file ≡ Some bytes → text_of file ≡ bytes
+text_there file bytes e = ap text_of e
+
+text_at : (before after : Option Files) (old new : Files) (name name' text bytes : List ℕ) → before ≡ Some old → after ≡ Some new → name ≡ name' → old name' ≡ Some bytes → IsText before after name text → text ≡ bytes
+text_at before after old new name name' text bytes b a n there is =
+    let P : Option Files → Type 0 = λ f. IsText f after name text in
+    let Q : Option Files → Type 0 = λ f. IsText (Some old) f name text in
+    let R : List ℕ → Type 0 = λ x. IsText (Some old) (Some new) x text in
+    let told : IsText (Some old) (Some new) name' text = subst R n (subst Q a (subst P b is)) in
+    told ∙ text_there (old name') bytes there
+
+large_at : (before after : Option Files) (old new : Files) (name name' bytes : List ℕ) (limit : ℕ) → before ≡ Some old → after ≡ Some new → name ≡ name' → old name' ≡ Some bytes → IsLarge before after name limit → limit < length bytes
+large_at before after old new name name' bytes limit b a n there is =
+    let P : Option Files → Type 0 = λ f. IsLarge f after name limit in
+    let Q : Option Files → Type 0 = λ f. IsLarge (Some old) f name limit in
+    let R : List ℕ → Type 0 = λ x. IsLarge (Some old) (Some new) x limit in
+    let S : List ℕ → Type 0 = λ x. limit < length x in
+    let told : IsLarge (Some old) (Some new) name' limit = subst R n (subst Q a (subst P b is)) in
+    subst S (text_there (old name') bytes there) told
+
+-- the texts that were read are those that were given
+pub same_model : (c : Call) (old new : Files) (model script model' script' : List ℕ) → Given c old new model script → Texts c model' script' → model' ≡ model
+same_model c old new model script model' script' g t =
+    let names = same_names c.words t.names g.names t.line g.line in
+    text_at c.before.files c.after.files old new t.names.model g.names.model model' model g.told g.told_after (ap (λ n. n.model) names) g.model_is t.model_is
+
+pub same_script : (c : Call) (old new : Files) (model script model' script' : List ℕ) → Given c old new model script → Texts c model' script' → script' ≡ script
+same_script c old new model script model' script' g t =
+    let names = same_names c.words t.names g.names t.line g.line in
+    text_at c.before.files c.after.files old new t.names.script g.names.script script' script g.told g.told_after (ap (λ n. n.script) names) g.script_is t.script_is
+
+pub not_usage : (c : Call) (old new : Files) (model script : List ℕ) → Given c old new model script → line_of c.words ≡ None → ⊥
+not_usage c old new model script g e = let line = g.line in cc
+
+lacks_none : (before : Option Files) (old : Files) (name name' bytes : List ℕ) → before ≡ Some old → name ≡ name' → old name' ≡ Some bytes → Lacks before name → ⊥
+lacks_none before old name name' bytes b n there lacks =
+    let P : Option Files → Type 0 = λ f. Lacks f name in
+    let Q : List ℕ → Type 0 = λ x. Lacks (Some old) x in
+    let told : old name' ≡ None = subst Q n (subst P b lacks) in
+    cc
+
+pub not_read : (c : Call) (old new : Files) (model script : List ℕ) → Given c old new model script → ReadFailed c → ⊥
+not_read c old new model script g r =
+    let names = same_names c.words r.names g.names r.line g.line in
+    ⊎_elim g.no_fault (⊎_elim (lacks_none c.before.files old r.names.model g.names.model model g.told (ap (λ n. n.model) names) g.model_is)
+    (lacks_none c.before.files old r.names.script g.names.script script g.told (ap (λ n. n.script) names) g.script_is)) r.cause
+
+pub not_large : (c : Call) (old new : Files) (model script : List ℕ) → Given c old new model script → length model ≤ model_limit → length script ≤ script_limit → TooLarge c → ⊥
+not_large c old new model script g m_within s_within l =
+    let names = same_names c.words l.names g.names l.line g.line in
+    ⊎_elim
+    (λ large. let h : model_limit < length model = large_at c.before.files c.after.files old new l.names.model g.names.model model model_limit g.told g.told_after (ap (λ n. n.model) names) g.model_is large in omega arith)
+    (λ large. let h : script_limit < length script = large_at c.before.files c.after.files old new l.names.script g.names.script script script_limit g.told g.told_after (ap (λ n. n.script) names) g.script_is large.3 in omega arith)
+    l.cause
+
+none_there : IsSome {T = Fault} None → ⊥
+none_there h = cc
+
+-- a model is not both accepted and refused
+faulty : (m n : tree.Model) → m ≡ n → first_fault m ≡ None → IsSome (first_fault n) → ⊥
+faulty m n e none some =
+    let P : tree.Model → Type 0 = λ x. first_fault x ≡ None in
+    let Q : Option Fault → Type 0 = λ x. IsSome x in
+    let here : first_fault n ≡ None = subst P e none in
+    let absent : IsSome {T = Fault} None = subst Q here some in
+    none_there absent
+
+pub not_broken : OneTree → (model : List ℕ) (m : tree.Model) → AcceptsModel model m → IsBrokenModel model → ⊥
+not_broken one model m a b =
+    ⊎_elim (λ none. none m a.reads) (λ some. faulty m some.0 (one model m some.0 a.reads some.1) a.faultless some.2) b
+
+-- a script is not both accepted and refused
+breaks : (m : tree.Model) (script : List ℕ) (text : List TextCommand) (commands : List Command) → read_script script ≡ Ok text → name_script (visible (design_of m)) text ≡ Ok commands → IsBrokenScript m script → ⊥
+breaks m script text commands read named b =
+    ⊎_elim (λ syntax. let e = syntax.1 in cc) (λ fault. other fault.0 fault.1 fault.2 fault.3) b
+  where
+    other : (text' : List TextCommand) (f : Fault) → read_script script ≡ Ok text' → name_script (visible (design_of m)) text' ≡ Err f → ⊥
+    other text' f read' named' =
+        let same : text' ≡ text = cc in
+        let P : List TextCommand → Type 0 = λ t. name_script (visible (design_of m)) t ≡ Err f in
+        let here : name_script (visible (design_of m)) text ≡ Err f = subst P same named' in
+        cc
+
+pub not_both : OneTree → (model script : List ℕ) (m n : tree.Model) (commands : List Command) → Accepts model script m commands → AcceptsModel model n → IsBrokenScript n script → ⊥
+not_both one model script m n commands a b broken =
+    let P : tree.Model → Type 0 = λ x. IsBrokenScript x script in
+    breaks m script a.named.0 commands a.named.1 a.named.2 (subst P (one model n m b.reads a.accepted.reads) broken)

@@ -1,0 +1,122 @@
+-- The answers of the top call, and the cause of each.
+use Rattle.std.specs.Prelude.{◌≡◌, ◌≤◌, ◌⊎◌, ◌<◌, ℕ, List, [], Some, None, length}
+use Rattle.sim_io.specs.Told.{Files, Lacks, IsLarge, IsText}
+use Rattle.sim_io.specs.Cause.{Rose}
+use Rattle.model_tree.specs.declared.faults.RunFault.{RunFault}
+use Rattle.model_tree.specs.Tree as tree
+use Rattle.model_rules.specs.FlatDesign.{design_of}
+use Rattle.sim_model.specs.Configuration.{start}
+use Rattle.sim_model.specs.declared.plain.Command.{Command}
+use Rattle.sim_model.specs.declared.plain.Stop.{Stop}
+use Rattle.sim_model.specs.declared.plain.Stop.TheVariants as stop
+use Rattle.session.specs.Course.{Ran}
+use Rattle.tlmsim.specs.Line.{Names, line_of}
+use Rattle.tlmsim.specs.Call.{Call, Texts, model_limit, script_limit}
+use Rattle.tlmsim.specs.Judged.{IsBrokenModel, AcceptsModel, IsBrokenScript, Accepts}
+
+-- the most steps of a session
+abbrev pub default_budget : ℕ
+default_budget = 10000000
+
+-- the shelf's read count rose in this call, or it tells its files and lacks one that the words name
+pub record ReadFailed (c : Call) : Type 0 where
+  pub names : Names
+  pub line : line_of c.words ≡ Some names
+  pub cause : Rose c.before.reads c.after.reads ⊎ (Lacks c.before.files names.model ⊎ Lacks c.before.files names.script)
+
+-- more bytes than its limit were read of the model; or the model was read, and more than its limit of the script
+pub record TooLarge (c : Call) : Type 0 where
+  pub names : Names
+  pub line : line_of c.words ≡ Some names
+  pub cause : IsLarge c.before.files c.after.files names.model model_limit ⊎ ((model : List ℕ) × IsText c.before.files c.after.files names.model model × (length model ≤ model_limit) × IsLarge c.before.files c.after.files names.script script_limit)
+
+-- both texts were read, and the model has no tree or has a first fault
+pub record ModelRefused (c : Call) : Type 0 where
+  pub model : List ℕ
+  pub script : List ℕ
+  pub texts : Texts c model script
+  pub broken : IsBrokenModel model
+
+-- both texts were read, the model is accepted, and the script is not
+pub record ScriptRefused (c : Call) : Type 0 where
+  pub model : List ℕ
+  pub script : List ℕ
+  pub texts : Texts c model script
+  pub m : tree.Model
+  pub accepted : AcceptsModel model m
+  pub broken : IsBrokenScript m script
+
+-- both texts are accepted, and this is their session: the run of the source tree's design under the script
+-- with these choices and steps, which ended so, and whose text `out` took
+pub record Session (c : Call) (choices : List ℕ) (steps : ℕ) (s : Stop) : Type 0 where
+  pub model : List ℕ
+  pub script : List ℕ
+  pub texts : Texts c model script
+  pub m : tree.Model
+  pub commands : List Command
+  pub accepts : Accepts model script m commands
+  pub ran : Ran (start (design_of m) commands) default_budget choices steps s c.before.out c.after.out
+
+-- the session had not begun: no choices, no steps, and `out` is as it was
+pub record Untouched (c : Call) (choices : List ℕ) (steps : ℕ) : Type 0 where
+  pub no_choices : choices ≡ []
+  pub no_steps : steps ≡ 0
+  pub out : c.after.out ≡ c.before.out
+
+-- the files that the words name are told and there, with these texts
+pub record Given (c : Call) (old new : Files) (model script : List ℕ) : Type 0 where
+  pub told : c.before.files ≡ Some old
+  pub told_after : c.after.files ≡ Some new
+  pub names : Names
+  pub line : line_of c.words ≡ Some names
+  pub model_is : old names.model ≡ Some model
+  pub script_is : old names.script ≡ Some script
+  pub no_fault : Rose c.before.reads c.after.reads → ⊥
+
+-- the run ended by itself: the script was carried out, or the model stopped it
+abbrev pub Finished : Call → List ℕ → ℕ → Type 0
+Finished c choices steps = Session c choices steps stop.Done ⊎ Session c choices steps stop.Stopped
+
+-- the statuses, by how a session ended
+abbrev pub stop_status : Stop → ℕ
+stop_status stop.Done = 0
+stop_status stop.Stopped = 0
+stop_status (stop.Fault f) = 5
+stop_status stop.Budget = 6
+stop_status stop.WriteFault = 7
+stop_status stop.NoMemory = 8
+stop_status (stop.Replay place) = 9
+
+-- the status of a refusal of the input
+abbrev pub IsRefusal : ℕ → Type 0
+IsRefusal status = (status ≡ 1) ⊎ ((status ≡ 2) ⊎ ((status ≡ 3) ⊎ ((status ≡ 4) ⊎ (status ≡ 10))))
+
+-- the statuses of a run that ended
+abbrev pub IsRunStatus : ℕ → Type 0
+IsRunStatus status = (status ≡ 0) ⊎ ((status ≡ 5) ⊎ ((status ≡ 6) ⊎ (status ≡ 9)))
+
+-- each status and its cause, and each cause and its status
+pub record Answers (c : Call) (status : ℕ) (choices : List ℕ) (steps : ℕ) : Type 0 where
+  pub done : status ≡ 0 → Finished c choices steps
+  pub usage : status ≡ 1 → line_of c.words ≡ None
+  pub read : status ≡ 2 → ReadFailed c
+  pub model : status ≡ 3 → ModelRefused c
+  pub script : status ≡ 4 → ScriptRefused c
+  pub fault : status ≡ 5 → (f : RunFault) × Session c choices steps (stop.Fault f)
+  pub budget : status ≡ 6 → Session c choices steps stop.Budget × (steps ≡ default_budget)
+  pub write : status ≡ 7 → Session c choices steps stop.WriteFault × Rose c.before.out_faults c.after.out_faults
+  pub memory : status ≡ 8 → Untouched c choices steps ⊎ Session c choices steps stop.NoMemory
+  pub replay : status ≡ 9 → (place : ℕ) × Session c choices steps (stop.Replay place)
+  pub large : status ≡ 10 → TooLarge c
+  pub refused : IsRefusal status → Untouched c choices steps
+  pub bound : status ≤ 10
+  pub usage_comes : line_of c.words ≡ None → (status ≡ 1) ⊎ (status ≡ 8)
+  pub large_comes : (old new : Files) (model script : List ℕ) → Given c old new model script
+      → (model_limit < length model) ⊎ (script_limit < length script) → (status ≡ 10) ⊎ (status ≡ 8)
+  pub model_comes : (old new : Files) (model script : List ℕ) → Given c old new model script
+      → length model ≤ model_limit → length script ≤ script_limit → IsBrokenModel model → (status ≡ 3) ⊎ (status ≡ 8)
+  pub script_comes : (old new : Files) (model script : List ℕ) → Given c old new model script
+      → length model ≤ model_limit → length script ≤ script_limit → (m : tree.Model) → AcceptsModel model m → IsBrokenScript m script → (status ≡ 4) ⊎ (status ≡ 8)
+  pub complete : (old new : Files) (model script : List ℕ) → Given c old new model script
+      → length model ≤ model_limit → length script ≤ script_limit → (m : tree.Model) (commands : List Command) → Accepts model script m commands
+      → (Rose c.before.out_faults c.after.out_faults → ⊥) → IsRunStatus status ⊎ (status ≡ 8)

@@ -1,0 +1,39 @@
+-- Which texts are accepted, and which are refused.
+use Rattle.std.specs.Prelude.{◌≡◌, ◌⊎◌, ℕ, List, None, IsSome, Ok, Err}
+use Rattle.model_tree.specs.Tree as tree
+use Rattle.model_tree.specs.declared.faults.Fault.{Fault}
+use Rattle.model_tree.specs.declared.designs.Object.{Object}
+use Rattle.model_grammar.specs.Reads.{Reads}
+use Rattle.model_rules.specs.FirstFault.{first_fault}
+use Rattle.model_rules.specs.FlatDesign.{design_of}
+use Rattle.sim_model.specs.Configuration.{visible}
+use Rattle.sim_model.specs.declared.plain.Command.{Command}
+use Rattle.script_text.specs.ScriptText.{read_script}
+use Rattle.script_text.specs.NamedScript.{name_script}
+use Rattle.script_text.specs.declared.forms.TextCommand.{TextCommand}
+
+-- the model has no tree, or a first fault
+abbrev pub IsBrokenModel : List ℕ → Type 0
+IsBrokenModel model = ((m : tree.Model) → Reads model m → ⊥) ⊎ ((m : tree.Model) × Reads model m × IsSome (first_fault m))
+
+-- the model reads as this tree, which has no fault
+pub record AcceptsModel (model : List ℕ) (m : tree.Model) : Type 0 where
+  pub reads : Reads model m
+  pub faultless : first_fault m ≡ None
+
+-- the script has no command list, or a command that names what the objects lack or has a bad value
+abbrev pub BreaksScript : List Object → List ℕ → Type 0
+BreaksScript objects script =
+    ((line : ℕ) × (read_script script ≡ Err line)) ⊎ ((text : List TextCommand) × (fault : Fault) × (read_script script ≡ Ok text) × (name_script objects text ≡ Err fault))
+
+abbrev pub IsBrokenScript : tree.Model → List ℕ → Type 0
+IsBrokenScript m script = BreaksScript (visible (design_of m)) script
+
+-- the script has a command list, whose names and values fit the objects
+abbrev pub NamesScript : List Object → List ℕ → List Command → Type 0
+NamesScript objects script commands = (text : List TextCommand) × (read_script script ≡ Ok text) × (name_script objects text ≡ Ok commands)
+
+-- the model is accepted as this tree, and the script as these commands over its design
+pub record Accepts (model script : List ℕ) (m : tree.Model) (commands : List Command) : Type 0 where
+  pub accepted : AcceptsModel model m
+  pub named : NamesScript (visible (design_of m)) script commands

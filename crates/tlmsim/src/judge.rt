@@ -1,0 +1,102 @@
+ghost use Rattle.std.specs.Prelude.{◌≡◌, ◌<◌, ◌^◌, ℕ, IfOk, IsErrOf, length, None};
+ghost use Rattle.model_tree.specs.Tree as tree;
+ghost use Rattle.model_grammar.specs.Reads.{Reads, model_of};
+ghost use Rattle.model_rules.specs.FlatDesign.{design_of};
+ghost use Rattle.sim_model.specs.Configuration.{visible};
+ghost use Rattle.tlmsim.specs.Judged.{IsBrokenModel, AcceptsModel, IsBrokenScript, NamesScript, Accepts, BreaksScript};
+
+use super::load::Texts;
+use elaborate::elaborate;
+use model_check::{Checked, check};
+use model_parser::parse;
+use model_tree::{CheckStop, Design, Items, ParseStop};
+use script_text::{commands, name_all};
+use sim_model::Command;
+use std::alloc::Global;
+
+/// Why texts were not accepted.
+#[derive(Clone, Copy)]
+pub enum JudgeStop {
+    /// The model has no tree, or breaks a rule.
+    Model,
+    /// The script has no command list, or a command cannot be carried out.
+    Script,
+    /// Memory was refused.
+    NoMemory,
+}
+
+/// What a run is made of.
+#[derive(Drop)]
+pub struct Judged {
+    /// The design of the model.
+    pub design: Design,
+    /// The commands of the script over it.
+    pub script: Items<Command>,
+}
+
+fn judge_model(alloc: Global, text: &[u8]) -> Result<Checked, JudgeStop>
+    requires { length text.now < 2 ^ 32 }
+    ensures accepted { IfOk result (λ checked. AcceptsModel text.now (model_of checked.tree)) }
+    ensures broken { IsErrOf result JudgeStop.Model → IsBrokenModel text.now }
+    ensures only { IsErrOf result JudgeStop.Script → ⊥ }
+{
+    let tree = match parse(alloc, text) {
+        Ok(tree) => tree,
+        Err(ParseStop::Syntax { line: _ }) => return Err(JudgeStop::Model),
+        Err(ParseStop::NoMemory) => return Err(JudgeStop::NoMemory),
+    };
+    match check(alloc, tree) {
+        Ok(checked) => Ok(checked),
+        Err(CheckStop::Refused(_)) => Err(JudgeStop::Model),
+        Err(CheckStop::NoMemory) => Err(JudgeStop::NoMemory),
+    }
+}
+
+fn judge_script(alloc: Global, text: &[u8], design: &Design) -> Result<Items<Command>, JudgeStop>
+    ensures accepted { IfOk result (λ script. NamesScript (visible design.now) text.now script) }
+    ensures broken { IsErrOf result JudgeStop.Script → BreaksScript (visible design.now) text.now }
+    ensures only { IsErrOf result JudgeStop.Model → ⊥ }
+{
+    let list = match commands(alloc, text) {
+        Ok(list) => list,
+        Err(ParseStop::Syntax { line: _ }) => return Err(JudgeStop::Script),
+        Err(ParseStop::NoMemory) => return Err(JudgeStop::NoMemory),
+    };
+    match name_all(alloc, list, design) {
+        Ok(script) => Ok(script),
+        Err(CheckStop::Refused(_)) => Err(JudgeStop::Script),
+        Err(CheckStop::NoMemory) => Err(JudgeStop::NoMemory),
+    }
+}
+
+fn design_of_model(alloc: Global, checked: Checked) -> Result<Design, JudgeStop>
+    ensures design { IfOk result (λ design. design ≡ design_of (model_of checked.tree)) }
+    ensures only { IsErrOf result JudgeStop.Model → ⊥ }
+    ensures neither { IsErrOf result JudgeStop.Script → ⊥ }
+{
+    match elaborate(alloc, checked) {
+        Ok(design) => Ok(design),
+        Err(_) => Err(JudgeStop::NoMemory),
+    }
+}
+
+/// Judges the model, and then the script over its design.
+pub fn judge(alloc: Global, texts: &Texts) -> Result<Judged, JudgeStop>
+    requires { length texts.now.model < 2 ^ 32 }
+    ensures accepted { IfOk result (λ judged. (m : tree.Model) × (judged.design ≡ design_of m) × Accepts texts.now.model texts.now.script m judged.script) }
+    ensures model { IsErrOf result JudgeStop.Model → IsBrokenModel texts.now.model }
+    ensures script { IsErrOf result JudgeStop.Script → (m : tree.Model) × AcceptsModel texts.now.model m × IsBrokenScript m texts.now.script }
+{
+    let checked = match judge_model(alloc, texts.model.as_slice()) {
+        Ok(checked) => checked,
+        Err(stop) => return Err(stop),
+    };
+    let design = match design_of_model(alloc, checked) {
+        Ok(design) => design,
+        Err(stop) => return Err(stop),
+    };
+    match judge_script(alloc, texts.script.as_slice(), &design) {
+        Ok(script) => Ok(Judged { design, script }),
+        Err(stop) => Err(stop),
+    }
+}

@@ -1,0 +1,12 @@
+//! The simulator: the words of a command line, and the one call that runs a model under a script.
+#![tactic(auto)]
+
+mod judge;
+mod load;
+mod simulate;
+mod top;
+mod words;
+
+pub use load::{MODEL_LIMIT, SCRIPT_LIMIT};
+pub use top::{Ended, sim_main};
+pub use words::Words;

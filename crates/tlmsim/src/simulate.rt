@@ -1,0 +1,78 @@
+ghost use Rattle.std.specs.Prelude.{◌≡◌, ◌≤◌, OnErr};
+ghost use Rattle.sim_io.specs.Told.{AfterTold, Same};
+ghost use Rattle.sim_io.specs.Cause.{RoseIf};
+ghost use Rattle.sim_model.specs.Configuration.{start};
+ghost use Rattle.sim_model.specs.declared.plain.Stop.{Stop};
+ghost use Rattle.session.specs.Course.{Ran};
+ghost use Rattle.tlmsim.specs.Call.{called};
+ghost use Rattle.tlmsim.specs.Simulated.{Causes};
+
+use super::judge::{JudgeStop, Judged, judge};
+use super::load::{Texts, load};
+use super::words::{Words, line_of};
+use session::{Log, Outcome, Plan, Rule, run_session};
+use sim_io::{ReadStop, Shelf, Sink};
+use std::alloc::Global;
+
+/// The most steps of a session.
+pub const DEFAULT_BUDGET: u64 = 10_000_000;
+
+/// Why no session began.
+#[derive(Clone, Copy)]
+pub enum Refusal {
+    /// The words are refused.
+    Usage,
+    /// A file could not be read.
+    Read,
+    /// The model is refused.
+    Model,
+    /// The script is refused.
+    Script,
+    /// Memory was refused.
+    NoMemory,
+    /// A file has more bytes than its limit.
+    TooLarge,
+}
+
+/// Runs the session of accepted texts.
+fn run<O: Sink>(alloc: Global, judged: Judged, out: &mut O) -> Outcome
+    ensures ran { Ran (start judged.design judged.script) DEFAULT_BUDGET result.choices result.steps result.stop (O.holds out.old) (O.holds out.new) }
+    ensures cause { RoseIf (O.faults out.old) (O.faults out.new) (result.stop ≡ Stop.WriteFault) }
+{
+    let Judged { design, script } = judged;
+    let plan = Plan {
+        rule: Rule::First,
+        budget: DEFAULT_BUDGET,
+        log: Log::Prints,
+    };
+    run_session(alloc, design, script.as_slice(), plan, out)
+}
+
+/// The work in its order: the words, the files, the model, the script, the session.
+pub fn simulate<S: Shelf, O: Sink>(
+    alloc: Global,
+    words: &Words,
+    shelf: &mut S,
+    out: &mut O,
+) -> Result<Outcome, Refusal>
+    ensures causes { Causes (called S.files S.reads S.writes O.holds O.faults words.now shelf.old shelf.new out.old out.new) result }
+    ensures untouched { OnErr result (O.holds out.new ≡ O.holds out.old) }
+    ensures files { AfterTold (S.files shelf.old) (S.files shelf.new) Same }
+    ensures writes { S.writes shelf.new ≡ S.writes shelf.old }
+{
+    let Some((model, script)) = line_of(words) else {
+        return Err(Refusal::Usage);
+    };
+    let texts = match load(alloc, shelf, model, script) {
+        Ok(texts) => texts,
+        Err(ReadStop::Failed) => return Err(Refusal::Read),
+        Err(ReadStop::TooLarge { limit: _ }) => return Err(Refusal::TooLarge),
+        Err(ReadStop::NoMemory) => return Err(Refusal::NoMemory),
+    };
+    match judge(alloc, &texts) {
+        Ok(judged) => Ok(run(alloc, judged, out)),
+        Err(JudgeStop::Model) => Err(Refusal::Model),
+        Err(JudgeStop::Script) => Err(Refusal::Script),
+        Err(JudgeStop::NoMemory) => Err(Refusal::NoMemory),
+    }
+}
