@@ -1,7 +1,7 @@
 -- How the facts of single calls join to those of several.
-use Rattle.std.proofs.Common.{◌⊎◌, inl, inr, Result, ◌≡◌, ◌<◌, ◌≤◌, ◌+◌, ◌-◌, ℕ, List, [], ◌++◌, length, take, drop, Option, None, Some, refl, sym, ◌∙◌, ap, arith, append_assoc, append-nil, subst, length-take, length-drop}
+use Rattle.std.proofs.Common.{◌⊎◌, inl, inr, Result, ◌≡◌, ◌<◌, ◌≤◌, ◌+◌, ◌-◌, ℕ, List, [], ◌++◌, length, take, drop, Option, None, Some, refl, sym, ◌∙◌, ap, arith, append_assoc, append-nil, subst, length-take, length-drop, Ok, Err, length-append}
 use Rattle.std.proofs.lemmas.List.{take-take}
-use Rattle.std.proofs.Math.Seq.{take-add}
+use Rattle.std.proofs.Math.Seq.{take-add, take-append-add}
 use Rattle.std.specs.Io.KnownBytes.{append_known, Consumes}
 use Rattle.sim_io.specs.Told.{Files, Same, AfterTold, Grows, Grew, Lacks, IsText, IsLarge, IsWhole, IsPastLimit, text_of}
 use Rattle.sim_io.specs.Cause.{Rose}
@@ -167,3 +167,20 @@ consumes_on None mid new first second a b = tt
 consumes_on (Some old) None new first second a b = absurd a
 consumes_on (Some old) (Some mid) None first second a b = absurd b
 consumes_on (Some old) (Some mid) (Some new) first second a b = a ∙ ap (λ rest. first ++ rest) b ∙ sym (append_assoc first second new)
+
+-- two pieces are one after the other, or a proper prefix of both
+pub pieces_on : (first second a b : List ℕ) (result : Result Unit Trouble) → a ≡ first → PieceTaken second b result → PieceTaken (first ++ second) (a ++ b) result
+pieces_on first second a b (Ok done) whole more = ap (λ bytes. bytes ++ b) whole ∙ ap (λ bytes. first ++ bytes) more
+pieces_on first second a b (Err e) whole (count, short, more) = (
+  length first + count,
+  omega (arith, short, length-append first second),
+  ap (λ bytes. bytes ++ b) whole ∙ ap (λ bytes. first ++ bytes) more ∙ sym (take-append-add first second count),
+)
+
+pub took_both : (old mid new : Option (List ℕ)) (first second : List ℕ) (done : Unit) (result : Result Unit Trouble) → TookOf old mid first (Ok done) → TookOf mid new second result → TookOf old new (first ++ second) result
+took_both old mid new first second done result (a, grew, whole) (b, grew_more, more) =
+    (a ++ b, grew_on old mid new a b grew grew_more, pieces_on first second a b result whole more)
+
+pub file_took_both : (name : List ℕ) (old mid new : Option Files) (first second : List ℕ) (done : Unit) (result : Result Unit Trouble) → FileTook name old mid first (Ok done) → FileTook name mid new second result → FileTook name old new (first ++ second) result
+file_took_both name old mid new first second done result (a, grew, whole) (b, grew_more, more) =
+    (a ++ b, file_grew_on name a b old mid new grew grew_more, pieces_on first second a b result whole more)
