@@ -128,21 +128,7 @@ item_fits (tree.signal line i) n ts rest (a, kind_at, (b, many_at, (c, type_at, 
     let four = takes_limited (name i.name) c d name_at three.1 in
     let five = initial_fits i.initial d e initial_at four.1 in
     (and_from (is_name i.name) _ four.0 (and_from (fits_form i.value_type.form) (fits_constant i.initial) three.0 five.0), (takes_limited (symbol s.Semicolon) e rest end_at five.1).1)
-item_fits (tree.resolved line x) n ts rest h l = absurd h
-item_fits (tree.clock line c) n ts rest h l = absurd h
-item_fits (tree.fifo line t x size) n ts rest h l = absurd h
-item_fits (tree.plain line k x) n ts rest h l = absurd h
-item_fits (tree.semaphore line x c) n ts rest h l = absurd h
-item_fits (tree.memory line x size) n ts rest h l = absurd h
-item_fits (tree.variable line t x c) n ts rest h l = absurd h
-item_fits (tree.port line i x size) n ts rest h l = absurd h
-item_fits (tree.export line i x) n ts rest h l = absurd h
-item_fits (tree.initiator line x role) n ts rest h l = absurd h
-item_fits (tree.target line x role) n ts rest h l = absurd h
-item_fits (tree.instance line k x) n ts rest h l = absurd h
-item_fits (tree.bind line left right) n ts rest h l = absurd h
-item_fits (tree.function line f) n ts rest h l = absurd h
-item_fits (tree.process line p) n ts rest h l = absurd h
+item_fits _ n ts rest h l = absurd h
 
 items_fit : (is : List tree.Item) (n : ℕ) (ts rest : Tokens) → Each DerivesItem is ts rest → are_limited ts ≡ true → (fits_items is n ≡ true) × (are_limited rest ≡ true)
 items_fit [] n ts rest h l = (refl, subst (λ (ys : Tokens). are_limited ys ≡ true) h l)

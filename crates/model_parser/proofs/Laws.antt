@@ -131,21 +131,7 @@ signal_reads line kind.Signal false value_type bytes None ts a b c d e rest one 
 
 item_reads : (x : tree.Item) (ts rest : Tokens) → DerivesItem x ts rest → signal_item ts ≡ Some (x, rest)
 item_reads (tree.signal line i) ts rest (a, one, (b, two, (c, three, (d, four, (e, five, six))))) = signal_reads line i.kind i.many i.value_type i.name i.initial ts a b c d e rest one two three four five six
-item_reads (tree.resolved line x) ts rest h = absurd h
-item_reads (tree.clock line c) ts rest h = absurd h
-item_reads (tree.fifo line t x size) ts rest h = absurd h
-item_reads (tree.plain line k x) ts rest h = absurd h
-item_reads (tree.semaphore line x c) ts rest h = absurd h
-item_reads (tree.memory line x size) ts rest h = absurd h
-item_reads (tree.variable line t x c) ts rest h = absurd h
-item_reads (tree.port line i x size) ts rest h = absurd h
-item_reads (tree.export line i x) ts rest h = absurd h
-item_reads (tree.initiator line x role) ts rest h = absurd h
-item_reads (tree.target line x role) ts rest h = absurd h
-item_reads (tree.instance line k x) ts rest h = absurd h
-item_reads (tree.bind line left right) ts rest h = absurd h
-item_reads (tree.function line f) ts rest h = absurd h
-item_reads (tree.process line p) ts rest h = absurd h
+item_reads _ ts rest h = absurd h
 
 -- an item begins with a word, and takes tokens
 
@@ -155,21 +141,7 @@ kind_begins line kind.Buffer ts rest h = absurd h
 
 item_begins : (x : tree.Item) (ts rest : Tokens) → DerivesItem x ts rest → at_right_brace ts ≡ false
 item_begins (tree.signal line i) ts rest (a, one, two) = kind_begins line i.kind ts a one
-item_begins (tree.resolved line x) ts rest h = absurd h
-item_begins (tree.clock line c) ts rest h = absurd h
-item_begins (tree.fifo line t x size) ts rest h = absurd h
-item_begins (tree.plain line k x) ts rest h = absurd h
-item_begins (tree.semaphore line x c) ts rest h = absurd h
-item_begins (tree.memory line x size) ts rest h = absurd h
-item_begins (tree.variable line t x c) ts rest h = absurd h
-item_begins (tree.port line i x size) ts rest h = absurd h
-item_begins (tree.export line i x) ts rest h = absurd h
-item_begins (tree.initiator line x role) ts rest h = absurd h
-item_begins (tree.target line x role) ts rest h = absurd h
-item_begins (tree.instance line k x) ts rest h = absurd h
-item_begins (tree.bind line left right) ts rest h = absurd h
-item_begins (tree.function line f) ts rest h = absurd h
-item_begins (tree.process line p) ts rest h = absurd h
+item_begins _ ts rest h = absurd h
 
 at_shorter : (line : ℕ) (x : t.Token) (ts rest : Tokens) → At line x ts rest → length rest < length ts
 at_shorter line x ts rest h = rw h (omega arith)
@@ -202,21 +174,7 @@ item_shorter (tree.signal line i) ts rest (a, one, (b, two, (c, three, (d, four,
     let fifth : length e ≤ length d = initial_shorter i.initial d e five in
     let sixth : length rest < length e = at_shorter six.0 (t.symbol s.Semicolon) e rest six.1 in
     omega arith
-item_shorter (tree.resolved line x) ts rest h = absurd h
-item_shorter (tree.clock line c) ts rest h = absurd h
-item_shorter (tree.fifo line t x size) ts rest h = absurd h
-item_shorter (tree.plain line k x) ts rest h = absurd h
-item_shorter (tree.semaphore line x c) ts rest h = absurd h
-item_shorter (tree.memory line x size) ts rest h = absurd h
-item_shorter (tree.variable line t x c) ts rest h = absurd h
-item_shorter (tree.port line i x size) ts rest h = absurd h
-item_shorter (tree.export line i x) ts rest h = absurd h
-item_shorter (tree.initiator line x role) ts rest h = absurd h
-item_shorter (tree.target line x role) ts rest h = absurd h
-item_shorter (tree.instance line k x) ts rest h = absurd h
-item_shorter (tree.bind line left right) ts rest h = absurd h
-item_shorter (tree.function line f) ts rest h = absurd h
-item_shorter (tree.process line p) ts rest h = absurd h
+item_shorter _ ts rest h = absurd h
 
 items_ok : (ts rest : Tokens) (xs : List tree.Item) → items ts ≡ Some (xs, rest) → Each DerivesItem xs ts rest
 unfolding items
@@ -295,21 +253,7 @@ whole_ok (Some (y, (t ∷ ts))) x h = cc
 
 item_brackets : (x : tree.Item) (ts rest : Tokens) → DerivesItem x ts rest → in_item x ≡ 0
 item_brackets (tree.signal line i) ts rest h = refl
-item_brackets (tree.resolved line x) ts rest h = absurd h
-item_brackets (tree.clock line c) ts rest h = absurd h
-item_brackets (tree.fifo line t x size) ts rest h = absurd h
-item_brackets (tree.plain line k x) ts rest h = absurd h
-item_brackets (tree.semaphore line x c) ts rest h = absurd h
-item_brackets (tree.memory line x size) ts rest h = absurd h
-item_brackets (tree.variable line t x c) ts rest h = absurd h
-item_brackets (tree.port line i x size) ts rest h = absurd h
-item_brackets (tree.export line i x) ts rest h = absurd h
-item_brackets (tree.initiator line x role) ts rest h = absurd h
-item_brackets (tree.target line x role) ts rest h = absurd h
-item_brackets (tree.instance line k x) ts rest h = absurd h
-item_brackets (tree.bind line left right) ts rest h = absurd h
-item_brackets (tree.function line f) ts rest h = absurd h
-item_brackets (tree.process line p) ts rest h = absurd h
+item_brackets _ ts rest h = absurd h
 
 items_brackets : (xs : List tree.Item) (ts rest : Tokens) → Each DerivesItem xs ts rest → in_items xs ≡ 0
 items_brackets [] ts rest h = refl

@@ -1,17 +1,26 @@
 use super::*;
 use model_tree::{Item, ParseStop, Tree};
+use std::alloc::Global;
 
-/// What a text reads as: the lines and the names of a tree, or the line of its Syntax.
-#[derive(Clone, Copy)]
-enum Wanted<'a> {
-    Refused(u32),
-    Read((u32, &'a [u8]), &'a [(u32, u32, &'a [u8])], (u32, &'a [u8], &'a [u8])),
+/// What `parse` answers; no text here is too long for it.
+fn read(alloc: Global, text: &[u8]) -> Result<Tree, ParseStop> {
+    if text.len() < 1000 {
+        parse(alloc, text)
+    } else {
+        Err(ParseStop::NoMemory)
+    }
 }
 
-const A64: &[u8] = b"aaaaaaaaaaaaaaaaaaaaaaaaaaaaaaaaaaaaaaaaaaaaaaaaaaaaaaaaaaaaaaaa";
+/// Whether the text has no tree, as the given line says.
+fn is_refused(alloc: Global, text: &[u8], line: u32) -> bool {
+    match read(alloc, text) {
+        Err(ParseStop::Syntax { line: at }) => at == line,
+        _ => false,
+    }
+}
 
 /// Whether these are signals of `bool` at these lines, with their types at these, of these names.
-fn are_signals(items: &[Item], wanted: &[(u32, u32, &[u8])]) -> bool {
+fn are_signals(items: &[Item], wanted: &[(u32, u32, &str)]) -> bool {
     if items.len() != wanted.len() {
         return false;
     }
@@ -20,7 +29,7 @@ fn are_signals(items: &[Item], wanted: &[(u32, u32, &[u8])]) -> bool {
             Item::Signal(at, signal) => {
                 let same = *at == *line
                     && signal.value_type.line == *type_line
-                    && signal.name.bytes() == *name;
+                    && signal.name.bytes() == name.as_bytes();
                 if !same {
                     return false;
                 }
@@ -31,111 +40,124 @@ fn are_signals(items: &[Item], wanted: &[(u32, u32, &[u8])]) -> bool {
     true
 }
 
-fn is_wanted(read: &Result<Tree, ParseStop>, wanted: &Wanted<'_>) -> bool {
-    match (read, wanted) {
-        (Err(ParseStop::Syntax { line }), Wanted::Refused(at)) => *line == *at,
-        (Ok(tree), Wanted::Read(module, items, top)) => match tree.modules.as_slice() {
+/// Whether the text reads as one module of these signals and this top, each with its line.
+fn is_read(
+    alloc: Global,
+    text: &[u8],
+    module: (u32, &str),
+    items: &[(u32, u32, &str)],
+    top: (u32, &str, &str),
+) -> bool {
+    match read(alloc, text) {
+        Ok(tree) => match tree.modules.as_slice() {
             [only] => {
                 only.line == module.0
-                    && only.name.bytes() == module.1
+                    && only.name.bytes() == module.1.as_bytes()
                     && are_signals(only.items.as_slice(), items)
                     && tree.top.line == top.0
-                    && tree.top.module.bytes() == top.1
-                    && tree.top.name.bytes() == top.2
+                    && tree.top.module.bytes() == top.1.as_bytes()
+                    && tree.top.name.bytes() == top.2.as_bytes()
             }
             _ => false,
         },
-        _ => false,
+        Err(_) => false,
     }
 }
 
 #[test]
 fn texts_and_their_trees(rt: HostRuntime) {
-    let cases: [(&[u8], Wanted<'_>); 40] = [
-        // Nothing, and blanks alone: the text ends too early.
-        (b"", Wanted::Refused(1)),
-        (b" \t\r\n \n", Wanted::Refused(3)),
-        // One byte.
-        (b"m", Wanted::Refused(1)),
-        (b";", Wanted::Refused(1)),
-        (b"\n", Wanted::Refused(2)),
-        (b"$", Wanted::Refused(1)),
-        // Trees.
-        (
+    let alloc = rt.alloc();
+    // Texts that read: lines, blanks, names of 1 byte and of 64.
+    assert!(rt;
+        is_read(
+            alloc,
             b"module M { } top M m;",
-            Wanted::Read((1, b"M"), &[], (1, b"M", b"m")),
-        ),
-        (
-            b"module M{}top M m;",
-            Wanted::Read((1, b"M"), &[], (1, b"M", b"m")),
-        ),
-        (
+            (1, "M"),
+            &[],
+            (1, "M", "m")
+        )
+    );
+    assert!(rt; is_read(alloc, b"module M{}top M m;", (1, "M"), &[], (1, "M", "m")));
+    assert!(rt;
+        is_read(
+            alloc,
             b"module M { signal bool a; signal bool b; } top M m;",
-            Wanted::Read((1, b"M"), &[(1, 1, b"a"), (1, 1, b"b")], (1, b"M", b"m")),
-        ),
-        (
+            (1, "M"),
+            &[(1, 1, "a"), (1, 1, "b")],
+            (1, "M", "m")
+        )
+    );
+    assert!(rt;
+        is_read(
+            alloc,
             b"\nmodule M {\n  signal  bool\ta;\r\n  signal\n bool b\n;\n}\ntop M\n m;\n",
-            Wanted::Read((2, b"M"), &[(3, 3, b"a"), (4, 5, b"b")], (8, b"M", b"m")),
-        ),
-        (
+            (2, "M"),
+            &[(3, 3, "a"), (4, 5, "b")],
+            (8, "M", "m")
+        )
+    );
+    assert!(rt;
+        is_read(
+            alloc,
             b"module a1_Z { signal bool _; signal bool _; } top other toppled;",
-            Wanted::Read(
-                (1, b"a1_Z"),
-                &[(1, 1, b"_"), (1, 1, b"_")],
-                (1, b"other", b"toppled"),
-            ),
-        ),
-        // A name of 64 bytes, and of 65: refused, and not cut in two.
-        (
+            (1, "a1_Z"),
+            &[(1, 1, "_"), (1, 1, "_")],
+            (1, "other", "toppled")
+        )
+    );
+    assert!(rt;
+        is_read(
+            alloc,
             b"module M { } top M\naaaaaaaaaaaaaaaaaaaaaaaaaaaaaaaaaaaaaaaaaaaaaaaaaaaaaaaaaaaaaaaa;",
-            Wanted::Read((1, b"M"), &[], (1, b"M", A64)),
-        ),
+            (1, "M"),
+            &[],
+            (
+                1,
+                "M",
+                "aaaaaaaaaaaaaaaaaaaaaaaaaaaaaaaaaaaaaaaaaaaaaaaaaaaaaaaaaaaaaaaa"
+            )
+        )
+    );
+    // Texts that do not, with the lines that say so.
+    for (text, line) in [
+        ("", 1),
+        (" \t\r\n \n", 3),
+        ("m", 1),
+        (";", 1),
+        ("\n", 2),
+        ("$", 1),
         (
-            b"module M { } top M\naaaaaaaaaaaaaaaaaaaaaaaaaaaaaaaaaaaaaaaaaaaaaaaaaaaaaaaaaaaaaaaaa;",
-            Wanted::Refused(2),
+            "module M { } top M\naaaaaaaaaaaaaaaaaaaaaaaaaaaaaaaaaaaaaaaaaaaaaaaaaaaaaaaaaaaaaaaaa;",
+            2,
         ),
-        // Bytes that no text has.
-        (b"module M { }\n\x7f top M m;", Wanted::Refused(2)),
-        (b"module M { }\n\n\x00 top M m;", Wanted::Refused(3)),
-        (b"module M { } top M m;\x80", Wanted::Refused(1)),
-        (b"module M { } top M m;\n\x0b", Wanted::Refused(2)),
-        // A piece that is no token comes before an earlier token that no tree goes on with.
-        (
-            b"module M {\n signal bool 1a; } top M m;",
-            Wanted::Refused(2),
-        ),
-        (b"bool\n\n1", Wanted::Refused(3)),
-        (b"module M {\n signal bool 'a; }", Wanted::Refused(2)),
-        // The first token that no tree goes on with.
-        (b"module M { } top M m;\nx", Wanted::Refused(2)),
-        (b"module M { } top M m;;\n", Wanted::Refused(1)),
-        (b"module M { }\nmodule N { } top M m;", Wanted::Refused(2)),
-        (b"\ntop M m;", Wanted::Refused(2)),
-        (
-            b"module M {\n signal bool\n keeper; } top M m;",
-            Wanted::Refused(3),
-        ),
-        (b"module\ntop { } top top m;", Wanted::Refused(2)),
-        (b"module M { } top\nOK m;", Wanted::Refused(2)),
-        (b"moduleM { }\ntop M m;", Wanted::Refused(1)),
-        (b"module M { }\ntopM m;", Wanted::Refused(2)),
-        (b"module M { signal\nM a; } top M m;", Wanted::Refused(2)),
-        (
-            b"module M { signal\nlogic a; } top M m;",
-            Wanted::Refused(2),
-        ),
-        (b"module M { signal bool a\n} top M m;", Wanted::Refused(2)),
-        (b"module M { signal bool a\n= b; }", Wanted::Refused(2)),
-        (b"module M\n<= } top M m;", Wanted::Refused(2)),
-        (b"module M { ;\n } top M m;", Wanted::Refused(1)),
-        (b"module M { }\ntop M m\n}", Wanted::Refused(3)),
-        (b"module M { buffer bool a; }\ntop M m;", Wanted::Refused(1)),
-        // The text ends too early.
-        (b"module M {\n signal bool a;\n", Wanted::Refused(3)),
-        (b"module M { } top M m", Wanted::Refused(1)),
-        (b"module M {\n signal bool a;\n}\n\n", Wanted::Refused(5)),
-    ];
-    for (text, wanted) in &cases {
-        assert!(rt; is_wanted(&parse(rt.alloc(), text), wanted));
+        ("module M { }\n\x7f top M m;", 2),
+        ("module M { }\n\n\x00 top M m;", 3),
+        ("module M { } top M m;\n\x0b", 2),
+        ("module M {\n signal bool 1a; } top M m;", 2),
+        ("bool\n\n1", 3),
+        ("module M {\n signal bool 'a; }", 2),
+        ("module M { } top M m;\nx", 2),
+        ("module M { } top M m;;\n", 1),
+        ("module M { }\nmodule N { } top M m;", 2),
+        ("\ntop M m;", 2),
+        ("module M {\n signal bool\n keeper; } top M m;", 3),
+        ("module\ntop { } top top m;", 2),
+        ("module M { } top\nOK m;", 2),
+        ("moduleM { }\ntop M m;", 1),
+        ("module M { }\ntopM m;", 2),
+        ("module M { signal\nM a; } top M m;", 2),
+        ("module M { signal\nlogic a; } top M m;", 2),
+        ("module M { signal bool a\n} top M m;", 2),
+        ("module M { signal bool a\n= b; }", 2),
+        ("module M\n<= } top M m;", 2),
+        ("module M { ;\n } top M m;", 1),
+        ("module M { }\ntop M m\n}", 3),
+        ("module M { buffer bool a; }\ntop M m;", 1),
+        ("module M {\n signal bool a;\n", 3),
+        ("module M { } top M m", 1),
+        ("module M {\n signal bool a;\n}\n\n", 5),
+    ] {
+        assert!(rt; is_refused(alloc, text.as_bytes(), line), "{text}");
     }
+    assert!(rt; is_refused(alloc, b"module M { } top M m;\x80", 1));
 }
