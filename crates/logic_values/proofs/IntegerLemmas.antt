@@ -1,21 +1,13 @@
-use Rattle.std.proofs.Common.{ℕ, zero, suc, ◌≡◌, ◌+◌, ◌-◌, ◌*◌, ◌/◌, ◌%◌, ◌^◌, ◌<◌, ◌≤◌, min, bit_and, ℤ, pos, negsuc, refl, sym, ap, ◌∙◌, inl, inr, ⊎_elim, arith, w64, to_z, of_z}
-use Rattle.std.proofs.Math.Nat.{div-eq_of_lt, mul-mod_left, pow-le-pow_right, mul_assoc, mul_comm, pow-suc}
+use Rattle.std.proofs.Common.{ℕ, ◌≡◌, ◌+◌, ◌-◌, ◌*◌, ◌/◌, ◌%◌, ◌^◌, ◌<◌, ◌≤◌, min, bit_and, ℤ, pos, negsuc, sym, ap, ◌∙◌, ⊎_elim, arith, w64, to_z, of_z}
+use Rattle.std.proofs.Math.Nat.{div-eq_of_lt, mul-mod_left, pow-le-pow_right, mul_assoc}
 use mir.Val.{SFits}
 use lib.Signed.{mag_shr}
 use Rattle.std.proofs.lemmas.Nat.{and_mask, pow_pos, pow-add}
 use Rattle.std.proofs.lemmas.Nat.Bits.{ones_shr}
 use Rattle.std.proofs.lemmas.Int.{to_z-of_z}
 use Rattle.std.proofs.lemmas.Bool.{cases_lt}
-use Rattle.std.specs.Int.{cast_signed, int_shr}
+use Rattle.std.specs.Int.{int_shr}
 use Rattle.std.specs.Int.Signed.{mag}
-use Rattle.logic_values.specs.Integers.{sign_extended}
-
--- a power of two is twice the one below it
-twice_half : (width : ℕ) → 1 ≤ width → 2 ^ width ≡ 2 * 2 ^ (width - 1)
-twice_half zero some = absurd (omega arith)
-twice_half (suc k) some =
-    let back : suc k - 1 ≡ k = omega arith in
-    rw back (pow-suc 2 k ∙ mul_comm (2 ^ k) 2)
 
 -- 63 places down nothing is left of less than 2^63
 shr_same : (a n : ℕ) → a < 2 ^ 63 → 63 ≤ n → a / 2 ^ n ≡ a / 2 ^ 63
@@ -38,18 +30,6 @@ pub and_low_mask : (a mask width : ℕ) → mask + 1 ≡ 2 ^ width → bit_and a
 and_low_mask a mask width e =
     let is : mask ≡ 2 ^ width - 1 = omega arith in
     rw is (and_mask a width)
-
--- twice the low number reaches 2^width exactly past the half of the mask
-pub past_half : (low mask width : ℕ) → 1 ≤ width → mask + 1 ≡ 2 ^ width → mask / 2 < low → 2 ^ width ≤ 2 * low
-past_half low mask width some e past =
-    let p : ℕ = 2 ^ (width - 1) in
-    let twice : 2 ^ width ≡ 2 * 2 ^ (width - 1) = twice_half width some in
-    omega arith
-
-pub up_to_half : (low mask width : ℕ) → 1 ≤ width → mask + 1 ≡ 2 ^ width → low ≤ mask / 2 → 2 * low < 2 ^ width
-up_to_half low mask width some e up =
-    let twice : 2 ^ width ≡ 2 * 2 ^ (width - 1) = twice_half width some in
-    omega arith
 
 -- nothing is left 64 places up
 pub shl_far : (a n : ℕ) → 64 ≤ n → 0 ≡ (a * 2 ^ n) % 2 ^ 64
@@ -79,7 +59,7 @@ int_shr_is z n m r small least e =
     let again : to_z w64 (of_z w64 (int_shr z m)) ≡ int_shr z m = to_z-of_z w64 (int_shr z m) shifted in
     let first : of_z w64 (to_z w64 (of_z w64 (int_shr (to_z w64 (of_z w64 z)) m))) ≡ of_z w64 (int_shr z m) = rw back (ap (of_z w64) again) in
     let same : int_shr z m ≡ int_shr z n = ⊎_elim
-      (λ (near : n < 63). let is : m ≡ n = omega arith in ap (int_shr z) is)
-      (λ (far : 63 ≤ n). let is : m ≡ 63 = omega arith in ap (int_shr z) is ∙ sym (int_shr_far z n small far))
-      (cases_lt n 63) in
+    (λ (near : n < 63). let is : m ≡ n = omega arith in ap (int_shr z) is)
+    (λ (far : 63 ≤ n). let is : m ≡ 63 = omega arith in ap (int_shr z) is ∙ sym (int_shr_far z n small far))
+    (cases_lt n 63) in
     e ∙ first ∙ ap (of_z w64) same

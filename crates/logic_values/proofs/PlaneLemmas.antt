@@ -1,8 +1,8 @@
-use Rattle.std.proofs.Common.{ℕ, zero, suc, ◌≡◌, ◌+◌, ◌-◌, ◌*◌, ◌/◌, ◌%◌, ◌^◌, ◌<◌, ◌≤◌, bit_and, bit_or, Bool, true, false, ◌⊎◌, List, [], ◌∷◌, ◌++◌, map, take, drop, length, refl, sym, ap, ◌∙◌, inl, inr, ⊎_elim, arith}
+use Rattle.std.proofs.Common.{ℕ, zero, suc, ◌≡◌, ◌+◌, ◌-◌, ◌*◌, ◌/◌, ◌%◌, ◌^◌, ◌<◌, ◌≤◌, bit_and, bit_or, Bool, true, false, List, [], ◌∷◌, ◌++◌, map, take, drop, refl, sym, ap, ◌∙◌, ⊎_elim, arith}
 use Rattle.std.specs.Int.RustNames.{bit_xor}
 use Rattle.std.specs.Prelude.{slice_get, Some}
 use Rattle.std.proofs.Math.Nat.{pow-suc, mul_comm, mul_assoc, div-one}
-use Rattle.std.proofs.lemmas.Nat.{and_shr, or_shr, xor_shr, and_mod, or_mod, xor_mod, pow_pos, and_le_l, shr-shr, field_of, mod-pow-add, pow-add, shl_whole, or_shifted, mul-add-lt}
+use Rattle.std.proofs.lemmas.Nat.{and_shr, or_shr, xor_shr, and_mod, or_mod, xor_mod, and_le_l, shr-shr, field_of, mod-pow-add, pow-add, shl_whole, or_shifted, mul-add-lt}
 use Rattle.std.proofs.lemmas.Nat.Bits.{shr_and_one}
 use Rattle.std.proofs.lemmas.Bool.{cases_lt}
 use Rattle.logic_values.specs.declared.kinds.Digit.{Digit}
@@ -13,19 +13,19 @@ use Rattle.logic_values.specs.Vectors.{digit_by_digit}
 
 -- ---- one bit
 
-abbrev bit : Bool → ℕ
+abbrev pub bit : Bool → ℕ
 bit false = 0
 bit true = 1
 
 -- the lowest bit of a number
-lowest : (n : ℕ) → (b : Bool) × (n % 2 ≡ bit b)
+pub lowest : (n : ℕ) → (b : Bool) × (n % 2 ≡ bit b)
 lowest n =
     ⊎_elim
     (λ (e : n % 2 < 1). (false, omega arith))
     (λ (e : 1 ≤ n % 2). (true, omega arith))
     (cases_lt (n % 2) 1)
 
-half_and : (a b : ℕ) → bit_and a b / 2 ≡ bit_and (a / 2) (b / 2)
+pub half_and : (a b : ℕ) → bit_and a b / 2 ≡ bit_and (a / 2) (b / 2)
 half_and a b = and_shr a b 1
 
 half_or : (a b : ℕ) → bit_or a b / 2 ≡ bit_or (a / 2) (b / 2)
@@ -34,7 +34,7 @@ half_or a b = or_shr a b 1
 half_xor : (a b : ℕ) → bit_xor a b / 2 ≡ bit_xor (a / 2) (b / 2)
 half_xor a b = xor_shr a b 1
 
-low_and : (a b : ℕ) → bit_and a b % 2 ≡ bit_and (a % 2) (b % 2)
+pub low_and : (a b : ℕ) → bit_and a b % 2 ≡ bit_and (a % 2) (b % 2)
 low_and a b = and_mod a b 1
 
 low_or : (a b : ℕ) → bit_or a b % 2 ≡ bit_or (a % 2) (b % 2)
@@ -69,7 +69,7 @@ pub and_planes : (n ua oa ub ob : ℕ) → digits_in n (bit_and (bit_and (bit_or
 and_planes zero ua oa ub ob = refl
 and_planes (suc n) ua oa ub ob =
     let first : digit_of_bits (bit_and (bit_and (bit_or (oa % 2) (ua % 2)) (bit_or (ob % 2) (ub % 2))) (bit_or (ua % 2) (ub % 2))) (bit_and (bit_or (oa % 2) (ua % 2)) (bit_or (ob % 2) (ub % 2))) ≡ and_of (digit_of_bits (ua % 2) (oa % 2)) (digit_of_bits (ub % 2) (ob % 2)) =
-      rw ((lowest ua).1, (lowest oa).1, (lowest ub).1, (lowest ob).1) (and_place (lowest ua).0 (lowest oa).0 (lowest ub).0 (lowest ob).0) in
+    rw ((lowest ua).1, (lowest oa).1, (lowest ub).1, (lowest ob).1) (and_place (lowest ua).0 (lowest oa).0 (lowest ub).0 (lowest ob).0) in
     let rest = and_planes n (ua / 2) (oa / 2) (ub / 2) (ob / 2) in
     simp (half_and, half_or, low_and, low_or) (rw (first, rest) refl)
 
@@ -102,7 +102,7 @@ pub xor_planes : (n ua oa ub ob : ℕ) → digits_in n (bit_or ua ub) (bit_or (b
 xor_planes zero ua oa ub ob = refl
 xor_planes (suc n) ua oa ub ob =
     let first : digit_of_bits (bit_or (ua % 2) (ub % 2)) (bit_or (bit_xor (oa % 2) (ob % 2)) (bit_or (ua % 2) (ub % 2))) ≡ xor_of (digit_of_bits (ua % 2) (oa % 2)) (digit_of_bits (ub % 2) (ob % 2)) =
-      rw ((lowest ua).1, (lowest oa).1, (lowest ub).1, (lowest ob).1) (xor_place (lowest ua).0 (lowest oa).0 (lowest ub).0 (lowest ob).0) in
+    rw ((lowest ua).1, (lowest oa).1, (lowest ub).1, (lowest ob).1) (xor_place (lowest ua).0 (lowest oa).0 (lowest ub).0 (lowest ob).0) in
     let rest = xor_planes n (ua / 2) (oa / 2) (ub / 2) (ob / 2) in
     simp (half_or, half_xor, low_or, low_xor) (rw (first, rest) refl)
 
@@ -122,7 +122,7 @@ not_planes (suc n) u o mask e =
     let odd : mask % 2 ≡ 1 = omega arith in
     let half : mask / 2 + 1 ≡ 2 ^ n = omega arith in
     let first : digit_of_bits (u % 2) (bit_or (bit_xor (o % 2) 1) (u % 2)) ≡ not_of (digit_of_bits (u % 2) (o % 2)) =
-      rw ((lowest u).1, (lowest o).1) (not_place (lowest u).0 (lowest o).0) in
+    rw ((lowest u).1, (lowest o).1) (not_place (lowest u).0 (lowest o).0) in
     let rest = not_planes n (u / 2) (o / 2) (mask / 2) half in
     simp (half_or, half_xor, low_or, low_xor, odd) (rw (first, rest) refl)
 
@@ -187,23 +187,23 @@ drop_planes (suc i) m (suc k) u o e =
     let down_o : o / 2 / 2 ^ i ≡ o / 2 ^ suc i = shr-shr o 1 i ∙ ap (λ j. o / 2 ^ j) next in
     rw (← down_u, ← down_o) (drop_planes i m k (u / 2) (o / 2) (omega arith))
 
-low_of_field : (n j : ℕ) → n % 2 ^ suc j % 2 ≡ n % 2
+pub low_of_field : (n j : ℕ) → n % 2 ^ suc j % 2 ≡ n % 2
 low_of_field n j =
     let next : j + 1 ≡ suc j = omega arith in
     let parts : n % 2 ^ (j + 1) ≡ (n / 2 % 2 ^ j) * 2 + n % 2 = mod-pow-add n j 1 in
     rw (← next) (rw parts (omega arith))
+
+pub half_of_field : (n j : ℕ) → n % 2 ^ suc j / 2 ≡ n / 2 % 2 ^ j
+half_of_field n j =
+    let next : j + 1 ≡ suc j = omega arith in
+    ap (λ i. n % 2 ^ i / 2) (sym next) ∙ field_of n j 1
 
 -- the lowest places of the planes
 pub take_planes : (j m k u o : ℕ) → k ≡ j + m → take j (digits_in k u o) ≡ digits_in j (u % 2 ^ j) (o % 2 ^ j)
 take_planes zero m k u o e = refl
 take_planes (suc j) m zero u o e = absurd (omega arith)
 take_planes (suc j) m (suc k) u o e =
-    let next : j + 1 ≡ suc j = omega arith in
-    let low_u : u % 2 ^ suc j % 2 ≡ u % 2 = low_of_field u j in
-    let low_o : o % 2 ^ suc j % 2 ≡ o % 2 = low_of_field o j in
-    let half_u : u % 2 ^ suc j / 2 ≡ u / 2 % 2 ^ j = ap (λ i. u % 2 ^ i / 2) (sym next) ∙ field_of u j 1 in
-    let half_o : o % 2 ^ suc j / 2 ≡ o / 2 % 2 ^ j = ap (λ i. o % 2 ^ i / 2) (sym next) ∙ field_of o j 1 in
-    rw (low_u, low_o, half_u, half_o, take_planes j m k (u / 2) (o / 2) (omega arith)) refl
+    rw (low_of_field u j, low_of_field o j, half_of_field u j, half_of_field o j, take_planes j m k (u / 2) (o / 2) (omega arith)) refl
 
 -- one place of the planes
 pub place_of_planes : (i k u o : ℕ) → i < k → slice_get (digits_in k u o) i ≡ Some (digit_of_bits (u / 2 ^ i % 2) (o / 2 ^ i % 2))
@@ -231,13 +231,13 @@ shifted_or_fits a j b k ha hb h =
     rw (shifted_or a j b k ha hb h, power) within
 
 pub shifted_or_digits : (wa ua oa wb ub ob : ℕ) → ua < 2 ^ wa → oa < 2 ^ wa → ub < 2 ^ wb → ob < 2 ^ wb → wa + wb ≤ 64
-  → digits_in (wa + wb) (bit_or ((ua * 2 ^ wb) % 2 ^ 64) ub) (bit_or ((oa * 2 ^ wb) % 2 ^ 64) ob) ≡ digits_in wb ub ob ++ digits_in wa ua oa
+    → digits_in (wa + wb) (bit_or ((ua * 2 ^ wb) % 2 ^ 64) ub) (bit_or ((oa * 2 ^ wb) % 2 ^ 64) ob) ≡ digits_in wb ub ob ++ digits_in wa ua oa
 shifted_or_digits wa ua oa wb ub ob hua hoa hub hob h =
     rw (shifted_or ua wa ub wb hua hub h, shifted_or oa wa ob wb hoa hob h)
     (concat_planes wb wa (wa + wb) (omega arith) ua oa ub ob hub hob)
 
 pub slice_digits : (low w k u o ru ro : ℕ) → low + w ≤ k → ru ≡ u / 2 ^ low % 2 ^ w → ro ≡ o / 2 ^ low % 2 ^ w
-  → digits_in w ru ro ≡ take w (drop low (digits_in k u o))
+    → digits_in w ru ro ≡ take w (drop low (digits_in k u o))
 slice_digits low w k u o ru ro h eu eo =
     rw (eu, eo, drop_planes low (k - low) k u o (omega arith))
     (sym (take_planes w (k - low - w) (k - low) (u / 2 ^ low) (o / 2 ^ low) (omega arith)))

@@ -1,4 +1,4 @@
-use Rattle.std.specs.Prelude.{ℕ, ◌+◌, ◌-◌, ◌*◌, ◌/◌, ◌%◌, ◌^◌, nat_lt, ◌==◌, if◌then◌else◌, Bool, ℤ, pos, int_lt, int_div, int_rem, Option, Some, None}
+use Rattle.std.specs.Prelude.{ℕ, ◌+◌, ◌-◌, ◌*◌, ◌%◌, ◌^◌, nat_lt, ◌==◌, if◌then◌else◌, Bool, ℤ, pos, neg_ℤ, int_lt, int_div, int_rem, Option, Some, None}
 use Rattle.std.specs.Int.{w64, cast_signed, cast_unsigned, int_shr}
 use Rattle.logic_values.specs.declared.kinds.Sign.{Sign}
 use Rattle.logic_values.specs.declared.kinds.Sign.TheVariants.{Signed, Unsigned}
@@ -43,11 +43,11 @@ shifted_down s a n = bits_of (int_shr (number_of s a) n)
 abbrev pub is_less : Sign → ℕ → ℕ → Bool
 is_less s a b = int_lt (number_of s a) (number_of s b)
 
--- the 64 bits of a number of fewer, whose highest bit is its sign: this bit goes on upward
-abbrev pub sign_extended : ℕ → ℕ → ℕ
-sign_extended width low = if nat_lt (2 * low) (2 ^ width) then low else low + (2 ^ 64 - 2 ^ width)
+-- the number that `width` bits stand for in two's complement
+abbrev pub twos_complement : ℕ → ℕ → ℤ
+twos_complement width low = if nat_lt (2 * low) (2 ^ width) then pos low else neg_ℤ (pos (2 ^ width - low))
 
--- the low bits of a, extended to 64 by the sign
+-- the lowest bits of a, read with the sign, as 64 bits
 abbrev pub cut_of : Sign → ℕ → ℕ → ℕ
-cut_of Signed width a = sign_extended width (a % 2 ^ width)
+cut_of Signed width a = bits_of (twos_complement width (a % 2 ^ width))
 cut_of Unsigned width a = a % 2 ^ width

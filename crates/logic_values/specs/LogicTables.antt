@@ -31,7 +31,7 @@ not_of Zero = One
 not_of One = Zero
 not_of _ = X
 
--- what two drivers make of one wire (IEEE 1666-2011, 6.14): Z gives way to the other, equal values stay,
+-- what two drivers make of one wire (IEEE 1666-2011, 6.13): Z gives way to the other, equal values stay,
 -- and all else is unknown
 abbrev pub resolved_pair : Digit → Digit → Digit
 resolved_pair Z e = e

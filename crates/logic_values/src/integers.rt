@@ -1,5 +1,5 @@
 ghost use Rattle.std.specs.Prelude.{◌≡◌, ◌+◌, ◌%◌, ◌^◌, ◌<◌, ◌≤◌};
-ghost use Rattle.logic_values.specs.Integers.{sum_of, difference_of, product_of, quotient_of, remainder_of, shifted_up, shifted_down, is_less, cut_of, sign_extended};
+ghost use Rattle.logic_values.specs.Integers.{sum_of, difference_of, product_of, quotient_of, remainder_of, shifted_up, shifted_down, is_less, cut_of, bits_of, twos_complement};
 
 use super::kinds::Sign;
 
@@ -34,7 +34,10 @@ pub fn div(s: Sign, a: u64, b: u64) -> Option<u64>
         return None;
     }
     match s {
-        Sign::Signed => Some(a.cast_signed().wrapping_div(b.cast_signed()).cast_unsigned()),
+        Sign::Signed => {
+            let quotient = a.cast_signed().wrapping_div(b.cast_signed());
+            Some(quotient.cast_unsigned())
+        }
         Sign::Unsigned => Some(a / b),
     }
 }
@@ -47,7 +50,10 @@ pub fn rem(s: Sign, a: u64, b: u64) -> Option<u64>
         return None;
     }
     match s {
-        Sign::Signed => Some(a.cast_signed().wrapping_rem(b.cast_signed()).cast_unsigned()),
+        Sign::Signed => {
+            let remainder = a.cast_signed().wrapping_rem(b.cast_signed());
+            Some(remainder.cast_unsigned())
+        }
         Sign::Unsigned => Some(a % b),
     }
 }
@@ -103,12 +109,12 @@ pub(crate) fn low_bits(width: u8, a: u64) -> u64
     a & low_mask(width)
 }
 
-/// The highest of the lowest `width` bits carried on upward.
+/// A number of `width` bits in two's complement, as 64 bits.
 fn sign_extend(width: u8, low: u64) -> u64
     requires some { 1 ≤ width }
     requires at_most_64 { width ≤ 64 }
     requires fits { low < 2 ^ width }
-    ensures { result ≡ sign_extended width low }
+    ensures { result ≡ bits_of (twos_complement width low) }
 {
     let mask = low_mask(width);
     if low > mask / 2 { low + !mask } else { low }

@@ -2,10 +2,14 @@
 #![tactic(auto)]
 
 mod byte_text;
+mod conversions;
 mod integers;
 mod kinds;
 mod planes;
 mod tables;
+#[cfg(test)]
+mod tests;
+mod texts;
 mod vectors;
 
 pub use byte_text::Text;
@@ -13,4 +17,5 @@ pub use integers::{add, cut, div, lt, mul, rem, shl, shr, sub};
 pub use kinds::{Digit, Sign, Value};
 pub use planes::Lv;
 pub use tables::resolve;
+pub use texts::value_text;
 pub use vectors::{and, concat, digit, not, or, slice, xor};

@@ -1,6 +1,6 @@
 ghost use Rattle.std.specs.Prelude.{◌<◌, ◌≤◌, ◌^◌};
 
-/// A vector of 1 to 64 logic digits, kept in two planes of bits (IEEE 1666-2011, 7.9.5, `sc_lv`).
+/// A vector of 1 to 64 logic digits, kept in two planes of bits (IEEE 1666-2011, 7.9.6, `sc_lv`).
 ///
 /// The digit of a place is its bits in (`unknown`, `ones`): 00 is 0, 01 is 1, 10 is Z and 11 is X.
 /// Place 0 is the lowest. Contracts speak of the list `digits v` of its digits, that of place 0 first.

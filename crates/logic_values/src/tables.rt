@@ -61,7 +61,7 @@ impl Digit {
     }
 }
 
-/// What the drivers make of one wire (IEEE 1666-2011, 6.14): resolved pairwise, Z gives way to the other,
+/// What the drivers make of one wire (IEEE 1666-2011, 6.13): resolved pairwise, Z gives way to the other,
 /// equal values stay, and all else is X.
 pub fn resolve(drivers: &[Digit]) -> Digit
     requires { 0 < length drivers.now }

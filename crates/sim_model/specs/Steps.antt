@@ -16,13 +16,11 @@ use Rattle.sim_model.specs.declared.plain.Command.{Command}
 use Rattle.sim_model.specs.declared.plain.Command.TheVariants as command
 use Rattle.sim_model.specs.declared.plain.Signal.{Signal}
 
--- what a step does: it goes to a configuration and leaves these choices; or it is a run fault, which
--- changes nothing; or it is a taking and the next choice is missing or not runnable; or there is none,
--- since the session has ended
+-- what the next step is: it goes to a configuration; or it is a run fault, which changes nothing; or
+-- there is none, since the session has ended
 pub data Outcome : Type 0 where
-  went : Config → List ℕ → Outcome
+  went : Config → Outcome
   faulted : RunFault → Outcome
-  not_ready : Outcome
   ended : Outcome
 
 -- the line of a show: the time, the word script, the path and the value
@@ -53,32 +51,32 @@ abbrev pub begun : Config → Option ℕ → Config
 begun c end = record c { cycle = record c.cycle { phase = first_phase c.cycle.begun; begun = true; end = end } }
 
 -- a run for a time ends then; a sum past 2^64 - 1 ps is a fault
-abbrev pub begin_until : Config → ℕ → List ℕ → Bool → Outcome
-begin_until c end choices true = went (begun c (Some end)) choices
-begin_until c end choices false = faulted run_fault.TimeOverflow
+abbrev pub begin_until : Config → ℕ → Bool → Outcome
+begin_until c end true = went (begun c (Some end))
+begin_until c end false = faulted run_fault.TimeOverflow
 
-abbrev pub begin_run : Config → Option Time → List ℕ → Outcome
-begin_run c None choices = went (begun c None) choices
-begin_run c (Some d) choices = begin_until c (c.cycle.now + d.0) choices (nat_lt (c.cycle.now + d.0) (2 ^ 64))
+abbrev pub begin_run : Config → Option Time → Outcome
+begin_run c None = went (begun c None)
+begin_run c (Some d) = begin_until c (c.cycle.now + d.0) (nat_lt (c.cycle.now + d.0) (2 ^ 64))
 
-abbrev pub carry_out : Config → Command → List ℕ → Outcome
-carry_out c (command.Run d) choices = begin_run c d choices
-carry_out c (command.Set i v) choices = went (set_signal c i v) choices
-carry_out c (command.Show i) choices = went (show c i) choices
+abbrev pub carry_out : Config → Command → Outcome
+carry_out c (command.Run d) = begin_run c d
+carry_out c (command.Set i v) = went (set_signal c i v)
+carry_out c (command.Show i) = went (show c i)
 
 -- the next command of the script
-abbrev pub next_command : Config → List Command → List ℕ → Outcome
-next_command c [] choices = ended
-next_command c (k ∷ ks) choices = carry_out (record c { script = ks }) k choices
+abbrev pub next_command : Config → List Command → Outcome
+next_command c [] = ended
+next_command c (k ∷ ks) = carry_out (record c { script = ks }) k
 
 -- the step of a phase
-abbrev pub step_in : Phase → Config → List ℕ → Outcome
-step_in phase.Idle c choices = next_command c c.script choices
-step_in phase.Start c choices = went (initialization c) choices
-step_in phase.Evaluate c choices = went (update_step c) choices
-step_in phase.Notify c choices = went (delta_step c) choices
-step_in phase.Timed c choices = went (timed_step c) choices
+abbrev pub step_in : Phase → Config → Outcome
+step_in phase.Idle c = next_command c c.script
+step_in phase.Start c = went (initialization c)
+step_in phase.Evaluate c = went (update_step c)
+step_in phase.Notify c = went (delta_step c)
+step_in phase.Timed c = went (timed_step c)
 
--- the step that a configuration makes with these choices to come
-abbrev pub step : Config → List ℕ → Outcome
-step c choices = if c.cycle.stopped then ended else step_in c.cycle.phase c choices
+-- the step that a configuration makes
+abbrev pub step : Config → Outcome
+step c = if c.cycle.stopped then ended else step_in c.cycle.phase c

@@ -1,4 +1,3 @@
-use Rattle.std.proofs.Common.{rules, arith, ◌≡◌, ◌<◌, ◌≤◌, ◌^◌, ℕ, min}
 use Rattle.logic_values.proofs.IntegerLemmas.{shr_far, int_shr_is}
 use Rattle.logic_values.proofs.integers.shr.Goals as goal
 

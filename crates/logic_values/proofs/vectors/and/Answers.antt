@@ -1,4 +1,4 @@
-use Rattle.std.proofs.Common.{ap, ◌∙◌, arith}
+use Rattle.std.proofs.Common.{ap, ◌∙◌}
 use Rattle.std.proofs.lemmas.Nat.{or_lt}
 use Rattle.logic_values.specs.Digits.{digits, digits_in}
 use Rattle.logic_values.specs.LogicTables.{and_of}

@@ -1,0 +1,4 @@
+pub mod Cutting
+pub mod Many
+pub mod Laws
+pub mod Stops

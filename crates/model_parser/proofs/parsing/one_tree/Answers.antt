@@ -1,0 +1,5 @@
+use Rattle.model_parser.proofs.Laws.{reads_one}
+use Rattle.model_parser.proofs.parsing.one_tree.Goals as goal
+
+pub returns : goal.returns
+returns c = reads_one

@@ -1,0 +1,5 @@
+use Rattle.scheduler.proofs.Frames.{phase_moves}
+use Rattle.scheduler.proofs.phases.initialization.Goals as goal
+
+pub returns-clause-moves : goal.returns-clause-moves
+returns-clause-moves c = λ d h. phase_moves _ _ _ (c.delta_phase.ensures.moves _ (c.update_phase.ensures.moves d h))

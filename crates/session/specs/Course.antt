@@ -1,0 +1,71 @@
+-- How a session went, and what it wrote.
+use Rattle.std.specs.Prelude.{◌≡◌, ◌<◌, ◌≤◌, ℕ, Bool, true, false, List, [], ◌∷◌, length, take, Option, Some, None, ⊤, if◌then◌else◌}
+use Rattle.sim_io.specs.Told.{Grew}
+use Rattle.scheduler.specs.declared.kernel.Kernel.{Kernel}
+use Rattle.sim_model.specs.Steps.{Outcome, went, faulted, ended}
+use Rattle.sim_model.specs.Configuration.{Config}
+use Rattle.sim_model.specs.Runs.{after, stop_of}
+use Rattle.sim_model.specs.Texts.{joined, report}
+use Rattle.sim_model.specs.declared.plain.Stop.{Stop}
+use Rattle.sim_model.specs.declared.plain.Stop.TheVariants as stop
+
+-- the text of a session that stands in this configuration: the report where it has ended, and else the lines so far
+abbrev pub text_at : Config → Option Stop → List ℕ
+text_at c None = joined c.trace.lines
+text_at c (Some s) = report c s
+
+-- a front of a text was written, or a front that lacks a byte
+abbrev pub WroteFront : Option (List ℕ) → Option (List ℕ) → List ℕ → Type 0
+WroteFront old new text = (count : ℕ) × (count ≤ length text) × Grew old new (take count text)
+
+abbrev pub WroteShort : Option (List ℕ) → Option (List ℕ) → List ℕ → Type 0
+WroteShort old new text = (count : ℕ) × (count < length text) × Grew old new (take count text)
+
+-- what a session wrote, by its end: a cut leaves a front of its text, and any other end is the run's, with the whole report
+abbrev pub Wrote : Config → Option Stop → Option (List ℕ) → Option (List ℕ) → Stop → Type 0
+Wrote c ending old new stop.WriteFault = WroteShort old new (text_at c ending)
+Wrote c ending old new stop.NoMemory = WroteFront old new (text_at c ending)
+Wrote c ending old new s = (ending ≡ Some s) × Grew old new (report c s)
+
+-- a session is a run: so many steps with these choices lead from the first configuration to the last,
+-- whose end is the session's, and the sink took its text
+pub record Ran (first : Config) (budget : ℕ) (choices : List ℕ) (steps : ℕ) (s : Stop) (old new : Option (List ℕ)) : Type 0 where
+  pub last : Config
+  pub is_run : after steps choices first ≡ Some last
+  pub within : steps ≤ budget
+  pub wrote : Wrote last (stop_of last steps budget) old new s
+
+-- the bytes of a step's line, where it has one
+abbrev pub line_bytes : Option (List ℕ) → List ℕ
+line_bytes None = []
+line_bytes (Some line) = line
+
+-- an end of the run itself, and no cut
+abbrev pub IsEnd : Stop → Type 0
+IsEnd stop.WriteFault = ⊥
+IsEnd stop.NoMemory = ⊥
+IsEnd s = ⊤
+
+-- how a session whose kernel has no step left came to its end
+abbrev pub IsEndedAs : Kernel → Stop → Type 0
+IsEndedAs k s = s ≡ (if k.stopped then stop.Stopped else stop.Done)
+
+-- whether there is no step
+abbrev pub IsOverAs : Bool → Outcome → Type 0
+IsOverAs true (went d) = ⊥
+IsOverAs true (faulted f) = ⊥
+IsOverAs true ended = ⊤
+IsOverAs false (went d) = ⊤
+IsOverAs false (faulted f) = ⊤
+IsOverAs false ended = ⊥
+
+-- what became of the closing text: written whole, or cut
+abbrev pub Closes : List ℕ → Option (List ℕ) → Option (List ℕ) → Stop → Stop → Type 0
+Closes text old new asked stop.WriteFault = WroteShort old new text
+Closes text old new asked stop.NoMemory = WroteFront old new text
+Closes text old new asked s = (s ≡ asked) × Grew old new text
+
+-- whether a list has nothing
+abbrev pub is_empty : {A : Type 0} → List A → Bool
+is_empty [] = true
+is_empty (x ∷ xs) = false
