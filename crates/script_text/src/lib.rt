@@ -5,6 +5,8 @@ mod cuts;
 mod forms;
 mod naming;
 mod reading;
+#[cfg(test)]
+mod tests;
 
 pub use forms::{CommandForm, TextCommand};
 pub use naming::{Script, name_all};

@@ -181,7 +181,8 @@ fn named(alloc: Global, objects: &[Object], command: &TextCommand) -> Result<Com
 ///
 /// Refused has the line and the path of the first command that is not accepted: UnknownName where no
 /// object is to be shown, or set, under the path, and else BadValue where the value has not the form
-/// of its type. `set` needs a signal or a buffer.
+/// of its type. `set` needs a signal or a buffer. Want of memory is also answered where the place of an
+/// object does not fit 32 bits.
 pub fn name_all(alloc: Global, commands: Commands, design: &Design) -> Result<Script, CheckStop>
     ensures named { IfOk result (λ script. name_script (visible design.now) commands ≡ Ok script) }
     ensures fits { IfOk result (λ script. All (Fits (visible design.now)) script) }
