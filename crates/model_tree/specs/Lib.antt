@@ -3,3 +3,4 @@ pub mod Leaves
 pub mod Tree
 pub mod Views
 pub mod Limits
+pub mod Code

@@ -1,6 +1,7 @@
 //! The model language as data: words, names, the tree of a text.
 #![tactic(auto)]
 
+mod code;
 mod designs;
 mod expressions;
 mod faults;
@@ -9,10 +10,15 @@ mod leaves;
 mod listing;
 mod runs;
 mod statements;
+mod terms;
 mod types;
 mod vocabulary;
 mod whole;
 
+pub use code::{
+    Argument, Await, BlockId, ChannelUse, Code, CodeBody, Controlled, Destination, EventUse, Form,
+    Local, SpawnForm, StmtId,
+};
 pub use designs::{Binding, CodeId, Design, Hop, Object, ObjectForm, Objects};
 pub use expressions::{BinaryOp, Conversion, Expression, NamedConstant, UnaryOp};
 pub use faults::{CheckStop, Fault, Kind, NameId, ParseStop, RunFault};
@@ -30,6 +36,7 @@ pub use statements::{
     Action, Channel, Control, Event, Notification, Operation, Place, Spawn, Statement, Target,
     Waiting, Who,
 };
+pub use terms::{Expr, Operands};
 pub use types::{
     BoundRule, Constant, ConstantForm, End, Interface, Parameter, PortSize, SignalType, Span,
     TypeForm, VarType,
