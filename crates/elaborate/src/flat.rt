@@ -4,7 +4,7 @@ ghost use Rattle.std.specs.Option.{option_copied};
 ghost use Rattle.model_tree.specs.Views.{item_of, module_of, modules_of};
 ghost use Rattle.model_rules.specs.FlatDesign as spec;
 ghost use Rattle.model_rules.specs.FlatDesign.{design_of};
-ghost use Rattle.model_rules.specs.Seen.{model_of};
+ghost use Rattle.model_tree.specs.Seen.{model_of};
 
 use logic_values::{Text, Value};
 use model_check::Checked;

@@ -1,6 +1,6 @@
 ghost use Rattle.std.specs.Prelude.{◌≡◌, IsTrue, IfOk, IfErr, is_none, Some, None};
 ghost use Rattle.model_rules.specs.FirstFault.{first_fault};
-ghost use Rattle.model_rules.specs.Seen.{model_of};
+ghost use Rattle.model_tree.specs.Seen.{model_of};
 ghost use Rattle.model_rules.specs.Stops.{IfRefused};
 ghost use Rattle.model_check.specs.Findings.{faults_of, fault_of};
 

@@ -2,8 +2,6 @@
 use Rattle.std.specs.Prelude.{◌≡◌, ℕ, ◌≤◌, List, [], Some}
 use Rattle.model_tree.specs.Tree as tree
 use Rattle.model_tree.specs.Limits.{bracket_limit}
-use Rattle.model_tree.specs.Views.{modules_of}
-use Rattle.model_tree.specs.declared.whole.Tree.{Tree}
 use Rattle.model_grammar.specs.Tokens.{Tokens, tokens_of}
 use Rattle.model_grammar.specs.Grammar.{Derives}
 use Rattle.model_grammar.specs.Brackets.{brackets}
@@ -11,7 +9,3 @@ use Rattle.model_grammar.specs.Brackets.{brackets}
 -- the text is cut into tokens, all of them derive the tree, and no more brackets are open anywhere than may be
 abbrev pub Reads : List ℕ → tree.Model → Type 0
 Reads text m = (ts : Tokens) × (tokens_of text ≡ Some ts) × Derives m ts [] × (brackets m ≤ bracket_limit)
-
--- what contracts see of a tree
-abbrev pub model_of : Tree → tree.Model
-model_of t = record { modules = modules_of t.modules.items; top = t.top }

@@ -1,6 +1,7 @@
 ghost use Rattle.std.specs.Prelude.{◌≡◌, ℕ, ◌^◌, ◌<◌, List, length, IfOk, MatchResult};
 ghost use Rattle.model_tree.specs.Tree as tree;
-ghost use Rattle.model_grammar.specs.Reads.{Reads, model_of};
+ghost use Rattle.model_grammar.specs.Reads.{Reads};
+ghost use Rattle.model_tree.specs.Seen.{model_of};
 ghost use Rattle.model_parser.specs.Lexing.{Answers};
 ghost use Rattle.model_parser.specs.Parse as spec;
 

@@ -1,4 +1,3 @@
 pub mod FirstFault
 pub mod FlatDesign
 pub mod Stops
-pub mod Seen

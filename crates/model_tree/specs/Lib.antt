@@ -4,3 +4,4 @@ pub mod Tree
 pub mod Views
 pub mod Limits
 pub mod Code
+pub mod Seen

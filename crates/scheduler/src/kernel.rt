@@ -3,9 +3,9 @@ ghost use Rattle.sim_model.specs.declared.plain.Command.{Command};
 ghost use Rattle.sim_model.specs.Configuration as spec;
 ghost use Rattle.scheduler.specs.Kernel.{StandsFor};
 
-use logic_values::{Digit, Value};
-use model_tree::{Design, Object, ObjectForm};
-use sim_model::{Pending, Phase, Signal};
+use logic_values::Value;
+use model_tree::{Design, Object};
+use sim_model::{Pending, Phase, Signal, initial_of, is_visible};
 use sim_time::Time;
 use std::alloc::{AllocError, Global};
 
@@ -28,34 +28,6 @@ pub struct Kernel {
     pub events: Vec<Pending>,
     /// The signals in object order.
     pub signals: Vec<Signal>,
-}
-
-/// The first value of an object that has values to be seen.
-pub fn initial_of(form: ObjectForm) -> Option<Value>
-    ensures { result ≡ spec.initial_of form }
-{
-    match form {
-        ObjectForm::Signal {
-            kind: _,
-            many: _,
-            initial,
-        } => Some(initial),
-        ObjectForm::Resolved => Some(Value::Logic(Digit::X)),
-        ObjectForm::Clock {
-            period: _,
-            high: _,
-            start: _,
-            code: _,
-        } => Some(Value::Bool(false)),
-        _ => None,
-    }
-}
-
-/// Whether an object has values to be seen.
-pub fn is_visible(object: &Object) -> bool
-    ensures { result ≡ spec.is_visible object.now }
-{
-    initial_of(object.form).is_some()
 }
 
 fn first_signal(object: &Object) -> Signal

@@ -7,5 +7,5 @@ mod phases;
 mod signals;
 
 pub use commands::{begin_run, set_signal};
-pub use kernel::{Kernel, initial_of, is_visible};
+pub use kernel::Kernel;
 pub use phases::step;

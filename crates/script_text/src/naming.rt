@@ -10,30 +10,13 @@ ghost use Rattle.script_text.specs.Naming.{Names};
 
 use super::forms::{CommandForm, TextCommand};
 use super::reading::Commands;
-use logic_values::{Digit, Text, Value};
+use logic_values::{Text, Value};
 use model_tree::{CheckStop, Design, Fault, Items, Kind, Object, ObjectForm};
-use sim_model::Command;
+use sim_model::{Command, initial_of, is_visible, visible_at};
 use std::alloc::Global;
 
 /// The commands of a script over a design, in order. Contracts see the list of them.
 pub type Script = Items<Command>;
-
-fn initial_of(form: ObjectForm) -> Option<Value>
-    ensures { result ≡ configuration.initial_of form }
-{
-    match form {
-        ObjectForm::Signal { initial, .. } => Some(initial),
-        ObjectForm::Resolved => Some(Value::Logic(Digit::X)),
-        ObjectForm::Clock { .. } => Some(Value::Bool(false)),
-        _ => None,
-    }
-}
-
-fn is_visible(object: &Object) -> bool
-    ensures { result ≡ configuration.is_visible object.now }
-{
-    initial_of(object.form).is_some()
-}
 
 fn is_set_by_scripts(form: ObjectForm) -> bool
     ensures { result ≡ spec.is_set_by_scripts form }
@@ -71,16 +54,6 @@ fn place_to_set(objects: &[Object], path: &[u8]) -> Option<usize>
         .iter()
         .filter(|object| is_visible(object))
         .position(|object| is_set_at(path, object))
-}
-
-/// The visible object at a place.
-fn visible_at(objects: &[Object], place: usize) -> Option<&Object>
-    ensures { option_copied result ≡ slice_get (filter configuration.is_visible objects.now) place }
-{
-    objects
-        .iter()
-        .filter(|object| is_visible(object))
-        .nth(place)
 }
 
 fn truth_read(text: &[u8]) -> Option<Value>

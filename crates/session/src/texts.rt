@@ -9,8 +9,8 @@ ghost use Rattle.session.specs.Show.{line_for, line_at, closing_of};
 
 use logic_values::{Value, value_text};
 use model_tree::{Design, Line, Object, RunFault};
-use scheduler::{Kernel, is_visible};
-use sim_model::{Signal, Stop};
+use scheduler::Kernel;
+use sim_model::{Signal, Stop, is_visible, visible_at};
 use std::alloc::{AllocError, Global};
 
 fn push_bytes(text: &mut Vec<u8>, piece: &[u8]) -> Result<(), AllocError>
@@ -56,22 +56,6 @@ fn push_show(
     push_value(alloc, text, value)?;
     text.extend_from_slice(b"\n")?;
     Ok(())
-}
-
-/// The visible object of this number, counted from 0 in object order.
-fn visible_at(objects: &[Object], number: usize) -> Option<&Object>
-    ensures { option_copied result ≡ slice_get (filter config.is_visible objects.now) number }
-{
-    let mut left = number;
-    for object in objects {
-        if is_visible(object) {
-            if left == 0 {
-                return Some(object);
-            }
-            left -= 1;
-        }
-    }
-    None
 }
 
 /// The line of a show of the signal of this number; none where there is no such signal.

@@ -4,6 +4,8 @@
 
 mod plain;
 mod values;
+mod visible;
 
 pub use plain::{Command, Pending, Phase, Signal, Stop};
 pub use values::is_same;
+pub use visible::{initial_of, is_visible, visible_at};

@@ -1,6 +1,7 @@
 ghost use Rattle.std.specs.Prelude.{◌≡◌, ◌<◌, ◌^◌, ℕ, IfOk, IsErrOf, length, None};
 ghost use Rattle.model_tree.specs.Tree as tree;
-ghost use Rattle.model_grammar.specs.Reads.{Reads, model_of};
+ghost use Rattle.model_grammar.specs.Reads.{Reads};
+ghost use Rattle.model_tree.specs.Seen.{model_of};
 ghost use Rattle.model_rules.specs.FlatDesign.{design_of};
 ghost use Rattle.sim_model.specs.Configuration.{visible};
 ghost use Rattle.tlmsim.specs.Judged.{IsBrokenModel, AcceptsModel, IsBrokenScript, NamesScript, Accepts, BreaksScript};

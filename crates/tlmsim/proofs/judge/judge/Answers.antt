@@ -1,5 +1,5 @@
 use Rattle.std.proofs.Common.{◌≡◌, ap, Err, subst, List, ℕ}
-use Rattle.model_grammar.specs.Reads.{model_of}
+use Rattle.model_tree.specs.Seen.{model_of}
 use Rattle.tlmsim.specs.Judged.{IsBrokenModel, AcceptsModel}
 use Rattle.tlmsim.specs.declared.judge.JudgeStop.TheVariants.{Model, Script}
 use Rattle.tlmsim.proofs.Refusals.{broken_over}

@@ -1,4 +1,4 @@
--- A tree as the definitions speak of it.
+-- A whole tree as contracts speak of it.
 use Rattle.model_tree.specs.Tree as tree
 use Rattle.model_tree.specs.Views.{modules_of}
 use Rattle.model_tree.specs.declared.whole.Tree.{Tree}
