@@ -3,11 +3,10 @@
 #![tactic(auto)]
 
 use sim_io::{HostShelf, HostSink};
-use std::env;
-use std::io;
 use std::io::ErrorKind;
 use std::process::ExitCode;
 use std::rt::Env;
+use std::{env, io};
 use tlmsim::{Words, sim_main};
 
 /// The status of words that cannot be read as text.
