@@ -1,0 +1,153 @@
+//! The text of a file of cases.
+//!
+//! A line is empty, a comment that begins with `#`, or a word and what follows it:
+//! `case NAME` begins a case; `words WORD..`, `model TEXT`, `script TEXT`, `file NAME TEXT`,
+//! `shelf fails NUMBER..`, `out room NUMBER`, `out fails NUMBER..`, the same two for `err`, and
+//! `budget NUMBER` say what the case has. `quoting` has the form of a TEXT.
+
+use super::cases::{Case, File, MODEL, SCRIPT, SinkForm};
+use super::quoting::text_bytes;
+use std::alloc::{AllocError, Global};
+use thiserror::Error;
+
+/// Why a line says nothing of a case.
+#[derive(Debug, Drop, Error)]
+pub enum LineError {
+    /// It has none of the forms.
+    #[error("no form of a case")]
+    Form,
+    /// Memory was refused.
+    #[error(transparent)]
+    Memory(#[from(alloc)] AllocError),
+}
+
+/// Why a file has no cases.
+#[derive(Debug, Drop, Error)]
+pub enum CaseError {
+    /// A line is refused, by its number from 1.
+    #[error("line {line}: {error}")]
+    Line {
+        /// The number.
+        line: u32,
+        /// The cause.
+        error: LineError,
+    },
+}
+
+fn number(word: &str) -> Result<u64, LineError> {
+    match word.parse::<u64>() {
+        Ok(value) => Ok(value),
+        Err(_) => Err(LineError::Form),
+    }
+}
+
+fn numbers(alloc: Global, text: &str) -> Result<Vec<u64>, LineError> {
+    let mut all = Vec::new(alloc);
+    for word in text.split_whitespace() {
+        all.push(number(word)?)?;
+    }
+    Ok(all)
+}
+
+fn words(alloc: Global, text: &str) -> Result<Vec<String>, LineError> {
+    let mut all = Vec::new(alloc);
+    for word in text.split_whitespace() {
+        all.push(String::from_str(alloc, word)?)?;
+    }
+    Ok(all)
+}
+
+/// The first word of a text and the rest of it.
+fn first_word(text: &str) -> (&str, &str) {
+    match text.split_once(' ') {
+        Some((word, rest)) => (word, rest.trim()),
+        None => (text, ""),
+    }
+}
+
+fn add_file(alloc: Global, case: &mut Case, name: &str, text: &str) -> Result<(), LineError> {
+    let name = String::from_str(alloc, name)?;
+    let bytes = text_bytes(alloc, text)?;
+    case.files.push(File { name, bytes })?;
+    Ok(())
+}
+
+fn add_named_file(alloc: Global, case: &mut Case, rest: &str) -> Result<(), LineError> {
+    let (name, text) = first_word(rest);
+    add_file(alloc, case, name, text)
+}
+
+fn add_faults(alloc: Global, case: &mut Case, rest: &str) -> Result<(), LineError> {
+    match first_word(rest) {
+        ("fails", list) => {
+            case.failing = numbers(alloc, list)?;
+            Ok(())
+        }
+        _ => Err(LineError::Form),
+    }
+}
+
+fn add_to_sink(alloc: Global, sink: &mut SinkForm, rest: &str) -> Result<(), LineError> {
+    match first_word(rest) {
+        ("room", bound) => {
+            sink.room = Some(number(bound)?);
+            Ok(())
+        }
+        ("fails", list) => {
+            sink.failing = numbers(alloc, list)?;
+            Ok(())
+        }
+        _ => Err(LineError::Form),
+    }
+}
+
+/// Adds what a line says to the case that it stands in.
+fn add(alloc: Global, case: &mut Case, word: &str, rest: &str) -> Result<(), LineError> {
+    match word {
+        "words" => {
+            case.words = words(alloc, rest)?;
+            Ok(())
+        }
+        "model" => add_file(alloc, case, MODEL, rest),
+        "script" => add_file(alloc, case, SCRIPT, rest),
+        "file" => add_named_file(alloc, case, rest),
+        "shelf" => add_faults(alloc, case, rest),
+        "out" => add_to_sink(alloc, &mut case.out, rest),
+        "err" => add_to_sink(alloc, &mut case.err, rest),
+        "budget" => {
+            case.budget = Some(number(rest)?);
+            Ok(())
+        }
+        _ => Err(LineError::Form),
+    }
+}
+
+/// Begins a case, or adds to the last one.
+fn read_line(alloc: Global, cases: &mut Vec<Case>, line: &str) -> Result<(), LineError> {
+    if line.is_empty() || line.starts_with('#') {
+        return Ok(());
+    }
+    let (word, rest) = first_word(line);
+    if word == "case" {
+        cases.push(Case::new(alloc, rest)?)?;
+        return Ok(());
+    }
+    match cases.last_mut() {
+        Some(case) => add(alloc, case, word, rest),
+        None => Err(LineError::Form),
+    }
+}
+
+/// The cases of a text, in order.
+pub fn read_cases(alloc: Global, text: &str) -> Result<Vec<Case>, CaseError> {
+    let mut cases = Vec::new(alloc);
+    let mut line = 0u32;
+    for source in text.lines() {
+        line = line.saturating_add(1);
+        match read_line(alloc, &mut cases, source.trim()) {
+            Ok(()) => {}
+            Err(error) => return Err(CaseError::Line { line, error }),
+        }
+    }
+    Ok(cases)
+}

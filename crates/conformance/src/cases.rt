@@ -1,0 +1,89 @@
+//! What a case has.
+
+use std::alloc::{AllocError, Global};
+
+/// A file that lies on the shelf before the run.
+#[derive(Drop)]
+pub struct File {
+    /// Its name.
+    pub name: String,
+    /// Its bytes.
+    pub bytes: Vec<u8>,
+}
+
+/// What a sink is given.
+#[derive(Drop)]
+pub struct SinkForm {
+    /// The most bytes that it takes, where there is a bound.
+    pub room: Option<u64>,
+    /// The numbers of the calls that fail, from 0.
+    pub failing: Vec<u64>,
+}
+
+impl SinkForm {
+    /// A sink that takes all.
+    pub fn new(alloc: Global) -> SinkForm {
+        SinkForm {
+            room: None,
+            failing: Vec::new(alloc),
+        }
+    }
+}
+
+/// One case: a run of the whole program, or of a session alone where there is a budget.
+#[derive(Drop)]
+pub struct Case {
+    /// What it shows.
+    pub name: String,
+    /// The words of the command line.
+    pub words: Vec<String>,
+    /// The files on the shelf.
+    pub files: Vec<File>,
+    /// The numbers of the shelf's calls that fail, from 0.
+    pub failing: Vec<u64>,
+    /// The sink for the report.
+    pub out: SinkForm,
+    /// The sink for messages.
+    pub err: SinkForm,
+    /// The step budget of a session that is run alone.
+    pub budget: Option<u64>,
+}
+
+/// The name of the model's file, where a case does not say otherwise.
+pub const MODEL: &str = "m.tlm";
+
+/// The name of the script's file, where a case does not say otherwise.
+pub const SCRIPT: &str = "s.txt";
+
+/// The words that a case has where it does not give its own.
+fn usual_words(alloc: Global) -> Result<Vec<String>, AllocError> {
+    let mut words = Vec::new(alloc);
+    words.push(String::from_str(alloc, MODEL)?)?;
+    words.push(String::from_str(alloc, SCRIPT)?)?;
+    Ok(words)
+}
+
+impl Case {
+    /// A case of this name with the usual words, no files, and an outside that never fails.
+    pub fn new(alloc: Global, name: &str) -> Result<Case, AllocError> {
+        Ok(Case {
+            name: String::from_str(alloc, name)?,
+            words: usual_words(alloc)?,
+            files: Vec::new(alloc),
+            failing: Vec::new(alloc),
+            out: SinkForm::new(alloc),
+            err: SinkForm::new(alloc),
+            budget: None,
+        })
+    }
+}
+
+/// The bytes of the first file of this name.
+pub fn bytes_of<'a>(files: &'a [File], name: &str) -> Option<&'a [u8]> {
+    for file in files {
+        if file.name.as_str() == name {
+            return Some(file.bytes.as_slice());
+        }
+    }
+    None
+}
