@@ -109,7 +109,8 @@ impl<B: Drop> Table<B> {
         ensures too_many { (result ≡ Err SpawnStop.TooMany) ↔ (map.len self.old.live ≡ MAX_LIVE) }
         ensures refused { OnErr result (self.new ≡ self.old) }
     {
-        if self.keys.len() >= MAX_LIVE {
+        let is_full = self.keys.len() >= MAX_LIVE;
+        if is_full {
             return Err(SpawnStop::TooMany);
         }
         match self.slots.reserve(1) {
