@@ -1,6 +1,6 @@
 -- What a list of waiters shows, serial by serial.
 use Rattle.std.proofs.Common.{◌≡◌, ℕ, zero, suc, ◌+◌, ◌≢◌, ◌<◌, ◌≤◌, Bool, true, false, cond, List, [], ◌∷◌, ◌++◌, map, length, get_or, set, take, drop, Option, Some, None, refl, sym, ap, ◌∙◌, arith, zero-add, add-zero, drop-cons, length-take-le, get_or-set_same, get_or-set_other, take-append-drop}
-use Rattle.std.specs.Prelude.{is_some, is_none, count_by, ◌==◌, unwrap_or, ◌&&◌}
+use Rattle.std.specs.Prelude.{is_some, is_none, count_by, ◌==◌, ◌&&◌}
 use Rattle.std.proofs.lemmas.Bool.{eq-eqb, ne_eqb}
 use Rattle.std.proofs.lemmas.List.{length-append, map-set, set-get_or, take_more}
 use Rattle.std.proofs.lemmas.List.Sums.{sum_by-cons}
@@ -9,7 +9,7 @@ use Rattle.std.specs.Ordering.{nat_cmp}
 use Rattle.std.specs.FinMap as maps
 use Rattle.std.specs.FinSet as sets
 use Rattle.wait_lists.specs.declared.Ev.{Ev}
-use Rattle.wait_lists.specs.Waits.{Wait, Waits, names, left_by, after, updated, marked, with_wait, with_mark, wait_after, room_for, named_by, waits_for, waits_naming, is_met_by, AddsEach}
+use Rattle.wait_lists.specs.Waits.{Wait, Waits, names, left_by, after, updated, marked, with_wait, with_mark, wait_after, named_by, waits_for, waits_naming, is_met_by}
 use Rattle.wait_lists.specs.Waiters.{Shown, idle, indexed, marks, waits_of, struck, is_met, met_from}
 use Rattle.wait_lists.proofs.MapLemmas.{get-updated_same, get-updated_other, is_updated, same_gets, len-updated, contains-marked_same, contains-marked_other, is_marked, same_members}
 

@@ -1,6 +1,6 @@
-use Rattle.std.proofs.Common.{◌∙◌, sym, ap, arith, map}
+use Rattle.std.proofs.Common.{◌∙◌, ap, arith, map}
 use Rattle.std.specs.FinMap as maps
-use Rattle.wait_lists.specs.Waits.{waits_naming, wait_after}
+use Rattle.wait_lists.specs.Waits.{wait_after}
 use Rattle.wait_lists.specs.Waiters.{show, waits_of, met_from}
 use Rattle.wait_lists.proofs.ShownLemmas.{wait-struck, rest-struck, once, enough_room}
 use Rattle.wait_lists.proofs.WaitLists.fire.Goals as goal

@@ -1,4 +1,4 @@
-use Rattle.std.proofs.Common.{refl, ◌∙◌, ap, arith, map, length}
+use Rattle.std.proofs.Common.{refl, ◌∙◌, ap, arith, map}
 use Rattle.std.proofs.lemmas.List.{length-map}
 use Rattle.wait_lists.specs.Waits.{with_mark}
 use Rattle.wait_lists.specs.Waiters.{show}

@@ -1,4 +1,4 @@
-use Rattle.std.proofs.Common.{◌≡◌, set, le_trans, ◌∙◌, ◌≤◌, sym, ap, subst, arith, map, vec_capacity}
+use Rattle.std.proofs.Common.{◌≡◌, set, le_trans, ◌∙◌, ◌≤◌, ap, subst, arith, map, vec_capacity}
 use Rattle.std.specs.FinMap as maps
 use Rattle.wait_lists.specs.Waits.{Waits, room_for}
 use Rattle.wait_lists.specs.Waiters.{show, waits_of}

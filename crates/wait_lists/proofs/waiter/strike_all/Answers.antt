@@ -1,4 +1,4 @@
-use Rattle.std.proofs.Common.{◌≡◌, ◌<◌, ◌∙◌, sym, ap, arith, map, length, take, vec_capacity, cond, ◌++◌, ◌∷◌, [], append-nil}
+use Rattle.std.proofs.Common.{◌<◌, ◌∙◌, sym, ap, arith, map, length, take, vec_capacity, cond, ◌++◌, ◌∷◌, [], append-nil}
 use Rattle.std.proofs.lemmas.List.{length-map, length-append}
 use Rattle.wait_lists.specs.Waiters.{show, met_from}
 use Rattle.wait_lists.proofs.ShownLemmas.{length-met_more}

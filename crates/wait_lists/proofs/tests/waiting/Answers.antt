@@ -5,12 +5,12 @@ use Rattle.wait_lists.specs.Waits.{has, waits_naming}
 use Rattle.wait_lists.specs.Waiters.{show}
 use Rattle.wait_lists.proofs.ShownLemmas.{len-waits_naming}
 use Rattle.wait_lists.proofs.WaiterLemmas.{count-show}
-use Rattle.wait_lists.proofs.WaitLists.waiting.Goals as goal
+use Rattle.wait_lists.proofs.tests.waiting.Goals as goal
 
 pub returns : goal.returns
 returns c =
     c.count_naming.ensures
     ∙ ap (λ ws. count_by (λ w. has c.args.e w.events.items) ws) c.as_slice.ensures.value
-    ∙ sym (count-show c.args.e c.self.inside.waiters.items)
-    ∙ sym (len-waits_naming c.args.e (map show c.self.inside.waiters.items))
-    ∙ ap (λ w. maps.len (waits_naming w c.args.e)) c.self.view_is
+    ∙ sym (count-show c.args.e c.lists.inside.waiters.items)
+    ∙ sym (len-waits_naming c.args.e (map show c.lists.inside.waiters.items))
+    ∙ ap (λ w. maps.len (waits_naming w c.args.e)) c.lists.view_is
