@@ -1,0 +1,7 @@
+mod IntegerLemmas
+mod PlaneLemmas
+mod ResolvedLemmas
+mod TextLemmas
+pub mod VectorLaws
+mod ConversionLemmas
+pub mod IntegerLaws

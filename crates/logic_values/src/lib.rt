@@ -1,0 +1,21 @@
+//! Four-valued logic, vectors of it, integers, and the values of a model.
+#![tactic(auto)]
+
+mod byte_text;
+mod conversions;
+mod integers;
+mod kinds;
+mod planes;
+mod tables;
+#[cfg(test)]
+mod tests;
+mod texts;
+mod vectors;
+
+pub use byte_text::Text;
+pub use integers::{add, cut, div, lt, mul, rem, shl, shr, sub};
+pub use kinds::{Digit, Sign, Value};
+pub use planes::Lv;
+pub use tables::resolve;
+pub use texts::value_text;
+pub use vectors::{and, concat, digit, not, or, slice, xor};
