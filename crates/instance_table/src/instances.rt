@@ -2,10 +2,12 @@
 ghost use Rattle.std.specs.Prelude.{◌≡◌};
 ghost use Rattle.instance_table.specs.Instances.{new_instance};
 
-/// Whether a process goes on where it waited, or runs from its start at each turn.
+/// Whether a process goes on where it waited, or runs from its start at each turn (IEEE 1666-2011, 5.2.9 and 5.2.10).
 #[derive(Clone, Copy, PartialEq, Eq, Debug)]
 pub enum ProcessKind {
+    /// It goes on where it waited.
     Thread,
+    /// It runs from its start at each turn.
     Method,
 }
 
@@ -37,8 +39,11 @@ pub enum Deadline {
 #[derive(Drop)]
 pub struct Instance<B> {
     pub kind: ProcessKind,
+    /// What the caller keeps for it.
     pub body: B,
+    /// In which way it waits.
     pub wait: Waiting,
+    /// When its wait is over at the latest.
     pub deadline: Deadline,
     /// It is suspended: it does not run until it is resumed.
     pub suspended: bool,

@@ -3,7 +3,7 @@
 //! An instance is one process of the model: a thread or a method, with whatever body the caller keeps for it.
 #![tactic(auto)]
 
-ghost use Rattle.std.specs.Prelude.{◌≡◌, ◌↔◌, ◌-◌, ◌^◌, ◌<◌, ◌≤◌, ℕ, None, OnOk, OnErr, IfOk, option_copied};
+ghost use Rattle.std.specs.Prelude.{◌≡◌, ◌↔◌, ◌-◌, ◌^◌, ◌<◌, ◌≤◌, ℕ, None, IsSome, OnOk, OnErr, IfOk, option_copied};
 ghost use Rattle.std.specs.Option.{option_copied_mut};
 ghost use Rattle.std.specs.Bool.{OnFalse};
 ghost use Rattle.std.specs.Borrow.{sem};
@@ -72,9 +72,10 @@ impl<B> Table<B> {
         }
     }
 
-    /// The live instance of this serial, if there is one.
+    /// The live instance of this serial, if there is one. It was given before: each serial from the next one on finds nothing.
     pub fn get(&self, serial: u32) -> Option<&Instance<B>>
-        ensures { option_copied result ≡ map.get self.now.live serial }
+        ensures value { option_copied result ≡ map.get self.now.live serial }
+        ensures given { IsSome result → serial < self.now.next }
     {
         match self.keys.get(&serial) {
             Some(key) => self.slots.get(*key),
