@@ -2,7 +2,7 @@
 ghost use Rattle.std.specs.Prelude.{◌≡◌};
 ghost use Rattle.instance_table.specs.Instances.{new_instance};
 
-/// Whether a process goes on where it waited, or runs from its start at each turn (IEEE 1666-2011, 5.2.9 and 5.2.10).
+/// Whether a process goes on where it waited, or runs from its start at each turn (IEEE 1666-2011, 5.2.10 and 5.2.11).
 #[derive(Clone, Copy, PartialEq, Eq, Debug)]
 pub enum ProcessKind {
     /// It goes on where it waited.

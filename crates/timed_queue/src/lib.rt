@@ -1,4 +1,4 @@
-//! A queue of names by time: each name has at most one time, and the earliest time comes first.
+//! A queue of names by time: each name has at most one time, and the earliest time comes first (IEEE 1666-2011, 4.2.1.5).
 #![tactic(auto)]
 
 ghost use Rattle.std.specs.Prelude.{◌≡◌, ◌⊎◌, ◌↔◌, ◌+◌, ◌<◌, ◌≤◌, IsTrue, IsNone, IfSome, OnOk, OnErr, vec_len, vec_capacity};

@@ -1,4 +1,4 @@
-//! Who waits for which event: for each instance the events that it waits for, and whether any or all of them must come.
+//! Who waits for which event: for each instance the events that it waits for, and whether any or all of them must come (IEEE 1666-2011, 5.2.18 and 5.8).
 #![tactic(auto)]
 
 ghost use Rattle.std.specs.Prelude.{◌≡◌, ℕ, ◌≢◌, ◌+◌, ◌≤◌, None, IsTrue, OnOk, OnErr, length, vec_len, vec_capacity};
@@ -76,7 +76,7 @@ impl WaitLists {
 
     /// Makes room for the instance `p`, so that it can wait for as many as `items` events.
     ///
-    /// The room stays, used or not. Room takes memory for the instances below `p` too, so serials are best given from 0.
+    /// The room stays, used or not. It takes some memory for each instance below `p` too, so instances are best numbered from 0.
     pub fn reserve_for(&mut self, p: u32, items: u32) -> Result<(), AllocError>
         ensures ok { OnOk result (HasRoom self.new p items) }
         ensures grows { room_for self.old p ≤ room_for self.new p }

@@ -78,7 +78,8 @@ pub(crate) fn set_wait(waiter: &mut Waiter, for_all: bool, events: &[Ev])
 
 // Makes room for so many events.
 pub(crate) fn widen(waiter: &mut Waiter, items: usize) -> Result<(), AllocError>
-    ensures ok { OnOk result (show waiter.new ≡ record (show waiter.old) { room = Some (vec_capacity waiter.new.events) }) }
+    ensures ok { OnOk result (show waiter.new
+        ≡ record (show waiter.old) { room = Some (vec_capacity waiter.new.events) }) }
     ensures enough { OnOk result (items ≤ vec_capacity waiter.new.events) }
     ensures grows { vec_capacity waiter.old.events ≤ vec_capacity waiter.new.events }
     ensures err { OnErr result (show waiter.new ≡ show waiter.old) }
