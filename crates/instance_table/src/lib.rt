@@ -1,0 +1,145 @@
+//! The live instances of a simulation, each under a serial number that is never given twice.
+//!
+//! An instance is one process of the model: a thread or a method, with whatever body the caller keeps for it.
+#![tactic(auto)]
+
+ghost use Rattle.std.specs.Prelude.{◌≡◌, ◌↔◌, ◌-◌, ◌^◌, ◌<◌, ◌≤◌, ℕ, None, IsSome, OnOk, OnErr, IfOk, option_copied};
+ghost use Rattle.std.specs.Option.{option_copied_mut};
+ghost use Rattle.std.specs.Bool.{OnFalse};
+ghost use Rattle.std.specs.Borrow.{sem};
+ghost use Rattle.std.specs.FinMap as map;
+
+mod instances;
+#[cfg(test)]
+mod tests;
+
+pub use instances::{Deadline, Instance, ProcessKind, Waiting};
+use slab::Slab;
+use std::alloc::Global;
+use std::collections::BTreeMap;
+use std::marker::Model;
+
+/// How many instances may be live at once.
+pub const MAX_LIVE: usize = 65_536;
+
+/// Why a new instance was refused.
+#[derive(Clone, Copy, PartialEq, Eq, Debug)]
+pub enum SpawnStop {
+    /// There are `MAX_LIVE` live instances.
+    TooMany,
+    /// There is no memory.
+    NoMemory,
+}
+
+/// The live instances by serial, and the serial of the next one.
+///
+/// Serials are given from 0 and rise by one. What has ended is found no more under its serial, and a later instance may take its place in memory.
+#[derive(Drop)]
+pub struct Table<B> {
+    // The instances, each in a slot that is used again once the instance has ended.
+    slots: Slab<Instance<B>>,
+    // The slot of each live serial.
+    keys: BTreeMap<u32, usize>,
+    next: u32,
+}
+
+impl<B> Model for Table<B> {
+    ghost use Rattle.instance_table.specs.Instances.{Instances, instances_code};
+
+    ghost Value = { Instances B };
+
+    ghost coded = { instances_code B.code };
+
+    ghost use Rattle.instance_table.specs.Slots.{live_of, IsSound};
+
+    ghost view = { λ t. record { live = live_of t.slots.slots t.keys.entries; next = t.next } };
+
+    ghost invariant = { λ t. IsSound t.slots t.keys t.next };
+}
+
+impl<B> Table<B> {
+    ghost use Rattle.instance_table.specs.Lends.{lends_instance};
+
+    /// A table with no instance, whose first serial will be 0. It takes no memory.
+    pub fn new(alloc: Global) -> Table<B>
+        ensures empty { result.live ≡ map.empty }
+        ensures first { result.next ≡ 0 }
+    {
+        Table {
+            slots: Slab::new(alloc),
+            keys: BTreeMap::new(alloc),
+            next: 0,
+        }
+    }
+
+    /// The live instance of this serial, if there is one. It was given before: each serial from the next one on finds nothing.
+    pub fn get(&self, serial: u32) -> Option<&Instance<B>>
+        ensures value { option_copied result ≡ map.get self.now.live serial }
+        ensures given { IsSome result → serial < self.now.next }
+    {
+        match self.keys.get(&serial) {
+            Some(key) => self.slots.get(*key),
+            None => None,
+        }
+    }
+
+    /// The live instance of this serial for writing, if there is one.
+    pub fn get_mut(&mut self, serial: u32) -> Option<&mut Instance<B>>
+        ensures* writes_back { sem 𝓛 (lends_instance B.row self.entry serial result) }
+        ensures value { option_copied_mut result ≡ map.get self.old.live serial }
+    {
+        let key = *self.keys.get(&serial)?;
+        self.slots.get_mut(key)
+    }
+}
+
+impl<B: Drop> Table<B> {
+    ghost use Rattle.instance_table.specs.Instances.{with_spawned, without};
+
+    /// Adds an instance of this kind and body, and answers its serial, which no instance had before.
+    ///
+    /// The new instance has not started, waits for nothing and has no mark. Where the answer is an error the body is dropped.
+    pub fn spawn(&mut self, kind: ProcessKind, body: B) -> Result<u32, SpawnStop>
+        requires { self.old.next < 2 ^ 32 - 1 }
+
+        // The serial is the next one. No live instance has it or a later one.
+        ensures next { IfOk result (λ serial. serial ≡ self.old.next) }
+        ensures fresh { (serial : ℕ) → self.old.next ≤ serial → map.get self.old.live serial ≡ None }
+        ensures spawned { OnOk result (self.new ≡ with_spawned self.old kind body) }
+
+        ensures too_many { (result ≡ Err SpawnStop.TooMany) ↔ (map.len self.old.live ≡ MAX_LIVE) }
+        ensures refused { OnErr result (self.new ≡ self.old) }
+    {
+        let is_full = self.keys.len() >= MAX_LIVE;
+        if is_full {
+            return Err(SpawnStop::TooMany);
+        }
+        match self.slots.reserve(1) {
+            Ok(()) => {}
+            Err(_) => return Err(SpawnStop::NoMemory),
+        }
+        let serial = self.next;
+        match self.keys.insert(serial, self.slots.vacant_key()) {
+            Ok(_) => {}
+            Err(_) => return Err(SpawnStop::NoMemory),
+        }
+        self.slots.insert_reserved(Instance::new(kind, body));
+        self.next = serial + 1;
+        Ok(serial)
+    }
+
+    /// Drops the instance of this serial, and answers whether there was a live one.
+    pub fn end(&mut self, serial: u32) -> bool
+        ensures found { result ≡ map.contains_key self.old.live serial }
+        ensures ended { self.new ≡ without self.old serial }
+        ensures absent { OnFalse result (self.new ≡ self.old) }
+    {
+        match self.keys.remove(&serial) {
+            Some(key) => {
+                drop(self.slots.remove(key));
+                true
+            }
+            None => false,
+        }
+    }
+}

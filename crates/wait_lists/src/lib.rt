@@ -1,0 +1,144 @@
+//! Who waits for which event: for each instance the events that it waits for, and whether any or all of them must come (IEEE 1666-2011, 5.2.18 and 5.8).
+#![tactic(auto)]
+
+ghost use Rattle.std.specs.Prelude.{◌≡◌, ℕ, ◌≢◌, ◌+◌, ◌≤◌, None, IsTrue, OnOk, OnErr, length, vec_len, vec_capacity};
+ghost use Rattle.std.specs.FinMap as map;
+ghost use Rattle.std.specs.FinSet as set;
+ghost use Rattle.wait_lists.specs.Waits.{same_event as same};
+
+#[cfg(test)]
+mod tests;
+mod waiter;
+
+use std::alloc::{AllocError, Global};
+use std::marker::Model;
+use waiter::{Waiter, make_place, set_wait, strike_all, widen};
+
+/// An event: one of the design's by its number, or one of those that each instance has, by its serial.
+#[derive(Clone, Copy, PartialEq, Eq, Debug)]
+pub enum Ev {
+    /// An event of the design.
+    Fixed(u32),
+    /// The end of the instance of this serial.
+    Terminated(u32),
+    /// The reset of the instance of this serial.
+    Restarted(u32),
+}
+
+fn same_event(a: Ev, b: Ev) -> bool
+    ensures { result ≡ same a b }
+{
+    match (a, b) {
+        (Ev::Fixed(m), Ev::Fixed(n)) => m == n,
+        (Ev::Terminated(m), Ev::Terminated(n)) => m == n,
+        (Ev::Restarted(m), Ev::Restarted(n)) => m == n,
+        _ => false,
+    }
+}
+
+/// The waits of all instances.
+#[derive(Drop)]
+pub struct WaitLists {
+    alloc: Global,
+    // By serial.
+    waiters: Vec<Waiter>,
+}
+
+impl Model for WaitLists {
+    ghost use Rattle.std.specs.Prelude.{◌≤◌, ◌^◌, map, length};
+    ghost use Rattle.wait_lists.specs.Waits.{Waits, waits_code};
+
+    ghost Value = { Waits };
+
+    ghost coded = { waits_code };
+
+    ghost use Rattle.wait_lists.specs.Waiters.{show, waits_of};
+
+    ghost view = { λ w. waits_of (map show w.waiters.items) };
+
+    ghost invariant = { λ w. length w.waiters.items ≤ 2 ^ 32 };
+}
+
+impl WaitLists {
+    ghost use Rattle.wait_lists.specs.Waits.{any_of, all_of, with_wait, with_mark, wait_after, waits_naming, is_met_by, room_for, HasRoom, AddsEach};
+
+    /// Lists in which no instance waits, and with no room. It takes no memory.
+    pub fn new(alloc: Global) -> WaitLists
+        ensures waits { result.waits ≡ map.empty }
+        ensures muted { result.muted ≡ set.empty }
+        ensures room { result.room ≡ map.empty }
+    {
+        WaitLists {
+            alloc,
+            waiters: Vec::new(alloc),
+        }
+    }
+
+    /// Makes room for the instance `p`, so that it can wait for as many as `items` events.
+    ///
+    /// The room stays, used or not. It takes some memory for each instance below `p` too, so instances are best numbered from 0.
+    pub fn reserve_for(&mut self, p: u32, items: u32) -> Result<(), AllocError>
+        ensures ok { OnOk result (HasRoom self.new p items) }
+        ensures grows { room_for self.old p ≤ room_for self.new p }
+        ensures others { (q : ℕ) → q ≢ p → map.get self.new.room q ≡ map.get self.old.room q }
+        ensures kept { self.new ≡ record self.old { room = self.new.room } }
+        ensures err { OnErr result (self.new ≡ self.old) }
+    {
+        let at = p as usize;
+        make_place(&mut self.waiters, self.alloc, at)?;
+        widen(&mut self.waiters[at], items as usize)?;
+        Ok(())
+    }
+
+    /// Lets `p` wait for any of these events, in place of what it waited for. With no event it waits for nothing.
+    pub fn wait_any(&mut self, p: u32, list: &[Ev])
+        requires { length list.now ≤ room_for self.old p }
+        ensures { self.new ≡ with_wait self.old p (any_of list.now) }
+    {
+        let at = p as usize;
+        if at < self.waiters.len() {
+            set_wait(&mut self.waiters[at], false, list);
+        }
+    }
+
+    /// Lets `p` wait for all of these events, in place of what it waited for. One that stands twice counts once. With no event it waits for nothing.
+    pub fn wait_all(&mut self, p: u32, list: &[Ev])
+        requires { length list.now ≤ room_for self.old p }
+        ensures { self.new ≡ with_wait self.old p (all_of list.now) }
+    {
+        let at = p as usize;
+        if at < self.waiters.len() {
+            set_wait(&mut self.waiters[at], true, list);
+        }
+    }
+
+    /// Takes `p` out of all lists. Its mark and its room stay.
+    pub fn leave(&mut self, p: u32)
+        ensures { self.new ≡ with_wait self.old p None }
+    {
+        let at = p as usize;
+        if at < self.waiters.len() {
+            set_wait(&mut self.waiters[at], false, &[]);
+        }
+    }
+
+    /// Mutes `p` or ends that: while it is muted, events pass it by.
+    pub fn mute(&mut self, p: u32, on: bool)
+        requires { IsTrue (map.contains_key self.old.room p) }
+        ensures { self.new ≡ with_mark self.old p on }
+    {
+        let at = p as usize;
+        self.waiters[at].is_muted = on;
+    }
+
+    /// Strikes the event from each wait of an instance that is not muted, and adds the instances whose wait is met to `out`: those are in no list any more.
+    pub fn fire(&mut self, e: Ev, out: &mut Vec<u32>)
+        requires { vec_len out.old + map.len (waits_naming self.old e) ≤ vec_capacity out.old }
+        ensures struck { (p : ℕ) → map.get self.new.waits p ≡ wait_after self.old p e }
+        ensures kept { self.new ≡ record self.old { waits = self.new.waits } }
+        ensures met { AddsEach out.old.items out.new.items (λ p. is_met_by self.old p e) }
+        ensures capacity { vec_capacity out.new ≡ vec_capacity out.old }
+    {
+        strike_all(&mut self.waiters, e, out);
+    }
+}
