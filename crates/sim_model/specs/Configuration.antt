@@ -1,5 +1,5 @@
 -- The configuration of a run: all that its next step and its texts depend on.
-use Rattle.std.specs.Prelude.{ℕ, ◌*◌, Bool, true, false, List, [], ◌∷◌, map, filter, replicate, length, Option, Some, None, is_some, unwrap_or}
+use Rattle.std.specs.Prelude.{ℕ, ◌*◌, Bool, false, List, [], map, filter, replicate, length, Option, Some, None, is_some, unwrap_or}
 use Rattle.logic_values.specs.declared.kinds.Value.{Value}
 use Rattle.logic_values.specs.declared.kinds.Value.TheVariants as value
 use Rattle.logic_values.specs.declared.kinds.Digit.TheVariants as digit

@@ -1,11 +1,9 @@
 -- The phases of the scheduler (IEEE 1666-2011, 4.2.1): initialization, update, delta and timed notification.
-use Rattle.std.specs.Prelude.{ℕ, Bool, true, false, List, [], ◌∷◌, map, fold, slice_get, slice_set, Option, Some, None, unwrap_or}
-use Rattle.sim_time.specs.declared.moments.Time.{Time}
-use Rattle.sim_model.specs.Configuration.{Config, Cycle, Channels}
+use Rattle.std.specs.Prelude.{map, unwrap_or}
+use Rattle.sim_model.specs.Configuration.{Config}
 use Rattle.sim_model.specs.Signals.{settled, announced_from}
 use Rattle.sim_model.specs.declared.plain.Phase.{Phase}
 use Rattle.sim_model.specs.declared.plain.Phase.TheVariants as phase
-use Rattle.sim_model.specs.declared.plain.Signal.{Signal}
 use Rattle.sim_model.specs.declared.plain.Pending.{Pending}
 use Rattle.sim_model.specs.declared.plain.Pending.TheVariants as pending
 

@@ -1,6 +1,6 @@
 -- Whole runs: the configuration after so many steps, and how a session ends.
 use Rattle.std.specs.Prelude.{ℕ, zero, suc, Bool, true, false, List, [], ◌∷◌, nat_le, Option, Some, None, if◌then◌else◌}
-use Rattle.sim_model.specs.Configuration.{Config, Cycle}
+use Rattle.sim_model.specs.Configuration.{Config}
 use Rattle.sim_model.specs.Steps.{Outcome, went, faulted, ended, step}
 use Rattle.sim_model.specs.declared.plain.Stop.{Stop}
 use Rattle.sim_model.specs.declared.plain.Stop.TheVariants as stop

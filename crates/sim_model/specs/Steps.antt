@@ -7,8 +7,8 @@ use Rattle.model_tree.specs.declared.designs.Object.{Object}
 use Rattle.model_tree.specs.declared.faults.RunFault.{RunFault}
 use Rattle.model_tree.specs.declared.faults.RunFault.TheVariants as run_fault
 use Rattle.sim_time.specs.declared.moments.Time.{Time}
-use Rattle.sim_model.specs.Configuration.{Config, Cycle, Channels, Trace, visible}
-use Rattle.sim_model.specs.Phases.{initialization, update_step, delta_step, timed_step, in_phase}
+use Rattle.sim_model.specs.Configuration.{Config, visible}
+use Rattle.sim_model.specs.Phases.{initialization, update_step, delta_step, timed_step}
 use Rattle.sim_model.specs.Signals.{write_to}
 use Rattle.sim_model.specs.declared.plain.Phase.{Phase}
 use Rattle.sim_model.specs.declared.plain.Phase.TheVariants as phase

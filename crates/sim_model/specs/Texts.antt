@@ -1,5 +1,5 @@
 -- The report: the lines of the run, a final line for each visible object, and the end line.
-use Rattle.std.specs.Prelude.{ℕ, List, [], ◌∷◌, ◌++◌, Option, Some, None, codes, slice_get, option_map, unwrap_or}
+use Rattle.std.specs.Prelude.{ℕ, List, [], ◌∷◌, ◌++◌, codes, slice_get, option_map, unwrap_or}
 use Rattle.std.specs.Fmt.{decimal}
 use Rattle.logic_values.specs.declared.kinds.Value.{Value}
 use Rattle.logic_values.specs.ValueText.{text_of}
@@ -7,7 +7,7 @@ use Rattle.model_tree.specs.declared.designs.Object.{Object}
 use Rattle.model_tree.specs.declared.designs.Design.{Design}
 use Rattle.model_tree.specs.declared.faults.RunFault.{RunFault}
 use Rattle.model_tree.specs.declared.faults.RunFault.TheVariants as run_fault
-use Rattle.sim_model.specs.Configuration.{Config, Cycle, Channels, Trace, visible}
+use Rattle.sim_model.specs.Configuration.{Config, visible}
 use Rattle.sim_model.specs.declared.plain.Signal.{Signal}
 use Rattle.sim_model.specs.declared.plain.Stop.{Stop}
 use Rattle.sim_model.specs.declared.plain.Stop.TheVariants as stop
