@@ -55,7 +55,7 @@ fn push_files(shown: &mut String, case: &Case, shelf: &MemoryShelf) -> Result<()
     for file in &case.files {
         let name = file.name.as_str();
         let state = state_of(shelf, name, file.bytes.as_slice());
-        write!(shown, "  file {name} {state}\n")?;
+        writeln!(shown, "  file {name} {state}")?;
     }
     for word in &case.words {
         let name = word.as_str();
@@ -65,7 +65,7 @@ fn push_files(shown: &mut String, case: &Case, shelf: &MemoryShelf) -> Result<()
             } else {
                 "made"
             };
-            write!(shown, "  file {name} {state}\n")?;
+            writeln!(shown, "  file {name} {state}")?;
         }
     }
     Ok(())
@@ -73,7 +73,7 @@ fn push_files(shown: &mut String, case: &Case, shelf: &MemoryShelf) -> Result<()
 
 fn push_program(shown: &mut String, case: &Case, run: &ProgramRun) -> Result<(), AllocError> {
     let status = run.ended.status;
-    write!(shown, "  status {status}\n")?;
+    writeln!(shown, "  status {status}")?;
     push_steps(shown, run.ended.steps, run.ended.choices.items())?;
     push_sink(shown, "out", run.out.bytes())?;
     push_sink(shown, "err", run.err.bytes())?;
@@ -82,7 +82,7 @@ fn push_program(shown: &mut String, case: &Case, run: &ProgramRun) -> Result<(),
 
 fn push_session(shown: &mut String, run: &SessionRun) -> Result<(), AllocError> {
     let stop = stop_word(run.outcome.stop);
-    write!(shown, "  stop {stop}\n")?;
+    writeln!(shown, "  stop {stop}")?;
     push_steps(shown, run.outcome.steps, run.outcome.choices.items())?;
     push_sink(shown, "out", run.out.bytes())
 }
@@ -103,7 +103,7 @@ fn push_alone(
 pub fn case_text(alloc: Global, case: &Case) -> Result<String, AllocError> {
     let mut shown = String::new(alloc);
     let name = case.name.as_str();
-    write!(shown, "case {name}\n")?;
+    writeln!(shown, "case {name}")?;
     match case.budget {
         Some(budget) => push_alone(alloc, &mut shown, case, budget)?,
         None => push_program(&mut shown, case, &run_program(alloc, case)?)?,
