@@ -15,11 +15,11 @@ use Rattle.sim_model.specs.declared.plain.Stop.TheVariants as stop
 use Rattle.tlmsim.specs.Line.{line_of}
 use Rattle.tlmsim.specs.Call.{Call, Texts, model_limit, script_limit}
 use Rattle.tlmsim.specs.Judged.{IsBrokenModel, AcceptsModel, IsBrokenScript, Accepts}
-use Rattle.tlmsim.specs.Headline.{ReadFailed, TooLarge, ModelRefused, ScriptRefused, Session, Finished, Untouched, Given, Answers, IsRefusal, IsRunStatus, stop_status, default_budget}
+use Rattle.tlmsim.specs.Headline.{ReadFailed, TooLarge, ModelRefused, ScriptRefused, Session, Finished, Untouched, Given, ModelGiven, Answers, IsRefusal, IsRunStatus, stop_status, default_budget}
 use Rattle.tlmsim.specs.Simulated.{Causes, refusal_status}
 use Rattle.tlmsim.specs.declared.simulate.Refusal.{Refusal}
 use Rattle.tlmsim.specs.declared.simulate.Refusal.TheVariants as refusal
-use Rattle.tlmsim.proofs.Apart.{OneTree, same_model, same_script, not_usage, not_read, not_large, not_broken, not_both}
+use Rattle.tlmsim.proofs.Apart.{OneTree, same_model, same_script, not_usage, not_read, not_large, not_broken, not_both, long_texts, long_usage, long_read}
 
 -- a session's status is none of a refusal
 is_refusal : ℕ → Bool
@@ -203,6 +203,7 @@ of_session one c choices steps s x cause =
       bound = bound_of s;
       usage_comes = λ none. let line = x.texts.line in cc;
       large_comes = λ old new model script g past. absurd (large_refusal c old new model script g past x.model x.script x.texts);
+      large_model_comes = λ old new model g past. absurd (long_texts c old new model g past x.model x.script x.texts);
       model_comes = λ old new model script g m_within s_within broken. absurd (not_broken one model x.m (session_accepts c old new model script choices steps s g x).accepted broken);
       script_comes = λ old new model script g m_within s_within m accepted broken. absurd (not_both one model script x.m m x.commands (session_accepts c old new model script choices steps s g x) accepted broken);
       complete = λ old new model script g m_within s_within m commands accepts no_fault. run_status s (λ e. no_fault (cause e));
@@ -239,6 +240,7 @@ memory_cause c = record { usage = λ e. absurd (omega arith); read = λ e. absur
 record Comes (c : Call) (status : ℕ) : Type 0 where
   usage : line_of c.words ≡ None → (status ≡ 1) ⊎ (status ≡ 8)
   large : (old new : Files) (model script : List ℕ) → Given c old new model script → (model_limit < length model) ⊎ (script_limit < length script) → (status ≡ 10) ⊎ (status ≡ 8)
+  long : (old new : Files) (model : List ℕ) → ModelGiven c old new model → model_limit < length model → (status ≡ 10) ⊎ (status ≡ 8)
   model : (old new : Files) (model script : List ℕ) → Given c old new model script → length model ≤ model_limit → length script ≤ script_limit → IsBrokenModel model → (status ≡ 3) ⊎ (status ≡ 8)
   script : (old new : Files) (model script : List ℕ) → Given c old new model script → length model ≤ model_limit → length script ≤ script_limit → (m : tree.Model) → AcceptsModel model m → IsBrokenScript m script → (status ≡ 4) ⊎ (status ≡ 8)
   never : (old new : Files) (model script : List ℕ) → Given c old new model script → length model ≤ model_limit → length script ≤ script_limit → (m : tree.Model) (commands : List Command) → Accepts model script m commands → status ≡ 8
@@ -247,6 +249,7 @@ usage_comes : (c : Call) → line_of c.words ≡ None → Comes c 1
 usage_comes c none = record {
   usage = λ h. inl refl;
   large = λ old new model script g past. absurd (not_usage c old new model script g none);
+  long = λ old new model g past. absurd (long_usage c old new model g none);
   model = λ old new model script g m_within s_within broken. absurd (not_usage c old new model script g none);
   script = λ old new model script g m_within s_within m accepted broken. absurd (not_usage c old new model script g none);
   never = λ old new model script g m_within s_within m commands accepts. absurd (not_usage c old new model script g none);
@@ -256,6 +259,7 @@ read_comes : (c : Call) → ReadFailed c → Comes c 2
 read_comes c r = record {
   usage = λ h. let line = r.line in cc;
   large = λ old new model script g past. absurd (not_read c old new model script g r);
+  long = λ old new model g past. absurd (long_read c old new model g past r);
   model = λ old new model script g m_within s_within broken. absurd (not_read c old new model script g r);
   script = λ old new model script g m_within s_within m accepted broken. absurd (not_read c old new model script g r);
   never = λ old new model script g m_within s_within m commands accepts. absurd (not_read c old new model script g r);
@@ -265,6 +269,7 @@ model_comes : OneTree → (c : Call) → ModelRefused c → Comes c 3
 model_comes one c r = record {
   usage = λ h. let line = r.texts.line in cc;
   large = λ old new model script g past. absurd (large_refusal c old new model script g past r.model r.script r.texts);
+  long = λ old new model g past. absurd (long_texts c old new model g past r.model r.script r.texts);
   model = λ old new model script g m_within s_within broken. inl refl;
   script = λ old new model script g m_within s_within m accepted broken. absurd (not_broken one model m accepted (model_broken c old new model script g r));
   never = λ old new model script g m_within s_within m commands accepts. absurd (not_broken one model m accepts.accepted (model_broken c old new model script g r));
@@ -274,6 +279,7 @@ script_comes : OneTree → (c : Call) → ScriptRefused c → Comes c 4
 script_comes one c r = record {
   usage = λ h. let line = r.texts.line in cc;
   large = λ old new model script g past. absurd (large_refusal c old new model script g past r.model r.script r.texts);
+  long = λ old new model g past. absurd (long_texts c old new model g past r.model r.script r.texts);
   model = λ old new model script g m_within s_within broken. absurd (not_broken one model r.m (script_accepts c old new model script g r) broken);
   script = λ old new model script g m_within s_within m accepted broken. inl refl;
   never = λ old new model script g m_within s_within m commands accepts. absurd (not_both one model script m r.m commands accepts (script_accepts c old new model script g r) (script_broken c old new model script g r));
@@ -283,6 +289,7 @@ large_comes : (c : Call) → TooLarge c → Comes c 10
 large_comes c l = record {
   usage = λ h. let line = l.line in cc;
   large = λ old new model script g past. inl refl;
+  long = λ old new model g past. inl refl;
   model = λ old new model script g m_within s_within broken. absurd (not_large c old new model script g m_within s_within l);
   script = λ old new model script g m_within s_within m accepted broken. absurd (not_large c old new model script g m_within s_within l);
   never = λ old new model script g m_within s_within m commands accepts. absurd (not_large c old new model script g m_within s_within l);
@@ -292,6 +299,7 @@ memory_comes : (c : Call) → Comes c 8
 memory_comes c = record {
   usage = λ h. inr refl;
   large = λ old new model script g past. inr refl;
+  long = λ old new model g past. inr refl;
   model = λ old new model script g m_within s_within broken. inr refl;
   script = λ old new model script g m_within s_within m accepted broken. inr refl;
   never = λ old new model script g m_within s_within m commands accepts. refl;
@@ -335,6 +343,7 @@ of_refusal one c choices steps r h untouched =
       bound = cause.bound;
       usage_comes = comes.usage;
       large_comes = comes.large;
+      large_model_comes = comes.long;
       model_comes = comes.model;
       script_comes = comes.script;
       complete = λ old new model script g m_within s_within m commands accepts no_fault. inr (comes.never old new model script g m_within s_within m commands accepts);

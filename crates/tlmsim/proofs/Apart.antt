@@ -14,7 +14,7 @@ use Rattle.script_text.specs.declared.forms.TextCommand.{TextCommand}
 use Rattle.tlmsim.specs.Line.{Names, line_of}
 use Rattle.tlmsim.specs.Call.{Call, Texts, model_limit, script_limit}
 use Rattle.tlmsim.specs.Judged.{IsBrokenModel, AcceptsModel, IsBrokenScript, Accepts}
-use Rattle.tlmsim.specs.Headline.{ReadFailed, TooLarge, Given}
+use Rattle.tlmsim.specs.Headline.{ReadFailed, TooLarge, Given, ModelGiven}
 
 -- no text reads as two trees
 abbrev pub OneTree : Type 0
@@ -69,7 +69,7 @@ pub not_read : (c : Call) (old new : Files) (model script : List ℕ) → Given 
 not_read c old new model script g r =
     let names = same_names c.words r.names g.names r.line g.line in
     ⊎_elim g.no_fault (⊎_elim (lacks_none c.before.files old r.names.model g.names.model model g.told (ap (λ n. n.model) names) g.model_is)
-    (lacks_none c.before.files old r.names.script g.names.script script g.told (ap (λ n. n.script) names) g.script_is)) r.cause
+    (λ lacks. lacks_none c.before.files old r.names.script g.names.script script g.told (ap (λ n. n.script) names) g.script_is lacks.3)) r.cause
 
 pub not_large : (c : Call) (old new : Files) (model script : List ℕ) → Given c old new model script → length model ≤ model_limit → length script ≤ script_limit → TooLarge c → ⊥
 not_large c old new model script g m_within s_within l =
@@ -78,6 +78,28 @@ not_large c old new model script g m_within s_within l =
     (λ large. let h : model_limit < length model = large_at c.before.files c.after.files old new l.names.model g.names.model model model_limit g.told g.told_after (ap (λ n. n.model) names) g.model_is large in omega arith)
     (λ large. let h : script_limit < length script = large_at c.before.files c.after.files old new l.names.script g.names.script script script_limit g.told g.told_after (ap (λ n. n.script) names) g.script_is large.3 in omega arith)
     l.cause
+
+-- a model that is given and past its limit was not read within it
+pub long_texts : (c : Call) (old new : Files) (model : List ℕ) → ModelGiven c old new model → model_limit < length model → (model' script' : List ℕ) → Texts c model' script' → ⊥
+long_texts c old new model g past model' script' t =
+    let names = same_names c.words t.names g.names t.line g.line in
+    let same = ap length (text_at c.before.files c.after.files old new t.names.model g.names.model model' model g.told g.told_after (ap (λ n. n.model) names) g.model_is t.model_is) in
+    let within : length model' ≤ model_limit = t.model_within in
+    let h : model_limit < length model = past in
+    omega arith
+
+pub long_usage : (c : Call) (old new : Files) (model : List ℕ) → ModelGiven c old new model → line_of c.words ≡ None → ⊥
+long_usage c old new model g e = let line = g.line in cc
+
+pub long_read : (c : Call) (old new : Files) (model : List ℕ) → ModelGiven c old new model → model_limit < length model → ReadFailed c → ⊥
+long_read c old new model g past r =
+    let names = same_names c.words r.names g.names r.line g.line in
+    let h : model_limit < length model = past in
+    ⊎_elim g.no_fault (⊎_elim (lacks_none c.before.files old r.names.model g.names.model model g.told (ap (λ n. n.model) names) g.model_is)
+    (λ lacks.
+    let same = ap length (text_at c.before.files c.after.files old new r.names.model g.names.model lacks.0 model g.told g.told_after (ap (λ n. n.model) names) g.model_is lacks.1) in
+    let within : length lacks.0 ≤ model_limit = lacks.2 in
+    omega arith)) r.cause
 
 none_there : IsSome {T = Fault} None → ⊥
 none_there h = cc

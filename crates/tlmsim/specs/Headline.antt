@@ -1,6 +1,6 @@
 -- The answers of the top call, and the cause of each.
 use Rattle.std.specs.Prelude.{◌≡◌, ◌≤◌, ◌⊎◌, ◌<◌, ℕ, List, [], Some, None, length}
-use Rattle.sim_io.specs.Told.{Files, Lacks, IsLarge, IsText}
+use Rattle.sim_io.specs.Told.{Files, Lacks}
 use Rattle.sim_io.specs.Cause.{Rose}
 use Rattle.model_tree.specs.declared.faults.RunFault.{RunFault}
 use Rattle.model_tree.specs.Tree as tree
@@ -12,23 +12,25 @@ use Rattle.sim_model.specs.declared.plain.Stop.TheVariants as stop
 use Rattle.session.specs.Course.{Ran}
 use Rattle.tlmsim.specs.Line.{Names, line_of}
 use Rattle.tlmsim.specs.Call.{Call, Texts, model_limit, script_limit}
+use Rattle.tlmsim.specs.Loaded.{LacksScript, IsTooLarge}
 use Rattle.tlmsim.specs.Judged.{IsBrokenModel, AcceptsModel, IsBrokenScript, Accepts}
 
 -- the most steps of a session
 abbrev pub default_budget : ℕ
 default_budget = 10000000
 
--- the shelf's read count rose in this call, or it tells its files and lacks one that the words name
+-- the shelf's read count rose in this call; or it tells its files and lacks the model that the words name,
+-- or the script, once the model was read within its limit
 pub record ReadFailed (c : Call) : Type 0 where
   pub names : Names
   pub line : line_of c.words ≡ Some names
-  pub cause : Rose c.before.reads c.after.reads ⊎ (Lacks c.before.files names.model ⊎ Lacks c.before.files names.script)
+  pub cause : Rose c.before.reads c.after.reads ⊎ (Lacks c.before.files names.model ⊎ LacksScript c.before.files c.after.files names.model names.script)
 
 -- more bytes than its limit were read of the model; or the model was read, and more than its limit of the script
 pub record TooLarge (c : Call) : Type 0 where
   pub names : Names
   pub line : line_of c.words ≡ Some names
-  pub cause : IsLarge c.before.files c.after.files names.model model_limit ⊎ ((model : List ℕ) × IsText c.before.files c.after.files names.model model × (length model ≤ model_limit) × IsLarge c.before.files c.after.files names.script script_limit)
+  pub cause : IsTooLarge c.before.files c.after.files names.model names.script
 
 -- both texts were read, and the model has no tree or has a first fault
 pub record ModelRefused (c : Call) : Type 0 where
@@ -73,6 +75,15 @@ pub record Given (c : Call) (old new : Files) (model script : List ℕ) : Type 0
   pub script_is : old names.script ≡ Some script
   pub no_fault : Rose c.before.reads c.after.reads → ⊥
 
+-- the files are told and the model that the words name is there, with this text; of the script nothing is said
+pub record ModelGiven (c : Call) (old new : Files) (model : List ℕ) : Type 0 where
+  pub told : c.before.files ≡ Some old
+  pub told_after : c.after.files ≡ Some new
+  pub names : Names
+  pub line : line_of c.words ≡ Some names
+  pub model_is : old names.model ≡ Some model
+  pub no_fault : Rose c.before.reads c.after.reads → ⊥
+
 -- the run ended by itself: the script was carried out, or the model stopped it
 abbrev pub Finished : Call → List ℕ → ℕ → Type 0
 Finished c choices steps = Session c choices steps stop.Done ⊎ Session c choices steps stop.Stopped
@@ -113,6 +124,7 @@ pub record Answers (c : Call) (status : ℕ) (choices : List ℕ) (steps : ℕ) 
   pub usage_comes : line_of c.words ≡ None → (status ≡ 1) ⊎ (status ≡ 8)
   pub large_comes : (old new : Files) (model script : List ℕ) → Given c old new model script
       → (model_limit < length model) ⊎ (script_limit < length script) → (status ≡ 10) ⊎ (status ≡ 8)
+  pub large_model_comes : (old new : Files) (model : List ℕ) → ModelGiven c old new model → model_limit < length model → (status ≡ 10) ⊎ (status ≡ 8)
   pub model_comes : (old new : Files) (model script : List ℕ) → Given c old new model script
       → length model ≤ model_limit → length script ≤ script_limit → IsBrokenModel model → (status ≡ 3) ⊎ (status ≡ 8)
   pub script_comes : (old new : Files) (model script : List ℕ) → Given c old new model script

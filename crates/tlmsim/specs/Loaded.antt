@@ -1,6 +1,6 @@
 -- What the reading of two files gives.
 use Rattle.std.specs.Prelude.{◌≤◌, ◌⊎◌, ℕ, List, Option, length}
-use Rattle.sim_io.specs.Told.{Files, IsText, IsLarge}
+use Rattle.sim_io.specs.Told.{Files, Lacks, IsText, IsLarge}
 use Rattle.tlmsim.specs.Call.{model_limit, script_limit}
 
 -- these are the texts of the two files, each within its limit
@@ -14,3 +14,7 @@ pub record AreTexts (old new : Option Files) (model script : List ℕ) (model_te
 abbrev pub IsTooLarge : Option Files → Option Files → List ℕ → List ℕ → Type 0
 IsTooLarge old new model script =
     IsLarge old new model model_limit ⊎ ((text : List ℕ) × IsText old new model text × (length text ≤ model_limit) × IsLarge old new script script_limit)
+
+-- the files are told and have no script, and the model, which is read first, was read within its limit
+abbrev pub LacksScript : Option Files → Option Files → List ℕ → List ℕ → Type 0
+LacksScript old new model script = (text : List ℕ) × IsText old new model text × (length text ≤ model_limit) × Lacks old script

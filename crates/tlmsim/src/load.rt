@@ -2,7 +2,7 @@ ghost use Rattle.std.specs.Prelude.{◌≡◌, ◌≤◌, ◌⊎◌, ℕ, IfOk, 
 ghost use Rattle.sim_io.specs.Told.{AfterTold, Same, IsText, IsLarge, Lacks};
 ghost use Rattle.sim_io.specs.Cause.{Rose};
 ghost use Rattle.tlmsim.specs.Call.{model_limit, script_limit};
-ghost use Rattle.tlmsim.specs.Loaded.{AreTexts, IsTooLarge};
+ghost use Rattle.tlmsim.specs.Loaded.{AreTexts, IsTooLarge, LacksScript};
 
 use sim_io::{Bytes, ReadStop, Shelf, read_all};
 use std::alloc::Global;
@@ -32,7 +32,7 @@ pub fn load<S: Shelf>(
     ensures texts { IfOk result (λ texts. AreTexts (S.files shelf.old) (S.files shelf.new) model.now script.now texts.model texts.script) }
     ensures large { (most : ℕ) → IsErrOf result (ReadStop.TooLarge most) → IsTooLarge (S.files shelf.old) (S.files shelf.new) model.now script.now }
     ensures failed { IsErrOf result ReadStop.Failed →
-        Rose (S.reads shelf.old) (S.reads shelf.new) ⊎ (Lacks (S.files shelf.old) model.now ⊎ Lacks (S.files shelf.old) script.now) }
+        Rose (S.reads shelf.old) (S.reads shelf.new) ⊎ (Lacks (S.files shelf.old) model.now ⊎ LacksScript (S.files shelf.old) (S.files shelf.new) model.now script.now) }
     ensures later { S.reads shelf.old ≤ S.reads shelf.new }
     ensures files { AfterTold (S.files shelf.old) (S.files shelf.new) Same }
     ensures writes { S.writes shelf.new ≡ S.writes shelf.old }

@@ -7,7 +7,7 @@ ghost use Rattle.model_tree.specs.declared.faults.RunFault.{RunFault};
 ghost use Rattle.tlmsim.specs.Line.{line_of};
 ghost use Rattle.tlmsim.specs.Call.{called, model_limit, script_limit};
 ghost use Rattle.tlmsim.specs.Judged.{IsBrokenModel, AcceptsModel, IsBrokenScript, Accepts};
-ghost use Rattle.tlmsim.specs.Headline.{Answers, Finished, Session, ReadFailed, ModelRefused, ScriptRefused, TooLarge, Untouched, Given, IsRefusal, IsRunStatus, stop_status, default_budget};
+ghost use Rattle.tlmsim.specs.Headline.{Answers, Finished, Session, ReadFailed, ModelRefused, ScriptRefused, TooLarge, Untouched, Given, ModelGiven, IsRefusal, IsRunStatus, stop_status, default_budget};
 ghost use Rattle.tlmsim.specs.Simulated as spec;
 
 use super::simulate::{Refusal, simulate};
@@ -114,6 +114,8 @@ pub fn sim_main<S: Shelf, O: Sink, E: Sink>(
     ensures usage_comes { line_of words.now ≡ None → (result.status ≡ 1) ⊎ (result.status ≡ 8) }
     ensures large_comes { (old new : Files) (model script : List ℕ) → Given (called S.files S.reads S.writes O.holds O.faults words.now shelf.old shelf.new out.old out.new) old new model script
         → (model_limit < length model) ⊎ (script_limit < length script) → (result.status ≡ 10) ⊎ (result.status ≡ 8) }
+    ensures large_model_comes { (old new : Files) (model : List ℕ) → ModelGiven (called S.files S.reads S.writes O.holds O.faults words.now shelf.old shelf.new out.old out.new) old new model
+        → model_limit < length model → (result.status ≡ 10) ⊎ (result.status ≡ 8) }
     ensures model_comes { (old new : Files) (model script : List ℕ) → Given (called S.files S.reads S.writes O.holds O.faults words.now shelf.old shelf.new out.old out.new) old new model script
         → length model ≤ model_limit → length script ≤ script_limit → IsBrokenModel model → (result.status ≡ 3) ⊎ (result.status ≡ 8) }
     ensures script_comes { (old new : Files) (model script : List ℕ) → Given (called S.files S.reads S.writes O.holds O.faults words.now shelf.old shelf.new out.old out.new) old new model script
