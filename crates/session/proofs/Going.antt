@@ -14,12 +14,12 @@ use Rattle.sim_model.specs.declared.plain.Stop.{Stop}
 use Rattle.sim_model.specs.declared.plain.Stop.TheVariants as stop
 use Rattle.model_tree.specs.declared.faults.RunFault.{RunFault}
 use Rattle.scheduler.specs.declared.kernel.Kernel.{Kernel}
-use Rattle.scheduler.specs.Kernel.{StandsFor, GoesTo, IsFault}
+use Rattle.scheduler.specs.Kernel.{StandsFor, GoesTo, IsFault, with_line}
 use Rattle.session.specs.Show.{closing_of}
 use Rattle.session.specs.Made.{StepsOn, IsOver}
 use Rattle.session.specs.declared.steps.Made.TheVariants as made
-use Rattle.session.specs.Course.{Ran, Wrote, Closes, WroteFront, WroteShort, IsEndedAs, text_at, line_bytes}
-use Rattle.session.proofs.Fronts.{joined-with_line, short_after, front_after, front_of}
+use Rattle.session.specs.Course.{Ran, Wrote, Closes, WroteFront, WroteShort, WroteFirst, IsEndedAs, all_but_last, text_at, line_bytes}
+use Rattle.session.proofs.Fronts.{joined-with_line, first_lines, short_after, front_after, front_of}
 
 pub record Going (first : Config) (steps : ℕ) (k : Kernel) (script : List Command) (old now : Option (List ℕ)) : Type 0 where
   pub at : Config
@@ -49,6 +49,7 @@ pub record Advanced (first : Config) (steps : ℕ) (at : Config) (k : Kernel) (s
   pub stands : StandsFor k to
   pub left : to.script ≡ script
   pub goes_on : (n : ℕ) (choices : List ℕ) → after (steps + 1 + n) choices first ≡ after n choices to
+  pub pushed : to.trace.lines ≡ with_line at.trace.lines line
   pub lines : joined to.trace.lines ≡ joined at.trace.lines ++ line_bytes line
 
 advanced : (first : Config) (steps : ℕ) (k k' : Kernel) (script script' : List Command) (old now : Option (List ℕ)) (line : Option (List ℕ)) (g : Going first steps k script old now) → StepsOn k k' script script' (made.Went line) step → Advanced first steps g.at k' script' line
@@ -61,6 +62,7 @@ advanced first steps k k' script script' old now line g goes = from (step g.at) 
       left = h.1;
       goes_on = λ n choices. let more : steps + 1 + n ≡ steps + suc n = omega arith in
           ap (λ m. after m choices first) more ∙ g.goes_on (suc n) choices ∙ ap (λ o. and_then o (after n choices)) e;
+      pushed = h.2;
       lines = ap joined h.2 ∙ joined-with_line g.at.trace.lines line;
     }
     from (faulted f) e h = absurd h
@@ -102,6 +104,22 @@ closes_wrote c s stop.Budget old mid now text written is h = whole c s stop.Budg
 closes_wrote c s (stop.Replay place) old mid now text written is h = whole c s (stop.Replay place) old mid now text written is h.0 h.1
 closes_wrote c s (stop.Fault f) old mid now text written is h = whole c s (stop.Fault f) old mid now text written is h.0 h.1
 
+-- whatever became of the closing text, something was written, be it nothing
+closing_bytes : (text : List ℕ) (mid now : Option (List ℕ)) (s s' : Stop) → Closes text mid now s s' → (bytes : List ℕ) × Grew mid now bytes
+closing_bytes text mid now s stop.WriteFault h = (_, h.2)
+closing_bytes text mid now s stop.NoMemory h = (_, h.2)
+closing_bytes text mid now s stop.Done h = (text, h.1)
+closing_bytes text mid now s stop.Stopped h = (text, h.1)
+closing_bytes text mid now s stop.Budget h = (text, h.1)
+closing_bytes text mid now s (stop.Replay place) h = (text, h.1)
+closing_bytes text mid now s (stop.Fault f) h = (text, h.1)
+
+-- the lines before a step, in terms of the configuration that it went to
+lines_before : (at to : Config) (old mid now : Option (List ℕ)) (line : Option (List ℕ)) (bytes : List ℕ) → to.trace.lines ≡ with_line at.trace.lines line → Grew old mid (joined at.trace.lines) → Grew mid now bytes → WroteFirst old now (joined (all_but_last to.trace.lines))
+lines_before at to old mid now line bytes pushed first more =
+    let P : List (List ℕ) → Type 0 = λ lines. WroteFirst old now (joined (all_but_last lines)) in
+    subst P (sym pushed) (first_lines old mid now at.trace.lines line bytes first more)
+
 -- a session that has come to an end of its own
 pub finished : (first : Config) (budget steps : ℕ) (k : Kernel) (script : List Command) (old mid now : Option (List ℕ)) (s s' : Stop) → (g : Going first steps k script old mid) → steps ≤ budget → stop_of g.at steps budget ≡ Some s → Closes (closing_of k s) mid now s s' → Ran first budget [] steps s' old now
 finished first budget steps k script old mid now s s' g within ending closes =
@@ -111,6 +129,8 @@ finished first budget steps k script old mid now s s' g within ending closes =
       is_run = is_run first steps k script old mid g;
       within = within;
       wrote = subst P (sym ending) (closes_wrote g.at s s' old mid now (closing_of k s) g.written (closing_same k g.at s g.stands) closes);
+      earlier = let closed = closing_bytes (closing_of k s) mid now s s' closes in
+          first_lines old mid now g.at.trace.lines None closed.0 g.written closed.1;
     }
 
 -- the lines so far are a front of the text, whether the session has ended or not
@@ -127,6 +147,7 @@ cut_before_step first budget steps k script old now g within =
       is_run = is_run first steps k script old now g;
       within = within;
       wrote = front_of old now _ (joined g.at.trace.lines) begins.0 begins.1 g.written;
+      earlier = first_lines old now now g.at.trace.lines None [] g.written (grew_none now);
     }
 
 -- what a step's line and what follows it are in the text
@@ -147,6 +168,7 @@ cut_in_line first budget steps k k' script script' old mid now line g goes withi
       is_run = ap (λ m. after m [] first) (sym (add-zero (steps + 1))) ∙ a.goes_on 0 [];
       within = within;
       wrote = short_after old mid now _ (joined g.at.trace.lines) (line_bytes line) text.0 text.1 g.written short;
+      earlier = lines_before g.at a.to old mid now line took.0 a.pushed g.written took.1;
     }
 
 -- the same by want of memory
@@ -162,6 +184,7 @@ refused_in_line first budget steps k k' script script' old mid now line g goes w
       is_run = ap (λ m. after m [] first) (sym (add-zero (steps + 1))) ∙ a.goes_on 0 [];
       within = within;
       wrote = front_after old mid now _ (joined g.at.trace.lines) (line_bytes line) text.0 text.1 g.written front;
+      earlier = lines_before g.at a.to old mid now line took.0 a.pushed g.written took.1;
     }
 
 -- a kernel that stands for the same configuration
@@ -215,10 +238,13 @@ spent_run first budget steps k script old mid now s s' g within spent ending clo
     finished first budget steps k script old mid now s s' g within (rw (used_up steps budget spent) ending) closes
 
 -- want of memory before the first step
-pub never_began : (first : Config) (budget : ℕ) (sink : Option (List ℕ)) → Ran first budget [] 0 stop.NoMemory sink sink
-never_began first budget sink = record {
-  last = first;
-  is_run = refl;
-  within = omega arith;
-  wrote = (0, omega arith, grew_none sink);
-}
+pub never_began : (first : Config) (budget : ℕ) (sink : Option (List ℕ)) → first.trace.lines ≡ [] → Ran first budget [] 0 stop.NoMemory sink sink
+never_began first budget sink empty =
+    let P : List (List ℕ) → Type 0 = λ lines. WroteFirst sink sink (joined (all_but_last lines)) in
+    record {
+      last = first;
+      is_run = refl;
+      within = omega arith;
+      wrote = (0, omega arith, grew_none sink);
+      earlier = subst P (sym empty) ([], grew_none sink);
+    }

@@ -1,5 +1,5 @@
 -- How a session went, and what it wrote.
-use Rattle.std.specs.Prelude.{◌≡◌, ◌<◌, ◌≤◌, ℕ, Bool, true, false, List, [], ◌∷◌, length, take, Option, Some, None, ⊤, if◌then◌else◌}
+use Rattle.std.specs.Prelude.{◌≡◌, ◌<◌, ◌≤◌, ℕ, Bool, true, false, List, [], ◌∷◌, ◌++◌, length, take, Option, Some, None, ⊤, if◌then◌else◌}
 use Rattle.sim_io.specs.Told.{Grew}
 use Rattle.scheduler.specs.declared.kernel.Kernel.{Kernel}
 use Rattle.sim_model.specs.Steps.{Outcome, went, faulted, ended}
@@ -27,13 +27,25 @@ Wrote c ending old new stop.WriteFault = WroteShort old new (text_at c ending)
 Wrote c ending old new stop.NoMemory = WroteFront old new (text_at c ending)
 Wrote c ending old new s = (ending ≡ Some s) × Grew old new (report c s)
 
+-- the lines but the last
+abbrev pub all_but_last : List (List ℕ) → List (List ℕ)
+all_but_last [] = []
+all_but_last (x ∷ []) = []
+all_but_last (x ∷ y ∷ ys) = x ∷ all_but_last (y ∷ ys)
+
+-- what was written begins with these bytes
+abbrev pub WroteFirst : Option (List ℕ) → Option (List ℕ) → List ℕ → Type 0
+WroteFirst old new first = (rest : List ℕ) × Grew old new (first ++ rest)
+
 -- a session is a run: so many steps with these choices lead from the first configuration to the last,
--- whose end is the session's, and the sink took its text
+-- whose end is the session's, and the sink took its text; each line was written when its step made it,
+-- so that at most the last of them is lacking where a cut ends the session
 pub record Ran (first : Config) (budget : ℕ) (choices : List ℕ) (steps : ℕ) (s : Stop) (old new : Option (List ℕ)) : Type 0 where
   pub last : Config
   pub is_run : after steps choices first ≡ Some last
   pub within : steps ≤ budget
   pub wrote : Wrote last (stop_of last steps budget) old new s
+  pub earlier : WroteFirst old new (joined (all_but_last last.trace.lines))
 
 -- the bytes of a step's line, where it has one
 abbrev pub line_bytes : Option (List ℕ) → List ℕ

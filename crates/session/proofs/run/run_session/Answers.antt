@@ -7,4 +7,4 @@ returns-in-Ok-clause-ran g c =
     rw c.new-choices.ensures (c.run_on-course.ensures.ran _ (c.in-Ok.ensures.stands _) refl refl)
 
 pub returns-in-Err-clause-ran : goal.returns-in-Err-clause-ran
-returns-in-Err-clause-ran g c = rw c.new-choices.ensures (never_began _ _ _)
+returns-in-Err-clause-ran g c = rw c.new-choices.ensures (never_began _ _ _ refl)
