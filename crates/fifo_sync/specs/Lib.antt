@@ -1,0 +1,2 @@
+pub mod Fifos
+pub mod Locks

@@ -1,0 +1,10 @@
+//! The predefined channels with a queue or a lock: the fifo, the mutex and the semaphore (IEEE 1666-2011, 6.23, 6.27 and 6.28).
+#![tactic(auto)]
+
+mod fifo;
+mod locks;
+#[cfg(test)]
+mod tests;
+
+pub use fifo::{Fifo, FifoChange, Full};
+pub use locks::{Mutex, Semaphore};
