@@ -1,0 +1,3 @@
+pub mod SameValue
+pub mod Signals
+pub mod Drivers
