@@ -100,8 +100,8 @@ module _ (test : Kept → Bool) (idle : test fresh ≡ false) (enters : (h : Lis
   alone_here : (h : List Entry) (e : Entry) → AtMostOne test h → broken h e ≡ None → (n : ℕ) → n ≢ transaction e → test (after_entry e (kept_of h (transaction e))) ≡ true → test (kept_of h n) ≡ true → ⊥
   alone_here h e one none n apart here there =
       elim (enters h e none here) [
-        inl before ↦ apart (one n (transaction e) there before)
-      | inr no_other ↦ true≢false (sym (other_in_history test idle h (transaction e) n apart there) ∙ no_other)
+        | inl before ↦ apart (one n (transaction e) there before)
+        | inr no_other ↦ true≢false (sym (other_in_history test idle h (transaction e) n apart there) ∙ no_other)
       ]
 
   one_more : (h : List Entry) (e : Entry) → AtMostOne test h → broken h e ≡ None → (t u : ℕ) (a b : Bool) → (transaction e == t) ≡ a → (transaction e == u) ≡ b → test (if a then after_entry e (kept_of h t) else kept_of h t) ≡ true → test (if b then after_entry e (kept_of h u) else kept_of h u) ≡ true → t ≡ u
@@ -115,8 +115,8 @@ module _ (test : Kept → Bool) (idle : test fresh ≡ false) (enters : (h : Lis
   one_after : (h : List Entry) (e : Entry) → AtMostOne test h → broken h e ≡ None → AtMostOne test (h ++ e ∷ [])
   one_after h e one none t u is_t is_u =
       one_more h e one none t u (transaction e == t) (transaction e == u) refl refl
-          (sym (ap test (kept_of-more h e t (transaction e == t) refl)) ∙ is_t)
-          (sym (ap test (kept_of-more h e u (transaction e == u) refl)) ∙ is_u)
+      (sym (ap test (kept_of-more h e t (transaction e == t) refl)) ∙ is_t)
+      (sym (ap test (kept_of-more h e u (transaction e == u) refl)) ∙ is_u)
 
   pub one_throughout : (before later : List Entry) → AtMostOne test before → UnbrokenFrom before later → AtMostOne test (before ++ later)
   one_throughout before [] one unbroken = subst (AtMostOne test) (sym (append-nil before)) one

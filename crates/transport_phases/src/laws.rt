@@ -9,5 +9,4 @@ ghost use Rattle.transport_phases.specs.Unbroken.{Unbroken, AtMostOne};
 pub fn one_at_a_time()
     ensures requests { (h : List Entry) → Unbroken h → AtMostOne is_requesting h }
     ensures responds { (h : List Entry) → Unbroken h → AtMostOne is_responding h }
-{
-}
+{}
