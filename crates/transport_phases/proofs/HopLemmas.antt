@@ -90,3 +90,14 @@ return_judged k l a b x y p q complete kept others answered handed =
     ∙ ap (λ a. verdict (first_broken (return_rules l.state a x p complete))) others
     ∙ ap (λ x. verdict (first_broken (return_rules l.state b x p complete))) answered
     ∙ ap (λ p. verdict (first_broken (return_rules l.state b y p complete))) handed
+
+-- another transaction that passes the test is found in the history
+pub other_in_history : (test : Kept → Bool) → test fresh ≡ false → (h : List Entry) (t i : ℕ) → i ≢ t → test (kept_of h i) ≡ true → is_other_among (λ n. test (kept_of h n)) t h ≡ true
+other_in_history test idle h t i apart passes =
+    elim (named (λ n. not (n == t) && test (kept_of h n)) i (ap (λ b. not b && test (kept_of h i)) (ne_eqb i t apart) ∙ passes) h fresh) [
+      | inl kept ↦ absurd (true≢false (sym passes ∙ ap test kept ∙ idle))
+      | inr found ↦ found
+    ]
+
+pub kept_of-more : (h : List Entry) (e : Entry) (n : ℕ) (b : Bool) → (transaction e == n) ≡ b → kept_of (h ++ e ∷ []) n ≡ (if b then after_entry e (kept_of h n) else kept_of h n)
+kept_of-more h e n b same = kept_from-more n fresh h e ∙ ap (λ b. if b then after_entry e (kept_of h n) else kept_of h n) same

@@ -3,10 +3,12 @@
 
 mod hop;
 mod kept;
+mod laws;
 mod phases;
 #[cfg(test)]
 mod tests;
 
 pub use hop::Hop;
 pub use kept::{Kept, Open, State};
+pub use laws::one_at_a_time;
 pub use phases::{Answer, Path, Phase, Rule};
