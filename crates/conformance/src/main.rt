@@ -6,6 +6,8 @@ mod cases;
 mod quoting;
 mod running;
 mod showing;
+#[cfg(test)]
+mod tests;
 
 use anyhow::Result;
 use case_files::read_cases;
