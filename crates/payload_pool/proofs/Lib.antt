@@ -1,0 +1,5 @@
+pub mod TransferLemmas
+pub mod MapLemmas
+pub mod SlotLemmas
+pub mod CountLemmas
+pub mod LawLemmas

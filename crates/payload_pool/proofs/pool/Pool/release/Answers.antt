@@ -1,0 +1,11 @@
+use Rattle.std.proofs.Common.{sym, ◌∙◌}
+use Rattle.payload_pool.proofs.CountLemmas.{released_absent, released_last}
+use Rattle.payload_pool.proofs.pool.Pool.release.Goals as goal
+
+pub returns-in-None-clause-counted : goal.returns-in-None-clause-counted
+returns-in-None-clause-counted c = released_absent c.args.self.now c.args.t (sym c.in-None.ensures.value)
+
+pub returns-then-left-eq0-clause-counted : goal.returns-then-left-eq0-clause-counted
+returns-then-left-eq0-clause-counted c =
+    c.free.ensures ∙ released_last c.args.self.now c.args.t c.in-Some.counted.now _ (sym c.in-Some.ensures.value)
+    (sym c.saturating_sub-counted.ensures ∙ c.if-left-eq0.true)

@@ -1,0 +1,27 @@
+-- How a pool keeps its payloads. No public clause cites this module.
+use Rattle.std.specs.Prelude.{◌≡◌, ℕ, ◌≤◌, List, [], ◌∷◌, true, Option, Some, None, is_some, slice_index_or}
+use Rattle.std.specs.Ordering.{nat_cmp}
+use Rattle.std.specs.BTreeMap as tree
+use Rattle.std.specs.FinMap as map
+use Rattle.slab.specs.Slab.{Slab, slab_len}
+use Rattle.payload_pool.specs.declared.pool.TheConstants.{MAX_LIVE}
+
+module _ {X : Type 0} where
+  -- the map with this at the key, or with nothing there
+  abbrev pub updated : map.FinMap nat_cmp X → ℕ → Option X → map.FinMap nat_cmp X
+  updated m k None = map.remove m k
+  updated m k (Some x) = map.insert m k x
+
+  -- what each number finds, where an entry tells the slot of a number
+  abbrev pub live_of : List (Option X) → List (ℕ × ℕ) → map.FinMap nat_cmp X
+  live_of slots [] = map.empty
+  live_of slots (e ∷ es) = updated (live_of slots es) e.0 (slice_index_or slots e.1 None)
+
+  -- each number below the next one may have a slot of its own, which holds its payload, and no other slot is in use
+  pub record IsSound (slots : Slab X) (keys : tree.BTreeMap ℕ ℕ) (next : ℕ) : Type 0 where
+    pub below : (q : ℕ) → next ≤ q → tree.get nat_cmp keys q ≡ None
+    pub occupied : (q k : ℕ) → tree.get nat_cmp keys q ≡ Some k → is_some (slice_index_or slots.slots k None) ≡ true
+    pub apart : (p q k : ℕ) → tree.get nat_cmp keys p ≡ Some k → tree.get nat_cmp keys q ≡ Some k → p ≡ q
+    pub counted : map.len (live_of slots.slots keys.entries) ≡ tree.btree_map_len keys
+    pub full : slab_len slots ≡ tree.btree_map_len keys
+    pub few : tree.btree_map_len keys ≤ MAX_LIVE
