@@ -1,0 +1,10 @@
+pub mod Places
+pub mod WordRoutes
+pub mod RouteWords
+pub mod KeptPlaces
+pub mod Overlaps
+pub mod RulePlaces
+pub mod Entries
+pub mod Moments
+pub mod LawfulLemmas
+pub mod OpenLemmas
