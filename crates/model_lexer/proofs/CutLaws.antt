@@ -1,0 +1,118 @@
+-- Limits and order of the tokens of a text.
+use Rattle.std.proofs.Common.{◌≡◌, ℕ, ◌+◌, ◌<◌, ◌≤◌, Bool, true, false, ◌&&◌, cond, List, [], ◌∷◌, length, take, drop, Option, Some, None, ◌∙◌, refl, sym, ap, ⊎_elim, arith}
+use Rattle.std.specs.Prelude.{IfSome, option_map, nat_lt, nat_le, map}
+use Rattle.std.proofs.lemmas.Bool.{and_from, cases_lt}
+use Rattle.std.proofs.lemmas.List.{length-reverse, length-map}
+use Rattle.logic_values.specs.declared.kinds.Digit.{Digit}
+use Rattle.model_tree.specs.declared.vocabulary.Word.{Word}
+use Rattle.model_tree.specs.declared.vocabulary.Symbol.{Symbol}
+use Rattle.model_tree.specs.Vocabulary.{word_of}
+use Rattle.model_tree.specs.Leaves.{is_name, is_print_text}
+use Rattle.model_tree.specs.Limits.{is_number}
+use Rattle.model_grammar.specs.Tokens.{Token, name, number, logic, quoted, symbol, symbol_of, is_limited, are_limited, word_or_name}
+use Rattle.std.specs.Str.Parse.{digits_value}
+use Rattle.model_lexer.specs.declared.forms.Form.{Form}
+use Rattle.model_lexer.specs.declared.forms.Form.TheVariants as form
+use Rattle.model_lexer.specs.declared.forms.Piece.{Piece}
+use Rattle.model_lexer.specs.Forms.{form_of, is_passed}
+use Rattle.model_lexer.specs.Meanings.{logic_digit, logic_digits, inner, meaning}
+use Rattle.model_lexer.specs.Fronts.{piece_at}
+use Rattle.model_lexer.specs.Cut.{IsPiece, Lexeme, AreGaps, CutFrom}
+use Rattle.model_lexer.specs.Laws.{with_lines, AreInOrder, HasPiece, IsPastLimit}
+use Rattle.model_lexer.proofs.Longest.{Finds, found}
+use Rattle.model_lexer.proofs.Cuts.{piece_some, piece_within, piece_here, meant_here, one_piece}
+
+abbrev IsLimited : Token → Type 0
+IsLimited t = is_limited t ≡ true
+
+name_limited : (b : Bool) (bytes : List ℕ) → (b ≡ true → is_name bytes ≡ true) → IfSome (cond b (Some (name bytes)) None) IsLimited
+name_limited true bytes f = f refl
+name_limited false bytes f = tt
+
+word_limited : (o : Option Word) (bytes : List ℕ) → IfSome (word_or_name o bytes) IsLimited
+word_limited (Some w) bytes = refl
+word_limited None bytes = name_limited (is_name bytes) bytes (λ e. e)
+
+number_limited : (b : Bool) (n : ℕ) → (b ≡ true → is_number n ≡ true) → IfSome (option_map number (cond b (Some n) None)) IsLimited
+number_limited true n f = f refl
+number_limited false n f = tt
+
+digits_limited : (b : Bool) (ds : List Digit) → (b ≡ true → is_limited (logic ds) ≡ true) → IfSome (option_map logic (cond b (Some ds) None)) IsLimited
+digits_limited true ds f = f refl
+digits_limited false ds f = tt
+
+length_digits : (bytes : List ℕ) → length (logic_digits bytes) ≡ length bytes
+length_digits bytes = length-reverse (map logic_digit bytes) ∙ length-map bytes logic_digit
+
+logic_limited : (bytes : List ℕ) → (nat_lt 0 (length bytes) && nat_le (length bytes) 64) ≡ true → is_limited (logic (logic_digits bytes)) ≡ true
+logic_limited bytes h = ap (λ (n : ℕ). nat_lt 0 n && nat_le n 64) (length_digits bytes) ∙ h
+
+text_limited : (b : Bool) (bytes : List ℕ) → (b ≡ true → is_print_text bytes ≡ true) → IfSome (cond b (Some (quoted bytes)) None) IsLimited
+text_limited true bytes f = f refl
+text_limited false bytes f = tt
+
+symbol_limited : (o : Option Symbol) → IfSome (option_map symbol o) IsLimited
+symbol_limited None = tt
+symbol_limited (Some s) = refl
+
+meaning_limited : (f : Form) (bytes : List ℕ) → IfSome (meaning f bytes) IsLimited
+meaning_limited form.Blank bytes = tt
+meaning_limited form.Comment bytes = tt
+meaning_limited form.Word bytes = word_limited (word_of bytes) bytes
+meaning_limited form.Decimal bytes = number_limited (is_number (digits_value 10 bytes)) (digits_value 10 bytes) (λ e. e)
+meaning_limited form.Hexadecimal bytes = number_limited (is_number (digits_value 16 (drop 2 bytes))) (digits_value 16 (drop 2 bytes)) (λ e. e)
+meaning_limited form.Logic bytes = digits_limited (nat_lt 0 (length (inner bytes)) && nat_le (length (inner bytes)) 64) (logic_digits (inner bytes)) (logic_limited (inner bytes))
+meaning_limited form.Text bytes = text_limited (is_print_text (inner bytes)) (inner bytes) (λ e. e)
+meaning_limited form.Symbol bytes = symbol_limited (symbol_of bytes)
+
+token_limited : (o : Option Token) (t : Token) → IfSome o IsLimited → o ≡ Some t → is_limited t ≡ true
+token_limited None t h e = cc
+token_limited (Some u) t h e = let same : u ≡ t = cc in ap is_limited (sym same) ∙ h
+
+pub cut_limited : (text : List ℕ) (at : ℕ) (ts : List Lexeme) → CutFrom text at ts → are_limited (with_lines ts) ≡ true
+cut_limited text at [] c = refl
+cut_limited text at (t ∷ ts) (gap, k, more) =
+    and_from (is_limited t.token) (are_limited (with_lines ts)) (token_limited (meaning k.form (take k.len (drop t.start text))) t.token (meaning_limited k.form (take k.len (drop t.start text))) k.meant) (cut_limited text t.end ts more)
+
+gaps_up : (text : List ℕ) (at up : ℕ) (ns : List ℕ) → AreGaps text at up ns → at ≤ up
+gaps_up text at up [] e = omega arith
+gaps_up text at up (n ∷ ns) (g, gaps) = let k : at + n ≤ up = gaps_up text (at + n) up ns gaps in omega arith
+
+pub cut_ordered : (text : List ℕ) (at : ℕ) (ts : List Lexeme) → CutFrom text at ts → AreInOrder at (length text) ts
+cut_ordered text at [] (ns, gaps) = gaps_up text at (length text) ns gaps
+cut_ordered text at (t ∷ ts) ((ns, gaps), k, more) =
+    let some : 0 < k.len = piece_some (drop t.start text) k.form k.len k.piece in
+    (gaps_up text at t.start ns gaps, omega (arith, k.ends), cut_ordered text t.end ts more)
+
+pub has_piece : (bytes : List ℕ) (f : Form) (m : ℕ) → m ≤ length bytes → form_of (take m bytes) ≡ Some f → HasPiece bytes m
+has_piece bytes f m w e = from (piece_at bytes) (found bytes)
+  where
+    from : (o : Option Piece) → Finds bytes o → HasPiece bytes m
+    from None none = let no : Some f ≡ None = sym e ∙ none m w in cc
+    from (Some p) a = (
+      p.form,
+      p.len,
+      a,
+      ⊎_elim
+          (λ (h : p.len < m). let no : Some f ≡ None = sym e ∙ a.longest m h w in cc)
+          (λ (h : m ≤ p.len). h)
+          (cases_lt p.len m),
+    )
+
+passed_apart : (bytes : List ℕ) (f g : Form) (n m : ℕ) → IsPiece bytes f n → is_passed f ≡ false → IsPiece bytes g m → is_passed g ≡ true → ⊥
+passed_apart bytes f g n m a p b q =
+    let same : f ≡ g = (one_piece bytes f g n m a b).0 in
+    let no : false ≡ true = sym p ∙ ap is_passed same ∙ q in
+    cc
+
+meant_apart : (bytes : List ℕ) (f g : Form) (n m : ℕ) (t : Token) → IsPiece bytes f n → meaning f (take n bytes) ≡ None → IsPiece bytes g m → meaning g (take m bytes) ≡ Some t → ⊥
+meant_apart bytes f g n m t a none b some =
+    let same = one_piece bytes f g n m a b in
+    let no : None ≡ Some t = sym none ∙ ap (λ (x : ℕ). meaning f (take x bytes)) same.1 ∙ ap (λ (x : Form). meaning x (take m bytes)) same.0 ∙ some in
+    cc
+
+pub no_cut_past : (text : List ℕ) (at n : ℕ) (f : Form) → IsPastLimit (drop at text) f n → (ts : List Lexeme) → CutFrom text at ts → ⊥
+no_cut_past text at n f (a, p, none) [] ([], e) = let w = piece_within text at f n a in absurd (omega arith)
+no_cut_past text at n f (a, p, none) [] ((m ∷ ns), ((g, b, q), gaps)) = passed_apart (drop at text) f g n m a p b q
+no_cut_past text at n f (a, p, none) (t ∷ ts) (((m ∷ ns), ((g, b, q), gaps)), k, more) = passed_apart (drop at text) f g n m a p b q
+no_cut_past text at n f (a, p, none) (t ∷ ts) (([], e), k, more) = meant_apart (drop at text) f k.form n k.len t.token a none (piece_here text at t e k) (meant_here text at t e k)
