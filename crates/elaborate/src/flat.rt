@@ -1,14 +1,17 @@
-ghost use Rattle.std.specs.Prelude.{◌≡◌, ◌++◌, ◌∷◌, [], map, find, option_map, IfOk, IfErr, OnOk};
+ghost use Rattle.std.specs.Prelude.{◌≡◌, ◌+◌, ◌*◌, length, ◌++◌, ◌∷◌, [], map, find, option_map, IfOk, IfErr, OnOk};
 ghost use Rattle.std.specs.List.{position_or_len, flat_map};
 ghost use Rattle.std.specs.Option.{option_copied};
 ghost use Rattle.model_tree.specs.Views.{item_of, module_of, modules_of};
 ghost use Rattle.model_rules.specs.FlatDesign as spec;
-ghost use Rattle.model_rules.specs.FlatDesign.{design_of};
+ghost use Rattle.model_rules.specs.FlatDesign.{IsDesign};
 ghost use Rattle.model_tree.specs.Seen.{model_of};
 
+use super::signals::{scope, sensitivities};
 use logic_values::{Text, Value};
-use model_check::Checked;
-use model_tree::{CheckStop, Design, Item, Items, Module, Object, ObjectForm, Objects, Tree};
+use model_check::{Checked, top_items};
+use model_tree::{
+    CheckStop, CodeId, Design, Item, Items, Module, Object, ObjectForm, Objects, Tree,
+};
 use std::alloc::{AllocError, Global};
 
 /// The path of a name below a path.
@@ -21,15 +24,16 @@ fn below(alloc: Global, path: &[u8], name: &[u8]) -> Result<Text, AllocError>
     Ok(Text::new(bytes))
 }
 
-/// Adds the objects of an item of an instance to those before them.
+/// Adds the objects of an item of an instance to those before them; `code` is the number of its body.
 fn add_item(
     alloc: Global,
     list: &mut Items<Object>,
     path: &[u8],
     instance: u32,
+    code: CodeId,
     item: &Item,
 ) -> Result<(), AllocError>
-    ensures { OnOk result (list.new ≡ list.old ++ spec.item_objects path.now instance (item_of item.now)) }
+    ensures { OnOk result (list.new ≡ list.old ++ spec.item_objects path.now instance code (item_of item.now)) }
 {
     match item {
         Item::Signal(line, signal) => {
@@ -46,7 +50,34 @@ fn add_item(
             })?;
             Ok(())
         }
+        Item::Process(line, process) => {
+            let path = below(alloc, path, process.name.bytes())?;
+            list.push(Object {
+                path,
+                line: *line,
+                instance,
+                form: ObjectForm::Process {
+                    kind: process.kind,
+                    code,
+                    dont_initialize: process.dont_initialize,
+                },
+            })?;
+            Ok(())
+        }
         _ => Ok(()),
+    }
+}
+
+/// The number of the next body after an item whose own body has this number.
+fn next_body(code: CodeId, item: &Item) -> Result<CodeId, AllocError>
+    ensures { IfOk result (λ next. next ≡ code + length (spec.bodies_in (item_of item.now))) }
+{
+    match item {
+        Item::Process(_, _) => match code.checked_add(1) {
+            Some(next) => Ok(next),
+            None => Err(AllocError),
+        },
+        _ => Ok(code),
     }
 }
 
@@ -58,10 +89,12 @@ fn add_items(
     instance: u32,
     items: &[Item],
 ) -> Result<(), AllocError>
-    ensures { OnOk result (list.new ≡ list.old ++ flat_map (spec.item_objects path.now instance) (map item_of items.now)) }
+    ensures { OnOk result (list.new ≡ list.old ++ spec.objects_in path.now instance 0 (map item_of items.now)) }
 {
+    let mut code = 0;
     for item in items {
-        add_item(alloc, list, path, instance, item)?;
+        add_item(alloc, list, path, instance, code, item)?;
+        code = next_body(code, item)?;
     }
     Ok(())
 }
@@ -84,16 +117,12 @@ fn module_place(modules: &[Module], name: &[u8]) -> usize
     modules.len()
 }
 
-/// The items of the first module of this name; none where there is none.
-fn module_items<'a>(modules: &'a [Module], name: &[u8]) -> &'a [Item]
-    ensures { map item_of result.now ≡ spec.items_of (find (spec.is_module name.now) (modules_of modules.now)) }
-{
-    for module in modules {
-        if is_module(name, module) {
-            return module.items.as_slice();
-        }
-    }
-    &[]
+/// The parts of a design that are made of a tree.
+#[derive(Drop)]
+struct Parts {
+    objects: Objects,
+    scopes: Items<Items<u32>>,
+    sensitive: Items<Items<u32>>,
 }
 
 /// The objects of the design: the top instance, and each item of its module.
@@ -113,35 +142,58 @@ fn objects(alloc: Global, tree: &Tree) -> Result<Items<Object>, AllocError>
         instance: 0,
         form: ObjectForm::Instance { module },
     })?;
-    add_items(
-        alloc,
-        &mut list,
-        top.name.bytes(),
-        0,
-        module_items(modules, top.module.bytes()),
-    )?;
+    add_items(alloc, &mut list, top.name.bytes(), 0, top_items(tree))?;
     Ok(list)
 }
 
-/// The design of a tree that breaks no rule: the top instance and the signals of its module, in text
-/// order, each with its path, its line and its first value. Other items have no objects yet.
+fn parts_of(alloc: Global, tree: &Tree, names: &[Text]) -> Result<Parts, AllocError>
+    ensures objects { IfOk result (λ parts. parts.objects.list ≡ spec.objects_of (model_of tree.now)) }
+    ensures binds { IfOk result (λ parts. parts.objects.binds ≡ []) }
+    ensures scopes { IfOk result (λ parts. parts.scopes ≡ map (spec.signal_number (spec.top_items (model_of tree.now))) names.now ∷ []) }
+    ensures sensitive { IfOk result (λ parts. parts.sensitive ≡ flat_map (spec.sensitivity_in (spec.top_items (model_of tree.now))) (spec.top_items (model_of tree.now))) }
+{
+    let list = objects(alloc, tree)?;
+    let items = top_items(tree);
+    let mut scopes = Items::new(alloc);
+    scopes.push(scope(alloc, names, items)?)?;
+    let sensitive = sensitivities(alloc, items)?;
+    Ok(Parts {
+        objects: Objects {
+            list,
+            binds: Items::new(alloc),
+        },
+        scopes,
+        sensitive,
+    })
+}
+
+/// The design of a tree that breaks no rule: the top instance, and the signals and processes of its module in text
+/// order, each with its path and its line; what the names stand for; the static sensitivities; and the code that
+/// the tree was accepted with. Other items have no objects yet.
 ///
-/// Only want of memory is refused. It is also answered where the number of the top module does not fit
-/// 32 bits.
+/// Only want of memory is refused. It is also answered where a number does not fit 32 bits.
 pub fn elaborate(alloc: Global, checked: Checked) -> Result<Design, CheckStop>
-    ensures design { IfOk result (λ design. design ≡ design_of (model_of checked.tree)) }
+    ensures design { IfOk result (λ design. IsDesign (model_of checked.tree) design) }
+    ensures code { IfOk result (λ design. (design.names ≡ checked.names) × (design.code ≡ checked.code)) }
     ensures never_refused { IfErr result (λ stop. stop ≡ CheckStop.NoMemory) }
 {
-    match objects(alloc, &checked.tree) {
-        Ok(list) => Ok(Design {
-            objects: Objects {
-                list,
-                binds: Items::new(alloc),
-            },
-            channels: Items::new(alloc),
-            hops: Items::new(alloc),
-            names: Items::new(alloc),
-        }),
+    match parts_of(alloc, &checked.tree, checked.names.as_slice()) {
+        Ok(parts) => {
+            let Checked {
+                tree: _,
+                names,
+                code,
+            } = checked;
+            Ok(Design {
+                objects: parts.objects,
+                channels: Items::new(alloc),
+                hops: Items::new(alloc),
+                names,
+                scopes: parts.scopes,
+                sensitive: parts.sensitive,
+                code,
+            })
+        }
         Err(_) => Err(CheckStop::NoMemory),
     }
 }

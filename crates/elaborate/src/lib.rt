@@ -2,5 +2,6 @@
 #![tactic(auto)]
 
 mod flat;
+mod signals;
 
 pub use flat::elaborate;

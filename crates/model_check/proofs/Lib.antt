@@ -1,1 +1,5 @@
 pub mod ListLemmas
+pub mod Numbered
+pub mod Covered
+pub mod Growth
+pub mod Read

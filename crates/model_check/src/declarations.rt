@@ -54,7 +54,7 @@ pub(crate) fn item_name(item: &Item) -> Option<&[u8]>
 }
 
 /// Whether an item declares this name.
-pub(crate) fn declares(name: &[u8], item: &Item) -> bool
+pub fn declares(name: &[u8], item: &Item) -> bool
     ensures { result ≡ spec.declares name.now (item_of item.now) }
 {
     match item_name(item) {

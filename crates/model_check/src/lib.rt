@@ -1,9 +1,13 @@
-//! The judgement of a tree: its first broken rule, or the tree as one that breaks none.
+//! The judgement of a tree: its first broken rule, or the tree as one that breaks none, with its code.
 #![tactic(auto)]
 
 mod checked;
 mod declarations;
 mod doubles;
 mod findings;
+mod lowered;
+mod lowering;
+mod uses;
 
-pub use checked::{Checked, check};
+pub use checked::{Checked, check, is_module, top_items};
+pub use declarations::declares;

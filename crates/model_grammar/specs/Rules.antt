@@ -1,5 +1,5 @@
 -- The words that productions are written in. A rule says which tokens it takes, and which are left.
-use Rattle.std.specs.Prelude.{◌≡◌, ℕ, List, [], ◌∷◌}
+use Rattle.std.specs.Prelude.{◌≡◌, ℕ, ◌≤◌, Bool, true, false, List, [], ◌∷◌, Option, Some, None}
 use Rattle.model_grammar.specs.Tokens.{Token, Tokens}
 
 abbrev pub Rule : Type 1
@@ -30,3 +30,22 @@ Never ts rest = ⊥
 abbrev pub Each : {A : Type 0} → (A → Rule) → List A → Rule
 Each R [] = Nothing
 Each R (x ∷ xs) = R x ⨾ Each R xs
+
+-- what the rule says of each, with this token between two
+abbrev pub Separated : {A : Type 0} → Token → (A → Rule) → List A → Rule
+Separated between R [] = Never
+Separated between R (x ∷ xs) = R x ⨾ Each (λ y. Takes between ⨾ R y) xs
+
+-- what the rule says of what is written, and no token where nothing is
+abbrev pub Maybe : {A : Type 0} → (A → Rule) → Option A → Rule
+Maybe R None = Nothing
+Maybe R (Some x) = R x
+
+-- the token where it is said that it is written, and no token where it is said that it is not
+abbrev pub Written : Token → Bool → Rule
+Written t true = Takes t
+Written t false = Nothing
+
+-- what binds as tightly as the second number says, where the first is wanted
+abbrev pub Binds : ℕ → ℕ → Rule → Rule
+Binds wanted own P ts rest = (wanted ≤ own) × P ts rest

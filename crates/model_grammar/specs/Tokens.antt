@@ -1,5 +1,5 @@
 -- The tokens of a text: what each means, and the cut of bytes into the longest of them.
-use Rattle.std.specs.Prelude.{◌≡◌, ℕ, zero, suc, ◌+◌, ◌-◌, ◌<◌, ◌≤◌, ◌==◌, Bool, true, false, ◌&&◌, ◌||◌, if◌then◌else◌, is_some, List, [], ◌∷◌, length, nat_lt, nat_le, take, Option, Some, None, option_map, find}
+use Rattle.std.specs.Prelude.{◌≡◌, ℕ, zero, suc, ◌+◌, ◌-◌, ◌<◌, ◌≤◌, ◌==◌, Bool, true, false, ◌&&◌, ◌||◌, if◌then◌else◌, is_some, List, [], ◌∷◌, length, nat_lt, nat_le, take, drop, Option, Some, None, option_map, find}
 use Rattle.std.specs.List.{prefix_len}
 use Rattle.std.specs.Str.{bytes_eq}
 use Rattle.logic_values.specs.declared.kinds.Digit.{Digit}
@@ -7,7 +7,7 @@ use Rattle.model_tree.specs.declared.vocabulary.Word.{Word}
 use Rattle.model_tree.specs.declared.vocabulary.Symbol.{Symbol}
 use Rattle.model_tree.specs.declared.vocabulary.TheConstants.{SYMBOLS}
 use Rattle.model_tree.specs.Vocabulary.{symbol_text, word_of}
-use Rattle.model_tree.specs.Leaves.{is_letter, is_word_byte, is_word, is_name, is_print_text}
+use Rattle.model_tree.specs.Leaves.{is_letter, is_word_byte, is_word, is_name, is_print_byte, is_print_text}
 use Rattle.model_tree.specs.Limits.{is_number}
 
 -- what a token means, however it is spelled
@@ -40,18 +40,36 @@ are_limited (t ∷ ts) = is_limited t.0 && are_limited ts
 unfoldable pub symbol_of : List ℕ → Option Symbol
 symbol_of bytes = find (λ s. bytes_eq (symbol_text s) bytes) SYMBOLS
 
+-- the double quote
+abbrev pub quote : ℕ
+quote = 34
+
+-- bytes that may be printed, and then a double quote at the end
+abbrev pub is_closed : List ℕ → Bool
+is_closed [] = false
+is_closed (b ∷ bs) = ((b == quote) && (length bs == 0)) || (is_print_byte b && is_closed bs)
+
+-- such bytes between double quotes
+abbrev pub is_quoted : List ℕ → Bool
+is_quoted [] = false
+is_quoted (b ∷ bs) = (b == quote) && is_closed bs
+
 -- whether these bytes have a token's form, whatever its limits
 abbrev pub is_form : List ℕ → Bool
-is_form bytes = is_word bytes || is_some (symbol_of bytes)
+is_form bytes = (is_word bytes || is_quoted bytes) || is_some (symbol_of bytes)
 
 -- what bytes of a token's form mean, if they keep the form's limits
 abbrev pub word_or_name : Option Word → List ℕ → Option Token
 word_or_name (Some w) bytes = Some (word w)
 word_or_name None bytes = if is_name bytes then Some (name bytes) else None
 
+abbrev pub text_within : List ℕ → Option Token
+text_within bytes = if is_print_text bytes then Some (quoted bytes) else None
+
+-- a text between double quotes means the bytes between them
 abbrev pub meaning : List ℕ → Option Token
 meaning [] = None
-meaning (b ∷ bs) = if is_letter b then word_or_name (word_of (b ∷ bs)) (b ∷ bs) else option_map symbol (symbol_of (b ∷ bs))
+meaning (b ∷ bs) = if is_letter b then word_or_name (word_of (b ∷ bs)) (b ∷ bs) else (if b == quote then text_within (take (length bs - 1) bs) else option_map symbol (symbol_of (b ∷ bs)))
 
 -- a symbol at the front: one of two bytes, or else one of one
 abbrev pub symbol_len : Option Symbol → Option Symbol → ℕ
@@ -59,10 +77,20 @@ symbol_len (Some long) short = length (symbol_text long)
 symbol_len None (Some short) = length (symbol_text short)
 symbol_len None None = 0
 
+-- whether a double quote comes next
+abbrev pub at_quote : List ℕ → Bool
+at_quote [] = false
+at_quote (b ∷ bs) = b == quote
+
+-- how many bytes a text takes with both its double quotes, if these are the bytes past the first one; 0 where
+-- no second one closes it
+abbrev pub quoted_len : List ℕ → ℕ
+quoted_len bs = if at_quote (drop (prefix_len is_print_byte bs) bs) then prefix_len is_print_byte bs + 2 else 0
+
 -- how many bytes the token at the front takes, 0 where none stands there
 abbrev pub token_len : List ℕ → ℕ
 token_len [] = 0
-token_len (b ∷ bs) = if is_letter b then prefix_len is_word_byte (b ∷ bs) else symbol_len (symbol_of (take 2 (b ∷ bs))) (symbol_of (take 1 (b ∷ bs)))
+token_len (b ∷ bs) = if is_letter b then prefix_len is_word_byte (b ∷ bs) else (if b == quote then quoted_len bs else symbol_len (symbol_of (take 2 (b ∷ bs))) (symbol_of (take 1 (b ∷ bs))))
 
 -- the token at the front is the longest front that has a form
 abbrev pub IsLongest : List ℕ → ℕ → Type 0

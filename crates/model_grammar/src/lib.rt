@@ -13,7 +13,8 @@ pub fn longest_token()
     ensures { (bytes : List ℕ) → IsLongest bytes (token_len bytes) }
 {}
 
-/// Each token of a text keeps the limits of its form: a name past 64 bytes is no token.
+/// Each token of a text keeps the limits of its form: a name past 64 bytes is no token, nor is a text past 120
+/// between its double quotes.
 pub fn limited_tokens()
     ensures { (text : List ℕ) (ts : Tokens) → tokens_of text ≡ Some ts → are_limited ts ≡ true }
 {}

@@ -7,8 +7,8 @@ use Rattle.std.proofs.lemmas.Bool.{cases_Bool}
 use Rattle.std.proofs.lemmas.List.Sums.{prefix_len-le-length}
 use Rattle.model_tree.specs.declared.vocabulary.Symbol.{Symbol}
 use Rattle.model_tree.specs.Vocabulary.{symbol_text}
-use Rattle.model_tree.specs.Leaves.{is_letter, is_word_byte}
-use Rattle.model_grammar.specs.Tokens.{Token, Tokens, blank, line_end, token, nothing, symbol_of, symbol_len, meaning, token_len, of_meaning, is_blank, piece_at, cut}
+use Rattle.model_tree.specs.Leaves.{is_letter, is_word_byte, is_print_byte}
+use Rattle.model_grammar.specs.Tokens.{Token, Tokens, blank, line_end, token, nothing, symbol_of, symbol_len, quote, at_quote, quoted_len, meaning, token_len, of_meaning, is_blank, piece_at, cut}
 use Rattle.model_grammar.proofs.Longest.{symbol_of_spells}
 
 -- the tokens found so far, in front of what is still to come
@@ -24,12 +24,33 @@ symbol_len_within xs None (Some s) e f =
     omega arith
 symbol_len_within xs None None e f = omega arith
 
+quote_within : (n : ℕ) (bs : List ℕ) → at_quote (drop n bs) ≡ true → n < length bs
+quote_within zero [] h = cc
+quote_within zero (b ∷ bs) h = omega arith
+quote_within (suc n) [] h = cc
+quote_within (suc n) (b ∷ bs) h = let less = quote_within n bs h in omega arith
+
+-- a double quote that closes a text stands among the bytes
+quoted_len_within : (bs : List ℕ) → quoted_len bs ≤ suc (length bs)
+quoted_len_within bs =
+    let most : prefix_len is_print_byte bs ≤ length bs = prefix_len-le-length is_print_byte bs in
+    ⊎_elim
+    (λ (q : at_quote (drop (prefix_len is_print_byte bs) bs) ≡ true).
+    let some : prefix_len is_print_byte bs < length bs = quote_within (prefix_len is_print_byte bs) bs q in
+    rw q (omega arith))
+    (λ (q : at_quote (drop (prefix_len is_print_byte bs) bs) ≡ false). rw q (omega arith))
+    (cases_Bool (at_quote (drop (prefix_len is_print_byte bs) bs)))
+
 token_len_within : (xs : List ℕ) → token_len xs ≤ length xs
 token_len_within [] = omega arith
 token_len_within (b ∷ bs) =
     ⊎_elim
     (λ (l : is_letter b ≡ true). let k : prefix_len is_word_byte bs ≤ length bs = prefix_len-le-length is_word_byte bs in rw l (omega arith))
-    (λ (l : is_letter b ≡ false). rw l (symbol_len_within (b ∷ bs) _ _ refl refl))
+    (λ (l : is_letter b ≡ false).
+    ⊎_elim
+    (λ (q : (b == quote) ≡ true). rw (l, q) (quoted_len_within bs))
+    (λ (q : (b == quote) ≡ false). rw (l, q) (symbol_len_within (b ∷ bs) _ _ refl refl))
+    (cases_Bool (b == quote)))
     (cases_Bool (is_letter b))
 
 of_meaning_is : (n m : ℕ) (o : Option Token) (t : Token) → of_meaning n o ≡ token m t → n ≡ m

@@ -4,7 +4,21 @@ use Rattle.std.proofs.lemmas.Bool.{cases_Bool}
 use Rattle.std.proofs.lemmas.List.{append-nil}
 use Rattle.model_grammar.specs.Tokens.{Tokens}
 use Rattle.model_grammar.specs.Rules.{Rule, Each}
-use Rattle.model_parser.specs.Parse.{Parser, and_then, joined, many}
+use Rattle.model_parser.specs.Parse.{Parser, and_then, choose, joined, many}
+
+-- what one of two parsers gave
+pub choose_cases : {A : Type 0} {P : Type 0} (test : Tokens → Bool) (p q : Parser A) (ts : Tokens) (r : A × Tokens) → choose test p q ts ≡ Some r → (p ts ≡ Some r → P) → (q ts ≡ Some r → P) → P
+choose_cases test p q ts r h f g =
+    ⊎_elim
+    (λ (e : test ts ≡ true). f (rw e at h))
+    (λ (e : test ts ≡ false). g (rw e at h))
+    (cases_Bool (test ts))
+
+pub choose_first : {A : Type 0} (test : Tokens → Bool) (p q : Parser A) (ts : Tokens) (r : A × Tokens) → test ts ≡ true → p ts ≡ Some r → choose test p q ts ≡ Some r
+choose_first test p q ts r e h = rw e h
+
+pub choose_other : {A : Type 0} (test : Tokens → Bool) (p q : Parser A) (ts : Tokens) (r : A × Tokens) → test ts ≡ false → q ts ≡ Some r → choose test p q ts ≡ Some r
+choose_other test p q ts r e h = rw e h
 
 -- what both parsers of a pair gave
 pub and_then_ok : {A B : Type 0} (o : Option (A × Tokens)) (f : A → Parser B) (r : B × Tokens) → and_then o f ≡ Some r → (x : A) × (mid : Tokens) × (o ≡ Some (x, mid)) × (f x mid ≡ Some r)
@@ -15,7 +29,7 @@ joined_more : {A : Type 0} (found : List A) (x : A) (o : Option (List A × Token
 joined_more found x None = refl
 joined_more found x (Some r) = ap (λ ys. Some (ys, r.1)) (append_assoc found (x ∷ []) r.0)
 
-joined_some : {A : Type 0} (found : List A) (o : Option (List A × Tokens)) (r : List A × Tokens) → joined found o ≡ Some r → (ys : List A) × (o ≡ Some (ys, r.1)) × (found ++ ys ≡ r.0)
+pub joined_some : {A : Type 0} (found : List A) (o : Option (List A × Tokens)) (r : List A × Tokens) → joined found o ≡ Some r → (ys : List A) × (o ≡ Some (ys, r.1)) × (found ++ ys ≡ r.0)
 joined_some found None r h = cc
 joined_some found (Some q) r h =
     let e : ◌≡◌ {A = List _ × Tokens} (found ++ q.0, q.1) r = cc in
@@ -77,11 +91,16 @@ module _ {A : Type 0} (stops : Tokens → Bool) (item : Parser A) (R : A → Rul
         subst (λ (zs : List A). Each R zs ts rest) whole (mid, sound ts mid x one, many_sound n mid rest ys two))
         (cases_Bool (stops ts))
 
-  module _ (complete : (ts rest : Tokens) (x : A) → R x ts rest → item ts ≡ Some (x, rest)) (begins : (ts rest : Tokens) (x : A) → R x ts rest → stops ts ≡ false) (shorter : (ts rest : Tokens) (x : A) → R x ts rest → length rest < length ts) where
+  -- an item is read where what comes behind it may follow it
+  module _ (follows : Tokens → Bool) (complete : (ts rest : Tokens) (x : A) → R x ts rest → follows rest ≡ true → item ts ≡ Some (x, rest)) (begins : (ts rest : Tokens) (x : A) → R x ts rest → (stops ts ≡ false) × (follows ts ≡ true)) (ends : (ts : Tokens) → stops ts ≡ true → follows ts ≡ true) (shorter : (ts rest : Tokens) (x : A) → R x ts rest → length rest < length ts) where
+    next_follows : (ts rest : Tokens) (xs : List A) → Each R xs ts rest → stops rest ≡ true → follows ts ≡ true
+    next_follows ts rest [] h e = rw h (ends rest e)
+    next_follows ts rest (x ∷ xs) (mid, one, more) e = (begins ts mid x one).1
+
     pub many_complete : (n : ℕ) (ts rest : Tokens) (xs : List A) → length ts < n → Each R xs ts rest → stops rest ≡ true → many stops item n ts ≡ Some (xs, rest)
     unfolding many
     many_complete zero ts rest xs few h e = absurd (omega arith)
     many_complete (suc n) ts rest [] few h e = rw (h, e) refl
     many_complete (suc n) ts rest (x ∷ xs) few (mid, one, more) e =
         let less : length mid < length ts = shorter ts mid x one in
-        rw (begins ts mid x one, complete ts mid x one, many_complete n mid rest xs (omega arith) more e) refl
+        rw ((begins ts mid x one).0, complete ts mid x one (next_follows mid rest xs more e), many_complete n mid rest xs (omega arith) more e) refl

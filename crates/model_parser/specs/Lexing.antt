@@ -11,6 +11,7 @@ use Rattle.model_parser.specs.declared.lexing.Piece.TheVariants as piece
 
 abbrev pub meaning_of : Meaning → t.Token
 meaning_of (meaning.Name bytes) = t.name bytes.now
+meaning_of (meaning.Text bytes) = t.quoted bytes.now
 meaning_of (meaning.Word w) = t.word w
 meaning_of (meaning.Symbol s) = t.symbol s
 

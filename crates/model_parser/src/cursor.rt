@@ -4,7 +4,7 @@ ghost use Rattle.model_parser.specs.Lexing.{meaning_of, tokens_view};
 ghost use Rattle.model_parser.specs.Parse as spec;
 
 use super::lexing::{Meaning, Token};
-use model_tree::{Name, ParseStop, Symbol, Word};
+use model_tree::{Name, ParseStop, PrintText, Symbol, Word};
 use std::alloc::Global;
 use std::marker::Model;
 
@@ -65,6 +65,16 @@ impl<'a> Cursor<'a> {
         }
     }
 
+    /// Whether the next token is this word.
+    pub fn sees_word(&self, word: Word) -> bool
+        ensures { result ≡ spec.sees (spec.is_the_word word) self.now }
+    {
+        match self.rest {
+            [] => false,
+            [first, ..] => is_the_word(first.meaning, word),
+        }
+    }
+
     /// Whether no token is left; Syntax, at the next token's line, where one is.
     pub fn end(&self) -> Result<(), ParseStop>
         ensures ended { OnOk result (self.now ≡ []) }
@@ -104,10 +114,10 @@ impl<'a> Cursor<'a> {
         }
     }
 
-    /// Takes a name.
-    #[tactic(auto, unfolding(crate::specs::Parse::name))]
-    pub fn name(&mut self, alloc: Global) -> Result<Name, ParseStop>
-        ensures { spec.Parses (λ name. name) spec.name self.old result self.new }
+    /// Takes a name. The answer is its line and the name.
+    #[tactic(auto, unfolding(crate::specs::Parse::named))]
+    pub fn named(&mut self, alloc: Global) -> Result<(u32, Name), ParseStop>
+        ensures { spec.Parses (λ named. named) spec.named self.old result self.new }
     {
         let [first, after @ ..] = self.rest else {
             return Err(ParseStop::Syntax { line: self.line() });
@@ -115,10 +125,49 @@ impl<'a> Cursor<'a> {
         let Meaning::Name(bytes) = first.meaning else {
             return Err(ParseStop::Syntax { line: self.line() });
         };
+        let line = first.line;
         let owned = Vec::from_slice(alloc, bytes)?;
         let name = Name::try_new(owned).unwrap();
         self.rest = after;
+        Ok((line, name))
+    }
+
+    /// Takes a name.
+    #[tactic(auto, unfolding(crate::specs::Parse::name))]
+    pub fn name(&mut self, alloc: Global) -> Result<Name, ParseStop>
+        ensures { spec.Parses (λ name. name) spec.name self.old result self.new }
+    {
+        let (_line, name) = self.named(alloc)?;
         Ok(name)
+    }
+
+    /// Takes a text.
+    #[tactic(auto, unfolding(crate::specs::Parse::text))]
+    pub fn text(&mut self, alloc: Global) -> Result<PrintText, ParseStop>
+        ensures { spec.Parses (λ text. text) spec.text self.old result self.new }
+    {
+        let [first, after @ ..] = self.rest else {
+            return Err(ParseStop::Syntax { line: self.line() });
+        };
+        let Meaning::Text(bytes) = first.meaning else {
+            return Err(ParseStop::Syntax { line: self.line() });
+        };
+        let owned = Vec::from_slice(alloc, bytes)?;
+        let text = PrintText::try_new(owned).unwrap();
+        self.rest = after;
+        Ok(text)
+    }
+
+    /// Takes this word where it comes. The answer is whether it came.
+    #[tactic(auto, unfolding(crate::specs::Parse::flag))]
+    pub fn flag(&mut self, word: Word) -> Result<bool, ParseStop>
+        ensures { spec.Parses (λ flag. flag) (spec.flag word) self.old result self.new }
+    {
+        if self.sees_word(word) {
+            let _line = self.word(word)?;
+            return Ok(true);
+        }
+        Ok(false)
     }
 }
 

@@ -2,20 +2,23 @@ ghost use Rattle.std.specs.Prelude.{◌≡◌, ℕ, ◌+◌, ◌^◌, ◌<◌, �
 ghost use Rattle.std.specs.List.{find, prefix_len};
 ghost use Rattle.std.specs.Str.{bytes_eq};
 ghost use Rattle.model_tree.specs.Vocabulary.{symbol_text};
-ghost use Rattle.model_tree.specs.Leaves.{is_word_byte};
+ghost use Rattle.model_tree.specs.Leaves.{is_word_byte, is_print_byte};
 ghost use Rattle.model_grammar.specs.Tokens as spec;
 ghost use Rattle.model_parser.specs.Lexing.{meaning_of, tokens_view, piece_of, Answers};
 
 use model_tree::{
-    ParseStop, SYMBOLS, Symbol, Word, is_letter, is_name, is_word_byte, symbol_text, word_of,
+    ParseStop, SYMBOLS, Symbol, Word, is_letter, is_name, is_print_byte, is_print_text,
+    is_word_byte, symbol_text, word_of,
 };
 use std::alloc::Global;
 
-/// What a token means. A name is the bytes of the text that spell it.
+/// What a token means. A name is the bytes that spell it, a text those between its double quotes.
 #[derive(Clone, Copy)]
 pub enum Meaning<'a> {
     /// A name.
     Name(&'a [u8]),
+    /// A text.
+    Text(&'a [u8]),
     /// A reserved word.
     Word(Word),
     /// A symbol.
@@ -97,6 +100,40 @@ fn word_len(bytes: &[u8]) -> usize
     bytes.iter().take_while(|byte| is_word_byte(**byte)).count()
 }
 
+/// How many bytes at the front may be printed.
+fn printed_len(bytes: &[u8]) -> usize
+    ensures value { result ≡ prefix_len is_print_byte bytes.now }
+    ensures within { result ≤ length bytes.now }
+{
+    bytes
+        .iter()
+        .take_while(|byte| is_print_byte(**byte))
+        .count()
+}
+
+/// Whether a double quote comes next.
+fn at_quote(bytes: &[u8]) -> bool
+    ensures { result ≡ spec.at_quote bytes.now }
+{
+    match bytes {
+        [] => false,
+        [first, ..] => *first == b'"',
+    }
+}
+
+/// How many bytes a text takes with both its double quotes, if these are the bytes past the first one; 0 where
+/// no second one closes it.
+fn quoted_len(bytes: &[u8]) -> usize
+    ensures { result ≡ spec.quoted_len bytes.now }
+{
+    let len = printed_len(bytes);
+    if at_quote(past(bytes, len)) {
+        len + 2
+    } else {
+        0
+    }
+}
+
 /// How many bytes the symbol takes: the long one if there is one, or else the short one.
 fn symbol_len(long: Option<Symbol>, short: Option<Symbol>) -> usize
     ensures { result ≡ spec.symbol_len long short }
@@ -115,6 +152,7 @@ fn token_len(bytes: &[u8]) -> usize
     match bytes {
         [] => 0,
         [first, ..] if is_letter(*first) => word_len(bytes),
+        [b'"', after @ ..] => quoted_len(after),
         _ => symbol_len(symbol_of(front(bytes, 2)), symbol_of(front(bytes, 1))),
     }
 }
@@ -130,6 +168,17 @@ fn word_or_name(word: Option<Word>, bytes: &[u8]) -> Option<Meaning<'_>>
     }
 }
 
+/// What the bytes between two double quotes mean: a text within its limits.
+fn text_within(bytes: &[u8]) -> Option<Meaning<'_>>
+    ensures { option_map meaning_of result ≡ spec.text_within bytes.now }
+{
+    if is_print_text(bytes) {
+        Some(Meaning::Text(bytes))
+    } else {
+        None
+    }
+}
+
 /// What bytes of a token's form mean, if they keep the form's limits.
 fn meant_by(bytes: &[u8]) -> Option<Meaning<'_>>
     ensures { option_map meaning_of result ≡ spec.meaning bytes.now }
@@ -137,6 +186,7 @@ fn meant_by(bytes: &[u8]) -> Option<Meaning<'_>>
     match bytes {
         [] => None,
         [first, ..] if is_letter(*first) => word_or_name(word_of(bytes), bytes),
+        [b'"', after @ ..] => text_within(front(after, after.len().saturating_sub(1))),
         _ => match symbol_of(bytes) {
             Some(symbol) => Some(Meaning::Symbol(symbol)),
             None => None,

@@ -2,9 +2,12 @@
 #![tactic(auto)]
 
 mod cursor;
+mod expressions;
 mod lexing;
 mod parsing;
+mod processes;
 mod productions;
+mod statements;
 
 pub use parsing::{one_tree, parse};
 

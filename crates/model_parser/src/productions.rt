@@ -4,10 +4,14 @@ ghost use Rattle.model_parser.specs.Parse as spec;
 
 use super::cursor::Cursor;
 use super::lexing::push;
+use super::processes::method_item;
 use model_tree::{
     Item, Module, ParseStop, SignalItem, SignalKind, SignalType, Symbol, Top, TypeForm, Word,
 };
 use std::alloc::Global;
+
+/// How many brackets may be open at once. A module's braces are one of them.
+const BRACKET_LIMIT: u8 = 64;
 
 /// A type of signals.
 #[tactic(auto, unfolding(crate::specs::Parse::signal_type))]
@@ -42,10 +46,21 @@ fn signal_item(alloc: Global, tokens: &mut Cursor<'_>) -> Result<Item, ParseStop
     ))
 }
 
+/// An item of a module. So many brackets may be opened in it.
+#[tactic(auto, unfolding(crate::specs::Parse::item))]
+fn item(alloc: Global, tokens: &mut Cursor<'_>, depth: u8) -> Result<Item, ParseStop>
+    ensures { spec.Parses item_of (spec.item depth) tokens.old result tokens.new }
+{
+    if tokens.sees_word(Word::Method) {
+        return method_item(alloc, tokens, depth);
+    }
+    signal_item(alloc, tokens)
+}
+
 /// The items of a module, up to its closing brace.
 #[tactic(auto, unfolding(crate::specs::Parse::items))]
-fn items(alloc: Global, tokens: &mut Cursor<'_>) -> Result<Vec<Item>, ParseStop>
-    ensures { spec.Parses (λ found. map item_of found.items) spec.items tokens.old result tokens.new }
+fn items(alloc: Global, tokens: &mut Cursor<'_>, depth: u8) -> Result<Vec<Item>, ParseStop>
+    ensures { spec.Parses (λ found. map item_of found.items) (spec.items depth) tokens.old result tokens.new }
 {
     let mut found = Vec::new(alloc);
     let turns = tokens.left() + 1;
@@ -53,7 +68,7 @@ fn items(alloc: Global, tokens: &mut Cursor<'_>) -> Result<Vec<Item>, ParseStop>
         if tokens.sees_symbol(Symbol::RightBrace) {
             return Ok(found);
         }
-        let item = signal_item(alloc, tokens)?;
+        let item = item(alloc, tokens, depth)?;
         push(&mut found, item)?;
     }
     Err(ParseStop::Syntax {
@@ -61,15 +76,15 @@ fn items(alloc: Global, tokens: &mut Cursor<'_>) -> Result<Vec<Item>, ParseStop>
     })
 }
 
-/// A module.
+/// A module. So many brackets may be opened between its braces.
 #[tactic(auto, unfolding(crate::specs::Parse::module_text))]
-fn module_text(alloc: Global, tokens: &mut Cursor<'_>) -> Result<Module, ParseStop>
-    ensures { spec.Parses module_of spec.module_text tokens.old result tokens.new }
+fn module_text(alloc: Global, tokens: &mut Cursor<'_>, depth: u8) -> Result<Module, ParseStop>
+    ensures { spec.Parses module_of (spec.module_text depth) tokens.old result tokens.new }
 {
     let line = tokens.word(Word::Module)?;
     let name = tokens.name(alloc)?;
     let _open = tokens.symbol(Symbol::LeftBrace)?;
-    let items = items(alloc, tokens)?;
+    let items = items(alloc, tokens, depth)?;
     let _close = tokens.symbol(Symbol::RightBrace)?;
     Ok(Module { line, name, items })
 }
@@ -91,7 +106,7 @@ fn top(alloc: Global, tokens: &mut Cursor<'_>) -> Result<Top, ParseStop>
 pub fn model(alloc: Global, tokens: &mut Cursor<'_>) -> Result<(Vec<Module>, Top), ParseStop>
     ensures { spec.Parses spec.parts_of spec.model tokens.old result tokens.new }
 {
-    let module = module_text(alloc, tokens)?;
+    let module = module_text(alloc, tokens, BRACKET_LIMIT - 1)?;
     let mut modules = Vec::new(alloc);
     push(&mut modules, module)?;
     let top = top(alloc, tokens)?;

@@ -1,5 +1,8 @@
 use super::*;
-use model_tree::{Item, ParseStop, Tree};
+use model_tree::{
+    Action, Channel, Event, Expression, Item, ParseStop, Place, ProcessKind, Statement, Tree,
+    UnaryOp,
+};
 use std::alloc::Global;
 
 /// What `parse` answers; no text here is too long for it.
@@ -38,6 +41,151 @@ fn are_signals(items: &[Item], wanted: &[(u32, u32, &str)]) -> bool {
         }
     }
     true
+}
+
+/// Whether the text has a tree.
+fn is_accepted(alloc: Global, text: &[u8]) -> bool {
+    matches!(read(alloc, text), Ok(_))
+}
+
+/// Whether this is the channel of this name at this line.
+fn is_channel(channel: &Channel, line: u32, name: &str) -> bool {
+    match channel.place {
+        Place::First => channel.line == line && channel.name.bytes() == name.as_bytes(),
+        _ => false,
+    }
+}
+
+/// Whether this is the event of this name at this line.
+fn is_event(event: &Event, line: u32, name: &str) -> bool {
+    event.member.is_none() && is_channel(&event.channel, line, name)
+}
+
+/// Whether this is the name at this line.
+fn is_named(value: &Expression, line: u32, name: &str) -> bool {
+    match value {
+        Expression::Named(at, found) => *at == line && found.bytes() == name.as_bytes(),
+        _ => false,
+    }
+}
+
+/// Whether this is the truth value at this line.
+fn is_truth(value: &Expression, line: u32, wanted: bool) -> bool {
+    match value {
+        Expression::Truth(at, found) => *at == line && *found == wanted,
+        _ => false,
+    }
+}
+
+/// Whether this is `!(true)` at this line.
+fn is_not_true(value: &Expression, line: u32) -> bool {
+    match value {
+        Expression::Unary(at, UnaryOp::Not, operand) => match &**operand {
+            Expression::Paren(inner_at, inner) => {
+                *at == line && *inner_at == line && is_truth(inner, line, true)
+            }
+            _ => false,
+        },
+        _ => false,
+    }
+}
+
+/// Whether this is `write q !(true);` at line 5.
+fn is_the_write(statement: &Statement) -> bool {
+    match statement {
+        Statement::Act(5, Action::Write(channel, value)) => {
+            is_channel(channel, 5, "q") && is_not_true(value, 5)
+        }
+        _ => false,
+    }
+}
+
+/// Whether these statements print the empty text, at line 6.
+fn print_nothing(body: &[Statement]) -> bool {
+    match body {
+        [Statement::Act(6, Action::Print(text, None))] => text.bytes().is_empty(),
+        _ => false,
+    }
+}
+
+/// Whether these statements print `a b` with `false`, at line 8, and then test `(b)` for nothing.
+fn print_and_test(body: &[Statement]) -> bool {
+    match body {
+        [
+            Statement::Act(8, Action::Print(text, Some(value))),
+            Statement::If(8, Expression::Paren(8, test), inner, None),
+        ] => {
+            text.bytes() == "a b".as_bytes()
+                && is_truth(value, 8, false)
+                && is_named(test, 8, "b")
+                && inner.is_empty()
+        }
+        _ => false,
+    }
+}
+
+/// Whether this is the choice by `a` at line 6.
+fn is_the_choice(statement: &Statement) -> bool {
+    match statement {
+        Statement::If(6, test, body, Some(other)) => {
+            is_named(test, 6, "a")
+                && print_nothing(body.as_slice())
+                && print_and_test(other.as_slice())
+        }
+        _ => false,
+    }
+}
+
+/// Whether this is the method `tick` at line 3.
+fn is_tick(item: &Item) -> bool {
+    match item {
+        Item::Process(3, process) => match (
+            process.kind,
+            process.sensitive.as_slice(),
+            process.body.as_slice(),
+        ) {
+            (ProcessKind::Method, [first, second], [write, choice]) => {
+                process.name.bytes() == "tick".as_bytes()
+                    && is_event(first, 3, "clk")
+                    && is_event(second, 4, "a")
+                    && process.dont_initialize
+                    && is_the_write(write)
+                    && is_the_choice(choice)
+            }
+            _ => false,
+        },
+        _ => false,
+    }
+}
+
+/// Whether this is the method `idle` at line 9, with neither sensitivity nor body.
+fn is_idle(item: &Item) -> bool {
+    match item {
+        Item::Process(9, process) => match process.kind {
+            ProcessKind::Method => {
+                process.name.bytes() == "idle".as_bytes()
+                    && process.sensitive.is_empty()
+                    && !process.dont_initialize
+                    && process.body.is_empty()
+            }
+            ProcessKind::Thread => false,
+        },
+        _ => false,
+    }
+}
+
+/// Whether the text reads as a signal, `tick` and `idle`.
+fn has_both_methods(alloc: Global, text: &[u8]) -> bool {
+    match read(alloc, text) {
+        Ok(tree) => match tree.modules.as_slice() {
+            [only] => match only.items.as_slice() {
+                [Item::Signal(2, _), first, second] => is_tick(first) && is_idle(second),
+                _ => false,
+            },
+            _ => false,
+        },
+        Err(_) => false,
+    }
 }
 
 /// Whether the text reads as one module of these signals and this top, each with its line.
@@ -118,7 +266,98 @@ fn texts_and_their_trees(rt: HostRuntime) {
             )
         )
     );
+    // Every form of a method once, with its lines.
+    assert!(rt;
+        has_both_methods(
+            alloc,
+            b"module M {\n  signal bool q;\n  method tick sensitive clk,\n a dont_initialize {\n write q !(true);\n if a { print \"\";\n } else {\n print \"a b\" false; if (b) { } } }\n method idle { }\n}\ntop M m;"
+        )
+    );
+    // Further texts that read: limits of texts and brackets among them.
+    for text in [
+        "module M { method m {  } } top M m;",
+        "module M { method m { } signal bool a; method n { } } top M m;",
+        "module M { method m sensitive a { } } top M m;",
+        "module M { method m sensitive a , b,c { } } top M m;",
+        "module M { method m dont_initialize { } } top M m;",
+        "module M { method m { write a !b; write a !(!b); write a ((b)); write a !(b); } } top M m;",
+        "module M { method m { if a { if b { } else { if c { } } } if !d { } else { } } } top M m;",
+        "module M { method m { print \"\"; print\"{;}\"a; print \"'\" !(false); } } top M m;",
+        "module M { method m { print \"~~~~~~~~~~~~~~~~~~~~~~~~~~~~~~~~~~~~~~~~~~~~~~~~~~~~~~~~~~~~ !# !# !# !# !# !# !# !# !# !# !# !# !# !# !# !# !# !# !# !#\"; } } top M m;",
+        "module M { method m { write q ((((((((((((((((((((((((((((((((((((((((((((((((((((((((((((((a)))))))))))))))))))))))))))))))))))))))))))))))))))))))))))))); } } top M m;",
+        "module M { method m { if a { if a { if a { if a { if a { if a { if a { if a { if a { if a { if a { if a { if a { if a { if a { if a { if a { if a { if a { if a { if a { if a { if a { if a { if a { if a { if a { if a { if a { if a { if a { if a { if a { if a { if a { if a { if a { if a { if a { if a { if a { if a { if a { if a { if a { if a { if a { if a { if a { if a { if a { if a { if a { if a { if a { if a { if a { if a { if a { if a { if a { if a { } } } } } } } } } } } } } } } } } } } } } } } } } } } } } } } } } } } } } } } } } } } } } } } } } } } } } } } } } } } } } }  } } top M m;",
+        "module M { method m { if a { if a { if a { if a { if a { if a { if a { if a { if a { if a { if a { if a { if a { if a { if a { if a { if a { if a { if a { if a { if a { if a { if a { if a { if a { if a { if a { if a { if a { if a { if a { if a { if a { if a { if a { if a { if a { if a { if a { if a { if a { if a { if a { if a { if a { if a { if a { if a { if a { if a { if a { if a { if a { if a { if a { if a { if a { if a { if a { if a { if a { print \"\" (b); } } } } } } } } } } } } } } } } } } } } } } } } } } } } } } } } } } } } } } } } } } } } } } } } } } } } } } } } } } } } }  } } top M m;",
+    ] {
+        assert!(rt; is_accepted(alloc, text.as_bytes()), "{text}");
+    }
     // Texts that do not, with the lines that say so.
+    for (text, line) in [
+        ("module M { method m { write q !\n!a; } } top M m;", 2),
+        ("module M { method m { write a\n; } } top M m;", 2),
+        ("module M { method m { write a b\nc; } } top M m;", 2),
+        ("module M { method m { write\ntrue a; } } top M m;", 2),
+        ("module M { method m { write a.\nb; } } top M m;", 1),
+        ("module M { method m { write a (\n); } } top M m;", 2),
+        ("module M { method m { write a (b\n; } } top M m;", 2),
+        ("module M { method m { write a b)\n; } } top M m;", 1),
+        ("module M { method m { print\na; } } top M m;", 2),
+        ("module M { method m { print \"a\" b\nc; } } top M m;", 2),
+        ("module M { method m { if a\nb } } top M m;", 2),
+        ("module M { method m { if\n{ } } } top M m;", 2),
+        ("module M { method m { \nelse { } } } top M m;", 2),
+        (
+            "module M { method m { if a { } else\nif b { } } } top M m;",
+            2,
+        ),
+        (
+            "module M { method m { if a { } else { }\nelse { } } } top M m;",
+            2,
+        ),
+        ("module M { method m { \n; } } top M m;", 2),
+        ("module M { method m { write a b;\n} top M m;", 2),
+        ("module M { method m { write a b;\n", 2),
+        ("module M { method m sensitive\n{ } } top M m;", 2),
+        ("module M { method m sensitive a,\n{ } } top M m;", 2),
+        ("module M { method m sensitive a\nb { } } top M m;", 2),
+        (
+            "module M { method m dont_initialize\nsensitive a { } } top M m;",
+            2,
+        ),
+        (
+            "module M { method m dont_initialize\ndont_initialize { } } top M m;",
+            2,
+        ),
+        ("module M { method m\n} top M m;", 2),
+        ("module M { method\n{ } } top M m;", 2),
+        ("module M {\nthread t { } } top M m;", 2),
+        (
+            "module M { method m { \nprint \"~~~~~~~~~~~~~~~~~~~~~~~~~~~~~~~~~~~~~~~~~~~~~~~~~~~~~~~~~~~~ !# !# !# !# !# !# !# !# !# !# !# !# !# !# !# !# !# !# !# !#!\"; } } top M m;",
+            2,
+        ),
+        ("module M { method m { print \"a\n\"; } } top M m;", 1),
+        ("module M { method m { \nprint \"a\"b\";  } } top M m;", 2),
+        (
+            "module M { method m { print \"a\" b\n\"c\"; } } top M m;",
+            2,
+        ),
+        ("module M { method m { \nprint \"\x7f\"; } } top M m;", 2),
+        ("module M { method m { print\n\"\t\"; } } top M m;", 2),
+        (
+            "module M { method m { write q ((((((((((((((((((((((((((((((((((((((((((((((((((((((((((((((\n(a))))))))))))))))))))))))))))))))))))))))))))))))))))))))))))))); } } top M m;",
+            2,
+        ),
+        (
+            "module M { method m { if a { if a { if a { if a { if a { if a { if a { if a { if a { if a { if a { if a { if a { if a { if a { if a { if a { if a { if a { if a { if a { if a { if a { if a { if a { if a { if a { if a { if a { if a { if a { if a { if a { if a { if a { if a { if a { if a { if a { if a { if a { if a { if a { if a { if a { if a { if a { if a { if a { if a { if a { if a { if a { if a { if a { if a { if a { if a { if a { if a { if a { if a { if a\n{ } } } } } } } } } } } } } } } } } } } } } } } } } } } } } } } } } } } } } } } } } } } } } } } } } } } } } } } } } } } } } } }  } } top M m;",
+            2,
+        ),
+        (
+            "module M { method m { if a { if a { if a { if a { if a { if a { if a { if a { if a { if a { if a { if a { if a { if a { if a { if a { if a { if a { if a { if a { if a { if a { if a { if a { if a { if a { if a { if a { if a { if a { if a { if a { if a { if a { if a { if a { if a { if a { if a { if a { if a { if a { if a { if a { if a { if a { if a { if a { if a { if a { if a { if a { if a { if a { if a { if a { if a { if a { if a { if a { if a { write q (\n(b)); } } } } } } } } } } } } } } } } } } } } } } } } } } } } } } } } } } } } } } } } } } } } } } } } } } } } } } } } } } } } }  } } top M m;",
+            2,
+        ),
+    ] {
+        assert!(rt; is_refused(alloc, text.as_bytes(), line), "{text}");
+    }
+    // Texts of signals that do not.
     for (text, line) in [
         ("", 1),
         (" \t\r\n \n", 3),

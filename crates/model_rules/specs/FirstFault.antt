@@ -1,7 +1,7 @@
 -- The first broken rule of a tree. The passes go in their order, each over the constructs in text order,
 -- and the first pass with a fault decides.
-use Rattle.std.specs.Prelude.{ℕ, Bool, true, false, List, [], ◌∷◌, ◌++◌, Option, Some, None, bytes_eq, if◌then◌else◌, not}
-use Rattle.std.specs.List.{list_any}
+use Rattle.std.specs.Prelude.{ℕ, Bool, true, false, List, [], ◌∷◌, ◌++◌, Option, Some, None, bytes_eq, not}
+use Rattle.std.specs.List.{list_any, find}
 use Rattle.model_tree.specs.Tree as tree
 use Rattle.model_tree.specs.declared.faults.Fault.{Fault}
 use Rattle.model_tree.specs.declared.faults.Kind.{Kind}
@@ -86,10 +86,72 @@ double_module before (m ∷ ms) =
     or_else (broken_if (is_module_name before m.name) kind.DoubleName m.line m.name)
     (or_else (double_item [] m.items) (double_module (before ++ m ∷ []) ms))
 
--- every name that is used is declared
+-- What a name stands for in a module is the first item that declares it. Where a signal is needed, a name that is
+-- not declared is unknown, and that of anything else is of the wrong kind.
+abbrev pub not_a_signal : Option tree.Item → ℕ → List ℕ → Option Fault
+not_a_signal None line name = broken_if true kind.UnknownName line name
+not_a_signal (Some (tree.signal at s)) line name = None
+not_a_signal (Some other) line name = broken_if true kind.WrongKind line name
+
+abbrev pub signal_use : List tree.Item → ℕ → List ℕ → Option Fault
+signal_use items line name = not_a_signal (find (declares name) items) line name
+
+-- in an expression
+abbrev pub in_expression : List tree.Item → tree.Expression → Option Fault
+in_expression items (tree.named line name) = signal_use items line name
+in_expression items (tree.paren line e) = in_expression items e
+in_expression items (tree.unary line op e) = in_expression items e
+in_expression items other = None
+
+abbrev pub in_option : List tree.Item → Option tree.Expression → Option Fault
+in_option items None = None
+in_option items (Some e) = in_expression items e
+
+abbrev pub in_channel : List tree.Item → tree.Channel → Option Fault
+in_channel items c = signal_use items c.line c.name
+
+-- in a static sensitivity
+abbrev pub in_events : List tree.Item → List tree.Event → Option Fault
+in_events items [] = None
+in_events items (e ∷ es) = or_else (in_channel items e.channel) (in_events items es)
+
+abbrev pub in_action : List tree.Item → tree.Action → Option Fault
+in_action items (tree.write c e) = or_else (in_channel items c) (in_expression items e)
+in_action items (tree.print text e) = in_option items e
+in_action items other = None
+
+-- in a statement, its expression before its blocks
+abbrev mutual
+  pub in_statement : List tree.Item → tree.Statement → Option Fault
+  in_statement items (tree.act line a) = in_action items a
+  in_statement items (tree.branch line e body other) = or_else (in_expression items e) (or_else (in_block items body) (in_else items other))
+  in_statement items other = None
+
+  pub in_block : List tree.Item → tree.Block → Option Fault
+  in_block items tree.over = None
+  in_block items (tree.then s ss) = or_else (in_statement items s) (in_block items ss)
+
+  pub in_else : List tree.Item → tree.Else → Option Fault
+  in_else items tree.no_else = None
+  in_else items (tree.else_block body) = in_block items body
+
+-- in an item, among the items of its module
+abbrev pub in_item : List tree.Item → tree.Item → Option Fault
+in_item items (tree.process line p) = or_else (in_events items p.sensitive) (in_block items p.body)
+in_item items other = None
+
+abbrev pub in_items : List tree.Item → List tree.Item → Option Fault
+in_items all [] = None
+in_items all (i ∷ is) = or_else (in_item all i) (in_items all is)
+
+abbrev pub in_modules : List tree.Module → Option Fault
+in_modules [] = None
+in_modules (m ∷ ms) = or_else (in_items m.items m.items) (in_modules ms)
+
+-- the module of the top instance is declared
 abbrev pub unknown_top : tree.Model → Option Fault
 unknown_top m = broken_if (not (is_module_name m.modules m.top.module)) kind.UnknownName m.top.line m.top.module
 
--- the first broken rule of a model
+-- the first broken rule of a model: names that are equal come first, then the uses of names in text order
 abbrev pub first_fault : tree.Model → Option Fault
-first_fault m = or_else (double_module [] m.modules) (unknown_top m)
+first_fault m = or_else (double_module [] m.modules) (or_else (in_modules m.modules) (unknown_top m))

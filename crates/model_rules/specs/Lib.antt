@@ -1,3 +1,6 @@
-pub mod FirstFault
-pub mod FlatDesign
 pub mod Stops
+pub mod FirstFault
+pub mod ReadBack
+pub mod FlatDesign
+pub mod Built
+pub mod SoundNames

@@ -1,3 +1,4 @@
+use super::code::Code;
 use super::items::{ProcessKind, SignalKind};
 use super::listing::Items;
 use super::types::{BoundRule, Interface};
@@ -159,6 +160,12 @@ pub struct Design {
     pub channels: Items<Items<u32>>,
     /// Its hops, numbered from 0.
     pub hops: Items<Hop>,
-    /// The names of the tree, numbered from 0.
+    /// The names that the code uses, numbered from 0.
     pub names: Items<Text>,
+    /// For each instance, by the number of a name, the number of the signal that the name stands for there.
+    pub scopes: Items<Items<u32>>,
+    /// The static sensitivity of each process, by its serial: the numbers of events.
+    pub sensitive: Items<Items<u32>>,
+    /// The bodies of its processes.
+    pub code: Code,
 }

@@ -1,7 +1,7 @@
 use super::{commands, name_all};
 use logic_values::{Text, Value};
 use model_tree::{
-    CheckStop, Design, Items, Kind, Object, ObjectForm, Objects, ParseStop, SignalKind,
+    CheckStop, Code, Design, Items, Kind, Object, ObjectForm, Objects, ParseStop, SignalKind,
 };
 use sim_model::Command;
 use std::alloc::{AllocError, Global};
@@ -71,6 +71,13 @@ fn small_design(alloc: Global) -> Result<Design, AllocError> {
         channels: Items::new(alloc),
         hops: Items::new(alloc),
         names: Items::new(alloc),
+        scopes: Items::new(alloc),
+        sensitive: Items::new(alloc),
+        code: Code {
+            bodies: Items::new(alloc),
+            blocks: Items::new(alloc),
+            forms: Vec::new(alloc),
+        },
     })
 }
 

@@ -1,10 +1,10 @@
 use Rattle.std.proofs.Common.{◌≡◌, ◌++◌, map, drop}
-use Rattle.std.specs.List.{flat_map}
 use Rattle.model_tree.specs.Views.{item_of}
-use Rattle.model_rules.specs.FlatDesign.{item_objects}
+use Rattle.model_rules.specs.FlatDesign.{objects_in}
 use Rattle.elaborate.proofs.flat.add_items.Given as goal
 
+-- the objects so far and those of the items that are left are those of all
 abbrev pub invariant-loop-item : goal.invariant-loop-item
 invariant-loop-item l =
-    l.list ++ flat_map (item_objects l.path l.instance) (map item_of (drop l.item-index l.items))
-    ≡ l.fn.list ++ flat_map (item_objects l.path l.instance) (map item_of l.items)
+    l.list ++ objects_in l.path l.instance l.code (map item_of (drop l.item-index l.items))
+    ≡ l.fn.list ++ objects_in l.path l.instance 0 (map item_of l.items)

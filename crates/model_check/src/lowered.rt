@@ -1,0 +1,10 @@
+use model_tree::{Form, Items, StmtId};
+
+/// The blocks and statements that were lowered so far.
+#[derive(Drop)]
+pub(crate) struct Lowered {
+    /// The blocks, by their numbers: the numbers of their statements.
+    pub blocks: Items<Items<StmtId>>,
+    /// The statements, by their numbers.
+    pub forms: Vec<Form>,
+}
