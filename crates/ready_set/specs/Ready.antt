@@ -1,5 +1,5 @@
 -- What a contract sees of a `ReadySet`.
-use Rattle.std.specs.Prelude.{ℕ, ◌+◌, ◌-◌, ◌==◌, nat_lt, List, [], ◌∷◌, if◌then◌else◌, refl}
+use Rattle.std.specs.Prelude.{◌≡◌, ◌≤◌, ℕ, true, ◌+◌, ◌-◌, ◌==◌, nat_lt, List, [], ◌∷◌, if◌then◌else◌, refl}
 use Rattle.std.specs.Ordering.{nat_cmp}
 use Rattle.std.specs.Coded.{Coded, code_by, coded×, coded_ℕ}
 use Rattle.std.specs.FinSet as set
@@ -32,6 +32,11 @@ in_order (x ∷ xs) = placed x (in_order xs)
 -- the members in rising order
 abbrev pub rising : set.FinSet nat_cmp → List ℕ
 rising s = in_order (set.items s)
+
+-- a member, and no member is less
+pub record IsLeast (s : set.FinSet nat_cmp) (p : ℕ) : Type 0 where
+  pub member : set.contains s p ≡ true
+  pub least : (q : ℕ) → set.contains s q ≡ true → p ≤ q
 
 -- p is a member now, and takes a place where it was none
 abbrev pub with_member : Ready → ℕ → Ready

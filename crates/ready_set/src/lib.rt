@@ -5,10 +5,12 @@ ghost use Rattle.std.specs.Prelude.{◌≡◌, ◌⊎◌, ◌-◌, ◌^◌, ◌<
 ghost use Rattle.std.specs.FinSet as set;
 
 mod kept;
+mod laws;
 #[cfg(test)]
 mod tests;
 
 use kept::{cut, nth, place};
+pub use laws::least_of_a_set;
 use std::alloc::{AllocError, Global};
 use std::marker::Model;
 

@@ -1,1 +1,11 @@
+pub mod Lists
+pub mod BodyLemmas
 pub mod Frames
+pub mod Ready
+pub mod Writes
+pub mod Serials
+pub mod Takings
+pub mod Evaluating
+pub mod Fired
+pub mod Joined
+pub mod PhaseFrames

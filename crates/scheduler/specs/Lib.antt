@@ -1,1 +1,4 @@
+pub mod Bodies
 pub mod Kernel
+pub mod Woken
+pub mod Deeds

@@ -2,32 +2,30 @@ ghost use Rattle.std.specs.Prelude.{◌≡◌, ◌*◌, ℕ, List, Option, vec_l
 ghost use Rattle.sim_model.specs.declared.plain.Phase.TheVariants as phase;
 ghost use Rattle.sim_model.specs.Steps as spec;
 ghost use Rattle.sim_model.specs.Signals.{write_to};
-ghost use Rattle.scheduler.specs.Kernel.{Goes, Follows};
+ghost use Rattle.scheduler.specs.Kernel.{Goes, Follows, IsSound};
 
 use super::kernel::Kernel;
 use logic_values::Value;
 use model_tree::RunFault;
-use sim_model::{Phase, Signal};
+use signal_channel::Signal;
+use sim_model::Phase;
 use sim_time::{Time, add};
 
 fn write_signal(signals: &mut [Signal], number: usize, value: Value)
     ensures { signals.new ≡ write_to signals.old number value }
 {
     if number < signals.len() {
-        let signal = signals[number];
-        signals[number] = Signal {
-            value: signal.value,
-            next: value,
-            asked: true,
-        };
+        let mut signal = signals[number];
+        let _written = signal.write(None, value);
+        signals[number] = signal;
     }
 }
 
 /// Asks for an update of a signal with a value. Signals are numbered from 0 in object order.
 pub fn set_signal(k: &mut Kernel, number: u32, value: Value)
-    requires sound { vec_len k.old.events ≡ 3 * vec_len k.old.signals }
+    requires sound { IsSound k.old }
     ensures steps { Goes k.old k.new None (λ c. spec.went (spec.set_signal c number value)) }
-    ensures sound { vec_len k.new.events ≡ 3 * vec_len k.new.signals }
+    ensures sound { IsSound k.new }
     ensures phase { k.new.phase ≡ k.old.phase }
 {
     write_signal(k.signals.as_mut_slice(), number as usize, value);
@@ -36,9 +34,9 @@ pub fn set_signal(k: &mut Kernel, number: u32, value: Value)
 /// Begins a run, for this time or to the end of all that is pending. A sum past 2^64 - 1 ps is the
 /// run fault TimeOverflow, and nothing changes.
 pub fn begin_run(k: &mut Kernel, duration: Option<Time>) -> Result<(), RunFault>
-    requires sound { vec_len k.old.events ≡ 3 * vec_len k.old.signals }
+    requires sound { IsSound k.old }
     ensures steps { Follows k.old k.new result (λ c. spec.begin_run c duration) }
-    ensures sound { vec_len k.new.events ≡ 3 * vec_len k.new.signals }
+    ensures sound { IsSound k.new }
 {
     let end = match duration {
         None => None,

@@ -1,100 +1,135 @@
-ghost use Rattle.std.specs.Prelude.{◌≡◌, ◌≢◌, ◌*◌, ℕ, List, false, map, vec_len, None, Some, unwrap_or};
-ghost use Rattle.sim_model.specs.declared.plain.Phase.TheVariants as phase;
+ghost use Rattle.std.specs.Prelude.{◌≡◌, ◌⊎◌, ◌≤◌, ◌+◌, ◌*◌, OnOk, OnErr, vec_len, length};
+ghost use Rattle.sim_model.specs.declared.plain.Phase.TheVariants as Phase;
+ghost use Rattle.sim_model.specs.Configuration.{Config};
 ghost use Rattle.sim_model.specs.Phases as spec;
-ghost use Rattle.sim_model.specs.Steps.{step as step_of};
-ghost use Rattle.scheduler.specs.Kernel.{Moves, Goes};
+ghost use Rattle.scheduler.specs.Kernel.{Moves, StandsFor, IsSound};
 
 use super::kernel::Kernel;
-use super::signals::{announce, settle};
-use sim_model::{Pending, Phase};
-use sim_time::Time;
+use super::signals::{announce, update};
+use super::wakes::{Which, clear_delta, make_runnable};
+use sim_model::Phase;
+use std::alloc::AllocError;
+
+/// How many events there are.
+fn event_count(k: &Kernel) -> u32
+    requires sound { IsSound k.now }
+    ensures { result ≡ length k.now.events }
+{
+    3 * k.signals.len() as u32
+}
+
+/// Makes room for so many times all processes in the runnable set.
+fn make_room(k: &mut Kernel, times: u32) -> Result<(), AllocError>
+    requires sound { IsSound k.old }
+    requires few { times ≤ 2 }
+    ensures room { OnOk result (times * vec_len k.new.instances ≤ k.new.ready.spare) }
+    ensures moves { Moves k.old k.new (λ c. c) }
+    ensures sound { IsSound k.new }
+    ensures phase { k.new.phase ≡ k.old.phase }
+{
+    k.ready.reserve(times * k.instances.len() as u32)
+}
 
 fn update_phase(k: &mut Kernel)
-    requires sound { vec_len k.old.events ≡ 3 * vec_len k.old.signals }
+    requires sound { IsSound k.old }
     ensures moves { Moves k.old k.new spec.update_phase }
-    ensures sound { vec_len k.new.events ≡ 3 * vec_len k.new.signals }
+    ensures sound { IsSound k.new }
+    ensures room { k.new.ready.spare ≡ k.old.ready.spare }
+    ensures serials { vec_len k.new.instances ≡ vec_len k.old.instances }
 {
-    announce(k.signals.as_slice(), k.events.as_mut_slice());
-    settle(k.signals.as_mut_slice());
+    announce(k.signals.as_slice(), &mut k.events);
+    update(k.signals.as_mut_slice());
 }
 
-fn without_delta(pending: Pending) -> Pending
-    ensures { result ≡ spec.without_delta pending }
+fn initialized(k: &mut Kernel)
+    requires sound { IsSound k.old }
+    requires room { vec_len k.old.instances ≤ k.old.ready.spare }
+    ensures moves { Moves k.old k.new spec.make_runnable }
+    ensures sound { IsSound k.new }
+    ensures room { k.old.ready.spare ≤ k.new.ready.spare + vec_len k.new.instances }
+    ensures serials { vec_len k.new.instances ≡ vec_len k.old.instances }
 {
-    match pending {
-        Pending::Nothing | Pending::Delta => Pending::Nothing,
-        Pending::At(time) => Pending::At(time),
-    }
-}
-
-fn clear_delta(events: &mut [Pending])
-    ensures { events.new ≡ map spec.without_delta events.old }
-{
-    for pending in events.iter_mut() {
-        *pending = without_delta(*pending);
-    }
+    let count = event_count(k);
+    make_runnable(
+        Which::Initialized,
+        &k.events,
+        count,
+        &mut k.ready,
+        k.instances.as_mut_slice(),
+    );
 }
 
 fn delta_phase(k: &mut Kernel)
-    requires sound { vec_len k.old.events ≡ 3 * vec_len k.old.signals }
+    requires sound { IsSound k.old }
+    requires room { vec_len k.old.instances ≤ k.old.ready.spare }
     ensures moves { Moves k.old k.new spec.delta_phase }
-    ensures sound { vec_len k.new.events ≡ 3 * vec_len k.new.signals }
+    ensures sound { IsSound k.new }
 {
-    clear_delta(k.events.as_mut_slice());
+    let count = event_count(k);
+    make_runnable(
+        Which::Due,
+        &k.events,
+        count,
+        &mut k.ready,
+        k.instances.as_mut_slice(),
+    );
+    clear_delta(&mut k.events, count);
 }
 
-fn initialization(k: &mut Kernel)
-    requires sound { vec_len k.old.events ≡ 3 * vec_len k.old.signals }
-    ensures moves { Moves k.old k.new spec.initialization }
-    ensures sound { vec_len k.new.events ≡ 3 * vec_len k.new.signals }
+/// Initialization: the update phase, then the processes, then the delta notification phase.
+pub fn initialization(k: &mut Kernel) -> Result<(), AllocError>
+    requires sound { IsSound k.old }
+    ensures moves { OnOk result (Moves k.old k.new spec.initialization) }
+    ensures refused { OnErr result (Moves k.old k.new (λ c. c)) }
+    ensures sound { IsSound k.new }
+    ensures phase { OnOk result (k.new.phase ≡ Phase.Evaluate) }
 {
+    make_room(k, 2)?;
     update_phase(k);
+    initialized(k);
     delta_phase(k);
     k.phase = Phase::Evaluate;
+    Ok(())
 }
 
-fn update_step(k: &mut Kernel)
-    requires sound { vec_len k.old.events ≡ 3 * vec_len k.old.signals }
+/// The update phase, with nothing to evaluate.
+pub fn update_step(k: &mut Kernel)
+    requires sound { IsSound k.old }
     ensures moves { Moves k.old k.new spec.update_step }
-    ensures sound { vec_len k.new.events ≡ 3 * vec_len k.new.signals }
+    ensures sound { IsSound k.new }
+    ensures phase { k.new.phase ≡ Phase.Notify }
 {
     update_phase(k);
     k.phase = Phase::Notify;
 }
 
-fn delta_step(k: &mut Kernel)
-    requires sound { vec_len k.old.events ≡ 3 * vec_len k.old.signals }
-    ensures moves { Moves k.old k.new spec.delta_step }
-    ensures sound { vec_len k.new.events ≡ 3 * vec_len k.new.signals }
+/// The delta notification phase.
+pub fn delta_step(k: &mut Kernel) -> Result<(), AllocError>
+    requires sound { IsSound k.old }
+    ensures moves { OnOk result (Moves k.old k.new spec.delta_step) }
+    ensures refused { OnErr result (Moves k.old k.new (λ c. c)) }
+    ensures sound { IsSound k.new }
+    ensures phase { OnOk result ((k.new.phase ≡ Phase.Evaluate) ⊎ (k.new.phase ≡ Phase.Timed)) }
 {
+    make_room(k, 1)?;
     delta_phase(k);
-    k.phase = Phase::Timed;
+    k.phase = if k.ready.len() == 0 {
+        Phase::Timed
+    } else {
+        Phase::Evaluate
+    };
+    Ok(())
 }
 
-fn timed_step(k: &mut Kernel)
-    requires sound { vec_len k.old.events ≡ 3 * vec_len k.old.signals }
+/// The timed phase, with nothing pending.
+pub fn timed_step(k: &mut Kernel)
+    requires sound { IsSound k.old }
     ensures moves { Moves k.old k.new spec.timed_step }
-    ensures sound { vec_len k.new.events ≡ 3 * vec_len k.new.signals }
+    ensures sound { IsSound k.new }
+    ensures phase { k.new.phase ≡ Phase.Idle }
 {
     if let Some(end) = k.end {
         k.time = end;
     }
     k.phase = Phase::Idle;
-}
-
-/// Makes the step of the phase, outside Idle (IEEE 1666-2011, 4.2.1).
-pub fn step(k: &mut Kernel)
-    requires sound { vec_len k.old.events ≡ 3 * vec_len k.old.signals }
-    requires running { k.old.phase ≢ phase.Idle }
-    requires going { k.old.stopped ≡ false }
-    ensures steps { Goes k.old k.new None step_of }
-    ensures sound { vec_len k.new.events ≡ 3 * vec_len k.new.signals }
-{
-    match k.phase {
-        Phase::Idle => unreachable!(),
-        Phase::Start => initialization(k),
-        Phase::Evaluate => update_step(k),
-        Phase::Notify => delta_step(k),
-        Phase::Timed => timed_step(k),
-    }
 }

@@ -1,84 +1,67 @@
 ghost use Rattle.std.specs.Prelude.{◌≡◌, ◌+◌, ◌*◌, ◌<◌, ◌≤◌, ◌^◌, map, length};
 ghost use Rattle.sim_model.specs.Signals as spec;
+ghost use Rattle.signal_channel.specs.Signals.{change_of};
 
-use logic_values::{Digit, Value};
-use sim_model::{Pending, Signal, is_same};
+use event_core::{Events, When};
+use signal_channel::{Changed, Signal};
 
-fn is_one(value: Value) -> bool
-    ensures { result ≡ spec.is_one value }
+fn updated(signal: Signal) -> Signal
+    ensures { result ≡ spec.updated signal }
 {
-    match value {
-        Value::Bool(b) => b,
-        Value::Logic(Digit::One) => true,
-        _ => false,
+    let mut after = signal;
+    if after.asked {
+        after.update();
     }
-}
-
-fn is_zero(value: Value) -> bool
-    ensures { result ≡ spec.is_zero value }
-{
-    match value {
-        Value::Bool(b) => !b,
-        Value::Logic(Digit::Zero) => true,
-        _ => false,
-    }
-}
-
-fn settled(signal: Signal) -> Signal
-    ensures { result ≡ spec.settled signal }
-{
-    let value = if signal.asked {
-        signal.next
-    } else {
-        signal.value
-    };
-    Signal {
-        value,
-        next: signal.next,
-        asked: false,
-    }
+    after
 }
 
 /// Calls update once for each signal that asked for it.
-pub fn settle(signals: &mut [Signal])
-    ensures { signals.new ≡ map spec.settled signals.old }
+pub fn update(signals: &mut [Signal])
+    ensures updated { signals.new ≡ map spec.updated signals.old }
+    ensures count { length signals.new ≡ length signals.old }
 {
     for signal in signals.iter_mut() {
-        *signal = settled(*signal);
+        *signal = updated(*signal);
     }
 }
 
-fn changes(signal: Signal) -> bool
-    ensures { result ≡ spec.changes signal }
+/// What an update of the signal announces.
+fn change(signal: Signal) -> Changed
+    ensures { result ≡ change_of signal }
 {
-    signal.asked && !is_same(signal.value, signal.next)
+    let mut after = signal;
+    after.update()
 }
 
-fn notify(made: bool, event: usize, events: &mut [Pending])
+fn notify(made: bool, event: u32, events: &mut Events)
     requires { event < length events.old }
-    ensures { events.new ≡ spec.notified made event events.old }
+    ensures notified { events.new ≡ spec.notified made event events.old }
+    ensures count { length events.new ≡ length events.old }
 {
     if made {
-        events[event] = Pending::Delta;
+        events.notify(event, When::Delta);
     }
 }
 
-fn announce_one(number: usize, signal: Signal, events: &mut [Pending])
-    requires { 3 * number + 3 ≤ length events.old }
-    ensures { events.new ≡ spec.announced number signal events.old }
+fn announce_one(number: u32, change: Changed, events: &mut Events)
+    requires within { 3 * number + 3 ≤ length events.old }
+    requires numbers { length events.old < 2 ^ 32 }
+    ensures announced { events.new ≡ spec.announced number change events.old }
+    ensures count { length events.new ≡ length events.old }
 {
-    let changed = changes(signal);
-    notify(changed, 3 * number, events);
-    notify(changed && is_one(signal.next), 3 * number + 1, events);
-    notify(changed && is_zero(signal.next), 3 * number + 2, events);
+    notify(change.changed, 3 * number, events);
+    notify(change.pos, 3 * number + 1, events);
+    notify(change.neg, 3 * number + 2, events);
 }
 
 /// Makes the delta notifications of the updates to come.
-pub fn announce(signals: &[Signal], events: &mut [Pending])
-    requires { length events.old ≡ 3 * length signals.now }
-    ensures { events.new ≡ spec.announced_from 0 signals.now events.old }
+pub fn announce(signals: &[Signal], events: &mut Events)
+    requires within { length events.old ≡ 3 * length signals.now }
+    requires numbers { length events.old < 2 ^ 32 }
+    ensures announced { events.new ≡ spec.announced_from 0 signals.now events.old }
+    ensures count { length events.new ≡ length events.old }
 {
     for (number, signal) in signals.iter().enumerate() {
-        announce_one(number, *signal, events);
+        announce_one(number as u32, change(*signal), events);
     }
 }

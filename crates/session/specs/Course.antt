@@ -2,12 +2,14 @@
 use Rattle.std.specs.Prelude.{◌≡◌, ◌<◌, ◌≤◌, ℕ, Bool, true, false, List, [], ◌∷◌, ◌++◌, length, take, Option, Some, None, ⊤, if◌then◌else◌}
 use Rattle.sim_io.specs.Told.{Grew}
 use Rattle.scheduler.specs.declared.kernel.Kernel.{Kernel}
-use Rattle.sim_model.specs.Steps.{Outcome, went, faulted, ended}
+use Rattle.sim_model.specs.Steps.{Outcome, went, faulted, takes, ended}
 use Rattle.sim_model.specs.Configuration.{Config}
-use Rattle.sim_model.specs.Runs.{after, stop_of}
+use Rattle.sim_model.specs.Runs.{after, Ruled, PicksLeast, stop_of}
 use Rattle.sim_model.specs.Texts.{joined, report}
 use Rattle.sim_model.specs.declared.plain.Stop.{Stop}
 use Rattle.sim_model.specs.declared.plain.Stop.TheVariants as stop
+use Rattle.session.specs.declared.run.Rule.{Rule}
+use Rattle.session.specs.declared.run.Rule.TheVariants as rule
 
 -- the text of a session that stands in this configuration: the report where it has ended, and else the lines so far
 abbrev pub text_at : Config → Option Stop → List ℕ
@@ -37,12 +39,17 @@ all_but_last (x ∷ y ∷ ys) = x ∷ all_but_last (y ∷ ys)
 abbrev pub WroteFirst : Option (List ℕ) → Option (List ℕ) → List ℕ → Type 0
 WroteFirst old new first = (rest : List ℕ) × Grew old new (first ++ rest)
 
--- a session is a run: so many steps with these choices lead from the first configuration to the last,
--- whose end is the session's, and the sink took its text; each line was written when its step made it,
--- so that at most the last of them is lacking where a cut ends the session
-pub record Ran (first : Config) (budget : ℕ) (choices : List ℕ) (steps : ℕ) (s : Stop) (old new : Option (List ℕ)) : Type 0 where
+-- what a rule picks from the runnable serials
+abbrev pub picks_of : Rule → List ℕ → ℕ → Type 0
+picks_of rule.First = PicksLeast
+
+-- a session is a run: so many steps with these choices, each of them what the rule picks, lead from the first
+-- configuration to the last, whose end is the session's, and the sink took its text; where a cut ends the session, at most
+-- the last line of the steps is lacking
+pub record Ran (first : Config) (rule : Rule) (budget : ℕ) (choices : List ℕ) (steps : ℕ) (s : Stop) (old new : Option (List ℕ)) : Type 0 where
   pub last : Config
   pub is_run : after steps choices first ≡ Some last
+  pub ruled : Ruled (picks_of rule) steps choices first
   pub within : steps ≤ budget
   pub wrote : Wrote last (stop_of last steps budget) old new s
   pub earlier : WroteFirst old new (joined (all_but_last last.trace.lines))
@@ -66,9 +73,11 @@ IsEndedAs k s = s ≡ (if k.stopped then stop.Stopped else stop.Done)
 abbrev pub IsOverAs : Bool → Outcome → Type 0
 IsOverAs true (went d) = ⊥
 IsOverAs true (faulted f) = ⊥
+IsOverAs true takes = ⊥
 IsOverAs true ended = ⊤
 IsOverAs false (went d) = ⊤
 IsOverAs false (faulted f) = ⊤
+IsOverAs false takes = ⊤
 IsOverAs false ended = ⊥
 
 -- what became of the closing text: written whole, or cut

@@ -1,17 +1,19 @@
-ghost use Rattle.std.specs.Prelude.{◌≡◌, ◌≤◌, ◌*◌, ℕ, List, [], drop, length, vec_len, Err, Some, true};
+ghost use Rattle.std.specs.Prelude.{◌≡◌, ◌≤◌, ℕ, List, [], drop, length, Err, Some, true};
 ghost use Rattle.sim_model.specs.Configuration.{Config, start};
 ghost use Rattle.sim_model.specs.Steps.{step};
 ghost use Rattle.sim_model.specs.Runs.{stop_within};
-ghost use Rattle.scheduler.specs.Kernel.{StandsFor};
+ghost use Rattle.scheduler.specs.Kernel.{StandsFor, IsSound};
 ghost use Rattle.sim_io.specs.Cause.{RoseIf};
 ghost use Rattle.sim_io.specs.Taken.{TookOf};
 ghost use Rattle.session.specs.Show.{closing_of};
-ghost use Rattle.session.specs.Course.{Ran, Closes, IsEnd, IsEndedAs, IsOverAs, is_empty, line_bytes};
+ghost use Rattle.session.specs.Made.{StepsOn, MadeBy};
+ghost use Rattle.session.specs.Course.{Ran, picks_of, Closes, IsEnd, IsEndedAs, IsOverAs, is_empty, line_bytes};
 
 use super::steps::{Made, make_step};
 use super::texts::closing;
 use model_tree::{Choices, Design, Line};
-use scheduler::Kernel;
+use ready_set::least_of_a_set;
+use scheduler::{First, Kernel};
 use sim_io::{Sink, Trouble, write_all};
 use sim_model::{Command, Phase, Stop};
 use std::alloc::Global;
@@ -50,13 +52,6 @@ pub struct Outcome {
     pub choices: Choices,
     /// How many steps were made.
     pub steps: u64,
-}
-
-/// How the steps of a session went.
-#[derive(Clone, Copy)]
-struct Course {
-    stop: Stop,
-    steps: u64,
 }
 
 fn write_line<O: Sink>(out: &mut O, line: &Option<Line>) -> Result<(), Trouble>
@@ -110,6 +105,15 @@ fn end_at_budget(k: &Kernel, script: &[Command], place: usize) -> Stop
     }
 }
 
+/// How the session ends where no runnable process was chosen after these takings. The rules that there are always find one.
+fn not_ready(choices: &Choices) -> Stop
+    ensures { IsEnd result }
+{
+    Stop::Replay {
+        place: choices.items().len() as u64 + 1,
+    }
+}
+
 /// Writes what follows the report lines.
 fn finish<O: Sink>(alloc: Global, k: &Kernel, stop: Stop, out: &mut O) -> Stop
     requires { IsEnd stop }
@@ -126,53 +130,101 @@ fn finish<O: Sink>(alloc: Global, k: &Kernel, stop: Stop, out: &mut O) -> Stop
     }
 }
 
+/// Makes the next step of a session, in which the rule chooses.
+fn step_by(alloc: Global, rule: Rule, k: &mut Kernel, script: &[Command], place: &mut usize) -> Made
+    requires sound { IsSound k.old }
+    requires within { place.old ≤ length script.now }
+    ensures steps { StepsOn k.old k.new (drop place.old script.now) (drop place.new script.now) result step }
+    ensures ruled { MadeBy (picks_of rule) k.old (drop place.old script.now) result }
+    ensures sound { IsSound k.new }
+    ensures within { place.new ≤ length script.now }
+{
+    match rule {
+        Rule::First => {
+            least_of_a_set();
+            make_step(alloc, k, script, place, &mut First {})
+        }
+    }
+}
+
 /// Carries a script out until it ends, the budget is used up, or a step is a fault.
 fn run_on<O: Sink>(
     alloc: Global,
     k: &mut Kernel,
     script: &[Command],
-    budget: u64,
+    plan: Plan,
     out: &mut O,
-) -> Course
-    requires sound { vec_len k.old.events ≡ 3 * vec_len k.old.signals }
+) -> Outcome
+    requires sound { IsSound k.old }
     ensures ran { (first : Config) → StandsFor k.old first → first.script ≡ script.now → first.trace.lines ≡ []
-        → Ran first budget [] result.steps result.stop (O.holds out.old) (O.holds out.new) }
+        → Ran first plan.rule plan.budget result.choices result.steps result.stop (O.holds out.old) (O.holds out.new) }
     ensures cause { RoseIf (O.faults out.old) (O.faults out.new) (result.stop ≡ Stop.WriteFault) }
 {
+    let mut choices = Choices::new(alloc);
     let mut steps = 0;
     let mut place = 0;
-    while steps < budget {
-        match make_step(alloc, k, script, &mut place) {
+    while steps < plan.budget {
+        match step_by(alloc, plan.rule, k, script, &mut place) {
             Made::Went(line) => {
                 steps += 1;
                 match write_line(out, &line) {
                     Ok(()) => {}
                     Err(Trouble::Failed) => {
-                        return Course {
+                        return Outcome {
                             stop: Stop::WriteFault,
+                            choices,
                             steps,
                         };
                     }
                     Err(Trouble::NoMemory) => {
-                        return Course {
+                        return Outcome {
                             stop: Stop::NoMemory,
+                            choices,
                             steps,
                         };
                     }
                 }
             }
+            // The taking whose choice finds no memory is no step of the session.
+            Made::Took(serial) => match choices.push(serial) {
+                Ok(()) => steps += 1,
+                Err(_) => {
+                    return Outcome {
+                        stop: Stop::NoMemory,
+                        choices,
+                        steps,
+                    };
+                }
+            },
             Made::Ended => {
                 let ending = ended_as(k);
                 let stop = finish(alloc, k, ending, out);
-                return Course { stop, steps };
+                return Outcome {
+                    stop,
+                    choices,
+                    steps,
+                };
             }
             Made::Fault(fault) => {
                 let stop = finish(alloc, k, Stop::Fault(fault), out);
-                return Course { stop, steps };
+                return Outcome {
+                    stop,
+                    choices,
+                    steps,
+                };
+            }
+            Made::NotReady => {
+                let stop = finish(alloc, k, not_ready(&choices), out);
+                return Outcome {
+                    stop,
+                    choices,
+                    steps,
+                };
             }
             Made::NoMemory => {
-                return Course {
+                return Outcome {
                     stop: Stop::NoMemory,
+                    choices,
                     steps,
                 };
             }
@@ -180,7 +232,11 @@ fn run_on<O: Sink>(
     }
     let ending = end_at_budget(k, script, place);
     let stop = finish(alloc, k, ending, out);
-    Course { stop, steps }
+    Outcome {
+        stop,
+        choices,
+        steps,
+    }
 }
 
 /// Runs a session: carries the script out over the design, and writes the report to `out`.
@@ -194,22 +250,14 @@ pub fn run_session<O: Sink>(
     plan: Plan,
     out: &mut O,
 ) -> Outcome
-    ensures ran { Ran (start design script.now) plan.budget result.choices result.steps result.stop (O.holds out.old) (O.holds out.new) }
+    ensures ran { Ran (start design script.now) plan.rule plan.budget result.choices result.steps result.stop (O.holds out.old) (O.holds out.new) }
     ensures cause { RoseIf (O.faults out.old) (O.faults out.new) (result.stop ≡ Stop.WriteFault) }
 {
-    let choices = Choices::new(alloc);
     match Kernel::new(alloc, design) {
-        Ok(mut k) => {
-            let course = run_on(alloc, &mut k, script, plan.budget, out);
-            Outcome {
-                stop: course.stop,
-                choices,
-                steps: course.steps,
-            }
-        }
+        Ok(mut k) => run_on(alloc, &mut k, script, plan, out),
         Err(_) => Outcome {
             stop: Stop::NoMemory,
-            choices,
+            choices: Choices::new(alloc),
             steps: 0,
         },
     }

@@ -1,10 +1,12 @@
-ghost use Rattle.std.specs.Prelude.{◌≡◌, ◌≤◌, ◌*◌, ℕ, List, drop, length, vec_len};
+ghost use Rattle.std.specs.Prelude.{◌≡◌, ◌≢◌, ◌≤◌, ℕ, List, drop, length, false};
 ghost use Rattle.sim_model.specs.Steps as spec;
-ghost use Rattle.session.specs.Made.{Makes, StepsOn};
+ghost use Rattle.sim_model.specs.declared.plain.Phase.TheVariants as phase;
+ghost use Rattle.scheduler.specs.Kernel.{IsSound};
+ghost use Rattle.session.specs.Made.{Makes, StepsOn, Chosen, IsPlain};
 
 use super::texts::show;
 use model_tree::{Line, RunFault};
-use scheduler::{Kernel, begin_run, set_signal, step};
+use scheduler::{Chooser, Kernel, StepStop, Stepped, begin_run, set_signal, step};
 use sim_model::{Command, Phase};
 use std::alloc::Global;
 
@@ -13,18 +15,23 @@ use std::alloc::Global;
 pub enum Made {
     /// The run went on, with this line for the report where there is one.
     Went(Option<Line>),
+    /// The process of this serial was taken.
+    Took(u32),
     /// There is no step: the session has ended.
     Ended,
     /// The step is a run fault; nothing has changed.
     Fault(RunFault),
+    /// The step takes a process, and the chooser gave none that is runnable; nothing has changed.
+    NotReady,
     /// Memory was refused; nothing has changed.
     NoMemory,
 }
 
 fn carry_out(alloc: Global, k: &mut Kernel, command: Command) -> Made
-    requires sound { vec_len k.old.events ≡ 3 * vec_len k.old.signals }
+    requires sound { IsSound k.old }
     ensures makes { Makes k.old k.new result (λ c. spec.carry_out c command) }
-    ensures sound { vec_len k.new.events ≡ 3 * vec_len k.new.signals }
+    ensures plain { IsPlain result }
+    ensures sound { IsSound k.new }
 {
     match command {
         Command::Run(duration) => match begin_run(k, duration) {
@@ -43,11 +50,12 @@ fn carry_out(alloc: Global, k: &mut Kernel, command: Command) -> Made
 }
 
 fn next_command(alloc: Global, k: &mut Kernel, script: &[Command], place: &mut usize) -> Made
-    requires sound { vec_len k.old.events ≡ 3 * vec_len k.old.signals }
+    requires sound { IsSound k.old }
     requires within { place.old ≤ length script.now }
     ensures steps { StepsOn k.old k.new (drop place.old script.now) (drop place.new script.now) result
         (λ c. spec.next_command c c.script) }
-    ensures sound { vec_len k.new.events ≡ 3 * vec_len k.new.signals }
+    ensures plain { IsPlain result }
+    ensures sound { IsSound k.new }
     ensures within { place.new ≤ length script.now }
 {
     if *place == script.len() {
@@ -62,16 +70,46 @@ fn next_command(alloc: Global, k: &mut Kernel, script: &[Command], place: &mut u
         Made::Ended => Made::Ended,
         Made::Fault(fault) => Made::Fault(fault),
         Made::NoMemory => Made::NoMemory,
+        Made::Took(_) | Made::NotReady => unreachable!(),
     }
 }
 
-/// Makes the next step of a session: the next command where the kernel is Idle, else the step of its phase.
+/// The step of the phase.
+fn go_on<C: Chooser>(alloc: Global, k: &mut Kernel, chooser: &mut C) -> Made
+    requires sound { IsSound k.old }
+    requires running { k.old.phase ≢ phase.Idle }
+    requires going { k.old.stopped ≡ false }
+    ensures makes { Makes k.old k.new result spec.step }
+    ensures chosen { Chosen k.old.ready.members (C.answer chooser.old k.old.ready.members) (C.after chooser.old k.old.ready.members) chooser.old chooser.new result }
+    ensures sound { IsSound k.new }
+{
+    match step(alloc, k, chooser) {
+        Ok(Stepped::Went(line)) => Made::Went(line),
+        Ok(Stepped::Took(serial)) => Made::Took(serial),
+        Ok(Stepped::Quiet | Stepped::Stopped) => Made::Went(None),
+        Err(StepStop::Fault(fault)) => Made::Fault(fault),
+        Err(StepStop::NotReady) => Made::NotReady,
+        Err(StepStop::NoMemory) => Made::NoMemory,
+    }
+}
+
+/// Makes the next step of a session: the next command where the kernel is Idle, else the step of its phase, in
+/// which the chooser is asked for the process where one is to be taken.
 /// `place` counts the commands that were carried out.
-pub fn make_step(alloc: Global, k: &mut Kernel, script: &[Command], place: &mut usize) -> Made
-    requires sound { vec_len k.old.events ≡ 3 * vec_len k.old.signals }
+///
+/// `NotReady` comes only where the step takes a process and the chooser gave none that is runnable.
+pub fn make_step<C: Chooser>(
+    alloc: Global,
+    k: &mut Kernel,
+    script: &[Command],
+    place: &mut usize,
+    chooser: &mut C,
+) -> Made
+    requires sound { IsSound k.old }
     requires within { place.old ≤ length script.now }
     ensures steps { StepsOn k.old k.new (drop place.old script.now) (drop place.new script.now) result spec.step }
-    ensures sound { vec_len k.new.events ≡ 3 * vec_len k.new.signals }
+    ensures chosen { Chosen k.old.ready.members (C.answer chooser.old k.old.ready.members) (C.after chooser.old k.old.ready.members) chooser.old chooser.new result }
+    ensures sound { IsSound k.new }
     ensures within { place.new ≤ length script.now }
 {
     if k.stopped {
@@ -79,9 +117,6 @@ pub fn make_step(alloc: Global, k: &mut Kernel, script: &[Command], place: &mut 
     }
     match k.phase {
         Phase::Idle => next_command(alloc, k, script, place),
-        _ => {
-            step(k);
-            Made::Went(None)
-        }
+        _ => go_on(alloc, k, chooser),
     }
 }

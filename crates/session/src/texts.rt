@@ -1,43 +1,21 @@
 ghost use Rattle.std.specs.Prelude.{◌≡◌, ◌++◌, ◌∷◌, [], ℕ, List, Option, IfOk, OnOk, filter, slice_get, option_map, unwrap_or, codes};
 ghost use Rattle.std.specs.Option.{option_copied};
-ghost use Rattle.std.specs.Fmt.{decimal};
-ghost use Rattle.logic_values.specs.ValueText.{text_of};
 ghost use Rattle.sim_model.specs.Configuration as config;
 ghost use Rattle.sim_model.specs.Steps.{show_line as line_of_show};
 ghost use Rattle.sim_model.specs.Texts as spec;
 ghost use Rattle.session.specs.Show.{line_for, line_at, closing_of};
 
-use logic_values::{Value, value_text};
+use logic_values::Value;
 use model_tree::{Design, Line, Object, RunFault};
-use scheduler::Kernel;
-use sim_model::{Signal, Stop, is_visible, visible_at};
+use scheduler::{Kernel, push_number, push_value};
+use signal_channel::Signal;
+use sim_model::{Stop, is_visible, visible_at};
 use std::alloc::{AllocError, Global};
 
 fn push_bytes(text: &mut Vec<u8>, piece: &[u8]) -> Result<(), AllocError>
     ensures { OnOk result (text.new.items ≡ text.old.items ++ piece.now) }
 {
     text.extend_from_slice(piece)
-}
-
-fn push_number(alloc: Global, text: &mut Vec<u8>, number: u64) -> Result<(), AllocError>
-    ensures { OnOk result (text.new.items ≡ text.old.items ++ decimal number) }
-{
-    let digits = format!(in alloc; "{number}")?;
-    text.extend_from_slice(digits.as_bytes())?;
-    Ok(())
-}
-
-fn push_value(alloc: Global, text: &mut Vec<u8>, value: Value) -> Result<(), AllocError>
-    ensures { OnOk result (text.new.items ≡ text.old.items ++ text_of value) }
-{
-    match value {
-        Value::Handle(_) | Value::Pay(_) => Ok(()),
-        _ => {
-            let shown = value_text(alloc, value)?;
-            text.extend_from_slice(shown.items())?;
-            Ok(())
-        }
-    }
 }
 
 fn push_show(

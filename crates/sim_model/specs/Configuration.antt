@@ -1,18 +1,27 @@
 -- The configuration of a run: all that its next step and its texts depend on.
-use Rattle.std.specs.Prelude.{ℕ, ◌*◌, Bool, false, List, [], map, filter, replicate, length, Option, Some, None, is_some, unwrap_or}
+use Rattle.std.specs.Prelude.{ℕ, ◌*◌, Bool, true, false, List, [], ◌∷◌, map, filter, replicate, length, Option, Some, None, is_some, unwrap_or}
+use Rattle.std.specs.List.{flat_map}
 use Rattle.logic_values.specs.declared.kinds.Value.{Value}
 use Rattle.logic_values.specs.declared.kinds.Value.TheVariants as value
 use Rattle.logic_values.specs.declared.kinds.Digit.TheVariants as digit
+use Rattle.model_tree.specs.declared.items.SignalKind.{SignalKind}
+use Rattle.model_tree.specs.declared.items.SignalKind.TheVariants as kind
 use Rattle.model_tree.specs.declared.designs.Design.{Design}
 use Rattle.model_tree.specs.declared.designs.Object.{Object}
 use Rattle.model_tree.specs.declared.designs.ObjectForm.{ObjectForm}
 use Rattle.model_tree.specs.declared.designs.ObjectForm.TheVariants as form
+use Rattle.event_core.specs.declared.notifications.Pending.{Pending}
+use Rattle.event_core.specs.declared.notifications.Pending.TheVariants as pending
+use Rattle.signal_channel.specs.Signals.{begun}
+use Rattle.signal_channel.specs.declared.signal.Policy.{Policy}
+use Rattle.signal_channel.specs.declared.signal.Policy.TheVariants as policy
+use Rattle.signal_channel.specs.declared.signal.Signal.{Signal}
+use Rattle.sim_model.specs.Residual.{Residual, skip}
 use Rattle.sim_model.specs.declared.plain.Phase.{Phase}
 use Rattle.sim_model.specs.declared.plain.Phase.TheVariants as phase
 use Rattle.sim_model.specs.declared.plain.Command.{Command}
-use Rattle.sim_model.specs.declared.plain.Signal.{Signal}
-use Rattle.sim_model.specs.declared.plain.Pending.{Pending}
-use Rattle.sim_model.specs.declared.plain.Pending.TheVariants as pending
+use Rattle.sim_model.specs.declared.plain.Wait.{Wait}
+use Rattle.sim_model.specs.declared.plain.Wait.TheVariants as wait
 
 -- the phase and the time: whether a run has begun, now, the run's end, whether the model stopped the session
 pub record Cycle : Type 0 where
@@ -21,6 +30,23 @@ pub record Cycle : Type 0 where
   pub now : ℕ
   pub end : Option ℕ
   pub stopped : Bool
+
+-- a process: the instance of a module that it is in, its path, its static sensitivity as numbers of events, its
+-- body's number, whether initialization leaves it out, what is left of its body, and what it waits for
+pub record Instance : Type 0 where
+  pub home : ℕ
+  pub path : List ℕ
+  pub static : List ℕ
+  pub code : ℕ
+  pub dont_initialize : Bool
+  pub residual : Residual
+  pub waits : Wait
+
+-- the processes: the runnable ones and the active ones by their serials, the top of the stack first, and all by serial
+pub record Processes : Type 0 where
+  pub runnable : List ℕ
+  pub stack : List ℕ
+  pub instances : List Instance
 
 -- the channels: the signals in object order
 pub record Channels : Type 0 where
@@ -33,6 +59,7 @@ pub record Trace : Type 0 where
 pub record Config : Type 0 where
   pub design : Design
   pub cycle : Cycle
+  pub processes : Processes
   pub events : List Pending
   pub channels : Channels
   pub script : List Command
@@ -53,14 +80,42 @@ is_visible o = is_some (initial_of o.form)
 abbrev pub visible : Design → List Object
 visible design = filter is_visible design.objects.list
 
-abbrev pub first_signal : Object → Signal
-first_signal o = let v = unwrap_or (initial_of o.form) (value.Bool false) in record { value = v; next = v; asked = false }
+-- the rule of a signal's writes and updates
+abbrev pub policy_by : SignalKind → Bool → Policy
+policy_by kind.Signal false = policy.One
+policy_by kind.Signal true = policy.Many
+policy_by kind.Buffer false = policy.Buffer
+policy_by kind.Buffer true = policy.BufferMany
 
--- the configuration before the first command: Idle at 0, with first values and nothing pending
+abbrev pub policy_of : ObjectForm → Policy
+policy_of (form.Signal kind many initial) = policy_by kind many
+policy_of other = policy.One
+
+abbrev pub first_signal : Object → Signal
+first_signal o = begun (policy_of o.form) (unwrap_or (initial_of o.form) (value.Bool false))
+
+-- a process of the design before it was ever taken: it waits for its static sensitivity
+abbrev pub process_of : Object → ObjectForm → List Instance
+process_of o (form.Process kind code dont_initialize) =
+    (record { home = o.instance; path = o.path; static = []; code = code; dont_initialize = dont_initialize; residual = skip; waits = wait.Static }) ∷ []
+process_of o other = []
+
+-- the static sensitivities of processes, in the order of their serials
+abbrev pub with_statics : List (List ℕ) → List Instance → List Instance
+with_statics statics [] = []
+with_statics [] (i ∷ is) = i ∷ is
+with_statics (s ∷ ss) (i ∷ is) = record i { static = s } ∷ with_statics ss is
+
+-- serials are given from 0 to the processes of the design in object order
+abbrev pub first_instances : Design → List Instance
+first_instances design = with_statics design.sensitive (flat_map (λ o. process_of o o.form) design.objects.list)
+
+-- the configuration before the first command: Idle at 0, with first values, nothing runnable and nothing pending
 abbrev pub start : Design → List Command → Config
 start design script = record {
   design = design;
   cycle = record { phase = phase.Idle; begun = false; now = 0; end = None; stopped = false };
+  processes = record { runnable = []; stack = []; instances = first_instances design };
   events = replicate (3 * length (visible design)) pending.Nothing;
   channels = record { signals = map first_signal (visible design) };
   script = script;

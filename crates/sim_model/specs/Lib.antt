@@ -1,7 +1,10 @@
-pub mod SameValue
-pub mod Signals
+pub mod Residual
 pub mod Configuration
+pub mod Signals
+pub mod Wakes
 pub mod Phases
+pub mod Values
+pub mod Statements
 pub mod Steps
 pub mod Runs
 pub mod Texts

@@ -1,34 +1,36 @@
--- One step of a run: the next command in Idle, or the step of the phase.
-use Rattle.std.specs.Prelude.{ℕ, ◌+◌, ◌^◌, Bool, true, false, List, [], ◌∷◌, ◌++◌, slice_get, nat_lt, Option, Some, None, if◌then◌else◌, codes}
+-- One step of a run: the next command in Idle, the step of the phase, or the taking of a process.
+use Rattle.std.specs.Prelude.{ℕ, ◌+◌, ◌^◌, ◌==◌, not, Bool, true, false, List, [], ◌∷◌, ◌++◌, filter, slice_get, slice_set, nat_lt, Option, Some, None, if◌then◌else◌, codes}
+use Rattle.std.specs.List.{list_any}
 use Rattle.std.specs.Fmt.{decimal}
 use Rattle.logic_values.specs.declared.kinds.Value.{Value}
 use Rattle.logic_values.specs.ValueText.{text_of}
+use Rattle.model_tree.specs.Code.{arena_of}
 use Rattle.model_tree.specs.declared.designs.Object.{Object}
 use Rattle.model_tree.specs.declared.faults.RunFault.{RunFault}
 use Rattle.model_tree.specs.declared.faults.RunFault.TheVariants as run_fault
+use Rattle.signal_channel.specs.declared.signal.Signal.{Signal}
 use Rattle.sim_time.specs.declared.moments.Time.{Time}
-use Rattle.sim_model.specs.Configuration.{Config, visible}
+use Rattle.sim_model.specs.Residual.{body_begun}
+use Rattle.sim_model.specs.Configuration.{Config, Instance, visible}
 use Rattle.sim_model.specs.Phases.{initialization, update_step, delta_step, timed_step}
 use Rattle.sim_model.specs.Signals.{write_to}
+use Rattle.sim_model.specs.Statements.{Did, did, refused, with_line, statement_step}
 use Rattle.sim_model.specs.declared.plain.Phase.{Phase}
 use Rattle.sim_model.specs.declared.plain.Phase.TheVariants as phase
 use Rattle.sim_model.specs.declared.plain.Command.{Command}
 use Rattle.sim_model.specs.declared.plain.Command.TheVariants as command
-use Rattle.sim_model.specs.declared.plain.Signal.{Signal}
 
--- what the next step is: it goes to a configuration; or it is a run fault, which changes nothing; or
--- there is none, since the session has ended
+-- what the next step is: it goes to a configuration; or it is a run fault, which changes nothing; or it takes a
+-- runnable process, whichever is chosen; or there is none, since the session has ended
 pub data Outcome : Type 0 where
   went : Config → Outcome
   faulted : RunFault → Outcome
+  takes : Outcome
   ended : Outcome
 
 -- the line of a show: the time, the word script, the path and the value
 abbrev pub show_line : ℕ → List ℕ → Value → List ℕ
 show_line now path v = decimal now ++ codes " script " ++ path ++ codes " " ++ text_of v ++ 10 ∷ []
-
-abbrev pub with_line : Config → List ℕ → Config
-with_line c line = record c { trace = record { lines = c.trace.lines ++ line ∷ [] } }
 
 abbrev pub shown : Config → Option Object → Option Signal → Config
 shown c (Some o) (Some s) = with_line c (show_line c.cycle.now o.path s.value)
@@ -69,14 +71,48 @@ abbrev pub next_command : Config → List Command → Outcome
 next_command c [] = ended
 next_command c (k ∷ ks) = carry_out (record c { script = ks }) k
 
+-- the step of the active process
+abbrev pub as_outcome : Did → Outcome
+as_outcome (did d) = went d
+as_outcome (refused f) = faulted f
+
+-- evaluation: a statement of the process on top of the stack; with none there, a runnable process is taken;
+-- with none of these either, the update phase
+abbrev pub evaluate : List ℕ → List ℕ → Config → Outcome
+evaluate (p ∷ stack) runnable c = as_outcome (statement_step c p)
+evaluate [] (q ∷ runnable) c = takes
+evaluate [] [] c = went (update_step c)
+
 -- the step of a phase
 abbrev pub step_in : Phase → Config → Outcome
 step_in phase.Idle c = next_command c c.script
 step_in phase.Start c = went (initialization c)
-step_in phase.Evaluate c = went (update_step c)
+step_in phase.Evaluate c = evaluate c.processes.stack c.processes.runnable c
 step_in phase.Notify c = went (delta_step c)
 step_in phase.Timed c = went (timed_step c)
 
 -- the step that a configuration makes
 abbrev pub step : Config → Outcome
 step c = if c.cycle.stopped then ended else step_in c.cycle.phase c
+
+-- a process that is taken leaves the runnable set, and its body begins
+abbrev pub begins : Config → Option Instance → ℕ → List Instance
+begins c None p = c.processes.instances
+begins c (Some i) p = slice_set c.processes.instances p (record i { residual = body_begun (arena_of c.design.code) i.code })
+
+abbrev pub taken : Config → ℕ → Config
+taken c p = record c {
+  processes = record {
+    runnable = filter (λ q. not (q == p)) c.processes.runnable;
+    stack = p ∷ c.processes.stack;
+    instances = begins c (slice_get c.processes.instances p) p;
+  };
+}
+
+-- the taking of p, which has to be runnable
+abbrev pub taken_if : Config → ℕ → Bool → Option Config
+taken_if c p true = Some (taken c p)
+taken_if c p false = None
+
+abbrev pub taking : Config → ℕ → Option Config
+taking c p = taken_if c p (list_any (λ q. q == p) c.processes.runnable)

@@ -8,7 +8,7 @@ use Rattle.model_tree.specs.declared.designs.Design.{Design}
 use Rattle.model_tree.specs.declared.faults.RunFault.{RunFault}
 use Rattle.model_tree.specs.declared.faults.RunFault.TheVariants as run_fault
 use Rattle.sim_model.specs.Configuration.{Config, visible}
-use Rattle.sim_model.specs.declared.plain.Signal.{Signal}
+use Rattle.signal_channel.specs.declared.signal.Signal.{Signal}
 use Rattle.sim_model.specs.declared.plain.Stop.{Stop}
 use Rattle.sim_model.specs.declared.plain.Stop.TheVariants as stop
 

@@ -4,10 +4,8 @@
 
 mod laws;
 mod plain;
-mod values;
 mod visible;
 
 pub use laws::no_earlier_end;
-pub use plain::{Command, Pending, Phase, Signal, Stop};
-pub use values::is_same;
+pub use plain::{Command, Phase, Stop, Wait};
 pub use visible::{initial_of, is_visible, visible_at};

@@ -28,27 +28,13 @@ pub enum Command {
     Show(u32),
 }
 
-/// What an event has pending (IEEE 1666-2011, 5.10.8).
+/// What a process waits for (IEEE 1666-2011, 4.2.1.2 and 5.2.17).
 #[derive(Clone, Copy)]
-pub enum Pending {
-    /// Nothing.
+pub enum Wait {
+    /// Nothing: it is active or runnable.
     Nothing,
-    /// A delta notification.
-    Delta,
-    /// A timed notification at this moment.
-    At(Time),
-}
-
-/// A signal: its value, the value that it has after the next update, and whether it asked for that
-/// update (IEEE 1666-2011, 6.4).
-#[derive(Clone, Copy)]
-pub struct Signal {
-    /// The value that is read.
-    pub value: Value,
-    /// The value that was written last.
-    pub next: Value,
-    /// Whether it asked for an update.
-    pub asked: bool,
+    /// An event of its static sensitivity.
+    Static,
 }
 
 /// How a session ended.
