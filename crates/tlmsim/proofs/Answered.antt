@@ -7,7 +7,7 @@ use Rattle.sim_io.specs.Cause.{Rose}
 use Rattle.model_tree.specs.Tree as tree
 use Rattle.model_tree.specs.declared.faults.RunFault.{RunFault}
 use Rattle.sim_model.specs.Configuration.{Config}
-use Rattle.sim_model.specs.Steps.{Outcome, went, faulted, ended, step}
+use Rattle.sim_model.specs.Steps.{Outcome, went, faulted, takes, ended, step}
 use Rattle.sim_model.specs.Runs.{stop_within}
 use Rattle.sim_model.specs.declared.plain.Command.{Command}
 use Rattle.sim_model.specs.declared.plain.Stop.{Stop}
@@ -72,6 +72,7 @@ spent : (c : Config) (o : Outcome) (b : Bool) → stop_within c b o ≡ Some sto
 spent c o true e = refl
 spent c (went d) false e = cc
 spent c (faulted f) false e = cc
+spent c takes false e = cc
 spent c ended false e = absurd (ended_apart c.cycle.stopped e)
 
 used_up : (budget steps : ℕ) → nat_le budget steps ≡ true → budget ≤ steps

@@ -5,15 +5,13 @@ use Rattle.model_tree.specs.Tree as tree
 use Rattle.model_tree.specs.declared.faults.Fault.{Fault}
 use Rattle.model_grammar.specs.Reads.{Reads}
 use Rattle.model_rules.specs.FirstFault.{first_fault}
-use Rattle.model_rules.specs.FlatDesign.{design_of}
-use Rattle.sim_model.specs.Configuration.{visible}
 use Rattle.sim_model.specs.declared.plain.Command.{Command}
 use Rattle.script_text.specs.ScriptText.{read_script}
 use Rattle.script_text.specs.NamedScript.{name_script}
 use Rattle.script_text.specs.declared.forms.TextCommand.{TextCommand}
 use Rattle.tlmsim.specs.Line.{Names, line_of}
 use Rattle.tlmsim.specs.Call.{Call, Texts, model_limit, script_limit}
-use Rattle.tlmsim.specs.Judged.{IsBrokenModel, AcceptsModel, IsBrokenScript, Accepts}
+use Rattle.tlmsim.specs.Judged.{IsBrokenModel, AcceptsModel, IsBrokenScript, Accepts, shown_objects}
 use Rattle.tlmsim.specs.Headline.{ReadFailed, TooLarge, Given, ModelGiven}
 
 -- no text reads as two trees
@@ -118,15 +116,15 @@ not_broken one model m a b =
     ⊎_elim (λ none. none m a.reads) (λ some. faulty m some.0 (one model m some.0 a.reads some.1) a.faultless some.2) b
 
 -- a script is not both accepted and refused
-breaks : (m : tree.Model) (script : List ℕ) (text : List TextCommand) (commands : List Command) → read_script script ≡ Ok text → name_script (visible (design_of m)) text ≡ Ok commands → IsBrokenScript m script → ⊥
+breaks : (m : tree.Model) (script : List ℕ) (text : List TextCommand) (commands : List Command) → read_script script ≡ Ok text → name_script (shown_objects m) text ≡ Ok commands → IsBrokenScript m script → ⊥
 breaks m script text commands read named b =
     ⊎_elim (λ syntax. let e = syntax.1 in cc) (λ fault. other fault.0 fault.1 fault.2 fault.3) b
   where
-    other : (text' : List TextCommand) (f : Fault) → read_script script ≡ Ok text' → name_script (visible (design_of m)) text' ≡ Err f → ⊥
+    other : (text' : List TextCommand) (f : Fault) → read_script script ≡ Ok text' → name_script (shown_objects m) text' ≡ Err f → ⊥
     other text' f read' named' =
         let same : text' ≡ text = cc in
-        let P : List TextCommand → Type 0 = λ t. name_script (visible (design_of m)) t ≡ Err f in
-        let here : name_script (visible (design_of m)) text ≡ Err f = subst P same named' in
+        let P : List TextCommand → Type 0 = λ t. name_script (shown_objects m) t ≡ Err f in
+        let here : name_script (shown_objects m) text ≡ Err f = subst P same named' in
         cc
 
 pub not_both : OneTree → (model script : List ℕ) (m n : tree.Model) (commands : List Command) → Accepts model script m commands → AcceptsModel model n → IsBrokenScript n script → ⊥

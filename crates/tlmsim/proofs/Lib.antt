@@ -1,3 +1,4 @@
+pub mod BuiltTrees
 pub mod Refusals
 pub mod Apart
 pub mod Answered

@@ -4,16 +4,17 @@ use Rattle.sim_io.specs.Told.{Files, Lacks}
 use Rattle.sim_io.specs.Cause.{Rose}
 use Rattle.model_tree.specs.declared.faults.RunFault.{RunFault}
 use Rattle.model_tree.specs.Tree as tree
-use Rattle.model_rules.specs.FlatDesign.{design_of}
+use Rattle.model_tree.specs.declared.designs.Design.{Design}
 use Rattle.sim_model.specs.Configuration.{start}
 use Rattle.sim_model.specs.declared.plain.Command.{Command}
 use Rattle.sim_model.specs.declared.plain.Stop.{Stop}
 use Rattle.sim_model.specs.declared.plain.Stop.TheVariants as stop
 use Rattle.session.specs.Course.{Ran}
+use Rattle.session.specs.declared.run.Rule.TheVariants as rule
 use Rattle.tlmsim.specs.Line.{Names, line_of}
 use Rattle.tlmsim.specs.Call.{Call, Texts, model_limit, script_limit}
 use Rattle.tlmsim.specs.Loaded.{LacksScript, IsTooLarge}
-use Rattle.tlmsim.specs.Judged.{IsBrokenModel, AcceptsModel, IsBrokenScript, Accepts}
+use Rattle.tlmsim.specs.Judged.{IsBrokenModel, AcceptsModel, IsBrokenScript, Accepts, IsDesignOf}
 
 -- the most steps of a session
 abbrev pub default_budget : ℕ
@@ -48,8 +49,8 @@ pub record ScriptRefused (c : Call) : Type 0 where
   pub accepted : AcceptsModel model m
   pub broken : IsBrokenScript m script
 
--- both texts are accepted, and this is their session: the run of the source tree's design under the script
--- with these choices and steps, which ended so, and whose text `out` took
+-- both texts are accepted, and this is their session: the run of a design of the source tree under the script, with
+-- these choices and steps, which ended so, and whose text `out` took; each choice is one of the rule
 pub record Session (c : Call) (choices : List ℕ) (steps : ℕ) (s : Stop) : Type 0 where
   pub model : List ℕ
   pub script : List ℕ
@@ -57,7 +58,9 @@ pub record Session (c : Call) (choices : List ℕ) (steps : ℕ) (s : Stop) : Ty
   pub m : tree.Model
   pub commands : List Command
   pub accepts : Accepts model script m commands
-  pub ran : Ran (start (design_of m) commands) default_budget choices steps s c.before.out c.after.out
+  pub design : Design
+  pub is_design : IsDesignOf m design
+  pub ran : Ran (start design commands) rule.First default_budget choices steps s c.before.out c.after.out
 
 -- the session had not begun: no choices, no steps, and `out` is as it was
 pub record Untouched (c : Call) (choices : List ℕ) (steps : ℕ) : Type 0 where

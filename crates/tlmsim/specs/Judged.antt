@@ -1,12 +1,13 @@
 -- Which texts are accepted, and which are refused.
-use Rattle.std.specs.Prelude.{◌≡◌, ◌⊎◌, ℕ, List, None, IsSome, Ok, Err}
+use Rattle.std.specs.Prelude.{◌≡◌, ◌⊎◌, ℕ, List, filter, None, IsSome, Ok, Err}
 use Rattle.model_tree.specs.Tree as tree
 use Rattle.model_tree.specs.declared.faults.Fault.{Fault}
 use Rattle.model_tree.specs.declared.designs.Object.{Object}
 use Rattle.model_grammar.specs.Reads.{Reads}
 use Rattle.model_rules.specs.FirstFault.{first_fault}
-use Rattle.model_rules.specs.FlatDesign.{design_of}
-use Rattle.sim_model.specs.Configuration.{visible}
+use Rattle.model_tree.specs.declared.designs.Design.{Design}
+use Rattle.model_rules.specs.FlatDesign.{objects_of, IsDesign, IsCodeOf}
+use Rattle.sim_model.specs.Configuration.{is_visible}
 use Rattle.sim_model.specs.declared.plain.Command.{Command}
 use Rattle.script_text.specs.ScriptText.{read_script}
 use Rattle.script_text.specs.NamedScript.{name_script}
@@ -21,13 +22,23 @@ pub record AcceptsModel (model : List ℕ) (m : tree.Model) : Type 0 where
   pub reads : Reads model m
   pub faultless : first_fault m ≡ None
 
+-- the objects of a model that a script may name, in object order
+abbrev pub shown_objects : tree.Model → List Object
+shown_objects m = filter is_visible (objects_of m)
+
+-- the design is that of the tree: its objects, what its names stand for, and code that reads back as the bodies of
+-- its processes
+pub record IsDesignOf (m : tree.Model) (d : Design) : Type 0 where
+  pub parts : IsDesign m d
+  pub code : IsCodeOf m d.names d.code
+
 -- the script has no command list, or a command that names what the objects lack or has a bad value
 abbrev pub BreaksScript : List Object → List ℕ → Type 0
 BreaksScript objects script =
     ((line : ℕ) × (read_script script ≡ Err line)) ⊎ ((text : List TextCommand) × (fault : Fault) × (read_script script ≡ Ok text) × (name_script objects text ≡ Err fault))
 
 abbrev pub IsBrokenScript : tree.Model → List ℕ → Type 0
-IsBrokenScript m script = BreaksScript (visible (design_of m)) script
+IsBrokenScript m script = BreaksScript (shown_objects m) script
 
 -- the script has a command list, whose names and values fit the objects
 abbrev pub NamesScript : List Object → List ℕ → List Command → Type 0
@@ -36,4 +47,4 @@ NamesScript objects script commands = (text : List TextCommand) × (read_script 
 -- the model is accepted as this tree, and the script as these commands over its design
 pub record Accepts (model script : List ℕ) (m : tree.Model) (commands : List Command) : Type 0 where
   pub accepted : AcceptsModel model m
-  pub named : NamesScript (visible (design_of m)) script commands
+  pub named : NamesScript (shown_objects m) script commands

@@ -1,10 +1,11 @@
-ghost use Rattle.std.specs.Prelude.{◌≡◌, ◌<◌, ◌^◌, ℕ, IfOk, IsErrOf, length, None};
+ghost use Rattle.std.specs.Prelude.{◌≡◌, ◌<◌, ◌^◌, ℕ, IfOk, IsErrOf, length, None, true};
 ghost use Rattle.model_tree.specs.Tree as tree;
 ghost use Rattle.model_grammar.specs.Reads.{Reads};
 ghost use Rattle.model_tree.specs.Seen.{model_of};
-ghost use Rattle.model_rules.specs.FlatDesign.{design_of};
+ghost use Rattle.model_rules.specs.Built.{is_built};
+ghost use Rattle.model_rules.specs.FlatDesign.{IsDesign, IsCodeOf};
 ghost use Rattle.sim_model.specs.Configuration.{visible};
-ghost use Rattle.tlmsim.specs.Judged.{IsBrokenModel, AcceptsModel, IsBrokenScript, NamesScript, Accepts, BreaksScript};
+ghost use Rattle.tlmsim.specs.Judged.{IsBrokenModel, AcceptsModel, IsBrokenScript, NamesScript, Accepts, BreaksScript, IsDesignOf};
 
 use super::load::Texts;
 use elaborate::elaborate;
@@ -38,6 +39,7 @@ pub struct Judged {
 fn judge_model(alloc: Global, text: &[u8]) -> Result<Checked, JudgeStop>
     requires { length text.now < 2 ^ 32 }
     ensures accepted { IfOk result (λ checked. AcceptsModel text.now (model_of checked.tree)) }
+    ensures code { IfOk result (λ checked. is_built (model_of checked.tree) ≡ true → IsCodeOf (model_of checked.tree) checked.names checked.code) }
     ensures broken { IsErrOf result JudgeStop.Model → IsBrokenModel text.now }
     ensures only { IsErrOf result JudgeStop.Script → ⊥ }
 {
@@ -71,7 +73,8 @@ fn judge_script(alloc: Global, text: &[u8], design: &Design) -> Result<Items<Com
 }
 
 fn design_of_model(alloc: Global, checked: Checked) -> Result<Design, JudgeStop>
-    ensures design { IfOk result (λ design. design ≡ design_of (model_of checked.tree)) }
+    ensures design { IfOk result (λ design. IsDesign (model_of checked.tree) design) }
+    ensures code { IfOk result (λ design. (design.names ≡ checked.names) × (design.code ≡ checked.code)) }
     ensures only { IsErrOf result JudgeStop.Model → ⊥ }
     ensures neither { IsErrOf result JudgeStop.Script → ⊥ }
 {
@@ -84,7 +87,7 @@ fn design_of_model(alloc: Global, checked: Checked) -> Result<Design, JudgeStop>
 /// Judges the model, and then the script over its design.
 pub fn judge(alloc: Global, texts: &Texts) -> Result<Judged, JudgeStop>
     requires { length texts.now.model < 2 ^ 32 }
-    ensures accepted { IfOk result (λ judged. (m : tree.Model) × (judged.design ≡ design_of m) × Accepts texts.now.model texts.now.script m judged.script) }
+    ensures accepted { IfOk result (λ judged. (m : tree.Model) × IsDesignOf m judged.design × Accepts texts.now.model texts.now.script m judged.script) }
     ensures model { IsErrOf result JudgeStop.Model → IsBrokenModel texts.now.model }
     ensures script { IsErrOf result JudgeStop.Script → (m : tree.Model) × AcceptsModel texts.now.model m × IsBrokenScript m texts.now.script }
 {

@@ -36,7 +36,7 @@ pub enum Refusal {
 
 /// Runs the session of accepted texts.
 fn run<O: Sink>(alloc: Global, judged: Judged, out: &mut O) -> Outcome
-    ensures ran { Ran (start judged.design judged.script) DEFAULT_BUDGET result.choices result.steps result.stop (O.holds out.old) (O.holds out.new) }
+    ensures ran { Ran (start judged.design judged.script) Rule.First DEFAULT_BUDGET result.choices result.steps result.stop (O.holds out.old) (O.holds out.new) }
     ensures cause { RoseIf (O.faults out.old) (O.faults out.new) (result.stop ≡ Stop.WriteFault) }
 {
     let Judged { design, script } = judged;
