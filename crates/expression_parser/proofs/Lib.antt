@@ -1,0 +1,4 @@
+pub mod Parsers
+pub mod OneToken
+pub mod Sound
+pub mod Complete

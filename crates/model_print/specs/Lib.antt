@@ -1,0 +1,4 @@
+pub mod Layout
+pub mod Leaves
+pub mod Printed
+pub mod Seen

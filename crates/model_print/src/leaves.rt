@@ -1,0 +1,292 @@
+ghost use Rattle.std.specs.Prelude.{◌≡◌, OnOk, codes};
+ghost use Rattle.model_print.specs.Layout.{put, put_all};
+ghost use Rattle.model_print.specs.Leaves as leaf;
+
+use super::page::Page;
+use model_tree::{
+    BinaryOp, BoundRule, Constant, ConstantForm, Control, Conversion, End, Interface, Name,
+    NamedConstant, Parameter, PortSize, Span, Symbol, TypeForm, UnaryOp, VarType, Who, Word,
+};
+use sim_time::Unit;
+use std::alloc::AllocError;
+
+/// Writes a word where it is written.
+pub fn flag(page: &mut Page, word: Word, is_written: bool) -> Result<(), AllocError>
+    ensures { OnOk result (page.new ≡ put_all page.old (leaf.flag word is_written)) }
+{
+    if is_written {
+        page.word(word)?;
+    }
+    Ok(())
+}
+
+/// Writes a type of signals.
+pub fn type_form(page: &mut Page, form: TypeForm) -> Result<(), AllocError>
+    ensures { OnOk result (page.new ≡ put page.old (leaf.type_form form)) }
+{
+    match form {
+        TypeForm::Bool => page.type_word(Word::Bool),
+        TypeForm::Logic => page.type_word(Word::Logic),
+        TypeForm::Int(width) => page.wide(Word::Int, width),
+        TypeForm::Uint(width) => page.wide(Word::Uint, width),
+        TypeForm::Vector(width) => page.wide(Word::Lv, width),
+    }
+}
+
+/// Writes a type of variables.
+pub fn variable_type(page: &mut Page, var_type: VarType) -> Result<(), AllocError>
+    ensures { OnOk result (page.new ≡ put page.old (leaf.variable_type var_type)) }
+{
+    match var_type {
+        VarType::Plain(plain) => type_form(page, plain.form),
+        VarType::Time => page.type_word(Word::Time),
+        VarType::Process => page.type_word(Word::Process),
+        VarType::Payload => page.type_word(Word::Payload),
+    }
+}
+
+fn unit_text(unit: Unit) -> &'static str
+    ensures { result.now ≡ leaf.unit_text unit }
+{
+    match unit {
+        Unit::Ps => "ps",
+        Unit::Ns => "ns",
+        Unit::Us => "us",
+        Unit::Ms => "ms",
+        Unit::S => "s",
+    }
+}
+
+/// Writes a number and its unit.
+pub fn time(page: &mut Page, count: u64, unit: Unit) -> Result<(), AllocError>
+    ensures { OnOk result (page.new ≡ put_all page.old (leaf.time count unit)) }
+{
+    page.number(count)?;
+    page.unit(unit_text(unit).as_bytes())
+}
+
+/// Writes a time of an item.
+pub fn span(page: &mut Page, span: Span) -> Result<(), AllocError>
+    ensures { OnOk result (page.new ≡ put_all page.old (leaf.span span)) }
+{
+    time(page, span.count, span.unit)
+}
+
+/// Writes `true` or `false`.
+pub fn truth(page: &mut Page, value: bool) -> Result<(), AllocError>
+    ensures { OnOk result (page.new ≡ put page.old (leaf.truth value)) }
+{
+    if value {
+        page.word(Word::True)
+    } else {
+        page.word(Word::False)
+    }
+}
+
+/// Writes a constant of an item.
+pub fn constant_form(page: &mut Page, form: ConstantForm) -> Result<(), AllocError>
+    ensures { OnOk result (page.new ≡ put_all page.old (leaf.constant_form form)) }
+{
+    match form {
+        ConstantForm::Number(number) => page.number(number),
+        ConstantForm::Negative(number) => {
+            page.prefix(Symbol::Minus)?;
+            page.number(number)
+        }
+        ConstantForm::Time(count, unit) => time(page, count, unit),
+        ConstantForm::Logic(value) => page.logic(value),
+        ConstantForm::Truth(value) => truth(page, value),
+    }
+}
+
+/// Writes a first value where there is one.
+pub fn initial(page: &mut Page, value: Option<Constant>) -> Result<(), AllocError>
+    ensures { OnOk result (page.new ≡ put_all page.old (leaf.initial value)) }
+{
+    match value {
+        None => Ok(()),
+        Some(constant) => {
+            page.operator(Symbol::Equal)?;
+            constant_form(page, constant.form)
+        }
+    }
+}
+
+/// The symbol of a prefix operator.
+pub fn prefix_symbol(op: UnaryOp) -> Symbol
+    ensures { result ≡ leaf.prefix_symbol op }
+{
+    match op {
+        UnaryOp::Negate => Symbol::Minus,
+        UnaryOp::Not => Symbol::Bang,
+        UnaryOp::Complement => Symbol::Tilde,
+    }
+}
+
+/// The symbol of a binary operator.
+pub fn binary_symbol(op: BinaryOp) -> Symbol
+    ensures { result ≡ leaf.binary_symbol op }
+{
+    match op {
+        BinaryOp::OrElse => Symbol::OrOr,
+        BinaryOp::AndThen => Symbol::AndAnd,
+        BinaryOp::BitOr => Symbol::Bar,
+        BinaryOp::BitXor => Symbol::Caret,
+        BinaryOp::BitAnd => Symbol::Ampersand,
+        BinaryOp::Equal => Symbol::EqualEqual,
+        BinaryOp::NotEqual => Symbol::NotEqual,
+        BinaryOp::Less => Symbol::Less,
+        BinaryOp::LessEqual => Symbol::LessEqual,
+        BinaryOp::Greater => Symbol::Greater,
+        BinaryOp::GreaterEqual => Symbol::GreaterEqual,
+        BinaryOp::ShiftLeft => Symbol::ShiftLeft,
+        BinaryOp::ShiftRight => Symbol::ShiftRight,
+        BinaryOp::Add => Symbol::Plus,
+        BinaryOp::Subtract => Symbol::Minus,
+        BinaryOp::Multiply => Symbol::Star,
+        BinaryOp::Divide => Symbol::Slash,
+        BinaryOp::Remainder => Symbol::Percent,
+    }
+}
+
+/// The word of a conversion.
+pub fn conversion_word(conversion: Conversion) -> Word
+    ensures { result ≡ leaf.conversion_word conversion }
+{
+    match conversion {
+        Conversion::Int => Word::Int,
+        Conversion::Uint => Word::Uint,
+        Conversion::Bool => Word::Bool,
+        Conversion::Logic => Word::Logic,
+    }
+}
+
+/// The word of a named number.
+pub fn constant_word(constant: NamedConstant) -> Word
+    ensures { result ≡ leaf.constant_word constant }
+{
+    match constant {
+        NamedConstant::Read => Word::ReadCommand,
+        NamedConstant::Write => Word::WriteCommand,
+        NamedConstant::Ignore => Word::IgnoreCommand,
+        NamedConstant::OkResponse => Word::OkResponse,
+        NamedConstant::Incomplete => Word::IncompleteResponse,
+        NamedConstant::GenericError => Word::GenericResponse,
+        NamedConstant::AddressError => Word::AddressResponse,
+        NamedConstant::CommandError => Word::CommandResponse,
+        NamedConstant::BurstError => Word::BurstResponse,
+        NamedConstant::ByteEnableError => Word::ByteEnableResponse,
+        NamedConstant::BeginReq => Word::BeginReq,
+        NamedConstant::EndReq => Word::EndReq,
+        NamedConstant::BeginResp => Word::BeginResp,
+        NamedConstant::EndResp => Word::EndResp,
+        NamedConstant::Accepted => Word::Accepted,
+        NamedConstant::Updated => Word::Updated,
+        NamedConstant::Completed => Word::Completed,
+    }
+}
+
+/// The word of a control call.
+pub fn control_word(control: Control) -> Word
+    ensures { result ≡ leaf.control_word control }
+{
+    match control {
+        Control::Suspend => Word::Suspend,
+        Control::Resume => Word::Resume,
+        Control::Disable => Word::Disable,
+        Control::Enable => Word::Enable,
+        Control::Kill => Word::Kill,
+        Control::Reset => Word::Reset,
+    }
+}
+
+/// Writes the process of a control call.
+pub fn target_process(page: &mut Page, who: &Who) -> Result<(), AllocError>
+    ensures { OnOk result (page.new ≡ put page.old (leaf.target_process who.now)) }
+{
+    match who {
+        Who::Named(_, name) => page.name(name),
+        Who::Myself(_) => page.word(Word::SelfProcess),
+    }
+}
+
+/// Writes a member behind a dot where one is written.
+pub fn member(page: &mut Page, member: &Option<Name>) -> Result<(), AllocError>
+    ensures { OnOk result (page.new ≡ put_all page.old (leaf.member member.now)) }
+{
+    match member {
+        None => Ok(()),
+        Some(name) => {
+            page.joint(Symbol::Dot)?;
+            page.name(name)
+        }
+    }
+}
+
+/// Writes what a port or an export leads to.
+pub fn leads_to(page: &mut Page, interface: Interface) -> Result<(), AllocError>
+    ensures { OnOk result (page.new ≡ put_all page.old (leaf.leads_to interface)) }
+{
+    match interface {
+        Interface::In(of) => {
+            page.word(Word::In)?;
+            type_form(page, of.form)
+        }
+        Interface::Out(of) => {
+            page.word(Word::Out)?;
+            type_form(page, of.form)
+        }
+        Interface::FifoIn(of) => {
+            page.word(Word::FifoIn)?;
+            type_form(page, of.form)
+        }
+        Interface::FifoOut(of) => {
+            page.word(Word::FifoOut)?;
+            type_form(page, of.form)
+        }
+        Interface::Mutex => page.word(Word::MutexPort),
+        Interface::Semaphore => page.word(Word::SemaphorePort),
+    }
+}
+
+fn bound_rule(page: &mut Page, rule: BoundRule) -> Result<(), AllocError>
+    ensures { OnOk result (page.new ≡ put_all page.old (leaf.bound_rule rule)) }
+{
+    match rule {
+        BoundRule::One => Ok(()),
+        BoundRule::Zero => page.word(Word::Zero),
+        BoundRule::All => page.word(Word::AllBound),
+    }
+}
+
+/// Writes the size of a port where one is written.
+pub fn port_size(page: &mut Page, size: Option<PortSize>) -> Result<(), AllocError>
+    ensures { OnOk result (page.new ≡ put_all page.old (leaf.maybe leaf.port_size size)) }
+{
+    match size {
+        None => Ok(()),
+        Some(size) => {
+            page.opening(Symbol::LeftBracket)?;
+            page.number(size.count)?;
+            bound_rule(page, size.rule)?;
+            page.closing(Symbol::RightBracket)
+        }
+    }
+}
+
+/// Writes a parameter.
+pub fn parameter(page: &mut Page, parameter: &Parameter) -> Result<(), AllocError>
+    ensures { OnOk result (page.new ≡ put_all page.old (leaf.parameter parameter.now)) }
+{
+    flag(page, Word::Inout, parameter.inout)?;
+    variable_type(page, parameter.var_type)?;
+    page.name(&parameter.name)
+}
+
+/// Writes one end of a binding.
+pub fn binding_end(page: &mut Page, end: &End) -> Result<(), AllocError>
+    ensures { OnOk result (page.new ≡ put_all page.old (leaf.binding_end end.now)) }
+{
+    page.name(&end.name)?;
+    member(page, &end.member)
+}
