@@ -1,7 +1,7 @@
 use model_tree::{Choices, Name};
 use std::test::Fail;
 
-// The two calls of the language's data that the program does not make yet. The wanted values are worked out by hand.
+// A copy of a name, which the program does not make yet, and a list of choices. The wanted values are worked out by hand.
 #[test]
 fn names_are_copied_and_choices_listed(rt: HostRuntime) -> Result<(), Fail> {
     let bytes = Vec::from_slice(rt.alloc(), b"clk_0")?;
