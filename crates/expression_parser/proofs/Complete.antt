@@ -1,11 +1,12 @@
 -- What is derived, and over, is read.
-use Rattle.std.proofs.Common.{◌≡◌, ℕ, zero, suc, ◌+◌, ◌-◌, ◌<◌, ◌≤◌, Bool, true, false, cond, List, [], ◌∷◌, length, Option, Some, None, refl, ap, sym, ◌∙◌, subst, ◌⊎◌, inl, inr, ⊎_elim, arith}
-use Rattle.std.specs.Prelude.{◌||◌, ◌==◌, not, is_some, max, nat_le}
+use Rattle.std.proofs.Common.{◌≡◌, ℕ, zero, suc, ◌+◌, ◌<◌, ◌≤◌, Bool, true, false, List, [], ◌∷◌, length, Option, Some, None, refl, ap, sym, ◌∙◌, subst, ◌⊎◌, inl, inr, ⊎_elim, arith}
+use Rattle.std.specs.Prelude.{◌||◌, ◌==◌, not, is_some, max}
 use Rattle.std.proofs.lemmas.Bool.{cases_Bool, le-leb}
 use Rattle.std.proofs.lemmas.Bool.Decides.{nat_tests}
 use Rattle.std.proofs.lemmas.Option.{same_Some}
 use Rattle.logic_values.specs.declared.kinds.Digit.{Digit}
 use Rattle.sim_time.specs.declared.moments.Unit.{Unit as TimeUnit}
+use Rattle.model_tree.specs.declared.vocabulary.Word.{Word}
 use Rattle.model_tree.specs.declared.vocabulary.Symbol.{Symbol}
 use Rattle.model_tree.specs.declared.vocabulary.Symbol.TheVariants as s
 use Rattle.model_tree.specs.declared.expressions.BinaryOp.{BinaryOp}
@@ -14,7 +15,6 @@ use Rattle.model_tree.specs.declared.expressions.UnaryOp.{UnaryOp}
 use Rattle.model_tree.specs.declared.expressions.UnaryOp.TheVariants as sign
 use Rattle.model_tree.specs.declared.expressions.Conversion.{Conversion}
 use Rattle.model_tree.specs.declared.expressions.Conversion.TheVariants as conversion
-use Rattle.model_tree.specs.declared.expressions.NamedConstant.{NamedConstant}
 use Rattle.model_tree.specs.Limits.{level, depth, token_count}
 use Rattle.model_tree.specs.Tree as tree
 use Rattle.model_grammar.specs.Tokens as t
@@ -24,18 +24,18 @@ use Rattle.expression_parser.specs.declared.starts.Leaf.{Leaf}
 use Rattle.expression_parser.specs.declared.starts.Leaf.TheVariants as leaf
 use Rattle.expression_parser.specs.declared.starts.Start.{Start}
 use Rattle.expression_parser.specs.declared.starts.Start.TheVariants as start
-use Rattle.expression_parser.specs.Expressions.{Short, Parenthesized, DerivesAt, DerivesExpression, unit_in, unit_name, operator_in, operator_of, is_the_symbol, is_link, extends, goes_on, sees, IsOver, BeginsWith, binary_symbol, unary_symbol, truth_word, conversion_word, constant_word}
-use Rattle.expression_parser.specs.Parse.{Parser, and_then, choose, pure, skip, named, name, numbered, number, logical, symbol, opened, where_some, repeat, unit_ahead, operator_ahead, sign_in, sign_ahead, start_of, leaf_tree, with_unit, timed, number_or_time, literal, leaf_expression, member, bounds, measured, short, at_no_link, is_not_of, at_none_of, with_operator, joined, levelled, sees_number, sees_bounds, group, paren, convert, vector, concat, placed, placed_by, place, placed_or_not, channel, element, index, link, chain, primary_of, primary, signed, operand, climb, inside, expression}
+use Rattle.model_grammar.specs.Expressions.{Short, Parenthesized, DerivesAt, unit_in, unit_name, operator_in, is_the_symbol, is_link, extends, goes_on, sees, IsOver, BeginsWith, binary_symbol, unary_symbol, conversion_word}
+use Rattle.expression_parser.specs.Parse.{Parser, and_then, repeat, unit_ahead, operator_ahead, sign_in, sign_ahead, token_start, is_the_word, start_of, leaf_tree, number_or_time, literal, leaf_expression, member, bounds, short, at_no_link, is_not_of, at_none_of, joined, levelled, sees_number, sees_bounds, group, paren, convert, vector, concat, placed, placed_by, place, channel, index, link, chain, primary_of, primary, signed, operand, climb, inside, expression}
 use Rattle.expression_parser.proofs.Parsers.{choose_first, choose_other, repeat_stops, repeat_goes}
-use Rattle.expression_parser.proofs.OneToken.{skip_reads, symbol_reads, opened_reads, named_reads, name_reads, numbered_reads, number_reads, logical_reads, symbol_sees, named_unit, operator_symbol, sign_symbol, truth_begins, conversion_begins, constant_begins}
-use Rattle.expression_parser.proofs.Sound.{AtFree, NoneFrom, level_small, lower, expression_ok}
+use Rattle.expression_parser.proofs.OneToken.{is_symbol_same, is_word_same, skip_reads, symbol_reads, opened_reads, named_reads, name_reads, numbered_reads, number_reads, logical_reads, symbol_sees, named_unit, operator_symbol, sign_symbol, truth_begins, conversion_begins, constant_begins}
+use Rattle.expression_parser.proofs.Sound.{AtFree, NoneFrom, level_small, lower}
 
 -- how many tokens it takes
 
-at_takes : (line : ℕ) (x : t.Token) (ts rest : Tokens) → At line x ts rest → length ts ≡ suc (length rest)
+pub at_takes : (line : ℕ) (x : t.Token) (ts rest : Tokens) → At line x ts rest → length ts ≡ suc (length rest)
 at_takes line x ts rest h = ap length h
 
-takes_one : (x : t.Token) (ts rest : Tokens) → Takes x ts rest → length ts ≡ suc (length rest)
+pub takes_one : (x : t.Token) (ts rest : Tokens) → Takes x ts rest → length ts ≡ suc (length rest)
 takes_one x ts rest h = ap length h.1
 
 pub counted : (e : tree.Expression) (n : ℕ) (ts rest : Tokens) → DerivesAt n e ts rest → length ts ≡ token_count e + length rest
@@ -68,7 +68,7 @@ counted (tree.binary o x y) n ts rest (k, (a, left, (b, one, right))) =
     let p1 = counted x (level o) ts a left in let p2 = takes_one _ a b one in let p3 = counted y (suc (level o)) b rest right in omega arith
 
 -- it takes one at least
-some_tokens : (e : tree.Expression) → 1 ≤ token_count e
+pub some_tokens : (e : tree.Expression) → 1 ≤ token_count e
 some_tokens (tree.member e x) = omega arith
 some_tokens (tree.element e i) = omega arith
 some_tokens (tree.slice e x y) = omega arith
@@ -83,7 +83,7 @@ some_tokens _ = omega arith
 
 -- what closes a bracket or separates goes on with none expression
 
-extends_not : (x : t.Token) → is_some (unit_in x) ≡ false → is_link x ≡ false → is_the_symbol s.At x ≡ false → (e : tree.Expression) → extends e x ≡ false
+pub extends_not : (x : t.Token) → is_some (unit_in x) ≡ false → is_link x ≡ false → is_the_symbol s.At x ≡ false → (e : tree.Expression) → extends e x ≡ false
 extends_not x u k f (tree.number line v) = u
 extends_not x u k f (tree.named line y) = rw (f, k) refl
 extends_not x u k f (tree.placed line y v) = k
@@ -95,10 +95,10 @@ extends_not x u k f (tree.unary line o e) = extends_not x u k f e
 extends_not x u k f (tree.binary o a b) = extends_not x u k f b
 extends_not x u k f _ = refl
 
-goes_not : (x : t.Token) → is_some (operator_in x) ≡ false → is_some (unit_in x) ≡ false → is_link x ≡ false → is_the_symbol s.At x ≡ false → (e : tree.Expression) → goes_on e x ≡ false
+pub goes_not : (x : t.Token) → is_some (operator_in x) ≡ false → is_some (unit_in x) ≡ false → is_link x ≡ false → is_the_symbol s.At x ≡ false → (e : tree.Expression) → goes_on e x ≡ false
 goes_not x o u k f e = rw (o, extends_not x u k f e) refl
 
-over_at : (x : t.Token) (e : tree.Expression) (ts rest : Tokens) → is_some (operator_in x) ≡ false → is_some (unit_in x) ≡ false → is_link x ≡ false → is_the_symbol s.At x ≡ false → Takes x ts rest → IsOver e ts
+pub over_at : (x : t.Token) (e : tree.Expression) (ts rest : Tokens) → is_some (operator_in x) ≡ false → is_some (unit_in x) ≡ false → is_link x ≡ false → is_the_symbol s.At x ≡ false → Takes x ts rest → IsOver e ts
 over_at x e ts rest o u k f h = rw h.1 (goes_not x o u k f e)
 
 operator_extends_not : (o : BinaryOp) (e : tree.Expression) → extends e (t.symbol (binary_symbol o)) ≡ false
@@ -155,7 +155,7 @@ no_sign (tree.slice e a b) ts rest h = no_sign e ts h.0 (lower e 11 12 ts h.0 (o
 no_sign (tree.unary line o e) ts rest h = absurd (omega (arith, h.0))
 no_sign (tree.binary o a b) ts rest h = let small = level_small o in absurd (omega (arith, h.0))
 
-none_of : {A : Type 0} (o : Option A) → is_some o ≡ false → o ≡ None
+pub none_of : {A : Type 0} (o : Option A) → is_some o ≡ false → o ≡ None
 none_of None h = refl
 none_of (Some x) h = cc
 
@@ -233,11 +233,11 @@ no_bounds : (e : tree.Expression) (ts a rest : Tokens) → DerivesAt 0 e ts a �
 no_bounds e ts a rest h close = no_bounds_before e 0 ts a h (rw close.1 refl)
 
 -- where none place and none link comes
-no_unit : (ts : Tokens) → sees (λ x. is_some (unit_in x)) ts ≡ false → unit_ahead ts ≡ None
+pub no_unit : (ts : Tokens) → sees (λ x. is_some (unit_in x)) ts ≡ false → unit_ahead ts ≡ None
 no_unit [] h = refl
 no_unit (y ∷ ts) h = none_of (unit_in y.0) h
 
-or_parts : (a b : Bool) → (a || b) ≡ false → (a ≡ false) × (b ≡ false)
+pub or_parts : (a b : Bool) → (a || b) ≡ false → (a ≡ false) × (b ≡ false)
 or_parts true b h = cc
 or_parts false b h = (refl, h)
 
@@ -289,7 +289,7 @@ number_reads_whole : (line v : ℕ) (ts rest : Tokens) → At line (t.number v) 
 unfolding number_or_time
 number_reads_whole line v ts rest h k = rw (numbered_reads line v ts rest h, no_unit rest k) refl
 
-unit_comes : (u : TimeUnit) (ts rest : Tokens) → Takes (t.name (unit_name u)) ts rest → unit_ahead ts ≡ Some u
+pub unit_comes : (u : TimeUnit) (ts rest : Tokens) → Takes (t.name (unit_name u)) ts rest → unit_ahead ts ≡ Some u
 unit_comes u ts rest h = rw (h.1, named_unit u) refl
 
 time_reads : (line v : ℕ) (u : TimeUnit) (ts a rest : Tokens) → At line (t.number v) ts a → Takes (t.name (unit_name u)) a rest → number_or_time ts ≡ Some (tree.time line v u, rest)
@@ -313,12 +313,12 @@ bounds_come v ts a b h g = rw (h.1, symbol_sees s.Colon a b g) refl
 
 -- what stands in brackets, where so many may still be opened
 module _ (d : ℕ) (within : Parser tree.Expression) (within_reads : (e : tree.Expression) (ts rest : Tokens) → Short (DerivesAt 0 e) ts rest → suc (depth e) ≤ d → IsOver e rest → within ts ≡ Some (e, rest)) where
-  group_reads : (line : ℕ) (e : tree.Expression) (ts rest : Tokens) → (At line (t.symbol s.LeftParen) ⨾ Short (DerivesAt 0 e) ⨾ Takes (t.symbol s.RightParen)) ts rest → suc (depth e) ≤ d → group d within ts ≡ Some ((line, e), rest)
+  pub group_reads : (line : ℕ) (e : tree.Expression) (ts rest : Tokens) → (At line (t.symbol s.LeftParen) ⨾ Short (DerivesAt 0 e) ⨾ Takes (t.symbol s.RightParen)) ts rest → suc (depth e) ≤ d → group d within ts ≡ Some ((line, e), rest)
   unfolding group
   group_reads line e ts rest (a, one, (b, inner, two)) few =
       rw (opened_reads d s.LeftParen ts a (line, one) (omega (arith, few)), within_reads e a b inner few (over_at _ e b rest refl refl refl refl two), symbol_reads s.RightParen b rest two) refl
 
-  parens_read : (e : tree.Expression) (ts rest : Tokens) (h : Parenthesized (DerivesAt 0 e) ts rest) → suc (depth e) ≤ d → group d within ts ≡ Some ((h.1.0, e), rest)
+  pub parens_read : (e : tree.Expression) (ts rest : Tokens) (h : Parenthesized (DerivesAt 0 e) ts rest) → suc (depth e) ≤ d → group d within ts ≡ Some ((h.1.0, e), rest)
   parens_read e ts rest h few = group_reads h.1.0 e ts rest (h.0, h.1.1, h.2) few
 
   paren_reads : (line : ℕ) (e : tree.Expression) (ts rest : Tokens) → (At line (t.symbol s.LeftParen) ⨾ Short (DerivesAt 0 e) ⨾ Takes (t.symbol s.RightParen)) ts rest → suc (depth e) ≤ d → paren d within ts ≡ Some (tree.paren line e, rest)
@@ -340,7 +340,7 @@ module _ (d : ℕ) (within : Parser tree.Expression) (within_reads : (e : tree.E
 
   -- names and their places
 
-  place_numbered : (line : ℕ) (x : List ℕ) (v : ℕ) (ts a rest : Tokens) → Takes (t.symbol s.At) ts a → Takes (t.number v) a rest → place d within (line, x) ts ≡ Some (tree.placed line x v, rest)
+  pub place_numbered : (line : ℕ) (x : List ℕ) (v : ℕ) (ts a rest : Tokens) → Takes (t.symbol s.At) ts a → Takes (t.number v) a rest → place d within (line, x) ts ≡ Some (tree.placed line x v, rest)
   unfolding place
   place_numbered line x v ts a rest h g =
       let inner : placed d within (line, x) a ≡ Some (tree.placed line x v, rest) = rw (number_reads v a rest g) refl in
@@ -534,19 +534,19 @@ module _ (d : ℕ) (within : Parser tree.Expression) (within_reads : (e : tree.E
       operand_reads d within within_reads e ts rest (subst (λ z. DerivesAt z e ts rest) same h) few short f
   climb_reads (suc k) n ten e ts rest h few short f free = levelled_reads n d (omega (arith, ten)) (climb d within k (suc n)) (climb_reads k (suc n) (omega (arith, ten))) e ts rest h few short f free
 
-over_parts : (e : tree.Expression) (rest : Tokens) → IsOver e rest → NoneFrom 0 rest × (sees (extends e) rest ≡ false)
+pub over_parts : (e : tree.Expression) (rest : Tokens) → IsOver e rest → NoneFrom 0 rest × (sees (extends e) rest ≡ false)
 over_parts e [] h = (λ o is. cc, refl)
 over_parts e (y ∷ ts) h =
     let (one, two) = or_parts (is_some (operator_in y.0)) (extends e y.0) h in
     (λ o is. absurd (cc (rw is at one)), two)
 
-short_reads : (p : Parser tree.Expression) (e : tree.Expression) (ts rest : Tokens) → p ts ≡ Some (e, rest) → length ts ≤ 256 + length rest → short p ts ≡ Some (e, rest)
+pub short_reads : (p : Parser tree.Expression) (e : tree.Expression) (ts rest : Tokens) → p ts ≡ Some (e, rest) → length ts ≤ 256 + length rest → short p ts ≡ Some (e, rest)
 short_reads p e ts rest h few = rw (h, le-leb (length ts) (256 + length rest) few) refl
 
-few_tokens : (e : tree.Expression) (ts rest : Tokens) → Short (DerivesAt 0 e) ts rest → token_count e ≤ 256
+pub few_tokens : (e : tree.Expression) (ts rest : Tokens) → Short (DerivesAt 0 e) ts rest → token_count e ≤ 256
 few_tokens e ts rest h = let one = counted e 0 ts rest h.0 in omega (arith, one, h.1)
 
-inside_reads : (d : ℕ) (e : tree.Expression) (ts rest : Tokens) → Short (DerivesAt 0 e) ts rest → suc (depth e) ≤ d → IsOver e rest → inside d ts ≡ Some (e, rest)
+pub inside_reads : (d : ℕ) (e : tree.Expression) (ts rest : Tokens) → Short (DerivesAt 0 e) ts rest → suc (depth e) ≤ d → IsOver e rest → inside d ts ≡ Some (e, rest)
 unfolding inside
 inside_reads zero e ts rest h few over = absurd (omega arith)
 inside_reads (suc d) e ts rest h few over =
@@ -564,3 +564,99 @@ pub begins_one : (d : ℕ) (x y : tree.Expression) (ts a b : Tokens) → BeginsW
 begins_one d x y ts a b h g =
     let e : ◌≡◌ {A = tree.Expression × Tokens} (x, a) (y, b) = same_Some (x, a) (y, b) (sym (expression_reads d x ts a h) ∙ expression_reads d y ts b g) in
     (ap (λ (z : tree.Expression × Tokens). z.0) e, ap (λ (z : tree.Expression × Tokens). z.1) e)
+
+-- what an expression begins with
+
+abbrev pub is_a_start : Start → Bool
+is_a_start start.Nothing = false
+is_a_start _ = true
+
+-- whether an expression may begin with the token
+abbrev pub begins_expression : t.Token → Bool
+begins_expression x = is_a_start (token_start x) || is_some (sign_in x)
+
+conversion_starts : (c : Conversion) → begins_expression (t.word (conversion_word c)) ≡ true
+conversion_starts conversion.Int = refl
+conversion_starts conversion.Uint = refl
+conversion_starts conversion.Bool = refl
+conversion_starts conversion.Logic = refl
+
+sign_starts : (o : UnaryOp) → begins_expression (t.symbol (unary_symbol o)) ≡ true
+sign_starts sign.Negate = refl
+sign_starts sign.Not = refl
+sign_starts sign.Complement = refl
+
+pub expression_begins : (e : tree.Expression) (n : ℕ) (ts rest : Tokens) → DerivesAt n e ts rest → sees begins_expression ts ≡ true
+expression_begins (tree.number line v) n ts rest h = rw h.1 refl
+expression_begins (tree.time line v u) n ts rest h = rw h.1.1 refl
+expression_begins (tree.logic line v) n ts rest h = rw h.1 refl
+expression_begins (tree.truth line b) n ts rest h = rw (h.1, truth_begins b) refl
+expression_begins (tree.now line) n ts rest h = rw h.1 refl
+expression_begins (tree.myself line) n ts rest h = rw h.1 refl
+expression_begins (tree.constant line c) n ts rest h = rw (h.1, constant_begins c) refl
+expression_begins (tree.paren line e) n ts rest h = rw h.1.1 refl
+expression_begins (tree.convert line c e) n ts rest h = rw h.1.1 (conversion_starts c)
+expression_begins (tree.to_vector line width e) n ts rest h = rw h.1.1 refl
+expression_begins (tree.concat line x y) n ts rest h = rw h.1.1 refl
+expression_begins (tree.named line x) n ts rest h = rw h refl
+expression_begins (tree.placed line x v) n ts rest h = rw h.1 refl
+expression_begins (tree.placed_by line x e) n ts rest h = rw h.1 refl
+expression_begins (tree.member e x) n ts rest h = expression_begins e 12 ts h.0 h.1
+expression_begins (tree.element e i) n ts rest h = expression_begins e 12 ts h.0 h.1
+expression_begins (tree.slice e a b) n ts rest h = expression_begins e 12 ts h.0 h.1
+expression_begins (tree.unary line o e) n ts rest h = rw h.1.1 (sign_starts o)
+expression_begins (tree.binary o x y) n ts rest (k, (a, left, more)) = expression_begins x (level o) ts a left
+
+-- none that no expression begins with comes where one does
+pub begins_not : (test : t.Token → Bool) → ((x : t.Token) → begins_expression x ≡ true → test x ≡ false) → (ts : Tokens) → sees begins_expression ts ≡ true → sees test ts ≡ false
+begins_not test f [] h = refl
+begins_not test f (x ∷ ts) h = f x.0 h
+
+symbol_is_not : (v : Symbol) → begins_expression (t.symbol v) ≡ false → (x : t.Token) → begins_expression x ≡ true → is_the_symbol v x ≡ false
+symbol_is_not v f x h =
+    ⊎_elim
+    (λ (e : is_the_symbol v x ≡ true). let same = is_symbol_same v x e in absurd (cc (sym (rw same at h) ∙ f)))
+    (λ (e : is_the_symbol v x ≡ false). e)
+    (cases_Bool (is_the_symbol v x))
+
+word_is_not : (v : Word) → begins_expression (t.word v) ≡ false → (x : t.Token) → begins_expression x ≡ true → is_the_word v x ≡ false
+word_is_not v f x h =
+    ⊎_elim
+    (λ (e : is_the_word v x ≡ true). let same = is_word_same v x e in absurd (cc (sym (rw same at h) ∙ f)))
+    (λ (e : is_the_word v x ≡ false). e)
+    (cases_Bool (is_the_word v x))
+
+-- no expression begins with a symbol or a word that begins none: the premise on it is `refl`
+pub symbol_begins_not : (v : Symbol) → begins_expression (t.symbol v) ≡ false → (e : tree.Expression) (n : ℕ) (ts rest : Tokens) → DerivesAt n e ts rest → sees (is_the_symbol v) ts ≡ false
+symbol_begins_not v f e n ts rest h = begins_not (is_the_symbol v) (symbol_is_not v f) ts (expression_begins e n ts rest h)
+
+pub word_begins_not : (v : Word) → begins_expression (t.word v) ≡ false → (e : tree.Expression) (n : ℕ) (ts rest : Tokens) → DerivesAt n e ts rest → sees (is_the_word v) ts ≡ false
+word_begins_not v f e n ts rest h = begins_not (is_the_word v) (word_is_not v f) ts (expression_begins e n ts rest h)
+
+pub at_begins_none : (e : tree.Expression) (n : ℕ) (ts rest : Tokens) → DerivesAt n e ts rest → sees (is_the_symbol s.At) ts ≡ false
+at_begins_none = symbol_begins_not s.At refl
+
+pub dot_begins_none : (e : tree.Expression) (n : ℕ) (ts rest : Tokens) → DerivesAt n e ts rest → sees (is_the_symbol s.Dot) ts ≡ false
+dot_begins_none = symbol_begins_not s.Dot refl
+
+pub comma_begins_none : (e : tree.Expression) (n : ℕ) (ts rest : Tokens) → DerivesAt n e ts rest → sees (is_the_symbol s.Comma) ts ≡ false
+comma_begins_none = symbol_begins_not s.Comma refl
+
+pub semicolon_begins_none : (e : tree.Expression) (n : ℕ) (ts rest : Tokens) → DerivesAt n e ts rest → sees (is_the_symbol s.Semicolon) ts ≡ false
+semicolon_begins_none = symbol_begins_not s.Semicolon refl
+
+pub right_paren_begins_none : (e : tree.Expression) (n : ℕ) (ts rest : Tokens) → DerivesAt n e ts rest → sees (is_the_symbol s.RightParen) ts ≡ false
+right_paren_begins_none = symbol_begins_not s.RightParen refl
+
+pub right_bracket_begins_none : (e : tree.Expression) (n : ℕ) (ts rest : Tokens) → DerivesAt n e ts rest → sees (is_the_symbol s.RightBracket) ts ≡ false
+right_bracket_begins_none = symbol_begins_not s.RightBracket refl
+
+pub right_brace_begins_none : (e : tree.Expression) (n : ℕ) (ts rest : Tokens) → DerivesAt n e ts rest → sees (is_the_symbol s.RightBrace) ts ≡ false
+right_brace_begins_none = symbol_begins_not s.RightBrace refl
+
+-- an expression takes a token at least
+pub expression_shorter : (e : tree.Expression) (n : ℕ) (ts rest : Tokens) → DerivesAt n e ts rest → length rest < length ts
+expression_shorter e n ts rest h =
+    let all = counted e n ts rest h in
+    let some = some_tokens e in
+    omega arith

@@ -2,3 +2,5 @@ pub mod Parsers
 pub mod OneToken
 pub mod Sound
 pub mod Complete
+pub mod Many
+pub mod Descent

@@ -1,8 +1,7 @@
 -- What the parser functions of one token read.
-use Rattle.std.proofs.Common.{◌≡◌, ℕ, zero, suc, ◌<◌, ◌≤◌, Bool, true, false, cond, List, [], ◌∷◌, Option, Some, None, refl, ap, sym, subst, ⊎_elim, arith}
+use Rattle.std.proofs.Common.{◌≡◌, ℕ, zero, suc, ◌<◌, ◌≤◌, Bool, true, false, cond, List, [], ◌∷◌, Option, Some, None, refl, ap, sym, subst, arith}
 use Rattle.std.specs.Prelude.{codes}
 use Rattle.std.specs.Str.{bytes_eq}
-use Rattle.std.proofs.lemmas.Bool.{cases_Bool}
 use Rattle.std.proofs.lemmas.Option.{cond_some}
 use Rattle.std.proofs.lemmas.Slice.Eq.{bytes_eq-Decides}
 use denote.Enum.Bare.{same_true, true_same}
@@ -10,6 +9,7 @@ use Rattle.logic_values.specs.declared.kinds.Digit.{Digit}
 use Rattle.sim_time.specs.declared.moments.Unit.{Unit as TimeUnit}
 use Rattle.sim_time.specs.declared.moments.Unit.TheVariants as unit
 use Rattle.model_tree.specs.contracts.vocabulary.Symbol.{the_type as the_symbol}
+use Rattle.model_tree.specs.contracts.vocabulary.Word.{the_type as the_word}
 use Rattle.model_tree.specs.declared.vocabulary.Word.{Word}
 use Rattle.model_tree.specs.declared.vocabulary.Word.TheVariants as w
 use Rattle.model_tree.specs.declared.vocabulary.Symbol.{Symbol}
@@ -24,16 +24,16 @@ use Rattle.model_tree.specs.declared.expressions.NamedConstant.{NamedConstant}
 use Rattle.model_tree.specs.declared.expressions.NamedConstant.TheVariants as constant
 use Rattle.model_grammar.specs.Tokens as t
 use Rattle.model_grammar.specs.Tokens.{Tokens}
-use Rattle.model_grammar.specs.Rules.{At, Takes}
+use Rattle.model_grammar.specs.Rules.{At, Takes, Written}
 use Rattle.expression_parser.specs.declared.starts.Leaf.{Leaf}
 use Rattle.expression_parser.specs.declared.starts.Leaf.TheVariants as leaf
 use Rattle.expression_parser.specs.declared.starts.Start.{Start}
 use Rattle.expression_parser.specs.declared.starts.Start.TheVariants as start
-use Rattle.expression_parser.specs.Expressions.{unary_symbol, binary_symbol, truth_word, conversion_word, constant_word, unit_name, operator_of, operator_in, unit_of, unit_in, is_the_symbol, sees}
-use Rattle.expression_parser.specs.Parse.{expect, skip, symbol, named, name_in, name, numbered, number_in, number, logical, logic_in, opened, ahead, operator_ahead, sign_of, sign_in, sign_ahead, word_start, symbol_start, token_start, start_of}
-use Rattle.expression_parser.proofs.Parsers.{and_then_ok}
+use Rattle.model_grammar.specs.Expressions.{unary_symbol, binary_symbol, truth_word, conversion_word, constant_word, unit_name, operator_of, operator_in, unit_of, unit_in, is_the_symbol, sees}
+use Rattle.expression_parser.specs.Parse.{skip, symbol, named, name_in, name, numbered, number_in, number, logical, logic_in, opened, operator_ahead, sign_of, sign_in, sign_ahead, word_start, symbol_start, token_start, start_of, pure, is_the_word, word, taken, flag, text_in, text}
+use Rattle.expression_parser.proofs.Parsers.{and_then_ok, choose_cases, choose_first, choose_other}
 
-is_symbol_same : (v : Symbol) (x : t.Token) → is_the_symbol v x ≡ true → x ≡ t.symbol v
+pub is_symbol_same : (v : Symbol) (x : t.Token) → is_the_symbol v x ≡ true → x ≡ t.symbol v
 is_symbol_same v (t.name x) h = cc
 is_symbol_same v (t.number x) h = cc
 is_symbol_same v (t.logic x) h = cc
@@ -45,7 +45,7 @@ is_symbol_same v (t.symbol u) h = ap t.symbol (same_true the_symbol tt u v h)
 pub at_front : (y x : t.Token) (line : ℕ) (ts : Tokens) → y ≡ x → At line x ((y, line) ∷ ts) ts
 at_front y x line ts e = λ i. (e i, line) ∷ ts
 
-skip_some : (y : t.Token × ℕ) (ts rest : Tokens) (line : ℕ) (x : t.Token) → y.0 ≡ x → skip (y ∷ ts) ≡ Some (line, rest) → At line x (y ∷ ts) rest
+pub skip_some : (y : t.Token × ℕ) (ts rest : Tokens) (line : ℕ) (x : t.Token) → y.0 ≡ x → skip (y ∷ ts) ≡ Some (line, rest) → At line x (y ∷ ts) rest
 unfolding skip
 skip_some y ts rest line x e h =
     let p : ◌≡◌ {A = ℕ × Tokens} (y.1, ts) (line, rest) = cc h in
@@ -66,6 +66,65 @@ pub opened_ok : (d : ℕ) (v : Symbol) (ts rest : Tokens) (line : ℕ) → opene
 unfolding opened
 opened_ok zero v ts rest line h = cc
 opened_ok (suc d) v ts rest line h = (symbol_at v ts rest line h, omega arith)
+
+-- where no bracket may be opened, and where one may
+pub opened_none : (d : ℕ) (v : Symbol) (ts : Tokens) → d ≡ 0 → opened d v ts ≡ None
+unfolding opened
+opened_none zero v ts e = refl
+opened_none (suc d) v ts e = absurd (omega arith)
+
+pub opened_deeper : (d : ℕ) (v : Symbol) → 0 < d → opened d v ≡ symbol v
+unfolding opened
+opened_deeper zero v some = absurd (omega arith)
+opened_deeper (suc d) v some = refl
+
+-- words and texts
+
+pub is_word_same : (v : Word) (x : t.Token) → is_the_word v x ≡ true → x ≡ t.word v
+is_word_same v (t.name x) h = cc
+is_word_same v (t.number x) h = cc
+is_word_same v (t.logic x) h = cc
+is_word_same v (t.quoted x) h = cc
+is_word_same v (t.symbol u) h = cc
+is_word_same v (t.word u) h = ap t.word (same_true the_word tt u v h)
+
+pub this_word_at : (v : Word) (ts rest : Tokens) (line : ℕ) → word v ts ≡ Some (line, rest) → At line (t.word v) ts rest
+unfolding word
+this_word_at v [] rest line h = cc
+this_word_at v (y ∷ ts) rest line h =
+    let e = cond_some (is_the_word v y.0) (y.1, ts) (line, rest) h in
+    let p : ◌≡◌ {A = ℕ × Tokens} (y.1, ts) (line, rest) = e.1 in
+    subst (λ (z : ℕ × Tokens). At z.0 (t.word v) (y ∷ ts) z.1) p (at_front y.0 (t.word v) y.1 ts (is_word_same v y.0 e.0))
+
+pub word_ok : (v : Word) (ts rest : Tokens) (line : ℕ) → word v ts ≡ Some (line, rest) → Takes (t.word v) ts rest
+word_ok v ts rest line h = (line, this_word_at v ts rest line h)
+
+text_in_ok : (y : t.Token) (line : ℕ) (ts rest : Tokens) (x : List ℕ) → text_in y ts ≡ Some (x, rest) → Takes (t.quoted x) ((y, line) ∷ ts) rest
+text_in_ok (t.quoted z) line ts rest x h =
+    let e : ◌≡◌ {A = List ℕ × Tokens} (z, ts) (x, rest) = cc in
+    subst (λ (p : List ℕ × Tokens). Takes (t.quoted p.0) ((t.quoted z, line) ∷ ts) p.1) e (line, refl)
+text_in_ok (t.name z) line ts rest x h = cc
+text_in_ok (t.number z) line ts rest x h = cc
+text_in_ok (t.logic z) line ts rest x h = cc
+text_in_ok (t.word z) line ts rest x h = cc
+text_in_ok (t.symbol z) line ts rest x h = cc
+
+pub text_ok : (ts rest : Tokens) (x : List ℕ) → text ts ≡ Some (x, rest) → Takes (t.quoted x) ts rest
+unfolding text
+text_ok [] rest x h = cc
+text_ok (y ∷ ts) rest x h = text_in_ok y.0 y.1 ts rest x h
+
+pub flag_ok : (v : Word) (ts rest : Tokens) (b : Bool) → flag v ts ≡ Some (b, rest) → Written (t.word v) b ts rest
+unfolding flag
+flag_ok v ts rest b h =
+    choose_cases (sees (is_the_word v)) (taken v) (pure false) ts (b, rest) h
+    (λ is h1.
+    let (line, mid, one, more) = and_then_ok (word v ts) _ (b, rest) h1 in
+    let e : ◌≡◌ {A = Bool × Tokens} (true, mid) (b, rest) = cc more in
+    subst (λ (z : Bool × Tokens). Written (t.word v) z.0 ts z.1) e (word_ok v ts mid line one))
+    (λ is h1.
+    let e : ◌≡◌ {A = Bool × Tokens} (false, ts) (b, rest) = cc h1 in
+    subst (λ (z : Bool × Tokens). Written (t.word v) z.0 ts z.1) e refl)
 
 name_in_ok : (y : t.Token) (line : ℕ) (ts rest : Tokens) (x : ℕ × List ℕ) → name_in y line ts ≡ Some (x, rest) → At x.0 (t.name x.1) ((y, line) ∷ ts) rest
 name_in_ok (t.name z) line ts rest x h =
@@ -389,3 +448,27 @@ logical_reads line x ts rest h = rw h refl
 
 pub symbol_sees : (v : Symbol) (ts rest : Tokens) → Takes (t.symbol v) ts rest → sees (is_the_symbol v) ts ≡ true
 symbol_sees v ts rest h = rw (h.1, true_same the_symbol v v refl) refl
+
+pub word_reads : (v : Word) (ts rest : Tokens) (h : Takes (t.word v) ts rest) → word v ts ≡ Some (h.0, rest)
+unfolding word
+word_reads v ts rest h = rw (h.1, true_same the_word v v refl) refl
+
+pub word_sees : (v : Word) (ts rest : Tokens) → Takes (t.word v) ts rest → sees (is_the_word v) ts ≡ true
+word_sees v ts rest h = rw (h.1, true_same the_word v v refl) refl
+
+pub text_reads : (x : List ℕ) (ts rest : Tokens) → Takes (t.quoted x) ts rest → text ts ≡ Some (x, rest)
+unfolding text
+text_reads x ts rest h = rw h.1 refl
+
+-- a flag that is not written is read where its word does not come
+pub flag_reads : (v : Word) (b : Bool) (ts rest : Tokens) → Written (t.word v) b ts rest → (b ≡ false → sees (is_the_word v) rest ≡ false) → flag v ts ≡ Some (b, rest)
+unfolding flag
+flag_reads v true ts rest h f =
+    let inner : taken v ts ≡ Some (true, rest) = rw (word_reads v ts rest h) refl in
+    choose_first (sees (is_the_word v)) (taken v) (pure false) ts _ (word_sees v ts rest h) inner
+flag_reads v false ts rest h f =
+    choose_other (sees (is_the_word v)) (taken v) (pure false) ts _ (rw h (f refl)) (rw h refl)
+
+-- what one token is, no other is
+pub sees_other : (test : t.Token → Bool) (x : t.Token) (ts rest : Tokens) → test x ≡ false → Takes x ts rest → sees test ts ≡ false
+sees_other test x ts rest f h = rw h.1 f

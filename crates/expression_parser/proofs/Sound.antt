@@ -1,5 +1,5 @@
 -- What the parser functions read is derived, and over.
-use Rattle.std.proofs.Common.{◌≡◌, ℕ, zero, suc, ◌+◌, ◌<◌, ◌≤◌, Bool, true, false, cond, List, [], ◌∷◌, length, Option, Some, None, refl, sym, subst, ⊎_elim, arith}
+use Rattle.std.proofs.Common.{◌≡◌, ℕ, zero, suc, ◌+◌, ◌<◌, ◌≤◌, Bool, true, false, List, [], ◌∷◌, length, Option, Some, None, refl, sym, subst, ⊎_elim, arith}
 use Rattle.std.specs.Prelude.{◌||◌, ◌==◌, not, is_some, max, nat_le}
 use Rattle.std.proofs.lemmas.Bool.{cases_Bool}
 use Rattle.std.proofs.lemmas.Bool.Decides.{nat_tests}
@@ -19,10 +19,10 @@ use Rattle.expression_parser.specs.declared.starts.Leaf.{Leaf}
 use Rattle.expression_parser.specs.declared.starts.Leaf.TheVariants as leaf
 use Rattle.expression_parser.specs.declared.starts.Start.{Start}
 use Rattle.expression_parser.specs.declared.starts.Start.TheVariants as start
-use Rattle.expression_parser.specs.Expressions.{Short, Parenthesized, DerivesAt, unit_name, unit_in, operator_in, is_the_symbol, is_link, extends, goes_on, sees, BeginsWith, binary_symbol, unary_symbol}
-use Rattle.expression_parser.specs.Parse.{Parser, and_then, choose, pure, skip, named, name, numbered, number, logical, symbol, opened, where_some, repeat, unit_ahead, operator_ahead, sign_ahead, start_of, leaf_tree, with_unit, timed, number_or_time, literal, leaf_expression, member, bounds, turns, measured, short, at_no_link, is_not_of, at_none_of, with_operator, joined, levelled, sees_number, sees_bounds, group, paren, convert, vector, concat, placed, placed_by, place, placed_or_not, channel, element, index, link, chain, primary_of, primary, signed, operand, climb, inside, expression}
+use Rattle.model_grammar.specs.Expressions.{Short, Parenthesized, DerivesAt, unit_name, unit_in, operator_in, is_the_symbol, is_link, extends, goes_on, sees, BeginsWith}
+use Rattle.expression_parser.specs.Parse.{Parser, pure, skip, named, name, numbered, number, logical, symbol, opened, unit_ahead, operator_ahead, sign_ahead, start_of, leaf_tree, with_unit, number_or_time, literal, leaf_expression, member, bounds, measured, short, at_no_link, is_not_of, at_none_of, with_operator, joined, levelled, sees_number, sees_bounds, group, paren, convert, vector, concat, placed, placed_by, place, channel, element, index, link, chain, primary_of, primary, signed, operand, climb, inside, expression}
 use Rattle.expression_parser.proofs.Parsers.{choose_cases, where_cases, and_then_ok, given, repeat_ok}
-use Rattle.expression_parser.proofs.OneToken.{symbol_at, symbol_ok, opened_ok, named_ok, name_ok, numbered_ok, number_ok, logical_ok, unit_in_named, sign_at, operator_at, leaf_word, leaf_at, conversion_at, vector_at, concat_at, at_front}
+use Rattle.expression_parser.proofs.OneToken.{symbol_ok, opened_ok, named_ok, name_ok, numbered_ok, number_ok, logical_ok, unit_in_named, sign_at, operator_at, leaf_word, leaf_at, conversion_at, vector_at, concat_at, at_front}
 
 -- what binds tightly may stand where less is wanted
 pub lower : (e : tree.Expression) (n m : ℕ) (ts rest : Tokens) → n ≤ m → DerivesAt m e ts rest → DerivesAt n e ts rest
@@ -80,7 +80,7 @@ unit_unseen : (ts : Tokens) → unit_ahead ts ≡ None → sees (λ x. is_some (
 unit_unseen [] h = refl
 unit_unseen (y ∷ ts) h = let e : unit_in y.0 ≡ None = h in rw e refl
 
-unit_taken : (u : TimeUnit) (line : ℕ) (ts rest : Tokens) → unit_ahead ts ≡ Some u → skip ts ≡ Some (line, rest) → Takes (t.name (unit_name u)) ts rest
+pub unit_taken : (u : TimeUnit) (line : ℕ) (ts rest : Tokens) → unit_ahead ts ≡ Some u → skip ts ≡ Some (line, rest) → Takes (t.name (unit_name u)) ts rest
 unfolding skip
 unit_taken u line [] rest h k = cc
 unit_taken u line (y ∷ ts) rest h k =
@@ -162,7 +162,7 @@ bounds_ok d first ts mid rest e x c some bracket h =
 
 -- what stands in brackets, where so many may still be opened
 module _ (d : ℕ) (within : Parser tree.Expression) (within_ok : (ts rest : Tokens) (e : tree.Expression) → within ts ≡ Some (e, rest) → Short (DerivesAt 0 e) ts rest × (suc (depth e) ≤ d)) where
-  group_ok : (ts rest : Tokens) (x : ℕ × tree.Expression) → group d within ts ≡ Some (x, rest) → (At x.0 (t.symbol s.LeftParen) ⨾ Short (DerivesAt 0 x.1) ⨾ Takes (t.symbol s.RightParen)) ts rest × (suc (depth x.1) ≤ d)
+  pub group_ok : (ts rest : Tokens) (x : ℕ × tree.Expression) → group d within ts ≡ Some (x, rest) → (At x.0 (t.symbol s.LeftParen) ⨾ Short (DerivesAt 0 x.1) ⨾ Takes (t.symbol s.RightParen)) ts rest × (suc (depth x.1) ≤ d)
   unfolding group
   group_ok ts rest x h =
       let (line, a, one, h1) = and_then_ok (opened d s.LeftParen ts) _ (x, rest) h in
@@ -174,7 +174,7 @@ module _ (d : ℕ) (within : Parser tree.Expression) (within_ok : (ts rest : Tok
       ((a, (opened_ok d s.LeftParen ts a line one).0, (b, inner.0, symbol_ok s.RightParen b c close three)), inner.1)
 
   -- the same whatever the line
-  parens_ok : (ts rest : Tokens) (x : ℕ × tree.Expression) → group d within ts ≡ Some (x, rest) → Parenthesized (DerivesAt 0 x.1) ts rest × (suc (depth x.1) ≤ d)
+  pub parens_ok : (ts rest : Tokens) (x : ℕ × tree.Expression) → group d within ts ≡ Some (x, rest) → Parenthesized (DerivesAt 0 x.1) ts rest × (suc (depth x.1) ≤ d)
   parens_ok ts rest x h =
       let (g, few) = group_ok ts rest x h in
       ((g.0, (x.0, g.1), g.2), few)
@@ -356,16 +356,16 @@ module _ (d : ℕ) (within : Parser tree.Expression) (within_ok : (ts rest : Tok
       ((lower e n 10 ts rest (omega arith) one.0, one.1, one.2), λ o is. let small = level_small o in omega arith)
   climb_ok (suc k) n ten ts rest e h = levelled_ok (climb d within k (suc n)) n d (climb_ok k (suc n) (omega arith)) ts rest e h
 
-is_le : (a b : ℕ) → nat_le a b ≡ true → a ≤ b
+pub is_le : (a b : ℕ) → nat_le a b ≡ true → a ≤ b
 is_le a b h = grind (arith, nat_tests)
 
-short_ok : (p : Parser tree.Expression) (ts rest : Tokens) (e : tree.Expression) → short p ts ≡ Some (e, rest) → (p ts ≡ Some (e, rest)) × (length ts ≤ 256 + length rest)
+pub short_ok : (p : Parser tree.Expression) (ts rest : Tokens) (e : tree.Expression) → short p ts ≡ Some (e, rest) → (p ts ≡ Some (e, rest)) × (length ts ≤ 256 + length rest)
 short_ok p ts rest e h =
     let (x, a, one, h1) = and_then_ok (p ts) (measured ts) (e, rest) h in
     let (few, same) = cond_some (nat_le (length ts) (256 + length a)) (x, a) (e, rest) h1 in
     subst (λ (z : tree.Expression × Tokens). (p ts ≡ Some z) × (length ts ≤ 256 + length z.1)) same (one, is_le (length ts) (256 + length a) few)
 
-inside_ok : (d : ℕ) (ts rest : Tokens) (e : tree.Expression) → inside d ts ≡ Some (e, rest) → Short (DerivesAt 0 e) ts rest × (suc (depth e) ≤ d)
+pub inside_ok : (d : ℕ) (ts rest : Tokens) (e : tree.Expression) → inside d ts ≡ Some (e, rest) → Short (DerivesAt 0 e) ts rest × (suc (depth e) ≤ d)
 unfolding inside
 inside_ok zero ts rest e h = cc
 inside_ok (suc d) ts rest e h =

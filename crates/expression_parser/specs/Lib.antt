@@ -1,3 +1,2 @@
-pub mod Expressions
 pub mod Seen
 pub mod Parse

@@ -1,8 +1,11 @@
 -- Parser functions on lists of tokens, one for each parsing function of the code. They are no definition of
--- the language: the relation is, and no public clause names them.
-use Rattle.std.specs.Prelude.{◌≡◌, ◌≢◌, ℕ, zero, suc, ◌+◌, ◌==◌, Bool, true, false, not, cond, nat_le, List, [], ◌∷◌, length, is_some, Option, Some, None, Result, Ok, Err}
+-- the language: the grammar is. The parsing functions of this crate and of those above it cite them; the call
+-- that reads a whole text does not.
+use Rattle.std.specs.Prelude.{◌≡◌, ◌≢◌, ℕ, zero, suc, ◌+◌, ◌++◌, ◌==◌, Bool, true, false, not, cond, nat_le, List, [], ◌∷◌, length, Option, Some, None, Result, Ok, Err}
 use Rattle.logic_values.specs.declared.kinds.Digit.{Digit}
 use Rattle.sim_time.specs.declared.moments.Unit.{Unit as TimeUnit}
+use denote.Enum.Bare.{sameb}
+use Rattle.model_tree.specs.contracts.vocabulary.Word.{the_type as the_word}
 use Rattle.model_tree.specs.declared.vocabulary.Word.{Word}
 use Rattle.model_tree.specs.declared.vocabulary.Word.TheVariants as w
 use Rattle.model_tree.specs.declared.vocabulary.Symbol.{Symbol}
@@ -22,7 +25,7 @@ use Rattle.expression_parser.specs.declared.starts.Leaf.{Leaf}
 use Rattle.expression_parser.specs.declared.starts.Leaf.TheVariants as leaf
 use Rattle.expression_parser.specs.declared.starts.Start.{Start}
 use Rattle.expression_parser.specs.declared.starts.Start.TheVariants as start
-use Rattle.expression_parser.specs.Expressions.{operator_in, unit_in, is_the_symbol, is_link, sees}
+use Rattle.model_grammar.specs.Expressions.{operator_in, unit_in, is_the_symbol, is_link, sees}
 
 abbrev pub Parser : Type 0 → Type 0
 Parser A = t.Tokens → Option (A × t.Tokens)
@@ -62,6 +65,16 @@ module _ {A : Type 0} (stops : t.Tokens → Bool) (step : A → Parser A) where
   repeat zero x ts = None
   repeat (suc turns) x ts = cond (stops ts) (Some (x, ts)) (and_then (step x ts) (repeat turns))
 
+-- one more at the end of those that were found
+abbrev pub one_more : {A : Type 0} → Parser A → List A → Parser (List A)
+one_more item found = do
+  x ← item
+  pure (found ++ x ∷ [])
+
+-- as many as come up to where a test of the tokens says to stop, behind those that were found
+abbrev pub many : {A : Type 0} → (t.Tokens → Bool) → Parser A → List A → Parser (List A)
+many stops item found ts = repeat stops (one_more item) (length ts + 1) found ts
+
 -- one token
 
 abbrev pub front : t.Tokens → Option t.Token
@@ -80,6 +93,39 @@ expect test (x ∷ ts) = cond (test x.0) (Some (x.1, ts)) None
 
 unfoldable pub symbol : Symbol → Parser ℕ
 symbol v = expect (is_the_symbol v)
+
+abbrev pub is_the_word : Word → t.Token → Bool
+is_the_word v (t.name x) = false
+is_the_word v (t.number n) = false
+is_the_word v (t.logic digits) = false
+is_the_word v (t.quoted x) = false
+is_the_word v (t.word u) = sameb the_word u v
+is_the_word v (t.symbol u) = false
+
+unfoldable pub word : Word → Parser ℕ
+word v = expect (is_the_word v)
+
+-- whether this word comes, which is taken
+abbrev pub taken : Word → Parser Bool
+taken v = do
+  line ← word v
+  pure true
+
+unfoldable pub flag : Word → Parser Bool
+flag v = choose (sees (is_the_word v)) (taken v) (pure false)
+
+abbrev pub text_in : t.Token → t.Tokens → Option (List ℕ × t.Tokens)
+text_in (t.name x) ts = None
+text_in (t.number n) ts = None
+text_in (t.logic digits) ts = None
+text_in (t.quoted x) ts = Some (x, ts)
+text_in (t.word u) ts = None
+text_in (t.symbol u) ts = None
+
+-- a text between double quotes
+unfoldable pub text : Parser (List ℕ)
+text [] = None
+text (x ∷ ts) = text_in x.0 ts
 
 abbrev pub name_in : t.Token → ℕ → t.Tokens → Option ((ℕ × List ℕ) × t.Tokens)
 name_in (t.name x) line ts = Some ((line, x), ts)
@@ -151,6 +197,22 @@ sees_bounds (x ∷ ts) = cond (is_number_in x.0) (sees (is_the_symbol s.Colon) t
 abbrev pub ahead : {A : Type 0} → (t.Token → Option A) → t.Tokens → Option A
 ahead f [] = None
 ahead f (x ∷ ts) = f x.0
+
+abbrev pub word_in : t.Token → Option Word
+word_in (t.name x) = None
+word_in (t.number n) = None
+word_in (t.logic digits) = None
+word_in (t.quoted x) = None
+word_in (t.word u) = Some u
+word_in (t.symbol u) = None
+
+abbrev pub word_ahead : t.Tokens → Option Word
+word_ahead = ahead word_in
+
+-- whether the token behind the next one passes the test
+abbrev pub sees_second : (t.Token → Bool) → t.Tokens → Bool
+sees_second test [] = false
+sees_second test (x ∷ ts) = sees test ts
 
 abbrev pub unit_ahead : t.Tokens → Option TimeUnit
 unit_ahead = ahead unit_in

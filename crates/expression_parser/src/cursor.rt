@@ -1,15 +1,17 @@
-ghost use Rattle.std.specs.Prelude.{◌≡◌, ℕ, ◌^◌, ◌<◌, ◌≤◌, length, IsTrue};
+ghost use Rattle.std.specs.Prelude.{◌≡◌, ◌≢◌, ℕ, ◌^◌, ◌<◌, ◌≤◌, List, [], length, IsTrue, OnOk, OnErr};
 ghost use Rattle.model_grammar.specs.Tokens.{are_limited};
 ghost use Rattle.logic_values.specs.Digits.{digits};
-ghost use Rattle.model_lexer.specs.Seen.{token_of};
 ghost use Rattle.expression_parser.specs.Seen.{tokens_view};
-ghost use Rattle.expression_parser.specs.Expressions as grammar;
+ghost use Rattle.model_grammar.specs.Expressions as grammar;
 ghost use Rattle.expression_parser.specs.Parse as spec;
 
-use super::starts::{Start, operator_of, sign_of, symbol_start, unit_of, word_start};
+use super::kinds::{
+    is_number, is_the_symbol, is_the_word, operator_in, sign_in, token_start, unit_in, word_in,
+};
+use super::starts::Start;
 use logic_values::Lv;
 use model_lexer::{Token, TokenKind};
-use model_tree::{BinaryOp, Name, ParseStop, Symbol, UnaryOp};
+use model_tree::{BinaryOp, Name, ParseStop, PrintText, Symbol, UnaryOp, Word};
 use sim_time::Unit;
 use std::alloc::Global;
 use std::marker::Model;
@@ -67,7 +69,7 @@ impl<'a> Cursor<'a> {
     }
 
     /// Whether the next token is this symbol.
-    pub(crate) fn sees_symbol(&self, symbol: Symbol) -> bool
+    pub fn sees_symbol(&self, symbol: Symbol) -> bool
         ensures { result ≡ grammar.sees (grammar.is_the_symbol symbol) self.now }
     {
         match self.rest {
@@ -76,8 +78,18 @@ impl<'a> Cursor<'a> {
         }
     }
 
+    /// Whether the next token is this word.
+    pub fn sees_word(&self, word: Word) -> bool
+        ensures { result ≡ grammar.sees (spec.is_the_word word) self.now }
+    {
+        match self.rest {
+            [] => false,
+            [first, ..] => is_the_word(first.kind, word),
+        }
+    }
+
     /// Whether a number comes.
-    pub(crate) fn sees_number(&self) -> bool
+    pub fn sees_number(&self) -> bool
         ensures { result ≡ spec.sees_number self.now }
     {
         match self.rest {
@@ -87,7 +99,7 @@ impl<'a> Cursor<'a> {
     }
 
     /// Whether a number and a colon come.
-    pub(crate) fn sees_bounds(&self) -> bool
+    pub fn sees_bounds(&self) -> bool
         ensures { result ≡ spec.sees_bounds self.now }
     {
         match self.rest {
@@ -99,7 +111,7 @@ impl<'a> Cursor<'a> {
     }
 
     /// Whether a `.` or a `[` comes.
-    pub(crate) fn sees_link(&self) -> bool
+    pub fn sees_link(&self) -> bool
         ensures { result ≡ grammar.sees grammar.is_link self.now }
     {
         match self.rest {
@@ -111,8 +123,28 @@ impl<'a> Cursor<'a> {
         }
     }
 
+    /// Whether the token behind the next one is this symbol.
+    pub fn sees_second_symbol(&self, symbol: Symbol) -> bool
+        ensures { result ≡ spec.sees_second (grammar.is_the_symbol symbol) self.now }
+    {
+        match self.rest {
+            [_first, second, ..] => is_the_symbol(second.kind, symbol),
+            _ => false,
+        }
+    }
+
+    /// The word of the language that comes, if one does.
+    pub fn word_ahead(&self) -> Option<Word>
+        ensures { result ≡ spec.word_ahead self.now }
+    {
+        match self.rest {
+            [] => None,
+            [first, ..] => word_in(first.kind),
+        }
+    }
+
     /// The unit that comes, if one does.
-    pub(crate) fn unit(&self) -> Option<Unit>
+    pub fn unit(&self) -> Option<Unit>
         ensures { result ≡ spec.unit_ahead self.now }
     {
         match self.rest {
@@ -122,7 +154,7 @@ impl<'a> Cursor<'a> {
     }
 
     /// The binary operator that comes, if one does.
-    pub(crate) fn operator(&self) -> Option<BinaryOp>
+    pub fn operator(&self) -> Option<BinaryOp>
         ensures { result ≡ spec.operator_ahead self.now }
     {
         match self.rest {
@@ -132,7 +164,7 @@ impl<'a> Cursor<'a> {
     }
 
     /// The prefix operator that comes, if one does.
-    pub(crate) fn sign(&self) -> Option<UnaryOp>
+    pub fn sign(&self) -> Option<UnaryOp>
         ensures { result ≡ spec.sign_ahead self.now }
     {
         match self.rest {
@@ -142,7 +174,7 @@ impl<'a> Cursor<'a> {
     }
 
     /// What operand comes.
-    pub(crate) fn start(&self) -> Start
+    pub fn start(&self) -> Start
         ensures { result ≡ spec.start_of self.now }
     {
         match self.rest {
@@ -151,9 +183,20 @@ impl<'a> Cursor<'a> {
         }
     }
 
+    /// Whether no token is left; Syntax, at the next token's line, where one is.
+    pub fn end(&self) -> Result<(), ParseStop>
+        ensures ended { OnOk result (self.now ≡ []) }
+        ensures more { OnErr result (self.now ≢ []) }
+    {
+        match self.rest {
+            [] => Ok(()),
+            [first, ..] => Err(ParseStop::Syntax { line: first.line }),
+        }
+    }
+
     /// Takes the next token, whatever it is. The answer is its line.
     #[tactic(auto, unfolding(crate::specs::Parse::skip))]
-    pub(crate) fn skip(&mut self) -> Result<u32, ParseStop>
+    pub fn skip(&mut self) -> Result<u32, ParseStop>
         ensures { spec.Parses (λ line. line) spec.skip self.old result self.new }
     {
         match self.rest {
@@ -167,7 +210,7 @@ impl<'a> Cursor<'a> {
 
     /// Takes this symbol. The answer is its line.
     #[tactic(auto, unfolding(crate::specs::Parse::symbol))]
-    pub(crate) fn symbol(&mut self, symbol: Symbol) -> Result<u32, ParseStop>
+    pub fn symbol(&mut self, symbol: Symbol) -> Result<u32, ParseStop>
         ensures { spec.Parses (λ line. line) (spec.symbol symbol) self.old result self.new }
     {
         match self.rest {
@@ -179,9 +222,63 @@ impl<'a> Cursor<'a> {
         }
     }
 
+    /// Takes this symbol, a bracket, where so many brackets may still be opened: Syntax at it where none may.
+    /// The answer is its line.
+    pub fn opened(&mut self, depth: u8, symbol: Symbol) -> Result<u32, ParseStop>
+        ensures { spec.Parses (λ line. line) (spec.opened depth symbol) self.old result self.new }
+    {
+        if depth == 0 {
+            return Err(ParseStop::Syntax { line: self.line() });
+        }
+        self.symbol(symbol)
+    }
+
+    /// Takes this word. The answer is its line.
+    #[tactic(auto, unfolding(crate::specs::Parse::word))]
+    pub fn word(&mut self, word: Word) -> Result<u32, ParseStop>
+        ensures { spec.Parses (λ line. line) (spec.word word) self.old result self.new }
+    {
+        match self.rest {
+            [first, after @ ..] if is_the_word(first.kind, word) => {
+                self.rest = after;
+                Ok(first.line)
+            }
+            _ => Err(ParseStop::Syntax { line: self.line() }),
+        }
+    }
+
+    /// Takes this word where it comes. The answer is whether it came.
+    #[tactic(auto, unfolding(crate::specs::Parse::flag))]
+    pub fn flag(&mut self, word: Word) -> Result<bool, ParseStop>
+        ensures { spec.Parses (λ flag. flag) (spec.flag word) self.old result self.new }
+    {
+        if self.sees_word(word) {
+            let _line = self.word(word)?;
+            return Ok(true);
+        }
+        Ok(false)
+    }
+
+    /// Takes a text.
+    #[tactic(auto, unfolding(crate::specs::Parse::text))]
+    pub fn text(&mut self, alloc: Global) -> Result<PrintText, ParseStop>
+        ensures { spec.Parses (λ text. text) spec.text self.old result self.new }
+    {
+        let [first, after @ ..] = self.rest else {
+            return Err(ParseStop::Syntax { line: self.line() });
+        };
+        let TokenKind::Text(bytes) = first.kind else {
+            return Err(ParseStop::Syntax { line: self.line() });
+        };
+        let owned = Vec::from_slice(alloc, bytes)?;
+        let text = PrintText::try_new(owned).unwrap();
+        self.rest = after;
+        Ok(text)
+    }
+
     /// Takes a name. The answer is its line and the name.
     #[tactic(auto, unfolding(crate::specs::Parse::named))]
-    pub(crate) fn named(&mut self, alloc: Global) -> Result<(u32, Name), ParseStop>
+    pub fn named(&mut self, alloc: Global) -> Result<(u32, Name), ParseStop>
         ensures { spec.Parses (λ named. named) spec.named self.old result self.new }
     {
         let [first, after @ ..] = self.rest else {
@@ -199,7 +296,7 @@ impl<'a> Cursor<'a> {
 
     /// Takes a name.
     #[tactic(auto, unfolding(crate::specs::Parse::name))]
-    pub(crate) fn name(&mut self, alloc: Global) -> Result<Name, ParseStop>
+    pub fn name(&mut self, alloc: Global) -> Result<Name, ParseStop>
         ensures { spec.Parses (λ name. name) spec.name self.old result self.new }
     {
         let (_line, name) = self.named(alloc)?;
@@ -208,7 +305,7 @@ impl<'a> Cursor<'a> {
 
     /// Takes a number. The answer is its line and the number.
     #[tactic(auto, unfolding(crate::specs::Parse::numbered))]
-    pub(crate) fn numbered(&mut self) -> Result<(u32, u64), ParseStop>
+    pub fn numbered(&mut self) -> Result<(u32, u64), ParseStop>
         ensures { spec.Parses (λ numbered. numbered) spec.numbered self.old result self.new }
     {
         let [first, after @ ..] = self.rest else {
@@ -223,7 +320,7 @@ impl<'a> Cursor<'a> {
 
     /// Takes a number.
     #[tactic(auto, unfolding(crate::specs::Parse::number))]
-    pub(crate) fn number(&mut self) -> Result<u64, ParseStop>
+    pub fn number(&mut self) -> Result<u64, ParseStop>
         ensures { spec.Parses (λ number. number) spec.number self.old result self.new }
     {
         let (_line, number) = self.numbered()?;
@@ -232,7 +329,7 @@ impl<'a> Cursor<'a> {
 
     /// Takes a logic literal. The answer is its line and its digits.
     #[tactic(auto, unfolding(crate::specs::Parse::logical))]
-    pub(crate) fn logical(&mut self) -> Result<(u32, Lv), ParseStop>
+    pub fn logical(&mut self) -> Result<(u32, Lv), ParseStop>
         ensures { spec.Parses (λ found. (found.0, digits found.1)) spec.logical self.old result self.new }
     {
         let [first, after @ ..] = self.rest else {
@@ -243,69 +340,5 @@ impl<'a> Cursor<'a> {
         };
         self.rest = after;
         Ok((first.line, value))
-    }
-}
-
-/// Whether the token is this symbol.
-fn is_the_symbol(kind: TokenKind<'_>, symbol: Symbol) -> bool
-    ensures { result ≡ grammar.is_the_symbol symbol (token_of kind.entry) }
-{
-    match kind {
-        TokenKind::Symbol(found) => found == symbol,
-        _ => false,
-    }
-}
-
-/// Whether the token is a number.
-fn is_number(kind: TokenKind<'_>) -> bool
-    ensures { result ≡ spec.is_number_in (token_of kind.entry) }
-{
-    match kind {
-        TokenKind::Num(_) => true,
-        _ => false,
-    }
-}
-
-/// The unit that the token is, if it is one.
-fn unit_in(kind: TokenKind<'_>) -> Option<Unit>
-    ensures { result ≡ grammar.unit_in (token_of kind.entry) }
-{
-    match kind {
-        TokenKind::Name(bytes) => unit_of(bytes),
-        _ => None,
-    }
-}
-
-/// The binary operator that the token is, if it is one.
-fn operator_in(kind: TokenKind<'_>) -> Option<BinaryOp>
-    ensures { result ≡ grammar.operator_in (token_of kind.entry) }
-{
-    match kind {
-        TokenKind::Symbol(symbol) => operator_of(symbol),
-        _ => None,
-    }
-}
-
-/// The prefix operator that the token is, if it is one.
-fn sign_in(kind: TokenKind<'_>) -> Option<UnaryOp>
-    ensures { result ≡ spec.sign_in (token_of kind.entry) }
-{
-    match kind {
-        TokenKind::Symbol(symbol) => sign_of(symbol),
-        _ => None,
-    }
-}
-
-/// The operand that begins with the token.
-fn token_start(kind: TokenKind<'_>) -> Start
-    ensures { result ≡ spec.token_start (token_of kind.entry) }
-{
-    match kind {
-        TokenKind::Name(_) => Start::Name,
-        TokenKind::Num(_) => Start::Number,
-        TokenKind::Logic(_) => Start::Logic,
-        TokenKind::Text(_) => Start::Nothing,
-        TokenKind::Word(word) => word_start(word),
-        TokenKind::Symbol(symbol) => symbol_start(symbol),
     }
 }

@@ -1,9 +1,15 @@
-ghost use Rattle.std.specs.Prelude.{◌≡◌, ℕ};
+ghost use Rattle.std.specs.Prelude.{◌≡◌, ◌↔◌, ℕ, Some};
 ghost use Rattle.model_tree.specs.Tree as tree;
 ghost use Rattle.model_grammar.specs.Tokens.{Tokens};
-ghost use Rattle.expression_parser.specs.Expressions.{BeginsWith};
+ghost use Rattle.model_grammar.specs.Expressions.{BeginsWith};
+ghost use Rattle.expression_parser.specs.Parse.{expression};
 
 /// No tokens begin with two expressions, nor with one in two ways.
 pub fn one_expression()
     ensures { (brackets : ℕ) (e f : tree.Expression) (ts rest left : Tokens) → BeginsWith brackets e ts rest → BeginsWith brackets f ts left → (e ≡ f) × (rest ≡ left) }
+{}
+
+/// What is read as an expression is what the tokens begin with, and nothing else is refused.
+pub fn expression_exactly()
+    ensures { (depth : ℕ) (e : tree.Expression) (ts rest : Tokens) → BeginsWith depth e ts rest ↔ (expression depth ts ≡ Some (e, rest)) }
 {}

@@ -1,7 +1,7 @@
 ghost use Rattle.std.specs.Prelude.{◌≡◌};
 ghost use Rattle.model_tree.specs.Views.{expression_of};
 ghost use Rattle.model_tree.specs.Limits as limits;
-ghost use Rattle.expression_parser.specs.Expressions as grammar;
+ghost use Rattle.model_grammar.specs.Expressions as grammar;
 ghost use Rattle.expression_parser.specs.Parse as spec;
 
 use model_tree::{BinaryOp, Conversion, Expression, NamedConstant, Symbol, UnaryOp, Word};

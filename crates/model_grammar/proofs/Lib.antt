@@ -1,2 +1,6 @@
-pub mod Longest
-pub mod Sound
+pub mod Symbols
+pub mod Keeps
+pub mod Shrinks
+pub mod SoundExpressions
+pub mod SoundStatements
+pub mod SoundItems

@@ -1,5 +1,6 @@
 pub mod Tokens
 pub mod Rules
-pub mod Grammar
+pub mod Expressions
+pub mod Statements
+pub mod Items
 pub mod Brackets
-pub mod Reads

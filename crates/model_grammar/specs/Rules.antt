@@ -49,3 +49,7 @@ Written t false = Nothing
 -- what binds as tightly as the second number says, where the first is wanted
 abbrev pub Binds : ℕ → ℕ → Rule → Rule
 Binds wanted own P ts rest = (wanted ≤ own) × P ts rest
+
+-- what is on the first of two lines, where the tree keeps both: they are one
+abbrev pub OnLine : ℕ → ℕ → Rule → Rule
+OnLine line at P ts rest = (line ≡ at) × P ts rest

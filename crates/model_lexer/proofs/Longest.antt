@@ -12,7 +12,7 @@ use Rattle.model_tree.specs.declared.vocabulary.Symbol.TheVariants as symbol
 use Rattle.model_tree.specs.Vocabulary.{symbol_text}
 use Rattle.model_tree.specs.Leaves.{is_letter, is_word_byte, is_word, is_print_byte}
 use Rattle.model_grammar.specs.Tokens.{symbol_of}
-use Rattle.model_grammar.proofs.Longest.{symbol_of_spells}
+use Rattle.model_grammar.proofs.Symbols.{symbol_of_spells}
 use Rattle.model_lexer.specs.declared.forms.Form.{Form}
 use Rattle.model_lexer.specs.declared.forms.Form.TheVariants as form
 use Rattle.model_lexer.specs.declared.forms.Piece.{Piece}

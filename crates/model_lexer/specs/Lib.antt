@@ -4,3 +4,4 @@ pub mod Cut
 pub mod Fronts
 pub mod Seen
 pub mod Laws
+pub mod Reads

@@ -1,13 +1,19 @@
 -- What a refusal is.
-use Rattle.std.proofs.Common.{◌≡◌, Option, Some, None, refl}
+use Rattle.std.proofs.Common.{◌≡◌, ℕ, List, Some, None, sym, ◌∙◌, refl}
 use Rattle.std.specs.Prelude.{◌≢◌}
 use Rattle.model_tree.specs.declared.faults.ParseStop.{ParseStop}
 use Rattle.model_tree.specs.declared.faults.ParseStop.TheVariants as stop
+use Rattle.model_tree.specs.Tree as tree
+use Rattle.model_lexer.specs.Laws.{with_lines}
+use Rattle.model_lexer.specs.Reads.{Reads}
+use Rattle.model_parser.specs.Parse.{from_tokens, IsStopped}
+use Rattle.model_parser.proofs.ModelLaws.{derived_found}
 
 -- a refusal of what has an answer is want of memory
-pub no_memory : {Y : Type 0} (e : ParseStop) (answer : Option Y) (y : Y) → answer ≡ Some y → (e ≢ stop.NoMemory → answer ≡ None) → e ≡ stop.NoMemory
-no_memory stop.NoMemory answer y is refused = refl
-no_memory (stop.Syntax line) answer y is refused =
+pub stopped_memory : (e : ParseStop) (text : List ℕ) (m : tree.Model) → Reads text m → IsStopped text e → e ≡ stop.NoMemory
+stopped_memory stop.NoMemory text m reads is = refl
+stopped_memory (stop.Syntax line) text m (ts, cut, derived, few) is =
     let differs : stop.Syntax line ≢ stop.NoMemory = λ same. cc in
-    let none : answer ≡ None = refused differs in
+    let none : from_tokens (with_lines ts) ≡ None = is differs ts cut in
+    let some : from_tokens (with_lines ts) ≡ Some m = derived_found m (with_lines ts) derived few in
     cc

@@ -1,2 +1,1 @@
-pub mod Lexing
 pub mod Parse

@@ -1,32 +1,44 @@
-ghost use Rattle.std.specs.Prelude.{◌≡◌, ℕ, ◌^◌, ◌<◌, List, length, IfOk, MatchResult};
+ghost use Rattle.std.specs.Prelude.{◌≡◌, ℕ, ◌^◌, ◌<◌, List, length, IfOk, IfErr, MatchResult};
 ghost use Rattle.model_tree.specs.Tree as tree;
-ghost use Rattle.model_grammar.specs.Reads.{Reads};
 ghost use Rattle.model_tree.specs.Seen.{model_of};
-ghost use Rattle.model_parser.specs.Lexing.{Answers};
+ghost use Rattle.model_lexer.specs.Reads.{Reads};
 ghost use Rattle.model_parser.specs.Parse as spec;
 
-use super::cursor::Cursor;
-use super::lexing::{last_line, tokens};
-use super::productions::model;
+use super::modules::model;
+use expression_parser::Cursor;
+use model_lexer::tokens;
 use model_tree::{Module, ParseStop, Top, Tree};
 use std::alloc::Global;
 
+/// The line as a fault tells it: one past the greatest number is told as the greatest.
+fn told_line(line: u64) -> u32 {
+    u32::try_from(line).unwrap_or(u32::MAX)
+}
+
+/// One more than the number of the text's line ends.
+fn last_line(text: &[u8]) -> u32 {
+    let ends = text.iter().filter(|byte| **byte == b'\n').count();
+    told_line((ends as u64).saturating_add(1))
+}
+
 /// The parts of the tree that the text reads as.
-#[tactic(auto, unfolding(crate::specs::Parse::from_text))]
+#[tactic(auto, unfolding(crate::specs::Parse::from_tokens))]
 fn read(alloc: Global, text: &[u8]) -> Result<(Vec<Module>, Top), ParseStop>
     requires { length text.now < 2 ^ 32 }
-    ensures { Answers spec.parts_of result (spec.from_text text.now) }
+    ensures found { IfOk result (λ parts. spec.IsFound text.now (spec.parts_of parts)) }
+    ensures stopped { IfErr result (λ e. spec.IsStopped text.now e) }
 {
     let found = tokens(alloc, text)?;
-    let mut cursor = Cursor::new(&found, last_line(text));
+    let mut cursor = Cursor::new(found.as_slice(), last_line(text));
     let parts = model(alloc, &mut cursor)?;
     cursor.end()?;
     Ok(parts)
 }
 
 /// The tree that the text reads as. Syntax exactly where it reads as none. The line is that of the first
-/// piece that is no token; or else of the first token that no tree goes on with; or else, where the text
-/// ends too early, one more than the number of its line ends.
+/// piece that is no token; or else of the first token that no tree goes on with, which a bracket past the 64th
+/// and a token past the 256th of an expression are; or else, where the text ends too early, one more than the
+/// number of its line ends. The text is shorter than 2^32 bytes.
 pub fn parse(alloc: Global, text: &[u8]) -> Result<Tree, ParseStop>
     requires { length text.now < 2 ^ 32 }
     ensures found { IfOk result (λ t. Reads text.now (model_of t)) }

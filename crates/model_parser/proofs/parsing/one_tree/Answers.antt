@@ -1,4 +1,4 @@
-use Rattle.model_parser.proofs.Laws.{reads_one}
+use Rattle.model_parser.proofs.ModelLaws.{reads_one}
 use Rattle.model_parser.proofs.parsing.one_tree.Goals as goal
 
 pub returns : goal.returns

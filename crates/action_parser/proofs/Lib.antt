@@ -1,0 +1,5 @@
+pub mod PartLaws
+pub mod OperationLaws
+pub mod WaitLaws
+pub mod ActionLaws
+pub mod Laws

@@ -1,0 +1,4 @@
+pub mod Operations
+pub mod Waits
+pub mod Actions
+pub mod Parse

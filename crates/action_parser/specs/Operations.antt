@@ -1,0 +1,65 @@
+-- Parser functions on lists of tokens for what stands behind the word of an operation.
+-- They are no definition of the language: the grammar is.
+use Rattle.std.specs.Prelude.{ℕ, List}
+use Rattle.model_tree.specs.declared.vocabulary.Symbol.TheVariants as s
+use Rattle.model_tree.specs.Tree as tree
+use Rattle.expression_parser.specs.Parse.{Parser, ◌>>=◌, pure, refuse, symbol, name, expression}
+use Rattle.channel_parser.specs.Parse.{channel, arguments}
+use Rattle.action_parser.specs.declared.starts.OperationStart.{OperationStart}
+use Rattle.action_parser.specs.declared.starts.OperationStart.TheVariants as start
+
+-- a name behind a comma
+unfoldable pub next_name : Parser (List ℕ)
+next_name = do
+  comma ← symbol s.Comma
+  name
+
+-- an expression behind a comma
+unfoldable pub next_expression : ℕ → Parser tree.Expression
+next_expression depth = do
+  comma ← symbol s.Comma
+  expression depth
+
+unfoldable pub call : ℕ → Parser tree.Operation
+call depth = do
+  x ← name
+  es ← arguments depth
+  pure (tree.call x es)
+
+unfoldable pub nb_read : ℕ → Parser tree.Operation
+nb_read depth = do
+  c ← channel depth
+  x ← next_name
+  pure (tree.nb_read c x)
+
+unfoldable pub nb_write : ℕ → Parser tree.Operation
+nb_write depth = do
+  c ← channel depth
+  e ← next_expression depth
+  pure (tree.nb_write c e)
+
+unfoldable pub nb_transport : Parser tree.Operation
+nb_transport = do
+  socket ← name
+  payload ← next_name
+  phase ← next_name
+  delay ← next_name
+  pure (tree.nb_transport socket payload phase delay)
+
+-- what is made of a channel
+abbrev pub of_channel : {A : Type 0} → ℕ → (tree.Channel → A) → Parser A
+of_channel depth make = do
+  c ← channel depth
+  pure (make c)
+
+-- the operation that begins so, behind its word
+unfoldable pub operation_of : ℕ → OperationStart → Parser tree.Operation
+operation_of depth start.Call = call depth
+operation_of depth start.Read = of_channel depth tree.read
+operation_of depth start.NbRead = nb_read depth
+operation_of depth start.NbWrite = nb_write depth
+operation_of depth start.Trylock = of_channel depth tree.trylock
+operation_of depth start.Unlock = of_channel depth tree.unlock
+operation_of depth start.SemTrywait = of_channel depth tree.sem_trywait
+operation_of depth start.NbTransport = nb_transport
+operation_of depth start.Nothing = refuse

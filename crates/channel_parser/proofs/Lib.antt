@@ -1,0 +1,4 @@
+pub mod Made
+pub mod TypeLaws
+pub mod ChannelLaws
+pub mod ArgumentLaws

@@ -1,0 +1,6 @@
+pub mod ValueLaws
+pub mod PlainItemLaws
+pub mod PortLaws
+pub mod SocketLaws
+pub mod BodyLaws
+pub mod ItemLaws

@@ -1,0 +1,4 @@
+mod PlainLaws
+mod Begins
+pub mod BlockLaws
+mod Handled

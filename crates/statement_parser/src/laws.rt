@@ -1,0 +1,12 @@
+ghost use Rattle.std.specs.Prelude.{◌≡◌, ◌↔◌, ℕ, suc, ◌≤◌, Some};
+ghost use Rattle.model_tree.specs.Tree as tree;
+ghost use Rattle.model_grammar.specs.Tokens.{Tokens};
+ghost use Rattle.model_grammar.specs.Statements.{DerivesBlock};
+ghost use Rattle.model_grammar.specs.Brackets.{in_block};
+ghost use Rattle.statement_parser.specs.Parse.{block};
+
+/// What is read as a block is what is derived with so few brackets, its own among them, and nothing else is
+/// refused.
+pub fn block_exactly()
+    ensures { (depth : ℕ) (body : tree.Block) (ts rest : Tokens) → DerivesBlock body ts rest × (suc (in_block body) ≤ depth) ↔ (block depth ts ≡ Some (body, rest)) }
+{}
