@@ -5,6 +5,7 @@ use elaborate::elaborate;
 use model_check::check;
 use model_parser::parse;
 use model_tree::{Design, Items};
+use not_built::not_built;
 use script_text::{commands, name_all};
 use session::{Log, Outcome, Plan, Rule, run_session};
 use sim_io::{MemoryShelf, MemorySink};
@@ -84,6 +85,9 @@ fn design_of(alloc: Global, model: &[u8]) -> Option<Design> {
         return None;
     }
     let tree = parse(alloc, model).ok()?;
+    if not_built(&tree).is_some() {
+        return None;
+    }
     let checked = check(alloc, tree).ok()?;
     elaborate(alloc, checked).ok()
 }

@@ -1,9 +1,10 @@
 -- Causes that exclude each other.
-use Rattle.std.proofs.Common.{◌≡◌, ◌<◌, ◌≤◌, ⊎_elim, ℕ, List, length, Option, Some, None, IsSome, Ok, Err, subst, ◌∙◌, ap, arith}
+use Rattle.std.proofs.Common.{◌≡◌, ◌<◌, ◌≤◌, ◌⊎◌, ⊎_elim, ℕ, List, length, Option, Some, None, IsSome, Ok, Err, subst, ◌∙◌, ap, arith}
 use Rattle.sim_io.specs.Told.{Files, Lacks, IsText, IsLarge, text_of}
 use Rattle.model_tree.specs.Tree as tree
 use Rattle.model_tree.specs.declared.faults.Fault.{Fault}
-use Rattle.model_grammar.specs.Reads.{Reads}
+use Rattle.model_lexer.specs.Reads.{Reads}
+use Rattle.not_built.specs.Missing.{first_not_built}
 use Rattle.model_rules.specs.FirstFault.{first_fault}
 use Rattle.sim_model.specs.declared.plain.Command.{Command}
 use Rattle.script_text.specs.ScriptText.{read_script}
@@ -11,7 +12,7 @@ use Rattle.script_text.specs.NamedScript.{name_script}
 use Rattle.script_text.specs.declared.forms.TextCommand.{TextCommand}
 use Rattle.tlmsim.specs.Line.{Names, line_of}
 use Rattle.tlmsim.specs.Call.{Call, Texts, model_limit, script_limit}
-use Rattle.tlmsim.specs.Judged.{IsBrokenModel, AcceptsModel, IsBrokenScript, Accepts, shown_objects}
+use Rattle.tlmsim.specs.Judged.{HasNoTree, HasUnbuilt, BreaksRule, IsBrokenModel, AcceptsModel, IsBrokenScript, Accepts, shown_objects}
 use Rattle.tlmsim.specs.Headline.{ReadFailed, TooLarge, Given, ModelGiven}
 
 -- no text reads as two trees
@@ -99,21 +100,27 @@ long_read c old new model g past r =
     let within : length lacks.0 ≤ model_limit = lacks.2 in
     omega arith)) r.cause
 
-none_there : IsSome {T = Fault} None → ⊥
-none_there h = cc
+-- nothing is found, and something is
+found_none : {T : Type 0} (found : Option T) → found ≡ None → IsSome found → ⊥
+found_none None none some = cc
+found_none (Some x) none some = cc
+
+found_both : {T : Type 0} (find : tree.Model → Option T) (m n : tree.Model) → m ≡ n → find m ≡ None → IsSome (find n) → ⊥
+found_both find m n e none some = let P : tree.Model → Type 0 = λ x. find x ≡ None in found_none (find n) (subst P e none) some
 
 -- a model is not both accepted and refused
-faulty : (m n : tree.Model) → m ≡ n → first_fault m ≡ None → IsSome (first_fault n) → ⊥
-faulty m n e none some =
-    let P : tree.Model → Type 0 = λ x. first_fault x ≡ None in
-    let Q : Option Fault → Type 0 = λ x. IsSome x in
-    let here : first_fault n ≡ None = subst P e none in
-    let absent : IsSome {T = Fault} None = subst Q here some in
-    none_there absent
-
 pub not_broken : OneTree → (model : List ℕ) (m : tree.Model) → AcceptsModel model m → IsBrokenModel model → ⊥
 not_broken one model m a b =
-    ⊎_elim (λ none. none m a.reads) (λ some. faulty m some.0 (one model m some.0 a.reads some.1) a.faultless some.2) b
+    ⊎_elim (λ none. none m a.reads)
+    (⊎_elim (λ u. found_both first_not_built m u.m (one model m u.m a.reads u.reads) a.built u.unbuilt)
+    (λ f. found_both first_fault m f.m (one model m f.m a.reads f.reads) a.faultless f.fault)) b
+
+-- nor refused for two causes
+pub not_unread : (model : List ℕ) → HasNoTree model → HasUnbuilt model ⊎ BreaksRule model → ⊥
+not_unread model none b = ⊎_elim (λ u. none u.m u.reads) (λ f. none f.m f.reads) b
+
+pub not_unbuilt : OneTree → (model : List ℕ) → HasUnbuilt model → BreaksRule model → ⊥
+not_unbuilt one model u f = found_both first_not_built f.m u.m (one model f.m u.m f.reads u.reads) f.built u.unbuilt
 
 -- a script is not both accepted and refused
 breaks : (m : tree.Model) (script : List ℕ) (text : List TextCommand) (commands : List Command) → read_script script ≡ Ok text → name_script (shown_objects m) text ≡ Ok commands → IsBrokenScript m script → ⊥

@@ -1,4 +1,3 @@
-pub mod BuiltTrees
 pub mod Refusals
 pub mod Apart
 pub mod Answered

@@ -1,28 +1,40 @@
 -- How the refusals of one stage are those of the next.
-use Rattle.std.proofs.Common.{◌≡◌, true, Option, Some, IsSome, subst, sym, ap, filter, List, ℕ, rules}
+use Rattle.std.proofs.Common.{◌≡◌, ◌⊎◌, inl, inr, Option, Some, None, IsSome, refl, subst, sym, ap, filter, List, ℕ}
 use Rattle.model_tree.specs.Tree as tree
 use Rattle.model_tree.specs.declared.faults.Fault.{Fault}
 use Rattle.model_tree.specs.declared.faults.CheckStop.{CheckStop}
 use Rattle.model_tree.specs.declared.faults.CheckStop.TheVariants.{Refused}
 use Rattle.model_tree.specs.declared.designs.Design.{Design}
+use Rattle.model_lexer.specs.Reads.{Reads}
+use Rattle.not_built.specs.Missing.{first_not_built}
+use Rattle.model_rules.specs.FirstFault.{first_fault}
 use Rattle.model_rules.specs.Stops.{IfRefused}
 use Rattle.model_tree.specs.declared.code.Code.{Code}
 use Rattle.model_tree.specs.declared.designs.Object.{Object}
-use Rattle.model_rules.specs.Built.{is_built}
 use Rattle.model_rules.specs.FlatDesign.{IsDesign, IsCodeOf}
 use Rattle.sim_model.specs.Configuration.{visible, is_visible}
 use Rattle.sim_model.specs.declared.plain.Command.{Command}
-use Rattle.tlmsim.specs.Judged.{AcceptsModel, Accepts, BreaksScript, IsBrokenScript, NamesScript, IsDesignOf, shown_objects}
-use Rattle.tlmsim.proofs.BuiltTrees.{reads_built}
+use Rattle.tlmsim.specs.Judged.{HasUnbuilt, BreaksRule, AcceptsModel, Accepts, BreaksScript, IsBrokenScript, NamesScript, IsDesignOf, shown_objects}
+use Rattle.tlmsim.specs.Forms.{IfNotBuilt}
+use Rattle.tlmsim.specs.declared.forms.FormStop.{FormStop}
+use Rattle.tlmsim.specs.declared.forms.FormStop.TheVariants as form
+use Rattle.tlmsim.specs.declared.forms.NotBuilt.{NotBuilt}
 
-is_some : (o : Option Fault) (f : Fault) → o ≡ Some f → IsSome o
-is_some o f e = let P : Option Fault → Type 0 = λ x. IsSome x in subst P (sym e) (search rules)
+is_some : {T : Type 0} (found : Option T) (x : T) → found ≡ Some x → IsSome found
+is_some None x e = cc
+is_some (Some y) x e = refl
 
 -- a refusal has a fault
 pub refused_some : (stop : CheckStop) (fault : Fault) (o : Option Fault) → stop ≡ Refused fault → IfRefused stop (λ f. o ≡ Some f) → IsSome o
 refused_some stop fault o e h =
     let P : CheckStop → Type 0 = λ s. IfRefused s (λ f. o ≡ Some f) in
     is_some o fault (subst P e h)
+
+-- or a construct that is not built
+pub unbuilt_some : (stop : FormStop) (n : NotBuilt) (o : Option (ℕ × List ℕ)) → stop ≡ form.NotBuilt n → IfNotBuilt stop (λ line name. o ≡ Some (line, name)) → IsSome o
+unbuilt_some stop n o e h =
+    let P : FormStop → Type 0 = λ s. IfNotBuilt s (λ line name. o ≡ Some (line, name)) in
+    is_some o (n.line, n.name) (subst P e h)
 
 -- what a script may name is the same in the design and in its model
 same_objects : (design : Design) (m : tree.Model) → IsDesign m design → visible design ≡ shown_objects m
@@ -43,9 +55,18 @@ accepts_over design m model script text text' commands is same same' accepted na
     let R : List ℕ → Type 0 = λ t. AcceptsModel t m in
     record { accepted = subst R same accepted; named = subst P (same_objects design m is) (subst Q same' named) }
 
--- the design of a model that reads, whose forms are all built
-pub design_over : (design : Design) (m : tree.Model) (text : List ℕ) (names : List (List ℕ)) (code : Code) → IsDesign m design → (design.names ≡ names) × (design.code ≡ code) → (is_built m ≡ true → IsCodeOf m names code) → AcceptsModel text m → IsDesignOf m design
-design_over design m text names code is same reads accepted =
+-- the design of an accepted model, with its code
+pub design_over : (design : Design) (m : tree.Model) (names : List (List ℕ)) (code : Code) → IsDesign m design → (design.names ≡ names) × (design.code ≡ code) → IsCodeOf m names code → IsDesignOf m design
+design_over design m names code is same reads =
     let P : List (List ℕ) → Type 0 = λ ns. IsCodeOf m ns design.code in
     let Q : Code → Type 0 = λ c. IsCodeOf m names c in
-    record { parts = is; code = subst P (sym same.0) (subst Q (sym same.1) (reads (reads_built text m accepted.reads))) }
+    record { parts = is; code = subst P (sym same.0) (subst Q (sym same.1) reads) }
+
+by_findings : (text : List ℕ) (m : tree.Model) → Reads text m → (found : Option (ℕ × List ℕ)) (fault : Option Fault) → first_not_built m ≡ found → first_fault m ≡ fault → AcceptsModel text m ⊎ (HasUnbuilt text ⊎ BreaksRule text)
+by_findings text m reads (Some found) fault u f = inr (inl (record { m = m; reads = reads; unbuilt = is_some (first_not_built m) found u }))
+by_findings text m reads None (Some fault) u f = inr (inr (record { m = m; reads = reads; built = u; fault = is_some (first_fault m) fault f }))
+by_findings text m reads None None u f = inl (record { reads = reads; built = u; faultless = f })
+
+-- a model that reads is accepted or refused
+pub one_of : (text : List ℕ) (m : tree.Model) → Reads text m → AcceptsModel text m ⊎ (HasUnbuilt text ⊎ BreaksRule text)
+one_of text m reads = by_findings text m reads (first_not_built m) (first_fault m) refl refl

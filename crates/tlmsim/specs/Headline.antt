@@ -33,7 +33,7 @@ pub record TooLarge (c : Call) : Type 0 where
   pub line : line_of c.words ≡ Some names
   pub cause : IsTooLarge c.before.files c.after.files names.model names.script
 
--- both texts were read, and the model has no tree or has a first fault
+-- both texts were read, and the model has no tree, or a construct that is not built, or breaks a rule
 pub record ModelRefused (c : Call) : Type 0 where
   pub model : List ℕ
   pub script : List ℕ

@@ -3,7 +3,8 @@ use Rattle.std.specs.Prelude.{◌≡◌, ◌⊎◌, ℕ, List, filter, None, IsS
 use Rattle.model_tree.specs.Tree as tree
 use Rattle.model_tree.specs.declared.faults.Fault.{Fault}
 use Rattle.model_tree.specs.declared.designs.Object.{Object}
-use Rattle.model_grammar.specs.Reads.{Reads}
+use Rattle.model_lexer.specs.Reads.{Reads}
+use Rattle.not_built.specs.Missing.{first_not_built}
 use Rattle.model_rules.specs.FirstFault.{first_fault}
 use Rattle.model_tree.specs.declared.designs.Design.{Design}
 use Rattle.model_rules.specs.FlatDesign.{objects_of, IsDesign, IsCodeOf}
@@ -13,13 +14,31 @@ use Rattle.script_text.specs.ScriptText.{read_script}
 use Rattle.script_text.specs.NamedScript.{name_script}
 use Rattle.script_text.specs.declared.forms.TextCommand.{TextCommand}
 
--- the model has no tree, or a first fault
-abbrev pub IsBrokenModel : List ℕ → Type 0
-IsBrokenModel model = ((m : tree.Model) → Reads model m → ⊥) ⊎ ((m : tree.Model) × Reads model m × IsSome (first_fault m))
+-- the model reads as no tree
+abbrev pub HasNoTree : List ℕ → Type 0
+HasNoTree model = (m : tree.Model) → Reads model m → ⊥
 
--- the model reads as this tree, which has no fault
+-- the model reads as a tree, in which a construct is not built
+pub record HasUnbuilt (model : List ℕ) : Type 0 where
+  pub m : tree.Model
+  pub reads : Reads model m
+  pub unbuilt : IsSome (first_not_built m)
+
+-- the model reads as a tree of built constructs alone, and breaks a rule
+pub record BreaksRule (model : List ℕ) : Type 0 where
+  pub m : tree.Model
+  pub reads : Reads model m
+  pub built : first_not_built m ≡ None
+  pub fault : IsSome (first_fault m)
+
+-- the model is refused, for one of these causes
+abbrev pub IsBrokenModel : List ℕ → Type 0
+IsBrokenModel model = HasNoTree model ⊎ (HasUnbuilt model ⊎ BreaksRule model)
+
+-- the model reads as this tree, in which each construct is built, and which breaks no rule
 pub record AcceptsModel (model : List ℕ) (m : tree.Model) : Type 0 where
   pub reads : Reads model m
+  pub built : first_not_built m ≡ None
   pub faultless : first_fault m ≡ None
 
 -- the objects of a model that a script may name, in object order

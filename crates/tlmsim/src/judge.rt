@@ -1,17 +1,19 @@
-ghost use Rattle.std.specs.Prelude.{◌≡◌, ◌<◌, ◌^◌, ℕ, IfOk, IsErrOf, length, None, true};
+ghost use Rattle.std.specs.Prelude.{◌≡◌, ◌<◌, ◌^◌, ℕ, IfOk, IsErrOf, length, None};
 ghost use Rattle.model_tree.specs.Tree as tree;
-ghost use Rattle.model_grammar.specs.Reads.{Reads};
+ghost use Rattle.model_lexer.specs.Reads.{Reads};
 ghost use Rattle.model_tree.specs.Seen.{model_of};
-ghost use Rattle.model_rules.specs.Built.{is_built};
+ghost use Rattle.not_built.specs.Missing.{first_not_built};
 ghost use Rattle.model_rules.specs.FlatDesign.{IsDesign, IsCodeOf};
 ghost use Rattle.sim_model.specs.Configuration.{visible};
 ghost use Rattle.tlmsim.specs.Judged.{IsBrokenModel, AcceptsModel, IsBrokenScript, NamesScript, Accepts, BreaksScript, IsDesignOf};
 
+use super::forms::{FormStop, judge_forms};
 use super::load::Texts;
 use elaborate::elaborate;
 use model_check::{Checked, check};
 use model_parser::parse;
-use model_tree::{CheckStop, Design, Items, ParseStop};
+use model_tree::{CheckStop, Design, Items, ParseStop, Tree};
+use not_built::nothing_missing;
 use script_text::{commands, name_all};
 use sim_model::Command;
 use std::alloc::Global;
@@ -19,7 +21,7 @@ use std::alloc::Global;
 /// Why texts were not accepted.
 #[derive(Clone, Copy)]
 pub enum JudgeStop {
-    /// The model has no tree, or breaks a rule.
+    /// The model has no tree, or a construct that is not built, or breaks a rule.
     Model,
     /// The script has no command list, or a command cannot be carried out.
     Script,
@@ -36,10 +38,11 @@ pub struct Judged {
     pub script: Items<Command>,
 }
 
-fn judge_model(alloc: Global, text: &[u8]) -> Result<Checked, JudgeStop>
+/// The tree of a model, in which each construct is built.
+fn read_model(alloc: Global, text: &[u8]) -> Result<Tree, JudgeStop>
     requires { length text.now < 2 ^ 32 }
-    ensures accepted { IfOk result (λ checked. AcceptsModel text.now (model_of checked.tree)) }
-    ensures code { IfOk result (λ checked. is_built (model_of checked.tree) ≡ true → IsCodeOf (model_of checked.tree) checked.names checked.code) }
+    ensures reads { IfOk result (λ t. Reads text.now (model_of t)) }
+    ensures built { IfOk result (λ t. first_not_built (model_of t) ≡ None) }
     ensures broken { IsErrOf result JudgeStop.Model → IsBrokenModel text.now }
     ensures only { IsErrOf result JudgeStop.Script → ⊥ }
 {
@@ -47,6 +50,26 @@ fn judge_model(alloc: Global, text: &[u8]) -> Result<Checked, JudgeStop>
         Ok(tree) => tree,
         Err(ParseStop::Syntax { line: _ }) => return Err(JudgeStop::Model),
         Err(ParseStop::NoMemory) => return Err(JudgeStop::NoMemory),
+    };
+    match judge_forms(alloc, &tree) {
+        Ok(()) => Ok(tree),
+        Err(FormStop::NotBuilt(_)) => Err(JudgeStop::Model),
+        Err(FormStop::NoMemory) => Err(JudgeStop::NoMemory),
+    }
+}
+
+/// The rules are right for built constructs alone, so what is not built is looked for before them.
+fn judge_model(alloc: Global, text: &[u8]) -> Result<Checked, JudgeStop>
+    requires { length text.now < 2 ^ 32 }
+    ensures accepted { IfOk result (λ checked. AcceptsModel text.now (model_of checked.tree)) }
+    ensures code { IfOk result (λ checked. IsCodeOf (model_of checked.tree) checked.names checked.code) }
+    ensures broken { IsErrOf result JudgeStop.Model → IsBrokenModel text.now }
+    ensures only { IsErrOf result JudgeStop.Script → ⊥ }
+{
+    nothing_missing();
+    let tree = match read_model(alloc, text) {
+        Ok(tree) => tree,
+        Err(stop) => return Err(stop),
     };
     match check(alloc, tree) {
         Ok(checked) => Ok(checked),

@@ -79,9 +79,10 @@ fn answer<S: Shelf, O: Sink>(alloc: Global, words: &Words, shelf: &mut S, out: &
 /// Runs the model under the script that the words name, and writes the report to `out`.
 ///
 /// The statuses: 0, the script was carried out or the model stopped it; 1, the words are refused; 2, a
-/// file could not be read; 3, the model is refused; 4, the script is refused; 5, a run fault; 6, the step
-/// budget is used up; 7, a write failed; 8, memory was refused; 9, a listed choice could not be taken;
-/// 10, a file is too large. Nothing is written to `err` yet.
+/// file could not be read; 3, the model is refused: it does not read, or a construct of it is not built
+/// yet, or it breaks a rule; 4, the script is refused; 5, a run fault; 6, the step budget is used up; 7, a
+/// write failed; 8, memory was refused; 9, a listed choice could not be taken; 10, a file is too large.
+/// Nothing is written to `err` yet.
 pub fn sim_main<S: Shelf, O: Sink, E: Sink>(
     alloc: Global,
     words: &Words,

@@ -23,6 +23,6 @@ returns-in-Ok-judge_script-clause-accepted c =
     let design = c.in-Ok-design_of_model.design in
     let parts = c.in-Ok-design_of_model.ensures.design in (
       m,
-      design_over design m c.as_slice.result.now c.in-Ok.checked.names c.in-Ok.checked.code parts c.in-Ok-design_of_model.ensures.code c.in-Ok.ensures.code c.in-Ok.ensures.accepted,
+      design_over design m c.in-Ok.checked.names c.in-Ok.checked.code parts c.in-Ok-design_of_model.ensures.code c.in-Ok.ensures.code,
       accepts_over design m c.args.texts.now.model c.args.texts.now.script c.as_slice.result.now c.as_slice-2.result.now c.in-Ok-judge_script.script parts c.as_slice.ensures c.as_slice-2.ensures c.in-Ok.ensures.accepted c.in-Ok-judge_script.ensures.accepted,
     )

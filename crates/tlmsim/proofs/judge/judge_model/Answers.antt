@@ -1,10 +1,23 @@
-use Rattle.std.proofs.Common.{inl, inr}
+use Rattle.std.proofs.Common.{inr, sym, subst}
+use Rattle.model_tree.specs.Seen.{model_of}
+use Rattle.model_tree.specs.declared.whole.Tree.{Tree}
+use Rattle.model_rules.specs.FlatDesign.{IsCodeOf}
 use Rattle.tlmsim.proofs.Refusals.{refused_some}
 use Rattle.tlmsim.proofs.judge.judge_model.Goals as goal
 
-pub returns-in-Err-Syntax-clause-broken : goal.returns-in-Err-Syntax-clause-broken
-returns-in-Err-Syntax-clause-broken c = λ _. inl (λ m reads. let only = c.in-Err-Syntax.ensures.only m reads in cc (only, c.in-Err-Syntax.field-0-is))
+pub returns-in-Ok-check-clause-code : goal.returns-in-Ok-check-clause-code
+returns-in-Ok-check-clause-code c =
+    let checked = c.in-Ok-check.checked in
+    let P : Tree → Type 0 = λ t. IsCodeOf (model_of t) checked.names checked.code in
+    subst P (sym c.in-Ok-check.ensures.same_tree) (c.in-Ok-check.ensures.code (c.nothing_missing.ensures (model_of c.in-Ok.tree) c.in-Ok.ensures.built))
 
 pub returns-in-Err-Refused-clause-broken : goal.returns-in-Err-Refused-clause-broken
-returns-in-Err-Refused-clause-broken c =
-    λ _. inr (_, c.in-Ok.ensures.found, refused_some c.in-Err-Refused.field-0 _ _ c.in-Err-Refused.field-0-is c.in-Err-Refused.ensures.refused)
+returns-in-Err-Refused-clause-broken c = λ _.
+    inr
+    (inr
+    (record {
+      m = _;
+      reads = c.in-Ok.ensures.reads;
+      built = c.in-Ok.ensures.built;
+      fault = refused_some c.in-Err-Refused.field-0 _ _ c.in-Err-Refused.field-0-is c.in-Err-Refused.ensures.refused;
+    }))

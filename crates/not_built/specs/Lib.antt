@@ -1,0 +1,3 @@
+pub mod Missing
+pub mod OnlyBuilt
+pub mod Found

@@ -1,0 +1,13 @@
+//! Which construct of a tree is not built yet: the simulator reads the whole language, and runs a part of it.
+#![tactic(auto)]
+
+mod expressions;
+mod found;
+mod items;
+mod laws;
+mod statements;
+mod whole;
+
+pub use found::NotBuilt;
+pub use laws::{nothing_missing, only_built};
+pub use whole::not_built;

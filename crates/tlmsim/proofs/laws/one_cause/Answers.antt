@@ -1,0 +1,15 @@
+use Rattle.tlmsim.proofs.Apart.{not_broken, not_unread, not_unbuilt}
+use Rattle.tlmsim.proofs.Refusals.{one_of}
+use Rattle.tlmsim.proofs.laws.one_cause.Goals as goal
+
+pub returns-clause-some : goal.returns-clause-some
+returns-clause-some c = one_of
+
+pub returns-clause-accepted : goal.returns-clause-accepted
+returns-clause-accepted c = not_broken c.one_tree.ensures
+
+pub returns-clause-unread : goal.returns-clause-unread
+returns-clause-unread c = not_unread
+
+pub returns-clause-unbuilt : goal.returns-clause-unbuilt
+returns-clause-unbuilt c = not_unbuilt c.one_tree.ensures

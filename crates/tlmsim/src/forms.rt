@@ -1,0 +1,45 @@
+ghost use Rattle.std.specs.Prelude.{◌≡◌, IfErr, None, OnOk, Some};
+ghost use Rattle.model_tree.specs.Seen.{model_of};
+ghost use Rattle.not_built.specs.Missing.{first_not_built};
+ghost use Rattle.tlmsim.specs.Forms.{IfNotBuilt};
+
+use logic_values::Text;
+use model_tree::Tree;
+use not_built::not_built;
+use std::alloc::Global;
+
+/// A construct of a model that is not built.
+#[derive(Drop)]
+pub struct NotBuilt {
+    /// The line of its first token, counted from 1.
+    pub line: u32,
+    /// The name of its module.
+    pub name: Text,
+}
+
+/// Why a tree is not run.
+#[derive(Drop)]
+pub enum FormStop {
+    /// A construct is not built: the first in text order, an outer one before those in it.
+    NotBuilt(NotBuilt),
+    /// Memory was refused.
+    NoMemory,
+}
+
+/// Ok where a tree has only built forms. NotBuilt has the first construct that is not, and its name stands in memory
+/// of its own.
+pub fn judge_forms(alloc: Global, tree: &Tree) -> Result<(), FormStop>
+    ensures built { OnOk result (first_not_built (model_of tree.now) ≡ None) }
+    ensures refused { IfErr result (λ stop. IfNotBuilt stop (λ line name. first_not_built (model_of tree.now) ≡ Some (line, name))) }
+{
+    let Some(found) = not_built(tree) else {
+        return Ok(());
+    };
+    match Vec::from_slice(alloc, found.name.bytes()) {
+        Ok(bytes) => Err(FormStop::NotBuilt(NotBuilt {
+            line: found.line,
+            name: Text::new(bytes),
+        })),
+        Err(_) => Err(FormStop::NoMemory),
+    }
+}
