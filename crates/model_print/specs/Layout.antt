@@ -1,5 +1,5 @@
 -- How printed tokens stand on a page: line ends, the indentation by open braces, and the blanks between neighbours.
-use Rattle.std.specs.Prelude.{ℕ, Bool, true, false, ◌-◌, List, [], ◌∷◌, ◌++◌, codes, length, take, refl, if◌then◌else◌}
+use Rattle.std.specs.Prelude.{ℕ, Bool, true, false, ◌-◌, List, [], ◌++◌, codes, length, take, refl, if◌then◌else◌}
 use Rattle.std.specs.List.{fold}
 use Rattle.std.specs.Coded.{Coded, code_by, coded×, coded_ℕ, coded_list}
 use Rattle.model_print.specs.declared.page.Shape.{Shape}

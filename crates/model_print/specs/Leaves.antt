@@ -5,7 +5,6 @@ use Rattle.logic_values.specs.declared.kinds.Digit.{Digit}
 use Rattle.logic_values.specs.ValueText.{letter_of}
 use Rattle.logic_values.specs.Digits.{digits}
 use Rattle.sim_time.specs.declared.moments.Unit.{Unit as TimeUnit}
-use Rattle.sim_time.specs.declared.moments.Unit.TheVariants as unit
 use Rattle.model_tree.specs.Vocabulary.{word_text, symbol_text}
 use Rattle.model_tree.specs.declared.vocabulary.Word.{Word}
 use Rattle.model_tree.specs.declared.vocabulary.Word.TheVariants as w
@@ -26,18 +25,9 @@ use Rattle.model_tree.specs.declared.types.BoundRule.TheVariants as rule
 use Rattle.model_tree.specs.declared.types.PortSize.{PortSize}
 use Rattle.model_tree.specs.declared.types.Parameter.{Parameter}
 use Rattle.model_tree.specs.declared.types.End.{End}
-use Rattle.model_tree.specs.declared.expressions.UnaryOp.{UnaryOp}
-use Rattle.model_tree.specs.declared.expressions.UnaryOp.TheVariants as sign
-use Rattle.model_tree.specs.declared.expressions.BinaryOp.{BinaryOp}
-use Rattle.model_tree.specs.declared.expressions.BinaryOp.TheVariants as op
-use Rattle.model_tree.specs.declared.expressions.Conversion.{Conversion}
-use Rattle.model_tree.specs.declared.expressions.Conversion.TheVariants as conversion
-use Rattle.model_tree.specs.declared.expressions.NamedConstant.{NamedConstant}
-use Rattle.model_tree.specs.declared.expressions.NamedConstant.TheVariants as code
 use Rattle.model_tree.specs.declared.statements.Who.{Who}
 use Rattle.model_tree.specs.declared.statements.Who.TheVariants as who
-use Rattle.model_tree.specs.declared.statements.Control.{Control}
-use Rattle.model_tree.specs.declared.statements.Control.TheVariants as control
+use Rattle.model_grammar.specs.Expressions.{truth_word, unit_name}
 use Rattle.model_print.specs.declared.page.Shape.TheVariants as shape
 use Rattle.model_print.specs.Layout.{Piece}
 
@@ -140,23 +130,15 @@ variable_type var_type.Time = type_word w.Time
 variable_type var_type.Process = type_word w.Process
 variable_type var_type.Payload = type_word w.Payload
 
-abbrev pub unit_text : TimeUnit → List ℕ
-unit_text unit.Ps = codes "ps"
-unit_text unit.Ns = codes "ns"
-unit_text unit.Us = codes "us"
-unit_text unit.Ms = codes "ms"
-unit_text unit.S = codes "s"
-
 -- a number and its unit
 abbrev pub time : ℕ → TimeUnit → List Piece
-time n u = number n ∷ name (unit_text u) ∷ []
+time n u = number n ∷ name (unit_name u) ∷ []
 
 abbrev pub span : Span → List Piece
 span t = time t.count t.unit
 
 abbrev pub truth : Bool → Piece
-truth true = word w.True
-truth false = word w.False
+truth b = word (truth_word b)
 
 -- a constant of an item
 abbrev pub constant_form : ConstantForm → List Piece
@@ -169,64 +151,6 @@ constant_form (constant.Truth b) = truth b ∷ []
 -- a first value where it is written
 abbrev pub initial : Option Constant → List Piece
 initial c = maybe (λ x. operator s.Equal ∷ constant_form x.form) c
-
-abbrev pub prefix_symbol : UnaryOp → Symbol
-prefix_symbol sign.Negate = s.Minus
-prefix_symbol sign.Not = s.Bang
-prefix_symbol sign.Complement = s.Tilde
-
-abbrev pub binary_symbol : BinaryOp → Symbol
-binary_symbol op.OrElse = s.OrOr
-binary_symbol op.AndThen = s.AndAnd
-binary_symbol op.BitOr = s.Bar
-binary_symbol op.BitXor = s.Caret
-binary_symbol op.BitAnd = s.Ampersand
-binary_symbol op.Equal = s.EqualEqual
-binary_symbol op.NotEqual = s.NotEqual
-binary_symbol op.Less = s.Less
-binary_symbol op.LessEqual = s.LessEqual
-binary_symbol op.Greater = s.Greater
-binary_symbol op.GreaterEqual = s.GreaterEqual
-binary_symbol op.ShiftLeft = s.ShiftLeft
-binary_symbol op.ShiftRight = s.ShiftRight
-binary_symbol op.Add = s.Plus
-binary_symbol op.Subtract = s.Minus
-binary_symbol op.Multiply = s.Star
-binary_symbol op.Divide = s.Slash
-binary_symbol op.Remainder = s.Percent
-
-abbrev pub conversion_word : Conversion → Word
-conversion_word conversion.Int = w.Int
-conversion_word conversion.Uint = w.Uint
-conversion_word conversion.Bool = w.Bool
-conversion_word conversion.Logic = w.Logic
-
-abbrev pub constant_word : NamedConstant → Word
-constant_word code.Read = w.ReadCommand
-constant_word code.Write = w.WriteCommand
-constant_word code.Ignore = w.IgnoreCommand
-constant_word code.OkResponse = w.OkResponse
-constant_word code.Incomplete = w.IncompleteResponse
-constant_word code.GenericError = w.GenericResponse
-constant_word code.AddressError = w.AddressResponse
-constant_word code.CommandError = w.CommandResponse
-constant_word code.BurstError = w.BurstResponse
-constant_word code.ByteEnableError = w.ByteEnableResponse
-constant_word code.BeginReq = w.BeginReq
-constant_word code.EndReq = w.EndReq
-constant_word code.BeginResp = w.BeginResp
-constant_word code.EndResp = w.EndResp
-constant_word code.Accepted = w.Accepted
-constant_word code.Updated = w.Updated
-constant_word code.Completed = w.Completed
-
-abbrev pub control_word : Control → Word
-control_word control.Suspend = w.Suspend
-control_word control.Resume = w.Resume
-control_word control.Disable = w.Disable
-control_word control.Enable = w.Enable
-control_word control.Kill = w.Kill
-control_word control.Reset = w.Reset
 
 -- the process of a control call
 abbrev pub target_process : Who → Piece

@@ -1,4 +1,3 @@
 pub mod Layout
 pub mod Leaves
 pub mod Printed
-pub mod Seen

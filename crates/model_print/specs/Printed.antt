@@ -1,5 +1,5 @@
 -- The printed tokens of each form of a tree, in order.
-use Rattle.std.specs.Prelude.{ℕ, Bool, true, false, List, [], ◌∷◌, ◌++◌, Option, Some, None}
+use Rattle.std.specs.Prelude.{ℕ, List, [], ◌∷◌, ◌++◌, Option}
 use Rattle.model_tree.specs.Tree as tree
 use Rattle.model_tree.specs.declared.vocabulary.Word.{Word}
 use Rattle.model_tree.specs.declared.vocabulary.Word.TheVariants as w
@@ -7,12 +7,6 @@ use Rattle.model_tree.specs.declared.vocabulary.Symbol.TheVariants as s
 use Rattle.model_tree.specs.declared.types.VarType.{VarType}
 use Rattle.model_tree.specs.declared.types.Parameter.{Parameter}
 use Rattle.model_tree.specs.declared.types.Span.{Span}
-use Rattle.model_tree.specs.declared.items.SignalKind.{SignalKind}
-use Rattle.model_tree.specs.declared.items.SignalKind.TheVariants as signal_kind
-use Rattle.model_tree.specs.declared.items.PlainKind.{PlainKind}
-use Rattle.model_tree.specs.declared.items.PlainKind.TheVariants as plain
-use Rattle.model_tree.specs.declared.items.ProcessKind.{ProcessKind}
-use Rattle.model_tree.specs.declared.items.ProcessKind.TheVariants as process
 use Rattle.model_tree.specs.declared.items.InitiatorRole.{InitiatorRole}
 use Rattle.model_tree.specs.declared.items.InitiatorRole.TheVariants as initiator
 use Rattle.model_tree.specs.declared.items.TargetRole.{TargetRole}
@@ -20,8 +14,11 @@ use Rattle.model_tree.specs.declared.items.TargetRole.TheVariants as target
 use Rattle.model_tree.specs.declared.items.SignalItem.{SignalItem}
 use Rattle.model_tree.specs.declared.items.ClockItem.{ClockItem}
 use Rattle.model_tree.specs.declared.items.Top.{Top}
+use Rattle.model_grammar.specs.Expressions.{unary_symbol, binary_symbol, conversion_word, constant_word}
+use Rattle.model_grammar.specs.Statements.{control_word}
+use Rattle.model_grammar.specs.Items.{signal_word, plain_word, process_word}
 use Rattle.model_print.specs.Layout.{Piece, layout}
-use Rattle.model_print.specs.Leaves.{word, name, number, logic, quoted, type_word, wide, operator, prefix, joint, opening, closing, comma, semicolon, flag, maybe, each, separated, braced, type_form, variable_type, time, span, truth, constant_form, initial, prefix_symbol, binary_symbol, conversion_word, constant_word, control_word, target_process, member, leads_to, port_size, parameter, binding_end}
+use Rattle.model_print.specs.Leaves.{word, name, number, logic, quoted, type_word, wide, operator, prefix, joint, opening, closing, comma, semicolon, flag, maybe, each, separated, braced, type_form, variable_type, time, span, truth, constant_form, initial, target_process, member, leads_to, port_size, parameter, binding_end}
 
 -- what stands between round brackets
 abbrev pub bracketed : List Piece → List Piece
@@ -45,7 +42,7 @@ expression (tree.placed_by line x e) = name x ∷ joint s.At ∷ bracketed (expr
 expression (tree.member e x) = expression e ++ joint s.Dot ∷ name x ∷ []
 expression (tree.element e index) = expression e ++ opening s.LeftBracket ∷ expression index ++ closing s.RightBracket ∷ []
 expression (tree.slice e high low) = expression e ++ opening s.LeftBracket ∷ number high ∷ operator s.Colon ∷ number low ∷ closing s.RightBracket ∷ []
-expression (tree.unary line o e) = prefix (prefix_symbol o) ∷ expression e
+expression (tree.unary line o e) = prefix (unary_symbol o) ∷ expression e
 expression (tree.binary o left right) = expression left ++ operator (binary_symbol o) ∷ expression right
 
 -- each expression behind a comma
@@ -104,6 +101,10 @@ sensitive (e ∷ es) = word w.Sensitive ∷ separated event (e ∷ es)
 abbrev pub three_names : List ℕ → List ℕ → List ℕ → List Piece
 three_names a b c = name a ∷ comma ∷ name b ∷ comma ∷ name c ∷ []
 
+-- a word and a channel
+abbrev pub with_channel : Word → tree.Channel → List Piece
+with_channel x c = word x ∷ channel c
+
 abbrev pub operation : tree.Operation → List Piece
 operation (tree.call x es) = word w.Call ∷ name x ∷ arguments es
 operation (tree.read c) = word w.Read ∷ channel c
@@ -128,6 +129,10 @@ with_name x y = word x ∷ name y ∷ []
 -- an expression behind a comma, where one is written
 abbrev pub one_more : Option tree.Expression → List Piece
 one_more e = maybe (λ x. comma ∷ expression x) e
+
+-- a word, a name and an expression
+abbrev pub with_time : Word → List ℕ → tree.Expression → List Piece
+with_time x y e = word x ∷ name y ∷ expression e
 
 abbrev pub action : tree.Action → List Piece
 action (tree.write c e) = word w.Write ∷ channel c ++ expression e
@@ -160,12 +165,24 @@ action tree.stop = word w.Stop ∷ []
 abbrev pub first_value : Option tree.Expression → List Piece
 first_value e = maybe (λ x. operator s.Equal ∷ expression x) e
 
+abbrev pub declaration : VarType → List ℕ → Option tree.Expression → List Piece
+declaration t x e = word w.Var ∷ variable_type t ∷ name x ∷ first_value e ++ semicolon ∷ []
+
+abbrev pub assignment : tree.Target → tree.Expression → List Piece
+assignment t e = assigned t ++ operator s.Equal ∷ expression e ++ semicolon ∷ []
+
+abbrev pub operated : Option (List ℕ) → tree.Operation → List Piece
+operated x o = stored x ++ operation o ++ semicolon ∷ []
+
+abbrev pub acted : tree.Action → List Piece
+acted a = action a ++ semicolon ∷ []
+
 abbrev mutual
   pub statement : tree.Statement → List Piece
-  statement (tree.var line t x e) = word w.Var ∷ variable_type t ∷ name x ∷ first_value e ++ semicolon ∷ []
-  statement (tree.assign line t e) = assigned t ++ operator s.Equal ∷ expression e ++ semicolon ∷ []
-  statement (tree.operate line x at o) = stored x ++ operation o ++ semicolon ∷ []
-  statement (tree.act line a) = action a ++ semicolon ∷ []
+  statement (tree.var line t x e) = declaration t x e
+  statement (tree.assign line t e) = assignment t e
+  statement (tree.operate line x at o) = operated x o
+  statement (tree.act line a) = acted a
   statement (tree.branch line e body other) = word w.If ∷ expression e ++ braced (statements body) ++ otherwise other
   statement (tree.loop line e body) = word w.While ∷ expression e ++ braced (statements body)
   statement (tree.guard line body undo) = word w.Guard ∷ braced (statements body) ++ word w.Unwind ∷ braced (statements undo)
@@ -182,19 +199,6 @@ abbrev mutual
   pub handlers : tree.Handlers → List Piece
   handlers tree.no_more = []
   handlers (tree.handler x body more) = word w.Catch ∷ name x ∷ braced (statements body) ++ handlers more
-
-abbrev pub signal_word : SignalKind → Word
-signal_word signal_kind.Signal = w.Signal
-signal_word signal_kind.Buffer = w.Buffer
-
-abbrev pub plain_word : PlainKind → Word
-plain_word plain.Mutex = w.Mutex
-plain_word plain.Event = w.Event
-plain_word plain.Keeper = w.Keeper
-
-abbrev pub process_word : ProcessKind → Word
-process_word process.Thread = w.Thread
-process_word process.Method = w.Method
 
 abbrev pub signal : SignalItem → List Piece
 signal x = word (signal_word x.kind) ∷ flag w.Many x.many ++ type_form x.value_type.form ∷ name x.name ∷ initial x.initial

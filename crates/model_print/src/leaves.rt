@@ -1,11 +1,13 @@
 ghost use Rattle.std.specs.Prelude.{◌≡◌, OnOk, codes};
+ghost use Rattle.model_grammar.specs.Expressions.{unit_name, unary_symbol, binary_symbol, conversion_word, constant_word};
+ghost use Rattle.model_grammar.specs.Statements.{control_word};
 ghost use Rattle.model_print.specs.Layout.{put, put_all};
 ghost use Rattle.model_print.specs.Leaves as leaf;
 
 use super::page::Page;
 use model_tree::{
     BinaryOp, BoundRule, Constant, ConstantForm, Control, Conversion, End, Interface, Name,
-    NamedConstant, Parameter, PortSize, Span, Symbol, TypeForm, UnaryOp, VarType, Who, Word,
+    NamedConstant, Parameter, PortSize, Symbol, TypeForm, UnaryOp, VarType, Who, Word,
 };
 use sim_time::Unit;
 use std::alloc::AllocError;
@@ -46,7 +48,7 @@ pub fn variable_type(page: &mut Page, var_type: VarType) -> Result<(), AllocErro
 }
 
 fn unit_text(unit: Unit) -> &'static str
-    ensures { result.now ≡ leaf.unit_text unit }
+    ensures { result.now ≡ unit_name unit }
 {
     match unit {
         Unit::Ps => "ps",
@@ -63,13 +65,6 @@ pub fn time(page: &mut Page, count: u64, unit: Unit) -> Result<(), AllocError>
 {
     page.number(count)?;
     page.unit(unit_text(unit).as_bytes())
-}
-
-/// Writes a time of an item.
-pub fn span(page: &mut Page, span: Span) -> Result<(), AllocError>
-    ensures { OnOk result (page.new ≡ put_all page.old (leaf.span span)) }
-{
-    time(page, span.count, span.unit)
 }
 
 /// Writes `true` or `false`.
@@ -114,7 +109,7 @@ pub fn initial(page: &mut Page, value: Option<Constant>) -> Result<(), AllocErro
 
 /// The symbol of a prefix operator.
 pub fn prefix_symbol(op: UnaryOp) -> Symbol
-    ensures { result ≡ leaf.prefix_symbol op }
+    ensures { result ≡ unary_symbol op }
 {
     match op {
         UnaryOp::Negate => Symbol::Minus,
@@ -125,7 +120,7 @@ pub fn prefix_symbol(op: UnaryOp) -> Symbol
 
 /// The symbol of a binary operator.
 pub fn binary_symbol(op: BinaryOp) -> Symbol
-    ensures { result ≡ leaf.binary_symbol op }
+    ensures { result ≡ binary_symbol op }
 {
     match op {
         BinaryOp::OrElse => Symbol::OrOr,
@@ -151,7 +146,7 @@ pub fn binary_symbol(op: BinaryOp) -> Symbol
 
 /// The word of a conversion.
 pub fn conversion_word(conversion: Conversion) -> Word
-    ensures { result ≡ leaf.conversion_word conversion }
+    ensures { result ≡ conversion_word conversion }
 {
     match conversion {
         Conversion::Int => Word::Int,
@@ -163,7 +158,7 @@ pub fn conversion_word(conversion: Conversion) -> Word
 
 /// The word of a named number.
 pub fn constant_word(constant: NamedConstant) -> Word
-    ensures { result ≡ leaf.constant_word constant }
+    ensures { result ≡ constant_word constant }
 {
     match constant {
         NamedConstant::Read => Word::ReadCommand,
@@ -188,7 +183,7 @@ pub fn constant_word(constant: NamedConstant) -> Word
 
 /// The word of a control call.
 pub fn control_word(control: Control) -> Word
-    ensures { result ≡ leaf.control_word control }
+    ensures { result ≡ control_word control }
 {
     match control {
         Control::Suspend => Word::Suspend,

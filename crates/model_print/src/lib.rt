@@ -2,8 +2,12 @@
 #![tactic(auto)]
 
 mod expressions;
+mod items;
 mod leaves;
 mod page;
+mod printing;
+mod statements;
+#[cfg(test)]
+mod tests;
 
-pub use expressions::{arguments, expression};
-pub use page::{Page, Shape};
+pub use printing::print;

@@ -1,0 +1,285 @@
+ghost use Rattle.std.specs.Prelude.{◌≡◌, OnOk, map};
+ghost use Rattle.model_tree.specs.Views.{function_of, item_of, module_of, modules_of, process_of};
+ghost use Rattle.model_grammar.specs.Items as grammar;
+ghost use Rattle.model_print.specs.Layout.{put_all};
+ghost use Rattle.model_print.specs.Leaves as leaf;
+ghost use Rattle.model_print.specs.Printed as spec;
+
+use super::leaves::{
+    binding_end, constant_form, flag, initial, leads_to, parameter, port_size, time, type_form,
+    variable_type,
+};
+use super::page::Page;
+use super::statements::{block, sensitive, with_name};
+use model_tree::{
+    ClockItem, FunctionItem, InitiatorRole, Item, Module, Name, Parameter, PlainKind, ProcessItem,
+    ProcessKind, SignalItem, SignalKind, Symbol, TargetRole, Top, VarType, Word,
+};
+use std::alloc::AllocError;
+
+fn signal_word(kind: SignalKind) -> Word
+    ensures { result ≡ grammar.signal_word kind }
+{
+    match kind {
+        SignalKind::Signal => Word::Signal,
+        SignalKind::Buffer => Word::Buffer,
+    }
+}
+
+fn plain_word(kind: PlainKind) -> Word
+    ensures { result ≡ grammar.plain_word kind }
+{
+    match kind {
+        PlainKind::Mutex => Word::Mutex,
+        PlainKind::Event => Word::Event,
+        PlainKind::Keeper => Word::Keeper,
+    }
+}
+
+fn process_word(kind: ProcessKind) -> Word
+    ensures { result ≡ grammar.process_word kind }
+{
+    match kind {
+        ProcessKind::Thread => Word::Thread,
+        ProcessKind::Method => Word::Method,
+    }
+}
+
+/// Writes a signal or a buffer, without its `;`.
+fn signal(page: &mut Page, signal: &SignalItem) -> Result<(), AllocError>
+    ensures { OnOk result (page.new ≡ put_all page.old (spec.signal signal.now)) }
+{
+    page.word(signal_word(signal.kind))?;
+    flag(page, Word::Many, signal.many)?;
+    type_form(page, signal.value_type.form)?;
+    page.name(&signal.name)?;
+    initial(page, signal.initial)
+}
+
+/// Writes a clock, without its `;`.
+fn clock(page: &mut Page, clock: &ClockItem) -> Result<(), AllocError>
+    ensures { OnOk result (page.new ≡ put_all page.old (spec.clock clock.now)) }
+{
+    page.word(Word::Clock)?;
+    page.name(&clock.name)?;
+    page.word(Word::Period)?;
+    time(page, clock.period.count, clock.period.unit)?;
+    page.word(Word::High)?;
+    time(page, clock.high.count, clock.high.unit)?;
+    if let Some(start) = clock.start {
+        page.word(Word::Start)?;
+        time(page, start.count, start.unit)?;
+    }
+    Ok(())
+}
+
+/// Writes a word and the name of a handler where one is written.
+fn handled(page: &mut Page, word: Word, handler: &Option<Name>) -> Result<(), AllocError>
+    ensures { OnOk result (page.new ≡ put_all page.old (spec.handled word handler.now)) }
+{
+    match handler {
+        None => Ok(()),
+        Some(handler) => with_name(page, word, handler),
+    }
+}
+
+/// Writes the handlers of an initiator socket.
+fn initiator_role(page: &mut Page, role: &InitiatorRole) -> Result<(), AllocError>
+    ensures { OnOk result (page.new ≡ put_all page.old (spec.initiator_role role.now)) }
+{
+    match role {
+        InitiatorRole::Pass => page.word(Word::Pass),
+        InitiatorRole::Own(backward) => handled(page, Word::Bw, backward),
+    }
+}
+
+/// Writes the handlers of a target socket.
+fn target_role(page: &mut Page, role: &TargetRole) -> Result<(), AllocError>
+    ensures { OnOk result (page.new ≡ put_all page.old (spec.target_role role.now)) }
+{
+    match role {
+        TargetRole::Pass => page.word(Word::Pass),
+        TargetRole::Own(blocking, forward) => {
+            handled(page, Word::Bt, blocking)?;
+            handled(page, Word::Fw, forward)
+        }
+    }
+}
+
+/// Writes the type of a function's answer where it has one.
+fn answered(page: &mut Page, answer: Option<VarType>) -> Result<(), AllocError>
+    ensures { OnOk result (page.new ≡ put_all page.old (spec.answered answer)) }
+{
+    match answer {
+        None => Ok(()),
+        Some(answer) => {
+            page.operator(Symbol::Arrow)?;
+            variable_type(page, answer)
+        }
+    }
+}
+
+/// Writes each parameter behind a comma.
+fn more_parameters(page: &mut Page, parameters: &[Parameter]) -> Result<(), AllocError>
+    ensures { OnOk result (page.new ≡ put_all page.old (spec.more_parameters parameters.now)) }
+{
+    for one in parameters {
+        page.comma()?;
+        parameter(page, one)?;
+    }
+    Ok(())
+}
+
+/// Writes parameters with commas between them.
+fn listed(page: &mut Page, parameters: &[Parameter]) -> Result<(), AllocError>
+    ensures { OnOk result (page.new ≡ put_all page.old (leaf.separated leaf.parameter parameters.now)) }
+{
+    match parameters {
+        [] => Ok(()),
+        [first, rest @ ..] => {
+            parameter(page, first)?;
+            more_parameters(page, rest)
+        }
+    }
+}
+
+/// Writes a function.
+fn function(page: &mut Page, function: &FunctionItem) -> Result<(), AllocError>
+    ensures { OnOk result (page.new ≡ put_all page.old (spec.function (function_of function.now))) }
+{
+    page.word(Word::Func)?;
+    page.name(&function.name)?;
+    page.opening(Symbol::LeftParen)?;
+    listed(page, function.parameters.as_slice())?;
+    page.closing(Symbol::RightParen)?;
+    answered(page, function.answer)?;
+    block(page, &function.body)
+}
+
+/// Writes a process.
+fn process(page: &mut Page, process: &ProcessItem) -> Result<(), AllocError>
+    ensures { OnOk result (page.new ≡ put_all page.old (spec.process_item (process_of process.now))) }
+{
+    page.word(process_word(process.kind))?;
+    page.name(&process.name)?;
+    sensitive(page, process.sensitive.as_slice())?;
+    flag(page, Word::DontInitialize, process.dont_initialize)?;
+    block(page, &process.body)
+}
+
+/// Writes the size of a fifo where one is written.
+fn sized(page: &mut Page, size: Option<u64>) -> Result<(), AllocError>
+    ensures { OnOk result (page.new ≡ put_all page.old (spec.sized size)) }
+{
+    match size {
+        None => Ok(()),
+        Some(size) => {
+            page.word(Word::Size)?;
+            page.number(size)
+        }
+    }
+}
+
+/// Writes an item.
+fn item(page: &mut Page, item: &Item) -> Result<(), AllocError>
+    ensures { OnOk result (page.new ≡ put_all page.old (spec.item (item_of item.now))) }
+{
+    match item {
+        Item::Signal(_, declared) => signal(page, declared)?,
+        Item::Resolved(_, name) => with_name(page, Word::Resolved, name)?,
+        Item::Clock(_, declared) => clock(page, declared)?,
+        Item::Fifo(_, value_type, name, size) => {
+            page.word(Word::Fifo)?;
+            type_form(page, value_type.form)?;
+            page.name(name)?;
+            sized(page, *size)?;
+        }
+        Item::Plain(_, kind, name) => with_name(page, plain_word(*kind), name)?,
+        Item::Semaphore(_, name, value) => {
+            with_name(page, Word::Semaphore, name)?;
+            constant_form(page, value.form)?;
+        }
+        Item::Memory(_, name, size) => {
+            with_name(page, Word::Memory, name)?;
+            page.opening(Symbol::LeftBracket)?;
+            page.number(*size)?;
+            page.closing(Symbol::RightBracket)?;
+        }
+        Item::Variable(_, var_type, name, value) => {
+            page.word(Word::Var)?;
+            variable_type(page, *var_type)?;
+            page.name(name)?;
+            initial(page, *value)?;
+        }
+        Item::Port(_, interface, name, size) => {
+            leads_to(page, *interface)?;
+            page.name(name)?;
+            port_size(page, *size)?;
+        }
+        Item::Export(_, interface, name) => {
+            page.word(Word::Export)?;
+            leads_to(page, *interface)?;
+            page.name(name)?;
+        }
+        Item::Initiator(_, name, role) => {
+            with_name(page, Word::Initiator, name)?;
+            initiator_role(page, role)?;
+        }
+        Item::Target(_, name, role) => {
+            with_name(page, Word::Target, name)?;
+            target_role(page, role)?;
+        }
+        Item::Instance(_, module, name) => {
+            with_name(page, Word::Inst, module)?;
+            page.name(name)?;
+        }
+        Item::Bind(_, left, right) => {
+            page.word(Word::Bind)?;
+            binding_end(page, left)?;
+            page.word(Word::To)?;
+            binding_end(page, right)?;
+        }
+        Item::Function(_, declared) => return function(page, declared),
+        Item::Process(_, declared) => return process(page, declared),
+    }
+    page.semicolon()
+}
+
+/// Writes items, one behind another.
+fn items(page: &mut Page, items: &[Item]) -> Result<(), AllocError>
+    ensures { OnOk result (page.new ≡ put_all page.old (leaf.each spec.item (map item_of items.now))) }
+{
+    for one in items {
+        item(page, one)?;
+    }
+    Ok(())
+}
+
+/// Writes a module.
+fn module(page: &mut Page, module: &Module) -> Result<(), AllocError>
+    ensures { OnOk result (page.new ≡ put_all page.old (spec.module_ (module_of module.now))) }
+{
+    with_name(page, Word::Module, &module.name)?;
+    page.left_brace()?;
+    items(page, module.items.as_slice())?;
+    page.right_brace()
+}
+
+/// Writes modules, one behind another.
+pub fn modules(page: &mut Page, modules: &[Module]) -> Result<(), AllocError>
+    ensures { OnOk result (page.new ≡ put_all page.old (leaf.each spec.module_ (modules_of modules.now))) }
+{
+    for one in modules {
+        module(page, one)?;
+    }
+    Ok(())
+}
+
+/// Writes the instance at the top.
+pub fn top(page: &mut Page, top: &Top) -> Result<(), AllocError>
+    ensures { OnOk result (page.new ≡ put_all page.old (spec.top top.now)) }
+{
+    with_name(page, Word::Top, &top.module)?;
+    page.name(&top.name)?;
+    page.semicolon()
+}

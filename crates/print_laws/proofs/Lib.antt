@@ -1,0 +1,13 @@
+pub mod Reading
+pub mod Fronts
+pub mod Pieces
+pub mod Laid
+pub mod Spelled
+pub mod Lists
+pub mod Expressions
+pub mod Statements
+pub mod Actions
+pub mod Blocks
+pub mod Items
+pub mod Depths
+pub mod Whole

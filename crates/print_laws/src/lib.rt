@@ -1,0 +1,6 @@
+//! That the printed text of a tree reads as the same tree but for line numbers.
+#![tactic(auto)]
+
+mod laws;
+
+pub use laws::{print_of_a_tree_reads_back, print_reads_back};
