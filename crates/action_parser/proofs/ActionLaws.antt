@@ -244,7 +244,7 @@ of_expression_reads d e ts rest last h few end = rw (expression_before d e ts re
 pub of_spawn_reads : (d : ℕ) (x : tree.Spawn) (ts rest last : Tokens) → DerivesSpawn x ts rest → in_action (tree.spawn x) ≤ d → Takes (t.symbol s.Semicolon) rest last → of_spawn d ts ≡ Some (tree.spawn x, rest)
 of_spawn_reads d x ts rest last h few end = rw (spawn_reads d x ts rest last h few end) refl
 
-pub of_answer_reads : (d : ℕ) (x : Option tree.Expression) (ts rest last : Tokens) → Maybe DerivesExpression x ts rest → in_option x ≤ d → Takes (t.symbol s.Semicolon) rest last → of_answer d ts ≡ Some (tree.answer x, rest)
+pub of_answer_reads : (d : ℕ) (x : Option tree.Expression) (ts rest last : Tokens) → Maybe DerivesExpression x ts rest → in_option x ≤ d → Takes (t.symbol s.Semicolon) rest last → of_answer d ts ≡ Some (tree.return_ x, rest)
 of_answer_reads d x ts rest last h few end = rw (optional_expression_reads d x ts rest h few (rw end.1 refl)) refl
 
 pub of_who_reads : (c : Control) (x : Who) (ts rest : Tokens) → DerivesWho x ts rest → of_who c ts ≡ Some (tree.control c x, rest)

@@ -14,7 +14,8 @@ use Rattle.model_grammar.specs.Tokens as t
 use Rattle.model_grammar.specs.Tokens.{Tokens}
 use Rattle.model_grammar.specs.Rules.{At, Takes}
 use Rattle.model_grammar.specs.Expressions.{is_the_symbol, sees}
-use Rattle.model_grammar.specs.Statements.{control_word, DerivesOperation, DerivesAction}
+use Rattle.model_grammar.specs.Statements.{DerivesOperation, DerivesAction}
+use Rattle.model_tree.specs.Spelling.{control_word}
 use Rattle.model_grammar.specs.Brackets.{in_operation, in_action}
 use Rattle.expression_parser.specs.Parse.{refuse, skip, is_the_word, word_ahead}
 use Rattle.expression_parser.proofs.Parsers.{where_cases, and_then_ok}
@@ -107,7 +108,7 @@ action_before d line (tree.spawn x) ts rest last (a, at, one) few end = action_s
 action_before d line (tree.control c x) ts rest last (a, at, one) few end = action_so (control_word c) d line (tree.control c x) ts a rest at (rw (control_starts c) (of_who_reads c x a rest one))
 action_before d line (tree.throw_it p x) ts rest last (a, at, (b, one, two)) few end = action_so w.ThrowIt d line (tree.throw_it p x) ts a rest at (throw_it_reads p x a b rest one two)
 action_before d line (tree.throw x) ts rest last (a, at, one) few end = action_so w.Throw d line (tree.throw x) ts a rest at (of_name_reads tree.throw x a rest one)
-action_before d line (tree.answer x) ts rest last (a, at, one) few end = action_so w.Return d line (tree.answer x) ts a rest at (of_answer_reads d x a rest last one few end)
+action_before d line (tree.return_ x) ts rest last (a, at, one) few end = action_so w.Return d line (tree.return_ x) ts a rest at (of_answer_reads d x a rest last one few end)
 action_before d line tree.stop ts rest last at few end = action_so w.Stop d line tree.stop ts rest rest at refl
 
 pub action_reads : (d line : ℕ) (o : tree.Action) (ts rest : Tokens) → DerivesAction line o ts rest → in_action o ≤ d → sees (is_the_symbol s.Semicolon) rest ≡ true → action d ts ≡ Some ((line, o), rest)
@@ -151,7 +152,7 @@ action_word (tree.spawn x) = w.Spawn
 action_word (tree.control c x) = control_word c
 action_word (tree.throw_it p x) = w.ThrowIt
 action_word (tree.throw x) = w.Throw
-action_word (tree.answer x) = w.Return
+action_word (tree.return_ x) = w.Return
 action_word tree.stop = w.Stop
 
 pub operation_begins : (line : ℕ) (o : tree.Operation) (ts rest : Tokens) → DerivesOperation line o ts rest → (mid : Tokens) × At line (t.word (operation_word o)) ts mid
@@ -188,7 +189,7 @@ action_begins line (tree.spawn x) ts rest h = (h.0, h.1)
 action_begins line (tree.control c x) ts rest h = (h.0, h.1)
 action_begins line (tree.throw_it p x) ts rest h = (h.0, h.1)
 action_begins line (tree.throw x) ts rest h = (h.0, h.1)
-action_begins line (tree.answer x) ts rest h = (h.0, h.1)
+action_begins line (tree.return_ x) ts rest h = (h.0, h.1)
 action_begins line tree.stop ts rest h = (rest, h)
 
 -- each begins as it should, and neither as the other
@@ -235,7 +236,7 @@ action_words (tree.spawn x) = (refl, refl)
 action_words (tree.control c x) = control_words c
 action_words (tree.throw_it p x) = (refl, refl)
 action_words (tree.throw x) = (refl, refl)
-action_words (tree.answer x) = (refl, refl)
+action_words (tree.return_ x) = (refl, refl)
 action_words tree.stop = (refl, refl)
 
 pub operation_sees : (line : ℕ) (o : tree.Operation) (ts rest : Tokens) → DerivesOperation line o ts rest → sees_operation ts ≡ true

@@ -245,7 +245,7 @@ by_one d line v x ts a rest at h =
     (choose_other (sees (is_the_word w.Any)) (for_any d) (all_or_one d) ts _ (rw at refl)
     (choose_other (sees (is_the_word w.All)) (for_all d) (for_one d) ts _ (rw at refl) h))))
 
-span_waits : (d : ℕ) (e : tree.Expression) (ts rest last : Tokens) → DerivesSpan e ts rest → depth e ≤ d → Takes (t.symbol s.Semicolon) rest last → for_span d ts ≡ Some (tree.span e, rest)
+span_waits : (d : ℕ) (e : tree.Expression) (ts rest last : Tokens) → DerivesSpan e ts rest → depth e ≤ d → Takes (t.symbol s.Semicolon) rest last → for_span d ts ≡ Some (tree.for_ e, rest)
 unfolding for_span
 span_waits d e ts rest last (a, one, two) few end = rw (word_reads w.For ts a one, expression_before d e a rest last two few end) refl
 
@@ -253,7 +253,7 @@ pub waiting_reads : (d : ℕ) (x : tree.Waiting) (ts rest last : Tokens) → Der
 unfolding waiting for_delta word
 waiting_reads d tree.static ts rest last h few end = rw (h, end.1) refl
 waiting_reads d tree.delta ts rest last h few end = rw h.1 refl
-waiting_reads d (tree.span e) ts rest last h few end = by_span d (tree.span e) ts h.0 rest h.1 (span_waits d e ts rest last h few end)
+waiting_reads d (tree.for_ e) ts rest last h few end = by_span d (tree.for_ e) ts h.0 rest h.1 (span_waits d e ts rest last h few end)
 waiting_reads d (tree.one e x) ts rest last (a, one, two) few end = by_one d e.channel.line e.channel.name (tree.one e x) ts one.1.0 rest one.1.1 (one_reads d e x ts a rest last one two few end)
 waiting_reads d (tree.any es x) ts rest last (a, one, (b, two, three)) few end = by_any d (tree.any es x) ts a rest one (any_reads d es x ts a b rest last one two three few end)
 waiting_reads d (tree.all es x) ts rest last (a, one, (b, two, three)) few end = by_all d (tree.all es x) ts a rest one (all_reads d es x ts a b rest last one two three few end)

@@ -107,7 +107,7 @@ of_who c = do
 abbrev pub of_answer : ℕ → Parser tree.Action
 of_answer depth = do
   e ← optional_expression depth
-  pure (tree.answer e)
+  pure (tree.return_ e)
 
 -- the action that begins so, behind its word
 unfoldable pub action_of : ℕ → ActionStart → Parser tree.Action

@@ -32,7 +32,7 @@ unfoldable pub for_span : ℕ → Parser tree.Waiting
 for_span depth = do
   line ← word w.For
   e ← expression depth
-  pure (tree.span e)
+  pure (tree.for_ e)
 
 unfoldable pub for_any : ℕ → Parser tree.Waiting
 for_any depth = do

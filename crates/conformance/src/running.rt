@@ -4,12 +4,13 @@ use super::cases::{Case, File, SinkForm, bytes_of};
 use elaborate::elaborate;
 use model_check::check;
 use model_parser::parse;
-use model_tree::{Design, Items};
+use method_design::Design;
+use plain_lists::Items;
 use not_built::not_built;
 use script_text::{commands, name_all};
 use session::{Log, Outcome, Plan, Rule, run_session};
 use sim_io::{MemoryShelf, MemorySink};
-use sim_model::Command;
+use method_model::Command;
 use std::alloc::{AllocError, Global};
 use tlmsim::{Ended, MODEL_LIMIT, Words, sim_main};
 

@@ -4,7 +4,7 @@ use super::cases::{Case, bytes_of};
 use super::quoting::push_quoted;
 use super::running::{ProgramRun, SessionRun, run_alone, run_program};
 use sim_io::MemoryShelf;
-use sim_model::Stop;
+use method_model::Stop;
 use std::alloc::{AllocError, Global};
 
 fn stop_word(stop: Stop) -> &'static str {
@@ -74,7 +74,7 @@ fn push_files(shown: &mut String, case: &Case, shelf: &MemoryShelf) -> Result<()
 fn push_program(shown: &mut String, case: &Case, run: &ProgramRun) -> Result<(), AllocError> {
     let status = run.ended.status;
     writeln!(shown, "  status {status}")?;
-    push_steps(shown, run.ended.steps, run.ended.choices.items())?;
+    push_steps(shown, run.ended.steps, run.ended.choices.as_slice())?;
     push_sink(shown, "out", run.out.bytes())?;
     push_sink(shown, "err", run.err.bytes())?;
     push_files(shown, case, &run.shelf)
@@ -83,7 +83,7 @@ fn push_program(shown: &mut String, case: &Case, run: &ProgramRun) -> Result<(),
 fn push_session(shown: &mut String, run: &SessionRun) -> Result<(), AllocError> {
     let stop = stop_word(run.outcome.stop);
     writeln!(shown, "  stop {stop}")?;
-    push_steps(shown, run.outcome.steps, run.outcome.choices.items())?;
+    push_steps(shown, run.outcome.steps, run.outcome.choices.as_slice())?;
     push_sink(shown, "out", run.out.bytes())
 }
 

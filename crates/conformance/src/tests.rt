@@ -1,4 +1,5 @@
-use model_tree::{Choices, Name};
+use flat_design::Choices;
+use model_tree::Name;
 use std::test::Fail;
 
 // A copy of a name, which the program does not make yet, and a list of choices. The wanted values are worked out by hand.
@@ -13,6 +14,6 @@ fn names_are_copied_and_choices_listed(rt: HostRuntime) -> Result<(), Fail> {
     let mut choices = Choices::new(rt.alloc());
     choices.push(3)?;
     choices.push(1)?;
-    assert_eq!(rt; choices.items(), [3, 1].as_slice());
+    assert_eq!(rt; choices.as_slice(), [3, 1].as_slice());
     Ok(())
 }

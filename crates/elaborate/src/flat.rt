@@ -9,9 +9,9 @@ ghost use Rattle.model_tree.specs.Seen.{model_of};
 use super::signals::{scope, sensitivities};
 use logic_values::{Text, Value};
 use model_check::{Checked, top_items};
-use model_tree::{
-    CheckStop, CodeId, Design, Item, Items, Module, Object, ObjectForm, Objects, Tree,
-};
+use method_design::{CodeId, Design, Object, ObjectForm, Objects};
+use model_tree::{CheckStop, Item, Module, Tree};
+use plain_lists::Items;
 use std::alloc::{AllocError, Global};
 
 /// The path of a name below a path.
@@ -21,7 +21,7 @@ fn below(alloc: Global, path: &[u8], name: &[u8]) -> Result<Text, AllocError>
     let mut bytes = Vec::from_slice(alloc, path)?;
     bytes.push(b'.')?;
     bytes.extend_from_slice(name)?;
-    Ok(Text::new(bytes))
+    Ok(Text::from_vec(bytes))
 }
 
 /// Adds the objects of an item of an instance to those before them; `code` is the number of its body.
@@ -137,7 +137,7 @@ fn objects(alloc: Global, tree: &Tree) -> Result<Items<Object>, AllocError>
     };
     let mut list = Items::new(alloc);
     list.push(Object {
-        path: Text::new(Vec::from_slice(alloc, top.name.bytes())?),
+        path: Text::from_vec(Vec::from_slice(alloc, top.name.bytes())?),
         line: top.line,
         instance: 0,
         form: ObjectForm::Instance { module },

@@ -5,7 +5,8 @@ ghost use Rattle.model_tree.specs.Views.{item_of};
 ghost use Rattle.model_rules.specs.FlatDesign as spec;
 
 use logic_values::Text;
-use model_tree::{Event, Item, Items};
+use model_tree::{Event, Item};
+use plain_lists::Items;
 use std::alloc::{AllocError, Global};
 
 /// The number of the signal of this name among these items, in text order; their number where none has it.
@@ -39,7 +40,7 @@ pub(crate) fn scope(alloc: Global, names: &[Text], items: &[Item]) -> Result<Ite
 {
     let mut found = Items::new(alloc);
     for name in names {
-        found.push(signal_at(items, name.items())?)?;
+        found.push(signal_at(items, name.as_slice())?)?;
     }
     Ok(found)
 }

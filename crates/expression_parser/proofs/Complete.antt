@@ -24,7 +24,8 @@ use Rattle.expression_parser.specs.declared.starts.Leaf.{Leaf}
 use Rattle.expression_parser.specs.declared.starts.Leaf.TheVariants as leaf
 use Rattle.expression_parser.specs.declared.starts.Start.{Start}
 use Rattle.expression_parser.specs.declared.starts.Start.TheVariants as start
-use Rattle.model_grammar.specs.Expressions.{Short, Parenthesized, DerivesAt, unit_in, unit_name, operator_in, is_the_symbol, is_link, extends, goes_on, sees, IsOver, BeginsWith, binary_symbol, unary_symbol, conversion_word}
+use Rattle.model_grammar.specs.Expressions.{Short, Parenthesized, DerivesAt, unit_in, operator_in, is_the_symbol, is_link, extends, goes_on, sees, IsOver, BeginsWith}
+use Rattle.model_tree.specs.Spelling.{unit_name, binary_symbol, unary_symbol, conversion_word}
 use Rattle.expression_parser.specs.Parse.{Parser, and_then, repeat, unit_ahead, operator_ahead, sign_in, sign_ahead, token_start, is_the_word, start_of, leaf_tree, number_or_time, literal, leaf_expression, member, bounds, short, at_no_link, is_not_of, at_none_of, joined, levelled, sees_number, sees_bounds, group, paren, convert, vector, concat, placed, placed_by, place, channel, index, link, chain, primary_of, primary, signed, operand, climb, inside, expression}
 use Rattle.expression_parser.proofs.Parsers.{choose_first, choose_other, repeat_stops, repeat_goes}
 use Rattle.expression_parser.proofs.OneToken.{is_symbol_same, is_word_same, skip_reads, symbol_reads, opened_reads, named_reads, name_reads, numbered_reads, number_reads, logical_reads, symbol_sees, named_unit, operator_symbol, sign_symbol, truth_begins, conversion_begins, constant_begins}

@@ -29,7 +29,8 @@ use Rattle.expression_parser.specs.declared.starts.Leaf.{Leaf}
 use Rattle.expression_parser.specs.declared.starts.Leaf.TheVariants as leaf
 use Rattle.expression_parser.specs.declared.starts.Start.{Start}
 use Rattle.expression_parser.specs.declared.starts.Start.TheVariants as start
-use Rattle.model_grammar.specs.Expressions.{unary_symbol, binary_symbol, truth_word, conversion_word, constant_word, unit_name, operator_of, operator_in, unit_of, unit_in, is_the_symbol, sees}
+use Rattle.model_grammar.specs.Expressions.{operator_of, operator_in, unit_of, unit_in, is_the_symbol, sees}
+use Rattle.model_tree.specs.Spelling.{unary_symbol, binary_symbol, truth_word, conversion_word, constant_word, unit_name}
 use Rattle.expression_parser.specs.Parse.{skip, symbol, named, name_in, name, numbered, number_in, number, logical, logic_in, opened, operator_ahead, sign_of, sign_in, sign_ahead, word_start, symbol_start, token_start, start_of, pure, is_the_word, word, taken, flag, text_in, text}
 use Rattle.expression_parser.proofs.Parsers.{and_then_ok, choose_cases, choose_first, choose_other}
 

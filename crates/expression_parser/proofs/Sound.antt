@@ -19,7 +19,8 @@ use Rattle.expression_parser.specs.declared.starts.Leaf.{Leaf}
 use Rattle.expression_parser.specs.declared.starts.Leaf.TheVariants as leaf
 use Rattle.expression_parser.specs.declared.starts.Start.{Start}
 use Rattle.expression_parser.specs.declared.starts.Start.TheVariants as start
-use Rattle.model_grammar.specs.Expressions.{Short, Parenthesized, DerivesAt, unit_name, unit_in, operator_in, is_the_symbol, is_link, extends, goes_on, sees, BeginsWith}
+use Rattle.model_grammar.specs.Expressions.{Short, Parenthesized, DerivesAt, unit_in, operator_in, is_the_symbol, is_link, extends, goes_on, sees, BeginsWith}
+use Rattle.model_tree.specs.Spelling.{unit_name}
 use Rattle.expression_parser.specs.Parse.{Parser, pure, skip, named, name, numbered, number, logical, symbol, opened, unit_ahead, operator_ahead, sign_ahead, start_of, leaf_tree, with_unit, number_or_time, literal, leaf_expression, member, bounds, measured, short, at_no_link, is_not_of, at_none_of, with_operator, joined, levelled, sees_number, sees_bounds, group, paren, convert, vector, concat, placed, placed_by, place, channel, element, index, link, chain, primary_of, primary, signed, operand, climb, inside, expression}
 use Rattle.expression_parser.proofs.Parsers.{choose_cases, where_cases, and_then_ok, given, repeat_ok}
 use Rattle.expression_parser.proofs.OneToken.{symbol_ok, opened_ok, named_ok, name_ok, numbered_ok, number_ok, logical_ok, unit_in_named, sign_at, operator_at, leaf_word, leaf_at, conversion_at, vector_at, concat_at, at_front}

@@ -14,7 +14,8 @@ use Rattle.model_grammar.specs.Tokens.{Tokens}
 use Rattle.model_grammar.specs.Rules.{Rule, ◌⨾◌, At, Takes, Each, Separated, Maybe, Written}
 use Rattle.model_grammar.specs.Expressions.{is_the_symbol, sees}
 use Rattle.model_grammar.specs.Statements.{DerivesForm, DerivesVarTypeAt, DerivesBlock}
-use Rattle.model_grammar.specs.Items.{DerivesMode, DerivesParameter, DerivesParameters, DerivesAnswer, DerivesItem, process_word}
+use Rattle.model_grammar.specs.Items.{DerivesMode, DerivesParameter, DerivesParameters, DerivesAnswer, DerivesItem}
+use Rattle.model_tree.specs.Spelling.{process_word}
 use Rattle.model_grammar.specs.Brackets.{in_block, in_events}
 use Rattle.expression_parser.specs.Parse.{pure, choose, word, is_the_word, flag, symbol, name, opened}
 use Rattle.expression_parser.proofs.Parsers.{and_then_ok, choose_cases, choose_first, choose_other}

@@ -15,7 +15,8 @@ use Rattle.model_tree.specs.Tree as tree
 use Rattle.model_grammar.specs.Tokens as t
 use Rattle.model_grammar.specs.Tokens.{Tokens}
 use Rattle.model_grammar.specs.Rules.{At, Each}
-use Rattle.model_grammar.specs.Items.{DerivesInterface, DerivesItem, signal_word, plain_word, process_word}
+use Rattle.model_grammar.specs.Items.{DerivesInterface, DerivesItem}
+use Rattle.model_tree.specs.Spelling.{signal_word, plain_word, process_word}
 use Rattle.model_grammar.specs.Brackets.{in_item, in_items}
 use Rattle.model_grammar.proofs.Shrinks.{item_shortens}
 use Rattle.expression_parser.proofs.Many.{Every, many_ok, many_reads}

@@ -19,7 +19,8 @@ use Rattle.model_grammar.specs.Tokens.{Tokens}
 use Rattle.model_grammar.specs.Rules.{At, Takes, Maybe, Written}
 use Rattle.model_grammar.specs.Expressions.{is_the_symbol, sees, unit_in}
 use Rattle.model_grammar.specs.Statements.{DerivesForm}
-use Rattle.model_grammar.specs.Items.{DerivesStart, DerivesFifoSize, DerivesItem, signal_word, plain_word}
+use Rattle.model_grammar.specs.Items.{DerivesStart, DerivesFifoSize, DerivesItem}
+use Rattle.model_tree.specs.Spelling.{signal_word, plain_word}
 use Rattle.model_grammar.specs.Brackets.{in_item}
 use Rattle.expression_parser.specs.Parse.{pure, choose, word, is_the_word, flag, symbol, name, number, opened}
 use Rattle.expression_parser.proofs.Parsers.{and_then_ok, choose_cases, choose_first, choose_other}

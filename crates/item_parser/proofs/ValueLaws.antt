@@ -19,7 +19,8 @@ use Rattle.model_tree.specs.declared.types.Span.{Span}
 use Rattle.model_grammar.specs.Tokens as t
 use Rattle.model_grammar.specs.Tokens.{Tokens}
 use Rattle.model_grammar.specs.Rules.{At, Takes, Maybe}
-use Rattle.model_grammar.specs.Expressions.{is_the_symbol, sees, truth_word, unit_name, unit_in}
+use Rattle.model_grammar.specs.Expressions.{is_the_symbol, sees, unit_in}
+use Rattle.model_tree.specs.Spelling.{truth_word, unit_name}
 use Rattle.model_grammar.specs.Items.{DerivesConstantForm, DerivesConstant, DerivesFirstValue, DerivesTime}
 use Rattle.expression_parser.specs.Parse.{pure, refuse, choose, word, is_the_word, skip, symbol, number, numbered, logical, sees_number, unit_ahead}
 use Rattle.expression_parser.proofs.Parsers.{and_then_ok, choose_cases, choose_first, choose_other, where_cases}

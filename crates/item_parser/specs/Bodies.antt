@@ -8,7 +8,7 @@ use Rattle.model_tree.specs.declared.types.Parameter.{Parameter}
 use Rattle.model_tree.specs.declared.items.ProcessKind.{ProcessKind}
 use Rattle.model_tree.specs.Tree as tree
 use Rattle.model_grammar.specs.Expressions.{is_the_symbol, sees}
-use Rattle.model_grammar.specs.Items.{process_word}
+use Rattle.model_tree.specs.Spelling.{process_word}
 use Rattle.expression_parser.specs.Parse.{Parser, ◌>>=◌, pure, refuse, choose, many, word, is_the_word, flag, symbol, name, opened}
 use Rattle.channel_parser.specs.Parse.{variable_type, sensitive, at_no_comma, at_right_paren}
 use Rattle.statement_parser.specs.Parse.{block, at_right_brace}

@@ -25,7 +25,7 @@ use Rattle.model_tree.specs.declared.items.TargetRole.TheVariants as target
 use Rattle.model_tree.specs.Tree as tree
 use Rattle.model_grammar.specs.Tokens as t
 use Rattle.model_grammar.specs.Expressions.{is_the_symbol, sees}
-use Rattle.model_grammar.specs.Items.{signal_word, plain_word}
+use Rattle.model_tree.specs.Spelling.{signal_word, plain_word}
 use Rattle.expression_parser.specs.Parse.{Parser, ◌>>=◌, pure, refuse, choose, where_some, skip, word, is_the_word, flag, symbol, named, name, numbered, number, logical, sees_number, unit_ahead, opened}
 use Rattle.channel_parser.specs.Parse.{signal_type, variable_type, optional_member}
 use Rattle.item_parser.specs.declared.starts.Direction.{Direction}

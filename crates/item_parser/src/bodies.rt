@@ -4,12 +4,9 @@ ghost use Rattle.expression_parser.specs.Parse.{Parses};
 ghost use Rattle.channel_parser.specs.Parse as shared;
 ghost use Rattle.item_parser.specs.Bodies as spec;
 
-use super::starts::process_word;
 use channel_parser::{sensitive, variable_type};
 use expression_parser::{Cursor, push};
-use model_tree::{
-    FunctionItem, Item, Parameter, ParseStop, ProcessItem, ProcessKind, Symbol, VarType, Word,
-};
+use model_tree::{FunctionItem, Item, Parameter, ParseStop, ProcessItem, ProcessKind, Symbol, VarType, Word, process_word};
 use statement_parser::block;
 use std::alloc::Global;
 

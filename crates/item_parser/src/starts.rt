@@ -142,33 +142,3 @@ pub fn item_start(word: Word) -> ItemStart
     }
 }
 
-/// The word of a signal or a buffer.
-pub fn signal_word(kind: SignalKind) -> Word
-    ensures { result ≡ grammar.signal_word kind }
-{
-    match kind {
-        SignalKind::Signal => Word::Signal,
-        SignalKind::Buffer => Word::Buffer,
-    }
-}
-
-/// The word of an item that has a name alone.
-pub fn plain_word(kind: PlainKind) -> Word
-    ensures { result ≡ grammar.plain_word kind }
-{
-    match kind {
-        PlainKind::Mutex => Word::Mutex,
-        PlainKind::Event => Word::Event,
-        PlainKind::Keeper => Word::Keeper,
-    }
-}
-
-/// The word of a thread or a method.
-pub fn process_word(kind: ProcessKind) -> Word
-    ensures { result ≡ grammar.process_word kind }
-{
-    match kind {
-        ProcessKind::Thread => Word::Thread,
-        ProcessKind::Method => Word::Method,
-    }
-}

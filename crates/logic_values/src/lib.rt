@@ -3,6 +3,7 @@
 
 mod byte_text;
 mod conversions;
+mod equality;
 mod integers;
 mod kinds;
 mod planes;
@@ -13,6 +14,7 @@ mod texts;
 mod vectors;
 
 pub use byte_text::Text;
+pub use equality::is_same;
 pub use integers::{add, cut, div, lt, mul, rem, shl, shr, sub};
 pub use kinds::{Digit, Sign, Value};
 pub use planes::Lv;

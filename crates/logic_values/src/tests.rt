@@ -299,7 +299,7 @@ fn reads(rt: &impl Abort, alloc: Global, v: Value, wanted: &[u8]) -> Result<(), 
     requires { HasText v }
 {
     let text = value_text(alloc, v)?;
-    assert_eq!(rt; text.items(), wanted);
+    assert_eq!(rt; text.as_slice(), wanted);
     Ok(())
 }
 
@@ -376,6 +376,6 @@ fn digits_as_text(rt: &impl Abort, alloc: Global) -> Result<(), Fail> {
 fn text_is_copied(rt: &impl Abort, alloc: Global) -> Result<(), Fail> {
     let text = value_text(alloc, Value::Bool(true))?;
     let copy = text.clone()?;
-    assert_eq!(rt; copy.into_bytes().as_slice(), text.items());
+    assert_eq!(rt; copy.into_vec().as_slice(), text.as_slice());
     Ok(())
 }

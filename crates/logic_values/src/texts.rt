@@ -46,21 +46,21 @@ fn letter_text(alloc: Global, d: Digit) -> Result<Text, AllocError>
 {
     let mut bytes = Vec::with_capacity(alloc, 1)?;
     bytes.push(d.letter())?;
-    Ok(Text::new(bytes))
+    Ok(Text::from_vec(bytes))
 }
 
 fn unsigned_text(alloc: Global, n: u64) -> Result<Text, AllocError>
     ensures { IfOk result (λ text. text ≡ decimal n) }
 {
     let text = format!(in alloc; "{n}")?;
-    Ok(Text::new(text.into_bytes()))
+    Ok(Text::from_vec(text.into_bytes()))
 }
 
 fn signed_text(alloc: Global, z: i64) -> Result<Text, AllocError>
     ensures { IfOk result (λ text. text ≡ signed_decimal z) }
 {
     let text = format!(in alloc; "{z}")?;
-    Ok(Text::new(text.into_bytes()))
+    Ok(Text::from_vec(text.into_bytes()))
 }
 
 fn vector_text(alloc: Global, v: Lv) -> Result<Text, AllocError>
@@ -70,5 +70,5 @@ fn vector_text(alloc: Global, v: Lv) -> Result<Text, AllocError>
     for place in (0..v.width).rev() {
         bytes.push(digit(v, place).letter())?;
     }
-    Ok(Text::new(bytes))
+    Ok(Text::from_vec(bytes))
 }

@@ -5,8 +5,8 @@ use Rattle.model_tree.specs.Tree as tree
 use Rattle.model_tree.specs.declared.expressions.UnaryOp.TheVariants as unary_op
 use Rattle.model_rules.specs.FirstFault.{first_fault, double_module, unknown_top, or_else, in_expression, in_option, in_channel, in_events, in_action, in_statement, in_block, in_else, in_items, in_modules}
 use Rattle.model_rules.specs.FlatDesign.{names_of, bodies_in, is_module, top_items, IsCodeOf}
-use Rattle.model_tree.specs.Code.{arena_of}
-use Rattle.model_tree.specs.declared.code.Code.{Code}
+use Rattle.method_design.specs.Code.{arena_of}
+use Rattle.method_design.specs.declared.code.Code.{Code}
 use Rattle.model_rules.specs.ReadBack.{AreBodies}
 use Rattle.model_rules.specs.Built.{is_built_expression, is_built_option, is_first_place, is_built_action, is_built_statement, is_built_block, is_built_else, is_built}
 use Rattle.model_rules.proofs.NoFault.{or_else_none, both_true, use_declared, found_items}
@@ -72,7 +72,7 @@ module _ (items : List tree.Item) where
   action_covered (tree.control c w) h b = cc
   action_covered (tree.throw_it w n) h b = cc
   action_covered (tree.throw n) h b = cc
-  action_covered (tree.answer e) h b = cc
+  action_covered (tree.return_ e) h b = cc
   action_covered tree.stop h b = cc
 
   mutual
@@ -81,15 +81,15 @@ module _ (items : List tree.Item) where
     form_covered (tree.assign line t e) h b = cc
     form_covered (tree.operate line name at o) h b = cc
     form_covered (tree.act line a) h b = action_covered a h b
-    form_covered (tree.branch line e body other) h b =
+    form_covered (tree.if_ line e body other) h b =
         let uses = or_else_none (in_expression items e) (or_else (in_block items body) (in_else items other)) h in
         let more = or_else_none (in_block items body) (in_else items other) uses.1 in
         let parts = both_true (is_built_expression e) (is_built_block body && is_built_else other) b in
         let rest = both_true (is_built_block body) (is_built_else other) parts.1 in
         (term_covered e uses.0 parts.0, block_covered body more.0 rest.0, else_covered other more.1 rest.1)
-    form_covered (tree.loop line e body) h b = cc
+    form_covered (tree.while_ line e body) h b = cc
     form_covered (tree.guard line body undo) h b = cc
-    form_covered (tree.attempt line body handlers) h b = cc
+    form_covered (tree.try_ line body handlers) h b = cc
 
     block_covered : (body : tree.Block) → in_block items body ≡ None → is_built_block body ≡ true → HasBlock (names_of items) body
     block_covered tree.over h b = tt

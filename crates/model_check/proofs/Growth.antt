@@ -2,8 +2,8 @@
 use Rattle.std.proofs.Common.{◌≡◌, ℕ, List, [], ◌∷◌, ◌++◌, length, suc, map, Some, refl, sym, ap, ◌∙◌, append_assoc}
 use Rattle.std.specs.Prelude.{slice_get}
 use Rattle.std.proofs.lemmas.List.{map-append}
-use Rattle.model_tree.specs.Code.{Arena, act_of, act_at}
-use Rattle.model_tree.specs.declared.code.Form.{Form}
+use Rattle.method_design.specs.Code.{Arena, act_of, act_at}
+use Rattle.method_design.specs.declared.code.Form.{Form}
 use Rattle.model_check.specs.declared.lowered.Lowered.{Lowered}
 use Rattle.model_check.specs.Lowered.{BeginsWith, Grows, FromNowOn}
 

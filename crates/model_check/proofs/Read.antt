@@ -7,9 +7,9 @@ use Rattle.model_tree.specs.declared.expressions.Expression.{Expression}
 use Rattle.model_tree.specs.declared.statements.Statement.{Statement, If, fold-roll-Statement}
 use Rattle.model_tree.specs.declared.statements.Statement.TheVariants.{rolls-If}
 use Rattle.model_tree.specs.declared.statements.Statement.TheOpen.{Statement-F}
-use Rattle.model_tree.specs.Code as code
-use Rattle.model_tree.specs.Code.{Arena, Term, Act, act_at}
-use Rattle.model_tree.specs.declared.code.CodeBody.{CodeBody}
+use Rattle.method_design.specs.Code as code
+use Rattle.method_design.specs.Code.{Arena, Term, Act, act_at}
+use Rattle.method_design.specs.declared.code.CodeBody.{CodeBody}
 use Rattle.model_rules.specs.ReadBack.{IsTerm, IsForm, AtBlock, IsBlock, IsElse, AreBodies}
 use Rattle.model_check.specs.Lowered.{HasTerm, HasForm, HasBlock, HasElse, HaveBlocks}
 
@@ -47,7 +47,7 @@ module _ (names : List (List ℕ)) where
 
   pub branch_reads : (a : Arena) (line : ℕ) (e : tree.Expression) (body : tree.Block) (other : tree.Else) (t : Term) (b : ℕ) (o : Option ℕ)
       → (HasTerm names e → IsTerm names e t) → (HasBlock names body → AtBlock a b (IsBlock names a body)) → (HasElse names other → IsElse names a other o)
-      → HasForm names (tree.branch line e body other) → IsForm names a (tree.branch line e body other) (code.branch t b o)
+      → HasForm names (tree.if_ line e body other) → IsForm names a (tree.if_ line e body other) (code.branch t b o)
   branch_reads a line e body other t b o term block rest h = (t, b, o, refl, term h.0, block h.1, rest h.2)
 
 -- what a result's value brings
@@ -60,9 +60,9 @@ ok_both (Ok x) f h k = f x h k
 ok_both (Err e) f h k = tt
 
 -- how the tree sees an if
-pub if_alone : (line : ℕ) (e : Expression) (body : Vec Statement) → statement_of (If line e body None) ≡ tree.branch line (expression_of e) (body_of body.items) tree.no_else
+pub if_alone : (line : ℕ) (e : Expression) (body : Vec Statement) → statement_of (If line e body None) ≡ tree.if_ line (expression_of e) (body_of body.items) tree.no_else
 if_alone line e body = ap statement_of (sym (rolls-If line e body None)) ∙ fold-roll-Statement tree.Statement statement_step (Statement-F.If line e body None)
 
 pub if_else : (line : ℕ) (e : Expression) (body other : Vec Statement)
-    → statement_of (If line e body (Some other)) ≡ tree.branch line (expression_of e) (body_of body.items) (tree.else_block (body_of other.items))
+    → statement_of (If line e body (Some other)) ≡ tree.if_ line (expression_of e) (body_of body.items) (tree.else_block (body_of other.items))
 if_else line e body other = ap statement_of (sym (rolls-If line e body (Some other))) ∙ fold-roll-Statement tree.Statement statement_step (Statement-F.If line e body (Some other))

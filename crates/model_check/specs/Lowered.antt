@@ -2,7 +2,7 @@
 use Rattle.std.specs.Prelude.{◌≡◌, ℕ, true, ⊤, List, [], ◌∷◌, ◌++◌, map, Option, Some, None, bytes_eq}
 use Rattle.std.specs.List.{list_any}
 use Rattle.model_tree.specs.Tree as tree
-use Rattle.model_tree.specs.Code.{Arena, Act, act_of}
+use Rattle.method_design.specs.Code.{Arena, Act, act_of}
 use Rattle.model_tree.specs.declared.expressions.UnaryOp.TheVariants as unary_op
 use Rattle.model_check.specs.declared.lowered.Lowered.{Lowered}
 
@@ -43,7 +43,7 @@ HasAction names other = ⊥
 abbrev mutual
   pub HasForm : List (List ℕ) → tree.Statement → Type 0
   HasForm names (tree.act line a) = HasAction names a
-  HasForm names (tree.branch line e body other) = HasTerm names e × HasBlock names body × HasElse names other
+  HasForm names (tree.if_ line e body other) = HasTerm names e × HasBlock names body × HasElse names other
   HasForm names other = ⊥
 
   pub HasBlock : List (List ℕ) → tree.Block → Type 0

@@ -4,7 +4,7 @@ ghost use Rattle.model_rules.specs.FlatDesign.{IsCodeOf, is_module, items_of, na
 ghost use Rattle.model_rules.specs.Built.{is_built};
 ghost use Rattle.model_tree.specs.Views.{item_of, module_of, modules_of};
 ghost use Rattle.model_tree.specs.Seen.{model_of};
-ghost use Rattle.model_rules.specs.Stops.{IfRefused};
+ghost use Rattle.model_tree.specs.Stops.{IfRefused};
 ghost use Rattle.model_check.specs.Findings.{faults_of, fault_of};
 
 use super::doubles::{double_module, is_module_name};
@@ -12,7 +12,9 @@ use super::findings::Finding;
 use super::lowering::{lower, names_of};
 use super::uses::in_modules;
 use logic_values::Text;
-use model_tree::{CheckStop, Code, Fault, Item, Items, Kind, Module, Top, Tree};
+use method_design::Code;
+use model_tree::{CheckStop, Fault, Item, Kind, Module, Top, Tree};
+use plain_lists::Items;
 use std::alloc::Global;
 
 /// A tree that breaks no rule, and the code of its top instance's processes.
@@ -89,7 +91,7 @@ fn refused(alloc: Global, finding: Finding<'_>) -> CheckStop
         Ok(bytes) => CheckStop::Refused(Fault {
             kind: finding.kind,
             line: finding.line,
-            name: Text::new(bytes),
+            name: Text::from_vec(bytes),
         }),
         Err(_) => CheckStop::NoMemory,
     }

@@ -5,30 +5,6 @@ ghost use Rattle.model_rules.specs.FirstFault as spec;
 
 use model_tree::{Item, Name};
 
-/// The line of an item's first token.
-pub(crate) fn item_line(item: &Item) -> u32
-    ensures { result ≡ spec.item_line (item_of item.now) }
-{
-    match item {
-        Item::Signal(line, _)
-        | Item::Resolved(line, _)
-        | Item::Clock(line, _)
-        | Item::Fifo(line, _, _, _)
-        | Item::Plain(line, _, _)
-        | Item::Semaphore(line, _, _)
-        | Item::Memory(line, _, _)
-        | Item::Variable(line, _, _, _)
-        | Item::Port(line, _, _, _)
-        | Item::Export(line, _, _)
-        | Item::Initiator(line, _, _)
-        | Item::Target(line, _, _)
-        | Item::Instance(line, _, _)
-        | Item::Bind(line, _, _)
-        | Item::Function(line, _)
-        | Item::Process(line, _) => *line,
-    }
-}
-
 /// The name that an item declares; a binding declares none.
 pub(crate) fn item_name(item: &Item) -> Option<&[u8]>
     ensures { option_copied result ≡ spec.item_name (item_of item.now) }

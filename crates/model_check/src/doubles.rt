@@ -1,11 +1,12 @@
 ghost use Rattle.std.specs.Prelude.{◌≡◌, [], map};
 ghost use Rattle.model_tree.specs.Views.{item_of, modules_of};
 ghost use Rattle.model_rules.specs.FirstFault as spec;
+ghost use Rattle.model_tree.specs.Lines as lines;
 ghost use Rattle.model_check.specs.Findings.{faults_of};
 
-use super::declarations::{declares, item_line, item_name};
+use super::declarations::{declares, item_name};
 use super::findings::Finding;
-use model_tree::{Item, Kind, Module};
+use model_tree::{Item, Kind, Module, item_line};
 
 fn is_item_name(items: &[Item], name: &[u8]) -> bool
     ensures { result ≡ spec.is_item_name (map item_of items.now) name.now }
@@ -22,7 +23,7 @@ pub(crate) fn is_module_name(modules: &[Module], name: &[u8]) -> bool
 
 /// The finding of an item that comes behind others of its module, if it has one of their names.
 fn double_name<'a>(before: &[Item], item: &'a Item) -> Option<Finding<'a>>
-    ensures { faults_of result ≡ spec.double_name (map item_of before.now) (spec.item_line (item_of item.now)) (spec.item_name (item_of item.now)) }
+    ensures { faults_of result ≡ spec.double_name (map item_of before.now) (lines.item_line (item_of item.now)) (spec.item_name (item_of item.now)) }
 {
     match item_name(item) {
         Some(name) if is_item_name(before, name) => Some(Finding {

@@ -1,4 +1,5 @@
-use model_tree::{Form, Items, StmtId};
+use method_design::{Form, StmtId};
+use plain_lists::Items;
 
 /// The blocks and statements that were lowered so far.
 #[derive(Drop)]

@@ -1,7 +1,7 @@
 ghost use Rattle.std.specs.Prelude.{◌≡◌, ℕ, List, ◌++◌, ◌∷◌, [], map, slice_get, Some, None, option_map, bytes_eq, IfOk, OnOk};
 ghost use Rattle.std.specs.List.{position_or_len, flat_map};
 ghost use Rattle.model_tree.specs.Views.{action_of, body_of, expression_of, item_of, statement_of};
-ghost use Rattle.model_tree.specs.Code.{Arena, act_at, act_of, arena_of, term_of};
+ghost use Rattle.method_design.specs.Code.{Arena, act_at, act_of, arena_of, term_of};
 ghost use Rattle.model_rules.specs.FlatDesign.{bodies_in, names_of};
 ghost use Rattle.model_rules.specs.ReadBack.{AreBodies, AtBlock, IsAction, IsBlock, IsBody, IsForm, IsTerm};
 ghost use Rattle.model_check.specs.Lowered.{FromNowOn, Grows, HasAction, HasBlock, HasForm, HasTerm, HaveBlocks};
@@ -9,10 +9,9 @@ ghost use Rattle.model_check.specs.Lowered.{FromNowOn, Grows, HasAction, HasBloc
 use super::declarations::item_name;
 use super::lowered::Lowered;
 use logic_values::{Text, Value};
-use model_tree::{
-    Action, BlockId, ChannelUse, Code, CodeBody, Expr, Expression, Form, Item, Items, NameId,
-    Operands, PrintText, Statement, StmtId, UnaryOp,
-};
+use method_design::{BlockId, ChannelUse, Code, CodeBody, Expr, Form, NameId, Operands, StmtId};
+use model_tree::{Action, Expression, Item, PrintText, Statement, UnaryOp};
+use plain_lists::Items;
 use std::alloc::{AllocError, Global};
 
 /// The names of items, in text order.
@@ -22,7 +21,7 @@ pub(crate) fn names_of(alloc: Global, items: &[Item]) -> Result<Items<Text>, All
     let mut names = Items::new(alloc);
     for item in items {
         if let Some(name) = item_name(item) {
-            names.push(Text::new(Vec::from_slice(alloc, name)?))?;
+            names.push(Text::from_vec(Vec::from_slice(alloc, name)?))?;
         }
     }
     Ok(names)
@@ -33,7 +32,7 @@ fn name_place(names: &[Text], name: &[u8]) -> usize
     ensures { result ≡ position_or_len (λ declared. bytes_eq declared name.now) names.now }
 {
     for (i, declared) in names.iter().enumerate() {
-        if declared.items() == name {
+        if declared.as_slice() == name {
             return i;
         }
     }

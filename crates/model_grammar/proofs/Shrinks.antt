@@ -185,7 +185,7 @@ spans_shrink o = maybe_shrinks DerivesSpan span_shrinks o
 pub waiting_shrinks : (x : tree.Waiting) → Shrinks (DerivesWaiting x)
 waiting_shrinks tree.static = nothing_shrinks
 waiting_shrinks tree.delta = last
-waiting_shrinks (tree.span e) = span_shrinks e
+waiting_shrinks (tree.for_ e) = span_shrinks e
 waiting_shrinks (tree.one e o) = both_shrink (event_shrinks e) (spans_shrink o)
 waiting_shrinks (tree.any es o) = takes (both_shrink (events_shrink es) (spans_shrink o))
 waiting_shrinks (tree.all es o) = takes (both_shrink (events_shrink es) (spans_shrink o))
@@ -229,7 +229,7 @@ action_shortens line (tree.spawn x) = at (spawn_shrinks x)
 action_shortens line (tree.control c x) = at (who_shrinks x)
 action_shortens line (tree.throw_it x y) = at (both_shrink (who_shrinks x) last)
 action_shortens line (tree.throw x) = at last
-action_shortens line (tree.answer o) = at (value_shrinks o)
+action_shortens line (tree.return_ o) = at (value_shrinks o)
 action_shortens line tree.stop = at_shortens _ _
 
 -- statements
@@ -249,11 +249,11 @@ mutual
   statement_shortens (tree.assign line place e) = first (target_shortens line place) (takes (both_shrink (expression_shrinks e) last))
   statement_shortens (tree.operate line o place x) = operated_shortens line o place x
   statement_shortens (tree.act line a) = first (action_shortens line a) last
-  statement_shortens (tree.branch line e body other) = at (both_shrink (expression_shrinks e) (both_shrink (braced_shrinks (statements_shrink body)) (else_shrinks other)))
-  statement_shortens (tree.loop line e body) = at (both_shrink (expression_shrinks e) (braced_shrinks (statements_shrink body)))
+  statement_shortens (tree.if_ line e body other) = at (both_shrink (expression_shrinks e) (both_shrink (braced_shrinks (statements_shrink body)) (else_shrinks other)))
+  statement_shortens (tree.while_ line e body) = at (both_shrink (expression_shrinks e) (braced_shrinks (statements_shrink body)))
   statement_shortens (tree.guard line body undo) = at (both_shrink (braced_shrinks (statements_shrink body)) (takes (braced_shrinks (statements_shrink undo))))
-  statement_shortens (tree.attempt line body tree.no_more) = record { leaves = λ ts rest h. absurd h.2.2 }
-  statement_shortens (tree.attempt line body (tree.handler x caught more)) = at (both_shrink (braced_shrinks (statements_shrink body)) (takes (takes (both_shrink (braced_shrinks (statements_shrink caught)) (handlers_shrink more)))))
+  statement_shortens (tree.try_ line body tree.no_more) = record { leaves = λ ts rest h. absurd h.2.2 }
+  statement_shortens (tree.try_ line body (tree.handler x caught more)) = at (both_shrink (braced_shrinks (statements_shrink body)) (takes (takes (both_shrink (braced_shrinks (statements_shrink caught)) (handlers_shrink more)))))
 
   pub statements_shrink : (xs : tree.Block) → Shrinks (DerivesStatements xs)
   statements_shrink tree.over = nothing_shrinks

@@ -118,7 +118,7 @@ many_fit (e ∷ es) t n few = events_fit (e ∷ es) n (omega (arith, few)) >>= �
 waiting_fits : (t : tree.Waiting) (n : ℕ) → in_waiting t ≤ n → Keeps (DerivesWaiting t) (fits_waiting n t ≡ true)
 waiting_fits tree.static n few = so nothing (λ e. refl)
 waiting_fits tree.delta n few = ends refl
-waiting_fits (tree.span e) n few = behind e n few
+waiting_fits (tree.for_ e) n few = behind e n few
 waiting_fits (tree.one e t) n few =
     event_fits e n (omega (arith, few)) >>= λ f. so (option_fits DerivesSpan t n (omega (arith, few)) (λ x h. behind x n h)) (λ g. and_from (fits_event n e) (fits_option n t) f g)
 waiting_fits (tree.any es t) n few = takes >>= λ e. many_fit es t n few
@@ -165,7 +165,7 @@ action_fits line (tree.spawn x) n few = at >>= λ e. spawn_fits x n (omega (arit
 action_fits line (tree.control c x) n few = at >>= λ e. who_fits x
 action_fits line (tree.throw_it x exception) n few = at >>= λ e. who_fits x >>= λ f. so takes (λ g. and_from (fits_who x) (is_name exception) f g)
 action_fits line (tree.throw x) n few = at >>= λ e. takes
-action_fits line (tree.answer o) n few = at >>= λ e. option_fits DerivesExpression o n few (λ x h. expression_fits x n h)
+action_fits line (tree.return_ o) n few = at >>= λ e. option_fits DerivesExpression o n few (λ x h. expression_fits x n h)
 action_fits line tree.stop n few = at
 
 -- statements
@@ -178,14 +178,14 @@ mutual
       target_fits line t n (omega (arith, few)) >>= λ f. takes >>= λ e. expression_fits v n (omega (arith, few)) >>= λ g. ends (and_from (fits_target n t) (fits n v) f g)
   statement_fits (tree.operate line x place o) n few = result_fits line x place >>= λ f. operation_fits place o n few >>= λ g. ends (and_from (option_name x) (fits_operation n o) f g)
   statement_fits (tree.act line a) n few = action_fits line a n few >>= λ f. ends f
-  statement_fits (tree.branch line v body other) n few =
+  statement_fits (tree.if_ line v body other) n few =
       at >>= λ e. expression_fits v n (omega (arith, few)) >>= λ f. braced n (in_block body) (fits_block body) (omega (arith, few)) (λ k less. block_fits body k less) >>= λ g. so (else_fits other n (omega (arith, few))) (λ h. and_from (fits n v) _ f (and_from (within n (fits_block body)) (fits_else other n) g h))
-  statement_fits (tree.loop line v body) n few =
+  statement_fits (tree.while_ line v body) n few =
       at >>= λ e. expression_fits v n (omega (arith, few)) >>= λ f. so (braced n (in_block body) (fits_block body) (omega (arith, few)) (λ k less. block_fits body k less)) (λ g. and_from (fits n v) (within n (fits_block body)) f g)
   statement_fits (tree.guard line body undo) n few =
       at >>= λ e. braced n (in_block body) (fits_block body) (omega (arith, few)) (λ k less. block_fits body k less) >>= λ f. takes >>= λ e1. so (braced n (in_block undo) (fits_block undo) (omega (arith, few)) (λ k less. block_fits undo k less)) (λ g. and_from (within n (fits_block body)) (within n (fits_block undo)) f g)
-  statement_fits (tree.attempt line body tree.no_more) n few = at >>= λ e. braced n (in_block body) (fits_block body) (omega (arith, few)) (λ k less. block_fits body k less) >>= λ f. never
-  statement_fits (tree.attempt line body (tree.handler x undo more)) n few =
+  statement_fits (tree.try_ line body tree.no_more) n few = at >>= λ e. braced n (in_block body) (fits_block body) (omega (arith, few)) (λ k less. block_fits body k less) >>= λ f. never
+  statement_fits (tree.try_ line body (tree.handler x undo more)) n few =
       at >>= λ e. braced n (in_block body) (fits_block body) (omega (arith, few)) (λ k less. block_fits body k less) >>= λ f. so (handlers_fit (tree.handler x undo more) n (omega (arith, few))) (λ g. and_from (within n (fits_block body)) _ f g)
 
   pub block_fits : (xs : tree.Block) (n : ℕ) → in_block xs ≤ n → Keeps (DerivesStatements xs) (fits_block xs n ≡ true)

@@ -27,7 +27,7 @@ in_events (e ∷ es) = max (in_channel e.channel) (in_events es)
 abbrev pub in_waiting : tree.Waiting → ℕ
 in_waiting tree.static = 0
 in_waiting tree.delta = 0
-in_waiting (tree.span e) = depth e
+in_waiting (tree.for_ e) = depth e
 in_waiting (tree.one e t) = max (in_channel e.channel) (in_option t)
 in_waiting (tree.any es t) = max (in_events es) (in_option t)
 in_waiting (tree.all es t) = max (in_events es) (in_option t)
@@ -75,7 +75,7 @@ in_action (tree.spawn s) = max (suc (in_all s.arguments)) (in_events s.sensitive
 in_action (tree.control c who) = 0
 in_action (tree.throw_it who x) = 0
 in_action (tree.throw x) = 0
-in_action (tree.answer e) = in_option e
+in_action (tree.return_ e) = in_option e
 in_action tree.stop = 0
 
 abbrev mutual
@@ -84,10 +84,10 @@ abbrev mutual
   in_statement (tree.assign line t e) = max (in_index t.index) (depth e)
   in_statement (tree.operate line x at o) = in_operation o
   in_statement (tree.act line a) = in_action a
-  in_statement (tree.branch line e body other) = max (depth e) (max (suc (in_block body)) (in_else other))
-  in_statement (tree.loop line e body) = max (depth e) (suc (in_block body))
+  in_statement (tree.if_ line e body other) = max (depth e) (max (suc (in_block body)) (in_else other))
+  in_statement (tree.while_ line e body) = max (depth e) (suc (in_block body))
   in_statement (tree.guard line body undo) = max (suc (in_block body)) (suc (in_block undo))
-  in_statement (tree.attempt line body handlers) = max (suc (in_block body)) (in_handlers handlers)
+  in_statement (tree.try_ line body handlers) = max (suc (in_block body)) (in_handlers handlers)
 
   pub in_block : tree.Block → ℕ
   in_block tree.over = 0

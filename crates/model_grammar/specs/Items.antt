@@ -1,6 +1,7 @@
 -- The items of modules and a whole text: which tokens derive each.
 use Rattle.std.specs.Prelude.{ℕ, Bool, true, false, List, [], ◌∷◌}
 use Rattle.logic_values.specs.Digits.{digits}
+use Rattle.model_tree.specs.Spelling.{signal_word, plain_word, process_word}
 use Rattle.model_tree.specs.Tree as tree
 use Rattle.model_tree.specs.declared.vocabulary.Word.{Word}
 use Rattle.model_tree.specs.declared.vocabulary.Word.TheVariants as w
@@ -30,7 +31,7 @@ use Rattle.model_tree.specs.declared.items.Top.{Top}
 use Rattle.model_tree.specs.declared.types.VarType.{VarType}
 use Rattle.model_grammar.specs.Tokens.{Token, name, number, logic, word, symbol}
 use Rattle.model_grammar.specs.Rules.{Rule, ◌⨾◌, At, Takes, Nothing, Each, Separated, Maybe, Written}
-use Rattle.model_grammar.specs.Expressions.{truth_word, unit_name}
+use Rattle.model_tree.specs.Spelling.{truth_word, unit_name}
 use Rattle.model_grammar.specs.Statements.{DerivesType, DerivesVarTypeAt, DerivesVarType, DerivesMember, DerivesSensitive, DerivesBlock}
 
 -- const = [ "-" ] NUM | NUM unit | LOGIC | "true" | "false"
@@ -114,19 +115,6 @@ DerivesParameters (p ∷ ps) = Takes (symbol s.LeftParen) ⨾ Separated (symbol 
 -- "->" vtype
 abbrev pub DerivesAnswer : VarType → Rule
 DerivesAnswer t = Takes (symbol s.Arrow) ⨾ DerivesVarType t
-
-abbrev pub signal_word : SignalKind → Word
-signal_word kind.Signal = w.Signal
-signal_word kind.Buffer = w.Buffer
-
-abbrev pub plain_word : PlainKind → Word
-plain_word plain.Mutex = w.Mutex
-plain_word plain.Event = w.Event
-plain_word plain.Keeper = w.Keeper
-
-abbrev pub process_word : ProcessKind → Word
-process_word process.Thread = w.Thread
-process_word process.Method = w.Method
 
 -- item = ( "signal" | "buffer" ) [ "many" ] type NAME [ "=" const ] ";" | "resolved" NAME ";"
 --      | "clock" NAME "period" NUM unit "high" NUM unit [ "start" NUM unit ] ";"

@@ -1,5 +1,6 @@
 -- The statements of the model language: which tokens derive each.
 use Rattle.std.specs.Prelude.{ℕ, List, [], ◌∷◌, Option, Some, None}
+use Rattle.model_tree.specs.Spelling.{control_word}
 use Rattle.model_tree.specs.Tree as tree
 use Rattle.model_tree.specs.declared.vocabulary.Word.{Word}
 use Rattle.model_tree.specs.declared.vocabulary.Word.TheVariants as w
@@ -112,7 +113,7 @@ DerivesSpan e = Takes (word w.For) ⨾ DerivesExpression e
 abbrev pub DerivesWaiting : tree.Waiting → Rule
 DerivesWaiting tree.static = Nothing
 DerivesWaiting tree.delta = Takes (word w.Delta)
-DerivesWaiting (tree.span e) = DerivesSpan e
+DerivesWaiting (tree.for_ e) = DerivesSpan e
 DerivesWaiting (tree.one e t) = DerivesEvent e ⨾ Maybe DerivesSpan t
 DerivesWaiting (tree.any es t) = Takes (word w.Any) ⨾ Separated (symbol s.Comma) DerivesEvent es ⨾ Maybe DerivesSpan t
 DerivesWaiting (tree.all es t) = Takes (word w.All) ⨾ Separated (symbol s.Comma) DerivesEvent es ⨾ Maybe DerivesSpan t
@@ -130,14 +131,6 @@ DerivesHandle x = Takes (name x) ⨾ Takes (symbol s.Equal)
 -- [ NAME "=" ] [ "method" ] NAME args [ sens ] [ "dont_initialize" ]
 abbrev pub DerivesSpawn : tree.Spawn → Rule
 DerivesSpawn x = Maybe DerivesHandle x.handle ⨾ Written (word w.Method) x.method ⨾ Takes (name x.function) ⨾ DerivesArguments x.arguments ⨾ DerivesSensitive x.sensitive ⨾ Written (word w.DontInitialize) x.dont_initialize
-
-abbrev pub control_word : Control → Word
-control_word control.Suspend = w.Suspend
-control_word control.Resume = w.Resume
-control_word control.Disable = w.Disable
-control_word control.Enable = w.Enable
-control_word control.Kill = w.Kill
-control_word control.Reset = w.Reset
 
 -- who = NAME | "self"
 abbrev pub DerivesWho : Who → Rule
@@ -175,7 +168,7 @@ DerivesAction line (tree.spawn x) = At line (word w.Spawn) ⨾ DerivesSpawn x
 DerivesAction line (tree.control c x) = At line (word (control_word c)) ⨾ DerivesWho x
 DerivesAction line (tree.throw_it x exception) = At line (word w.ThrowIt) ⨾ DerivesWho x ⨾ Takes (name exception)
 DerivesAction line (tree.throw x) = At line (word w.Throw) ⨾ Takes (name x)
-DerivesAction line (tree.answer e) = At line (word w.Return) ⨾ Maybe DerivesExpression e
+DerivesAction line (tree.return_ e) = At line (word w.Return) ⨾ Maybe DerivesExpression e
 DerivesAction line tree.stop = At line (word w.Stop)
 
 -- what stands between braces
@@ -201,10 +194,10 @@ abbrev mutual
   DerivesStatement (tree.assign line t e) = DerivesTarget line t ⨾ Takes (symbol s.Equal) ⨾ DerivesExpression e ⨾ Takes (symbol s.Semicolon)
   DerivesStatement (tree.operate line x at o) = DerivesResult line x at ⨾ DerivesOperation at o ⨾ Takes (symbol s.Semicolon)
   DerivesStatement (tree.act line a) = DerivesAction line a ⨾ Takes (symbol s.Semicolon)
-  DerivesStatement (tree.branch line e body other) = At line (word w.If) ⨾ DerivesExpression e ⨾ Braced (DerivesStatements body) ⨾ DerivesElse other
-  DerivesStatement (tree.loop line e body) = At line (word w.While) ⨾ DerivesExpression e ⨾ Braced (DerivesStatements body)
+  DerivesStatement (tree.if_ line e body other) = At line (word w.If) ⨾ DerivesExpression e ⨾ Braced (DerivesStatements body) ⨾ DerivesElse other
+  DerivesStatement (tree.while_ line e body) = At line (word w.While) ⨾ DerivesExpression e ⨾ Braced (DerivesStatements body)
   DerivesStatement (tree.guard line body undo) = At line (word w.Guard) ⨾ Braced (DerivesStatements body) ⨾ Takes (word w.Unwind) ⨾ Braced (DerivesStatements undo)
-  DerivesStatement (tree.attempt line body handlers) = At line (word w.Try) ⨾ Braced (DerivesStatements body) ⨾ HasHandler handlers (DerivesHandlers handlers)
+  DerivesStatement (tree.try_ line body handlers) = At line (word w.Try) ⨾ Braced (DerivesStatements body) ⨾ HasHandler handlers (DerivesHandlers handlers)
 
   pub DerivesStatements : tree.Block → Rule
   DerivesStatements tree.over = Nothing

@@ -6,7 +6,8 @@ use super::forms::is_passed;
 use super::fronts::{front, past, piece_at};
 use super::meanings::meaning;
 use super::token::{Token, TokenKind, Tokens};
-use model_tree::{Items, ParseStop};
+use model_tree::ParseStop;
+use plain_lists::Items;
 use std::alloc::Global;
 
 /// What stands at the front of bytes.

@@ -1,5 +1,6 @@
 use logic_values::Lv;
-use model_tree::{Items, Symbol, Word};
+use model_tree::{Symbol, Word};
+use plain_lists::Items;
 
 /// Which token it is, with what it means. A name is the bytes of the text that spell it, and a text is those between its quotes.
 #[derive(Clone, Copy)]

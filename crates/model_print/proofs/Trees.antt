@@ -27,11 +27,11 @@ put_both page xs ys = fold-append put page xs ys
 
 -- what contracts see of the statements that hold others
 pub sees_branch : (line : ℕ) (e : Expression) (body : Vec Statement) (other : Option (Vec Statement))
-    → statement_of (If line e body other) ≡ tree.branch line (expression_of e) (body_of body.items) (other_of other)
+    → statement_of (If line e body other) ≡ tree.if_ line (expression_of e) (body_of body.items) (other_of other)
 sees_branch line e body None = ap statement_of (sym (rolls-If line e body None)) ∙ fold-roll-Statement tree.Statement statement_step (Statement-F.If line e body None)
 sees_branch line e body (Some other) = ap statement_of (sym (rolls-If line e body (Some other))) ∙ fold-roll-Statement tree.Statement statement_step (Statement-F.If line e body (Some other))
 
-pub sees_loop : (line : ℕ) (e : Expression) (body : Vec Statement) → statement_of (While line e body) ≡ tree.loop line (expression_of e) (body_of body.items)
+pub sees_loop : (line : ℕ) (e : Expression) (body : Vec Statement) → statement_of (While line e body) ≡ tree.while_ line (expression_of e) (body_of body.items)
 sees_loop line e body = ap statement_of (sym (rolls-While line e body)) ∙ fold-roll-Statement tree.Statement statement_step (Statement-F.While line e body)
 
 pub sees_guard : (line : ℕ) (body undo : Vec Statement) → statement_of (Guard line body undo) ≡ tree.guard line (body_of body.items) (body_of undo.items)
@@ -43,16 +43,16 @@ same_handlers F names bodies [] = refl
 same_handlers F names bodies (h ∷ hs) = rw (names h, bodies h, same_handlers F names bodies hs) refl
 
 pub sees_attempt : (line : ℕ) (body : Vec Statement) (catches : Vec (List ℕ × Vec Statement))
-    → statement_of (Try line body catches) ≡ tree.attempt line (body_of body.items) (handlers_list catches.items)
+    → statement_of (Try line body catches) ≡ tree.try_ line (body_of body.items) (handlers_list catches.items)
 sees_attempt line body catches =
     ap statement_of (sym (rolls-Try line body catches)) ∙ fold-roll-Statement tree.Statement statement_step (Statement-F.Try line body catches)
-    ∙ ap (tree.attempt line (body_of body.items)) (same_handlers _ (λ h. refl) (λ h. refl) catches.items)
+    ∙ ap (tree.try_ line (body_of body.items)) (same_handlers _ (λ h. refl) (λ h. refl) catches.items)
 
 -- what stands printed once the parts are
 module _ (old : Page) where
   pub branch_printed : (a b c d : Page) (line : ℕ) (e : tree.Expression) (body : tree.Block) (other : tree.Else)
       → a ≡ put old (word w.If) → b ≡ put_all a (expression e) → c ≡ put_all b (braced (statements body)) → d ≡ put_all c (otherwise other)
-      → d ≡ put_all old (statement (tree.branch line e body other))
+      → d ≡ put_all old (statement (tree.if_ line e body other))
   branch_printed a b c d line e body other p q r h =
       rw (
         h,
@@ -68,7 +68,7 @@ module _ (old : Page) where
 
   pub loop_printed : (a b c : Page) (line : ℕ) (e : tree.Expression) (body : tree.Block)
       → a ≡ put old (word w.While) → b ≡ put_all a (expression e) → c ≡ put_all b (braced (statements body))
-      → c ≡ put_all old (statement (tree.loop line e body))
+      → c ≡ put_all old (statement (tree.while_ line e body))
   loop_printed a b c line e body p q h = rw (h, q, p, put_both (put old (word w.While)) (expression e) (braced (statements body))) refl
 
   pub guard_printed : (a b c d : Page) (line : ℕ) (body undo : tree.Block)
@@ -79,7 +79,7 @@ module _ (old : Page) where
 
   pub attempt_printed : (a b : Page) (line : ℕ) (body : tree.Block) (hs : tree.Handlers)
       → a ≡ put old (word w.Try) → b ≡ put_all a (braced (statements body))
-      → put_all old (statement (tree.attempt line body hs)) ≡ put_all b (handlers hs)
+      → put_all old (statement (tree.try_ line body hs)) ≡ put_all b (handlers hs)
   attempt_printed a b line body hs p h = rw (h, p, put_both (put old (word w.Try)) (braced (statements body)) (handlers hs)) refl
 
   pub handler_printed : (a b c : Page) (x : List ℕ) (body : tree.Block) (hs : tree.Handlers)

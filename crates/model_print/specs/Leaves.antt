@@ -27,7 +27,7 @@ use Rattle.model_tree.specs.declared.types.Parameter.{Parameter}
 use Rattle.model_tree.specs.declared.types.End.{End}
 use Rattle.model_tree.specs.declared.statements.Who.{Who}
 use Rattle.model_tree.specs.declared.statements.Who.TheVariants as who
-use Rattle.model_grammar.specs.Expressions.{truth_word, unit_name}
+use Rattle.model_tree.specs.Spelling.{truth_word, unit_name}
 use Rattle.model_print.specs.declared.page.Shape.TheVariants as shape
 use Rattle.model_print.specs.Layout.{Piece}
 

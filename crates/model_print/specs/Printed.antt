@@ -14,9 +14,9 @@ use Rattle.model_tree.specs.declared.items.TargetRole.TheVariants as target
 use Rattle.model_tree.specs.declared.items.SignalItem.{SignalItem}
 use Rattle.model_tree.specs.declared.items.ClockItem.{ClockItem}
 use Rattle.model_tree.specs.declared.items.Top.{Top}
-use Rattle.model_grammar.specs.Expressions.{unary_symbol, binary_symbol, conversion_word, constant_word}
-use Rattle.model_grammar.specs.Statements.{control_word}
-use Rattle.model_grammar.specs.Items.{signal_word, plain_word, process_word}
+use Rattle.model_tree.specs.Spelling.{unary_symbol, binary_symbol, conversion_word, constant_word}
+use Rattle.model_tree.specs.Spelling.{control_word}
+use Rattle.model_tree.specs.Spelling.{signal_word, plain_word, process_word}
 use Rattle.model_print.specs.Layout.{Piece, layout}
 use Rattle.model_print.specs.Leaves.{word, name, number, logic, quoted, type_word, wide, operator, prefix, joint, opening, closing, comma, semicolon, flag, maybe, each, separated, braced, type_form, variable_type, time, span, truth, constant_form, initial, target_process, member, leads_to, port_size, parameter, binding_end}
 
@@ -75,7 +75,7 @@ time_out t = maybe (λ e. word w.For ∷ expression e) t
 abbrev pub waiting : tree.Waiting → List Piece
 waiting tree.static = []
 waiting tree.delta = word w.Delta ∷ []
-waiting (tree.span e) = word w.For ∷ expression e
+waiting (tree.for_ e) = word w.For ∷ expression e
 waiting (tree.one e t) = event e ++ time_out t
 waiting (tree.any es t) = word w.Any ∷ separated event es ++ time_out t
 waiting (tree.all es t) = word w.All ∷ separated event es ++ time_out t
@@ -158,7 +158,7 @@ action (tree.spawn x) = spawned x
 action (tree.control c p) = word (control_word c) ∷ target_process p ∷ []
 action (tree.throw_it p x) = word w.ThrowIt ∷ target_process p ∷ name x ∷ []
 action (tree.throw x) = with_name w.Throw x
-action (tree.answer e) = word w.Return ∷ maybe expression e
+action (tree.return_ e) = word w.Return ∷ maybe expression e
 action tree.stop = word w.Stop ∷ []
 
 -- an expression as a first value, where one is written
@@ -183,10 +183,10 @@ abbrev mutual
   statement (tree.assign line t e) = assignment t e
   statement (tree.operate line x at o) = operated x o
   statement (tree.act line a) = acted a
-  statement (tree.branch line e body other) = word w.If ∷ expression e ++ braced (statements body) ++ otherwise other
-  statement (tree.loop line e body) = word w.While ∷ expression e ++ braced (statements body)
+  statement (tree.if_ line e body other) = word w.If ∷ expression e ++ braced (statements body) ++ otherwise other
+  statement (tree.while_ line e body) = word w.While ∷ expression e ++ braced (statements body)
   statement (tree.guard line body undo) = word w.Guard ∷ braced (statements body) ++ word w.Unwind ∷ braced (statements undo)
-  statement (tree.attempt line body hs) = word w.Try ∷ braced (statements body) ++ handlers hs
+  statement (tree.try_ line body hs) = word w.Try ∷ braced (statements body) ++ handlers hs
 
   pub statements : tree.Block → List Piece
   statements tree.over = []

@@ -4,9 +4,9 @@ ghost use Rattle.model_print.specs.Layout.{put_all};
 ghost use Rattle.model_print.specs.Leaves as leaf;
 ghost use Rattle.model_print.specs.Printed as spec;
 
-use super::leaves::{binary_symbol, constant_word, conversion_word, prefix_symbol, time, truth};
+use super::leaves::{time, truth};
 use super::page::Page;
-use model_tree::{Expression, Symbol, Word};
+use model_tree::{Expression, Symbol, Word, binary_symbol, constant_word, conversion_word, unary_symbol};
 use std::alloc::AllocError;
 
 /// Writes an expression.
@@ -79,7 +79,7 @@ pub fn expression(page: &mut Page, e: &Expression) -> Result<(), AllocError>
             page.closing(Symbol::RightBracket)
         }
         Expression::Unary(_, op, inner) => {
-            page.prefix(prefix_symbol(*op))?;
+            page.prefix(unary_symbol(*op))?;
             expression(page, inner)
         }
         Expression::Binary(op, left, right) => {

@@ -11,39 +11,8 @@ use super::leaves::{
 };
 use super::page::Page;
 use super::statements::{block, sensitive, with_name};
-use model_tree::{
-    ClockItem, FunctionItem, InitiatorRole, Item, Module, Name, Parameter, PlainKind, ProcessItem,
-    ProcessKind, SignalItem, SignalKind, Symbol, TargetRole, Top, VarType, Word,
-};
+use model_tree::{ClockItem, FunctionItem, InitiatorRole, Item, Module, Name, Parameter, PlainKind, ProcessItem, ProcessKind, SignalItem, SignalKind, Symbol, TargetRole, Top, VarType, Word, plain_word, process_word, signal_word};
 use std::alloc::AllocError;
-
-fn signal_word(kind: SignalKind) -> Word
-    ensures { result ≡ grammar.signal_word kind }
-{
-    match kind {
-        SignalKind::Signal => Word::Signal,
-        SignalKind::Buffer => Word::Buffer,
-    }
-}
-
-fn plain_word(kind: PlainKind) -> Word
-    ensures { result ≡ grammar.plain_word kind }
-{
-    match kind {
-        PlainKind::Mutex => Word::Mutex,
-        PlainKind::Event => Word::Event,
-        PlainKind::Keeper => Word::Keeper,
-    }
-}
-
-fn process_word(kind: ProcessKind) -> Word
-    ensures { result ≡ grammar.process_word kind }
-{
-    match kind {
-        ProcessKind::Thread => Word::Thread,
-        ProcessKind::Method => Word::Method,
-    }
-}
 
 /// Writes a signal or a buffer, without its `;`.
 fn signal(page: &mut Page, signal: &SignalItem) -> Result<(), AllocError>

@@ -1,13 +1,11 @@
 ghost use Rattle.std.specs.Prelude.{◌≡◌, OnOk, codes};
-ghost use Rattle.model_grammar.specs.Expressions.{unit_name, unary_symbol, binary_symbol, conversion_word, constant_word};
-ghost use Rattle.model_grammar.specs.Statements.{control_word};
 ghost use Rattle.model_print.specs.Layout.{put, put_all};
 ghost use Rattle.model_print.specs.Leaves as leaf;
 
 use super::page::Page;
 use model_tree::{
-    BinaryOp, BoundRule, Constant, ConstantForm, Control, Conversion, End, Interface, Name,
-    NamedConstant, Parameter, PortSize, Symbol, TypeForm, UnaryOp, VarType, Who, Word,
+    BoundRule, Constant, ConstantForm, End, Interface, Name, Parameter, PortSize, Symbol, TypeForm,
+    VarType, Who, Word, unit_name,
 };
 use sim_time::Unit;
 use std::alloc::AllocError;
@@ -47,24 +45,12 @@ pub fn variable_type(page: &mut Page, var_type: VarType) -> Result<(), AllocErro
     }
 }
 
-fn unit_text(unit: Unit) -> &'static str
-    ensures { result.now ≡ unit_name unit }
-{
-    match unit {
-        Unit::Ps => "ps",
-        Unit::Ns => "ns",
-        Unit::Us => "us",
-        Unit::Ms => "ms",
-        Unit::S => "s",
-    }
-}
-
 /// Writes a number and its unit.
 pub fn time(page: &mut Page, count: u64, unit: Unit) -> Result<(), AllocError>
     ensures { OnOk result (page.new ≡ put_all page.old (leaf.time count unit)) }
 {
     page.number(count)?;
-    page.unit(unit_text(unit).as_bytes())
+    page.unit(unit_name(unit).as_bytes())
 }
 
 /// Writes `true` or `false`.
@@ -104,94 +90,6 @@ pub fn initial(page: &mut Page, value: Option<Constant>) -> Result<(), AllocErro
             page.operator(Symbol::Equal)?;
             constant_form(page, constant.form)
         }
-    }
-}
-
-/// The symbol of a prefix operator.
-pub fn prefix_symbol(op: UnaryOp) -> Symbol
-    ensures { result ≡ unary_symbol op }
-{
-    match op {
-        UnaryOp::Negate => Symbol::Minus,
-        UnaryOp::Not => Symbol::Bang,
-        UnaryOp::Complement => Symbol::Tilde,
-    }
-}
-
-/// The symbol of a binary operator.
-pub fn binary_symbol(op: BinaryOp) -> Symbol
-    ensures { result ≡ binary_symbol op }
-{
-    match op {
-        BinaryOp::OrElse => Symbol::OrOr,
-        BinaryOp::AndThen => Symbol::AndAnd,
-        BinaryOp::BitOr => Symbol::Bar,
-        BinaryOp::BitXor => Symbol::Caret,
-        BinaryOp::BitAnd => Symbol::Ampersand,
-        BinaryOp::Equal => Symbol::EqualEqual,
-        BinaryOp::NotEqual => Symbol::NotEqual,
-        BinaryOp::Less => Symbol::Less,
-        BinaryOp::LessEqual => Symbol::LessEqual,
-        BinaryOp::Greater => Symbol::Greater,
-        BinaryOp::GreaterEqual => Symbol::GreaterEqual,
-        BinaryOp::ShiftLeft => Symbol::ShiftLeft,
-        BinaryOp::ShiftRight => Symbol::ShiftRight,
-        BinaryOp::Add => Symbol::Plus,
-        BinaryOp::Subtract => Symbol::Minus,
-        BinaryOp::Multiply => Symbol::Star,
-        BinaryOp::Divide => Symbol::Slash,
-        BinaryOp::Remainder => Symbol::Percent,
-    }
-}
-
-/// The word of a conversion.
-pub fn conversion_word(conversion: Conversion) -> Word
-    ensures { result ≡ conversion_word conversion }
-{
-    match conversion {
-        Conversion::Int => Word::Int,
-        Conversion::Uint => Word::Uint,
-        Conversion::Bool => Word::Bool,
-        Conversion::Logic => Word::Logic,
-    }
-}
-
-/// The word of a named number.
-pub fn constant_word(constant: NamedConstant) -> Word
-    ensures { result ≡ constant_word constant }
-{
-    match constant {
-        NamedConstant::Read => Word::ReadCommand,
-        NamedConstant::Write => Word::WriteCommand,
-        NamedConstant::Ignore => Word::IgnoreCommand,
-        NamedConstant::OkResponse => Word::OkResponse,
-        NamedConstant::Incomplete => Word::IncompleteResponse,
-        NamedConstant::GenericError => Word::GenericResponse,
-        NamedConstant::AddressError => Word::AddressResponse,
-        NamedConstant::CommandError => Word::CommandResponse,
-        NamedConstant::BurstError => Word::BurstResponse,
-        NamedConstant::ByteEnableError => Word::ByteEnableResponse,
-        NamedConstant::BeginReq => Word::BeginReq,
-        NamedConstant::EndReq => Word::EndReq,
-        NamedConstant::BeginResp => Word::BeginResp,
-        NamedConstant::EndResp => Word::EndResp,
-        NamedConstant::Accepted => Word::Accepted,
-        NamedConstant::Updated => Word::Updated,
-        NamedConstant::Completed => Word::Completed,
-    }
-}
-
-/// The word of a control call.
-pub fn control_word(control: Control) -> Word
-    ensures { result ≡ control_word control }
-{
-    match control {
-        Control::Suspend => Word::Suspend,
-        Control::Resume => Word::Resume,
-        Control::Disable => Word::Disable,
-        Control::Enable => Word::Enable,
-        Control::Kill => Word::Kill,
-        Control::Reset => Word::Reset,
     }
 }
 

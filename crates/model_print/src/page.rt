@@ -203,7 +203,7 @@ impl Page {
         let digits = value_text(self.alloc, Value::Vector(value))?;
         let mut text = Vec::new(self.alloc);
         text.extend_from_slice(b"'")?;
-        text.extend_from_slice(digits.items())?;
+        text.extend_from_slice(digits.as_slice())?;
         text.extend_from_slice(b"'")?;
         self.put(Shape::Plain, text.as_slice())
     }

@@ -5,12 +5,9 @@ ghost use Rattle.model_print.specs.Leaves as leaf;
 ghost use Rattle.model_print.specs.Printed as spec;
 
 use super::expressions::{arguments, expression};
-use super::leaves::{control_word, flag, member, target_process, variable_type};
+use super::leaves::{flag, member, target_process, variable_type};
 use super::page::Page;
-use model_tree::{
-    Action, Channel, Event, Expression, Name, Notification, Operation, Place, Spawn, Statement,
-    Symbol, Target, VarType, Waiting, Word,
-};
+use model_tree::{Action, Channel, Event, Expression, Name, Notification, Operation, Place, Spawn, Statement, Symbol, Target, VarType, Waiting, Word, control_word};
 use std::alloc::AllocError;
 
 /// Writes the place of a channel where one is written.

@@ -1,9 +1,6 @@
 use super::printing::written;
 use logic_values::{Digit, Lv};
-use model_tree::{
-    Action, BinaryOp, Channel, Expression, FunctionItem, Item, Module, Name, Operation, Parameter,
-    Place, PrintText, SignalType, Statement, Target, Top, TypeForm, UnaryOp, VarType, Waiting,
-};
+use model_tree::{Action, BinaryOp, Channel, Expression, FunctionItem, Item, Module, Name, Operation, Parameter, Place, PrintText, SignalType, Statement, Target, Top, TypeForm, UnaryOp, VarType, Waiting};
 use sim_time::Unit;
 use std::alloc::{AllocError, Global};
 use std::test::Fail;

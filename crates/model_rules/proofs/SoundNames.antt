@@ -10,7 +10,8 @@ use Rattle.model_tree.specs.Tree as tree
 use Rattle.model_tree.specs.declared.faults.Kind.{Kind}
 use Rattle.model_tree.specs.declared.faults.Kind.TheVariants as kind
 use Rattle.model_tree.specs.declared.items.SignalItem.{SignalItem}
-use Rattle.model_rules.specs.FirstFault.{or_else, broken_if, item_line, item_name, is_name_of, declares, is_item_name, is_module_name, double_name, double_item, double_module, not_a_signal, signal_use, in_expression, in_option, in_channel, in_events, in_action, in_statement, in_block, in_else, in_item, in_items, in_modules, unknown_top, first_fault}
+use Rattle.model_rules.specs.FirstFault.{or_else, broken_if, item_name, is_name_of, declares, is_item_name, is_module_name, double_name, double_item, double_module, not_a_signal, signal_use, in_expression, in_option, in_channel, in_events, in_action, in_statement, in_block, in_else, in_item, in_items, in_modules, unknown_top, first_fault}
+use Rattle.model_tree.specs.Lines.{item_line}
 use Rattle.model_rules.specs.FlatDesign.{name_list, names_of}
 use Rattle.model_rules.specs.SoundNames.{expression_uses, option_uses, action_uses, statement_uses, block_uses, else_uses, item_uses, IsSignalOf, UsesSignals, HasSoundNames}
 use Rattle.model_rules.proofs.NoFault.{or_else_none}
@@ -159,7 +160,7 @@ module _ (items : List tree.Item) where
   action_signals (tree.control c w) h = tt
   action_signals (tree.throw_it w n) h = tt
   action_signals (tree.throw n) h = tt
-  action_signals (tree.answer e) h = tt
+  action_signals (tree.return_ e) h = tt
   action_signals tree.stop h = tt
 
   mutual
@@ -168,14 +169,14 @@ module _ (items : List tree.Item) where
     statement_signals (tree.assign line t e) h = tt
     statement_signals (tree.operate line name at o) h = tt
     statement_signals (tree.act line a) h = action_signals a h
-    statement_signals (tree.branch line e body other) h =
+    statement_signals (tree.if_ line e body other) h =
         let parts = or_else_none (in_expression items e) (or_else (in_block items body) (in_else items other)) h in
         let rest = or_else_none (in_block items body) (in_else items other) parts.1 in
         both_all (IsSignalOf items) (expression_uses e) (block_uses body ++ else_uses other) (expression_signals e parts.0)
         (both_all (IsSignalOf items) (block_uses body) (else_uses other) (block_signals body rest.0) (else_signals other rest.1))
-    statement_signals (tree.loop line e body) h = tt
+    statement_signals (tree.while_ line e body) h = tt
     statement_signals (tree.guard line body undo) h = tt
-    statement_signals (tree.attempt line body handlers) h = tt
+    statement_signals (tree.try_ line body handlers) h = tt
 
     block_signals : (body : tree.Block) → in_block items body ≡ None → AllByRecursion (IsSignalOf items) (block_uses body)
     block_signals tree.over h = tt

@@ -29,7 +29,7 @@ is_built_action other = false
 abbrev mutual
   pub is_built_statement : tree.Statement → Bool
   is_built_statement (tree.act line a) = is_built_action a
-  is_built_statement (tree.branch line e body other) = is_built_expression e && (is_built_block body && is_built_else other)
+  is_built_statement (tree.if_ line e body other) = is_built_expression e && (is_built_block body && is_built_else other)
   is_built_statement other = false
 
   pub is_built_block : tree.Block → Bool

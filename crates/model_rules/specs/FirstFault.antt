@@ -3,6 +3,7 @@
 use Rattle.std.specs.Prelude.{ℕ, Bool, true, false, List, [], ◌∷◌, ◌++◌, Option, Some, None, bytes_eq, not}
 use Rattle.std.specs.List.{list_any, find}
 use Rattle.model_tree.specs.Tree as tree
+use Rattle.model_tree.specs.Lines.{item_line}
 use Rattle.model_tree.specs.declared.faults.Fault.{Fault}
 use Rattle.model_tree.specs.declared.faults.Kind.{Kind}
 use Rattle.model_tree.specs.declared.faults.Kind.TheVariants as kind
@@ -11,25 +12,6 @@ use Rattle.model_tree.specs.declared.faults.Kind.TheVariants as kind
 abbrev pub or_else : Option Fault → Option Fault → Option Fault
 or_else None other = other
 or_else (Some fault) other = Some fault
-
--- the line of an item's first token
-abbrev pub item_line : tree.Item → ℕ
-item_line (tree.signal line s) = line
-item_line (tree.resolved line name) = line
-item_line (tree.clock line c) = line
-item_line (tree.fifo line t name size) = line
-item_line (tree.plain line kind name) = line
-item_line (tree.semaphore line name c) = line
-item_line (tree.memory line name size) = line
-item_line (tree.variable line t name c) = line
-item_line (tree.port line i name size) = line
-item_line (tree.export line i name) = line
-item_line (tree.initiator line name role) = line
-item_line (tree.target line name role) = line
-item_line (tree.instance line kind name) = line
-item_line (tree.bind line left right) = line
-item_line (tree.function line f) = line
-item_line (tree.process line p) = line
 
 -- the name that an item declares; a binding declares none
 abbrev pub item_name : tree.Item → Option (List ℕ)
@@ -124,7 +106,7 @@ in_action items other = None
 abbrev mutual
   pub in_statement : List tree.Item → tree.Statement → Option Fault
   in_statement items (tree.act line a) = in_action items a
-  in_statement items (tree.branch line e body other) = or_else (in_expression items e) (or_else (in_block items body) (in_else items other))
+  in_statement items (tree.if_ line e body other) = or_else (in_expression items e) (or_else (in_block items body) (in_else items other))
   in_statement items other = None
 
   pub in_block : List tree.Item → tree.Block → Option Fault

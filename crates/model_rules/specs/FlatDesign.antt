@@ -1,12 +1,13 @@
 -- The flat design of a tree: its objects in object order, what names stand for, and its code.
-use Rattle.std.specs.Prelude.{◌≡◌, ℕ, ◌+◌, ◌*◌, Bool, true, false, List, [], ◌∷◌, ◌++◌, map, filter, length, Option, Some, None, bytes_eq}
+use Rattle.std.specs.Prelude.{◌≡◌, ℕ, ◌+◌, Bool, true, false, List, [], ◌∷◌, ◌++◌, map, filter, length, Option, Some, None, bytes_eq}
 use Rattle.std.specs.List.{position_or_len, find, flat_map}
 use Rattle.model_tree.specs.Tree as tree
-use Rattle.model_tree.specs.Code.{arena_of}
-use Rattle.model_tree.specs.declared.designs.Object.{Object}
-use Rattle.model_tree.specs.declared.designs.ObjectForm.TheVariants as form
-use Rattle.model_tree.specs.declared.designs.Design.{Design}
-use Rattle.model_tree.specs.declared.code.Code.{Code}
+use Rattle.method_design.specs.Code.{arena_of}
+use Rattle.method_design.specs.Events.{changed_event}
+use Rattle.method_design.specs.declared.designs.Object.{Object}
+use Rattle.method_design.specs.declared.designs.ObjectForm.TheVariants as form
+use Rattle.method_design.specs.declared.designs.Design.{Design}
+use Rattle.method_design.specs.declared.code.Code.{Code}
 use Rattle.logic_values.specs.declared.kinds.Value.{Value}
 use Rattle.logic_values.specs.declared.kinds.Value.TheVariants as value
 use Rattle.model_rules.specs.FirstFault.{item_name, declares}
@@ -76,16 +77,6 @@ signal_number items name = position_or_len (declares name) (filter is_signal ite
 -- the signal that each name stands for
 abbrev pub scope_of : List tree.Item → List ℕ
 scope_of items = map (signal_number items) (names_of items)
-
--- the events of signal i: value changed, a change to 1, a change to 0
-abbrev pub changed_event : ℕ → ℕ
-changed_event i = 3 * i
-
-abbrev pub posedge_event : ℕ → ℕ
-posedge_event i = 3 * i + 1
-
-abbrev pub negedge_event : ℕ → ℕ
-negedge_event i = 3 * i + 2
 
 -- the static sensitivity of a process: the value-changed events of the signals that it names
 abbrev pub events_of : List tree.Item → List tree.Event → List ℕ

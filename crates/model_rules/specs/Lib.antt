@@ -1,4 +1,3 @@
-pub mod Stops
 pub mod FirstFault
 pub mod ReadBack
 pub mod FlatDesign

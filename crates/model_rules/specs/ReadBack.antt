@@ -3,11 +3,11 @@
 use Rattle.std.specs.Prelude.{◌≡◌, ℕ, List, [], ◌∷◌, slice_get, Option, Some, None}
 use Rattle.logic_values.specs.declared.kinds.Value.TheVariants as value
 use Rattle.model_tree.specs.Tree as tree
-use Rattle.model_tree.specs.Code as code
-use Rattle.model_tree.specs.Code.{Arena, Term, ChannelTerm, Act, act_at}
-use Rattle.model_tree.specs.declared.code.CodeBody.{CodeBody}
+use Rattle.method_design.specs.Code as code
+use Rattle.method_design.specs.Code.{Arena, Term, ChannelTerm, Act, act_at}
+use Rattle.method_design.specs.declared.code.CodeBody.{CodeBody}
 use Rattle.model_tree.specs.declared.expressions.UnaryOp.TheVariants as unary_op
-use Rattle.model_tree.specs.declared.terms.Operands.TheVariants as operands
+use Rattle.method_design.specs.declared.terms.Operands.TheVariants as operands
 
 -- the name of this number
 abbrev pub IsNamed : List (List ℕ) → ℕ → List ℕ → Type 0
@@ -48,7 +48,7 @@ AtBlock a b P = (ids : List ℕ) × (slice_get a.blocks b ≡ Some ids) × P ids
 abbrev mutual
   pub IsForm : List (List ℕ) → Arena → tree.Statement → Act → Type 0
   IsForm names a (tree.act line action) f = IsAction names action f
-  IsForm names a (tree.branch line e body other) f =
+  IsForm names a (tree.if_ line e body other) f =
       (t : Term) × (b : ℕ) × (o : Option ℕ) × (f ≡ code.branch t b o) × IsTerm names e t × AtBlock a b (IsBlock names a body) × IsElse names a other o
   IsForm names a other f = ⊥
 

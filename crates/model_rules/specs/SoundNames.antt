@@ -25,7 +25,7 @@ action_uses other = []
 abbrev mutual
   pub statement_uses : tree.Statement → List (List ℕ)
   statement_uses (tree.act line a) = action_uses a
-  statement_uses (tree.branch line e body other) = expression_uses e ++ (block_uses body ++ else_uses other)
+  statement_uses (tree.if_ line e body other) = expression_uses e ++ (block_uses body ++ else_uses other)
   statement_uses other = []
 
   pub block_uses : tree.Block → List (List ℕ)

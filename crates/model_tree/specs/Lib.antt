@@ -1,7 +1,9 @@
 pub mod Vocabulary
 pub mod Leaves
+pub mod Spelling
 pub mod Tree
 pub mod Views
 pub mod Limits
-pub mod Code
 pub mod Seen
+pub mod Lines
+pub mod Stops

@@ -177,7 +177,7 @@ is_some_of (x ∷ xs) = true
 abbrev pub fits_waiting : ℕ → tree.Waiting → Bool
 fits_waiting n tree.static = true
 fits_waiting n tree.delta = true
-fits_waiting n (tree.span e) = fits n e
+fits_waiting n (tree.for_ e) = fits n e
 fits_waiting n (tree.one e t) = fits_event n e && fits_option n t
 fits_waiting n (tree.any es t) = is_some_of es && (fits_events n es && fits_option n t)
 fits_waiting n (tree.all es t) = is_some_of es && (fits_events n es && fits_option n t)
@@ -235,7 +235,7 @@ fits_action n (tree.spawn s) = fits_spawn n s
 fits_action n (tree.control c w) = fits_who w
 fits_action n (tree.throw_it w name) = fits_who w && is_name name
 fits_action n (tree.throw name) = is_name name
-fits_action n (tree.answer e) = fits_option n e
+fits_action n (tree.return_ e) = fits_option n e
 fits_action n tree.stop = true
 
 abbrev pub fits_form : TypeForm → Bool
@@ -310,10 +310,10 @@ abbrev mutual
   fits_statement (tree.assign line t e) n = fits_target n t && fits n e
   fits_statement (tree.operate line name at o) n = option_name name && fits_operation n o
   fits_statement (tree.act line a) n = fits_action n a
-  fits_statement (tree.branch line e body other) n = fits n e && (within n (fits_block body) && fits_else other n)
-  fits_statement (tree.loop line e body) n = fits n e && within n (fits_block body)
+  fits_statement (tree.if_ line e body other) n = fits n e && (within n (fits_block body) && fits_else other n)
+  fits_statement (tree.while_ line e body) n = fits n e && within n (fits_block body)
   fits_statement (tree.guard line body undo) n = within n (fits_block body) && within n (fits_block undo)
-  fits_statement (tree.attempt line body handlers) n = within n (fits_block body) && (has_handler handlers && fits_handlers handlers n)
+  fits_statement (tree.try_ line body handlers) n = within n (fits_block body) && (has_handler handlers && fits_handlers handlers n)
 
   pub fits_block : tree.Block → ℕ → Bool
   fits_block tree.over n = true

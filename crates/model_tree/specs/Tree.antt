@@ -66,7 +66,7 @@ pub record Event : Type 0 where
 pub data Waiting : Type 0 where
   static : Waiting
   delta : Waiting
-  span : Expression → Waiting
+  for_ : Expression → Waiting
   one : Event → Option Expression → Waiting
   any : List Event → Option Expression → Waiting
   all : List Event → Option Expression → Waiting
@@ -128,7 +128,7 @@ pub data Action : Type 0 where
   control : Control → Who → Action
   throw_it : Who → List ℕ → Action
   throw : List ℕ → Action
-  answer : Option Expression → Action
+  return_ : Option Expression → Action
   stop : Action
 
 -- statements, blocks and handlers; the number in front of a statement is the line of its first token
@@ -138,10 +138,10 @@ mutual
     assign : ℕ → Target → Expression → Statement
     operate : ℕ → Option (List ℕ) → ℕ → Operation → Statement
     act : ℕ → Action → Statement
-    branch : ℕ → Expression → Block → Else → Statement
-    loop : ℕ → Expression → Block → Statement
+    if_ : ℕ → Expression → Block → Else → Statement
+    while_ : ℕ → Expression → Block → Statement
     guard : ℕ → Block → Block → Statement
-    attempt : ℕ → Block → Handlers → Statement
+    try_ : ℕ → Block → Handlers → Statement
 
   pub data Block : Type 0 where
     over : Block

@@ -68,7 +68,7 @@ events_of es = map event_of es
 abbrev pub waiting_of : Waiting → tree.Waiting
 waiting_of waiting.Static = tree.static
 waiting_of waiting.Delta = tree.delta
-waiting_of (waiting.For e) = tree.span (expression_of e)
+waiting_of (waiting.For e) = tree.for_ (expression_of e)
 waiting_of (waiting.One e t) = tree.one (event_of e) (option_map expression_of t)
 waiting_of (waiting.Any es t) = tree.any (events_of es.items) (option_map expression_of t)
 waiting_of (waiting.All es t) = tree.all (events_of es.items) (option_map expression_of t)
@@ -118,7 +118,7 @@ action_of (action.Spawn s) = tree.spawn (spawn_of s)
 action_of (action.Control c w) = tree.control c w
 action_of (action.ThrowIt w name) = tree.throw_it w name
 action_of (action.Throw name) = tree.throw name
-action_of (action.Return e) = tree.answer (option_map expression_of e)
+action_of (action.Return e) = tree.return_ (option_map expression_of e)
 action_of action.Stop = tree.stop
 
 -- statements that are viewed already, as a block
@@ -139,10 +139,10 @@ statement_step (Statement-F.Var line t name e) = tree.var line t name (option_ma
 statement_step (Statement-F.Assign line t e) = tree.assign line (target_of t) (expression_of e)
 statement_step (Statement-F.Operate line name at o) = tree.operate line name at (operation_of o)
 statement_step (Statement-F.Act line a) = tree.act line (action_of a)
-statement_step (Statement-F.If line e body other) = tree.branch line (expression_of e) (block_of body.items) (else_of other)
-statement_step (Statement-F.While line e body) = tree.loop line (expression_of e) (block_of body.items)
+statement_step (Statement-F.If line e body other) = tree.if_ line (expression_of e) (block_of body.items) (else_of other)
+statement_step (Statement-F.While line e body) = tree.while_ line (expression_of e) (block_of body.items)
 statement_step (Statement-F.Guard line body undo) = tree.guard line (block_of body.items) (block_of undo.items)
-statement_step (Statement-F.Try line body handlers) = tree.attempt line (block_of body.items) (handlers_of handlers.items)
+statement_step (Statement-F.Try line body handlers) = tree.try_ line (block_of body.items) (handlers_of handlers.items)
 
 abbrev pub statement_of : Statement → tree.Statement
 statement_of = fold-Statement tree.Statement statement_step

@@ -1,27 +1,21 @@
 //! The model language as data: words, names, the tree of a text.
 #![tactic(auto)]
 
-mod code;
-mod designs;
+mod constructs;
 mod expressions;
 mod faults;
 mod items;
 mod leaves;
-mod listing;
-mod runs;
+mod lines;
+mod spelling;
 mod statements;
-mod terms;
 mod types;
 mod vocabulary;
 mod whole;
 
-pub use code::{
-    Argument, Await, BlockId, ChannelUse, Code, CodeBody, Controlled, Destination, EventUse, Form,
-    Local, SpawnForm, StmtId,
-};
-pub use designs::{Binding, CodeId, Design, Hop, Object, ObjectForm, Objects};
+pub use constructs::Construct;
 pub use expressions::{BinaryOp, Conversion, Expression, NamedConstant, UnaryOp};
-pub use faults::{CheckStop, Fault, Kind, NameId, ParseStop, RunFault};
+pub use faults::{CheckStop, Fault, Kind, ParseStop};
 pub use items::{
     ClockItem, FunctionItem, InitiatorRole, Item, Module, PlainKind, ProcessItem, ProcessKind,
     SignalItem, SignalKind, TargetRole, Top,
@@ -30,13 +24,15 @@ pub use leaves::{
     NAME_LIMIT, Name, PRINT_LIMIT, PrintText, is_letter, is_name, is_print_byte, is_print_text,
     is_word, is_word_byte,
 };
-pub use listing::Items;
-pub use runs::{Choices, Line};
+pub use lines::{first_line, item_line};
+pub use spelling::{
+    binary_symbol, constant_word, control_word, conversion_word, plain_word, process_word,
+    signal_word, unary_symbol, unit_name,
+};
 pub use statements::{
     Action, Channel, Control, Event, Notification, Operation, Place, Spawn, Statement, Target,
     Waiting, Who,
 };
-pub use terms::{Expr, Operands};
 pub use types::{
     BoundRule, Constant, ConstantForm, End, Interface, Parameter, PortSize, SignalType, Span,
     TypeForm, VarType,

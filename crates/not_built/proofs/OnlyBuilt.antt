@@ -89,20 +89,20 @@ of_action line (tree.spawn x) = refl
 of_action line (tree.control c who) = refl
 of_action line (tree.throw_it who x) = refl
 of_action line (tree.throw x) = refl
-of_action line (tree.answer e) = refl
+of_action line (tree.return_ e) = refl
 of_action line tree.stop = refl
 
 mutual
   of_statement : (s : tree.Statement) → is_empty (missing_in_statement s) ≡ is_built_statement s
   of_statement (tree.act line a) = of_action line a
-  of_statement (tree.branch line e body other) =
+  of_statement (tree.if_ line e body other) =
       both_empty (missing_in_expression e) (missing_in_block body ++ missing_in_else other) _ _ (of_expression e) (both_empty (missing_in_block body) (missing_in_else other) _ _ (of_block body) (of_else other))
   of_statement (tree.var line t x e) = refl
   of_statement (tree.assign line t e) = refl
   of_statement (tree.operate line x at o) = refl
-  of_statement (tree.loop line e body) = refl
+  of_statement (tree.while_ line e body) = refl
   of_statement (tree.guard line body undo) = refl
-  of_statement (tree.attempt line body handlers) = refl
+  of_statement (tree.try_ line body handlers) = refl
 
   of_block : (b : tree.Block) → is_empty (missing_in_block b) ≡ is_built_block b
   of_block tree.over = refl

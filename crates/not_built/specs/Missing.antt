@@ -11,34 +11,13 @@ use Rattle.model_tree.specs.declared.items.ProcessKind.TheVariants as process
 use Rattle.model_tree.specs.declared.items.SignalItem.{SignalItem}
 use Rattle.model_tree.specs.declared.expressions.UnaryOp.TheVariants as sign
 use Rattle.model_tree.specs.Tree as tree
+use Rattle.model_tree.specs.Lines.{first_line}
 use Rattle.model_rules.specs.Built.{is_first_place}
 
 -- the line, where something is not built
 abbrev pub unless : Bool → ℕ → List ℕ
 unless true line = []
 unless false line = line ∷ []
-
--- the line of an expression's first token
-abbrev pub first_line : tree.Expression → ℕ
-first_line (tree.number line n) = line
-first_line (tree.time line n unit) = line
-first_line (tree.logic line digits) = line
-first_line (tree.truth line b) = line
-first_line (tree.now line) = line
-first_line (tree.myself line) = line
-first_line (tree.constant line c) = line
-first_line (tree.paren line e) = line
-first_line (tree.convert line c e) = line
-first_line (tree.to_vector line width e) = line
-first_line (tree.concat line upper lower) = line
-first_line (tree.named line x) = line
-first_line (tree.placed line x at) = line
-first_line (tree.placed_by line x e) = line
-first_line (tree.member e x) = first_line e
-first_line (tree.element e index) = first_line e
-first_line (tree.slice e high low) = first_line e
-first_line (tree.unary line op e) = line
-first_line (tree.binary op left right) = first_line left
 
 -- expressions
 abbrev pub missing_in_expression : tree.Expression → List ℕ
@@ -108,20 +87,20 @@ missing_in_action line (tree.spawn x) = line ∷ []
 missing_in_action line (tree.control c who) = line ∷ []
 missing_in_action line (tree.throw_it who x) = line ∷ []
 missing_in_action line (tree.throw x) = line ∷ []
-missing_in_action line (tree.answer e) = line ∷ []
+missing_in_action line (tree.return_ e) = line ∷ []
 missing_in_action line tree.stop = line ∷ []
 
 -- statements
 abbrev mutual
   pub missing_in_statement : tree.Statement → List ℕ
   missing_in_statement (tree.act line a) = missing_in_action line a
-  missing_in_statement (tree.branch line e body other) = missing_in_expression e ++ (missing_in_block body ++ missing_in_else other)
+  missing_in_statement (tree.if_ line e body other) = missing_in_expression e ++ (missing_in_block body ++ missing_in_else other)
   missing_in_statement (tree.var line t x e) = line ∷ []
   missing_in_statement (tree.assign line t e) = line ∷ []
   missing_in_statement (tree.operate line x at o) = line ∷ []
-  missing_in_statement (tree.loop line e body) = line ∷ []
+  missing_in_statement (tree.while_ line e body) = line ∷ []
   missing_in_statement (tree.guard line body undo) = line ∷ []
-  missing_in_statement (tree.attempt line body handlers) = line ∷ []
+  missing_in_statement (tree.try_ line body handlers) = line ∷ []
 
   pub missing_in_block : tree.Block → List ℕ
   missing_in_block tree.over = []

@@ -11,7 +11,8 @@ use Rattle.model_tree.specs.Limits.{fits, fits_option, fits_all, within, fits_ch
 use Rattle.model_tree.specs.Tree as tree
 use Rattle.model_grammar.specs.Tokens.{name, quoted, word, symbol}
 use Rattle.model_grammar.specs.Rules.{Rule, ◌⨾◌, At, Takes, Maybe}
-use Rattle.model_grammar.specs.Statements.{NextExpression, DerivesOperation, DerivesHandle, DerivesSpawn, control_word, DerivesWho, DerivesAction}
+use Rattle.model_grammar.specs.Statements.{NextExpression, DerivesOperation, DerivesHandle, DerivesSpawn, DerivesWho, DerivesAction}
+use Rattle.model_tree.specs.Spelling.{control_word}
 use Rattle.model_print.specs.Layout.{Piece}
 use Rattle.model_print.specs.Leaves as leaf
 use Rattle.model_print.specs.Printed as printed
@@ -143,5 +144,5 @@ action_spelled n (tree.throw_it p x) h =
     let parts = and_parts (fits_who p) (is_name x) h in
     as_one (λ y. (y.0, tree.throw_it y.1.0 x)) (λ y s. ap (λ z. tree.throw_it z x) s.0) (λ y ts rest d. d) (headed w.ThrowIt (both (loose (who_spelled p parts.0)) (name_spelled false x parts.1)))
 action_spelled n (tree.throw x) h = as_one (λ l. (l, tree.throw x)) (λ y s. refl) (λ y ts rest d. d) (only_name w.Throw x h)
-action_spelled n (tree.answer e) h = as_one (λ y. (y.0, tree.answer y.1)) (λ y s. ap tree.answer s) (λ y ts rest d. d) (headed w.Return (optional_spelled n e h))
+action_spelled n (tree.return_ e) h = as_one (λ y. (y.0, tree.return_ y.1)) (λ y s. ap tree.return_ s) (λ y ts rest d. d) (headed w.Return (optional_spelled n e h))
 action_spelled n tree.stop h = as_one (λ l. (l, tree.stop)) (λ y s. refl) (λ y ts rest d. d) (one_at true (leaf.word w.Stop) (word w.Stop) (word_piece w.Stop) refl refl)

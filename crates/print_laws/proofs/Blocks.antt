@@ -69,18 +69,18 @@ mutual
       operate_spelled n line at x o parts.0 parts.1
   statement_spelled n (tree.act line a) h =
       as_one (λ y. tree.act y.0 y.1) (λ y s. ap (tree.act 0) s) (λ y ts rest d. d) (closed (action_spelled n a h))
-  statement_spelled n (tree.branch line e body other) h =
+  statement_spelled n (tree.if_ line e body other) h =
       let parts = and_parts (fits n e) (within n (fits_block body) && fits_else other n) h in
       let more = and_parts (within n (fits_block body)) (fits_else other n) parts.1 in
       let (m, inner) = opened n (fits_block body) more.0 in
-      as_one (λ y. tree.branch y.0 y.1.0 y.1.1.0 y.1.1.1) (λ y s. rw (s.0, s.1.0, s.1.1) refl) (λ y ts rest d. d)
+      as_one (λ y. tree.if_ y.0 y.1.0 y.1.1.0 y.1.1.1) (λ y s. rw (s.0, s.1.0, s.1.1) refl) (λ y ts rest d. d)
       (headed w.If
       (moved (sym (append_assoc (printed.expression e) (leaf.braced (printed.statements body)) (printed.otherwise other)))
       (both (loose (whole_spelled n e parts.0)) (both (braced (block_spelled m body inner)) (else_spelled n other more.1)))))
-  statement_spelled n (tree.loop line e body) h =
+  statement_spelled n (tree.while_ line e body) h =
       let parts = and_parts (fits n e) (within n (fits_block body)) h in
       let (m, inner) = opened n (fits_block body) parts.1 in
-      as_one (λ y. tree.loop y.0 y.1.0 y.1.1) (λ y s. rw (s.0, s.1) refl) (λ y ts rest d. d)
+      as_one (λ y. tree.while_ y.0 y.1.0 y.1.1) (λ y s. rw (s.0, s.1) refl) (λ y ts rest d. d)
       (headed w.While (both (loose (whole_spelled n e parts.0)) (braced (block_spelled m body inner))))
   statement_spelled n (tree.guard line body undo) h =
       let parts = and_parts (within n (fits_block body)) (within n (fits_block undo)) h in
@@ -88,11 +88,11 @@ mutual
       let (k, last) = opened n (fits_block undo) parts.1 in
       as_one (λ y. tree.guard y.0 y.1.0 y.1.1) (λ y s. rw (s.0, s.1) refl) (λ y ts rest d. d)
       (headed w.Guard (both (braced (block_spelled m body inner)) (led false (leaf.word w.Unwind) (word w.Unwind) (word_piece w.Unwind) refl (braced (block_spelled k undo last)))))
-  statement_spelled n (tree.attempt line body hs) h =
+  statement_spelled n (tree.try_ line body hs) h =
       let parts = and_parts (within n (fits_block body)) (has_handler hs && fits_handlers hs n) h in
       let more = and_parts (has_handler hs) (fits_handlers hs n) parts.1 in
       let (m, inner) = opened n (fits_block body) parts.0 in
-      as_one (λ y. tree.attempt y.0 y.1.0 y.1.1) (λ y s. rw (s.0, s.1) refl) (λ y ts rest d. d)
+      as_one (λ y. tree.try_ y.0 y.1.0 y.1.1) (λ y s. rw (s.0, s.1) refl) (λ y ts rest d. d)
       (headed w.Try
       (both (braced (block_spelled m body inner)) (as_known {Q = λ y. HasHandler y (DerivesHandlers y)} (λ y. y) (λ y s. s) (λ y s ts rest d. has_one y hs s more.0 ts rest d) (handlers_spelled n hs more.1))))
 

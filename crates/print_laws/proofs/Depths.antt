@@ -44,7 +44,7 @@ same_events (e ∷ es) = rw (same_place e.channel.place, same_events es) refl
 same_waiting : (x : tree.Waiting) → in_waiting (unlined.waiting x) ≡ in_waiting x
 same_waiting tree.static = refl
 same_waiting tree.delta = refl
-same_waiting (tree.span e) = same_depth e
+same_waiting (tree.for_ e) = same_depth e
 same_waiting (tree.one e t) = rw (same_place e.channel.place, same_option t) refl
 same_waiting (tree.any es t) = rw (same_events es, same_option t) refl
 same_waiting (tree.all es t) = rw (same_events es, same_option t) refl
@@ -82,7 +82,7 @@ same_action (tree.qk_global e) = same_depth e
 same_action (tree.qk_inc x e) = same_depth e
 same_action (tree.qk_set x e) = same_depth e
 same_action (tree.spawn x) = rw (same_all x.arguments, same_events x.sensitive) refl
-same_action (tree.answer e) = same_option e
+same_action (tree.return_ e) = same_option e
 same_action _ = refl
 
 mutual
@@ -91,10 +91,10 @@ mutual
   same_statement (tree.assign line t e) = rw (same_index t.index, same_depth e) refl
   same_statement (tree.operate line x at o) = same_operation o
   same_statement (tree.act line a) = same_action a
-  same_statement (tree.branch line e body other) = rw (same_depth e, same_block body, same_else other) refl
-  same_statement (tree.loop line e body) = rw (same_depth e, same_block body) refl
+  same_statement (tree.if_ line e body other) = rw (same_depth e, same_block body, same_else other) refl
+  same_statement (tree.while_ line e body) = rw (same_depth e, same_block body) refl
   same_statement (tree.guard line body undo) = rw (same_block body, same_block undo) refl
-  same_statement (tree.attempt line body hs) = rw (same_block body, same_handlers hs) refl
+  same_statement (tree.try_ line body hs) = rw (same_block body, same_handlers hs) refl
 
   same_block : (x : tree.Block) → in_block (unlined.block x) ≡ in_block x
   same_block tree.over = refl
@@ -162,7 +162,7 @@ events_deep n (e ∷ es) h = let parts = and_parts (fits_event n e) (fits_events
 waiting_deep : (n : ℕ) (x : tree.Waiting) → fits_waiting n x ≡ true → in_waiting x ≤ n
 waiting_deep n tree.static h = omega arith
 waiting_deep n tree.delta h = omega arith
-waiting_deep n (tree.span e) h = deep n e h
+waiting_deep n (tree.for_ e) h = deep n e h
 waiting_deep n (tree.one e t) h = let parts = and_parts (fits_event n e) (fits_option n t) h in most (in_channel e.channel) (in_option t) n (event_deep n e parts.0) (option_deep n t parts.1)
 waiting_deep n (tree.any [] t) h = cc
 waiting_deep n (tree.any (e ∷ es) t) h = let parts = and_parts (fits_events n (e ∷ es)) (fits_option n t) h in most (in_events (e ∷ es)) (in_option t) n (events_deep n (e ∷ es) parts.0) (option_deep n t parts.1)
@@ -211,7 +211,7 @@ action_deep n (tree.qk_global e) h = deep n e h
 action_deep n (tree.qk_inc x e) h = deep n e (and_parts (is_name x) (fits n e) h).1
 action_deep n (tree.qk_set x e) h = deep n e (and_parts (is_name x) (fits n e) h).1
 action_deep n (tree.spawn x) h = spawn_deep n x h
-action_deep n (tree.answer e) h = option_deep n e h
+action_deep n (tree.return_ e) h = option_deep n e h
 action_deep n _ h = omega arith
 
 mutual
@@ -222,18 +222,18 @@ mutual
       most (in_index t.index) (depth e) n (index_deep n t.index (and_parts (is_name t.name && option_name t.member) (fits_index n t.index) parts.0).1) (deep n e parts.1)
   statement_deep n (tree.operate line x at o) h = operation_deep n o (and_parts (option_name x) (fits_operation n o) h).1
   statement_deep n (tree.act line a) h = action_deep n a h
-  statement_deep n (tree.branch line e body other) h =
+  statement_deep n (tree.if_ line e body other) h =
       let parts = and_parts (fits n e) (within n (fits_block body) && fits_else other n) h in
       let more = and_parts (within n (fits_block body)) (fits_else other n) parts.1 in
       most (depth e) (max (suc (in_block body)) (in_else other)) n (deep n e parts.0)
       (most (suc (in_block body)) (in_else other) n (deeper n (in_block body) (fits_block body) (λ m k. block_deep m body k) more.0) (else_deep n other more.1))
-  statement_deep n (tree.loop line e body) h =
+  statement_deep n (tree.while_ line e body) h =
       let parts = and_parts (fits n e) (within n (fits_block body)) h in
       most (depth e) (suc (in_block body)) n (deep n e parts.0) (deeper n (in_block body) (fits_block body) (λ m k. block_deep m body k) parts.1)
   statement_deep n (tree.guard line body undo) h =
       let parts = and_parts (within n (fits_block body)) (within n (fits_block undo)) h in
       most (suc (in_block body)) (suc (in_block undo)) n (deeper n (in_block body) (fits_block body) (λ m k. block_deep m body k) parts.0) (deeper n (in_block undo) (fits_block undo) (λ m k. block_deep m undo k) parts.1)
-  statement_deep n (tree.attempt line body hs) h =
+  statement_deep n (tree.try_ line body hs) h =
       let parts = and_parts (within n (fits_block body)) (has_handler hs && fits_handlers hs n) h in
       most (suc (in_block body)) (in_handlers hs) n (deeper n (in_block body) (fits_block body) (λ m k. block_deep m body k) parts.0) (handlers_deep n hs (and_parts (has_handler hs) (fits_handlers hs n) parts.1).1)
 

@@ -12,7 +12,8 @@ use Rattle.model_tree.specs.Limits.{level, operand_level, primary_level, chain_l
 use Rattle.model_tree.specs.Tree as tree
 use Rattle.model_grammar.specs.Tokens.{name, number, logic, word, symbol}
 use Rattle.model_grammar.specs.Rules.{Rule}
-use Rattle.model_grammar.specs.Expressions.{Parenthesized, DerivesAt, DerivesExpression, unit_name, unary_symbol, binary_symbol, truth_word, conversion_word, constant_word}
+use Rattle.model_grammar.specs.Expressions.{Parenthesized, DerivesAt, DerivesExpression}
+use Rattle.model_tree.specs.Spelling.{unit_name, unary_symbol, binary_symbol, truth_word, conversion_word, constant_word}
 use Rattle.model_print.specs.Layout.{Piece}
 use Rattle.model_print.specs.Leaves as leaf
 use Rattle.model_print.specs.Printed as printed

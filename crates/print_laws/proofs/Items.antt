@@ -31,8 +31,9 @@ use Rattle.model_tree.specs.Limits.{is_number, within, option_name, fits_events,
 use Rattle.model_tree.specs.Tree as tree
 use Rattle.model_grammar.specs.Tokens.{Tokens, name, number, logic, word, symbol}
 use Rattle.model_grammar.specs.Rules.{At, Takes, Maybe}
-use Rattle.model_grammar.specs.Expressions.{truth_word, unit_name}
-use Rattle.model_grammar.specs.Items.{DerivesConstantForm, DerivesConstant, DerivesFirstValue, DerivesTime, DerivesStart, DerivesFifoSize, DerivesInterface, DerivesBound, DerivesPortSize, DerivesHandler, DerivesInitiatorRole, DerivesTargetRole, DerivesEnd, DerivesMode, DerivesParameter, DerivesParameters, DerivesAnswer, signal_word, plain_word, process_word, DerivesItem, DerivesModule, DerivesTop, DerivesModel}
+use Rattle.model_tree.specs.Spelling.{truth_word, unit_name}
+use Rattle.model_grammar.specs.Items.{DerivesConstantForm, DerivesConstant, DerivesFirstValue, DerivesTime, DerivesStart, DerivesFifoSize, DerivesInterface, DerivesBound, DerivesPortSize, DerivesHandler, DerivesInitiatorRole, DerivesTargetRole, DerivesEnd, DerivesMode, DerivesParameter, DerivesParameters, DerivesAnswer, DerivesItem, DerivesModule, DerivesTop, DerivesModel}
+use Rattle.model_tree.specs.Spelling.{signal_word, plain_word, process_word}
 use Rattle.model_print.specs.Leaves as leaf
 use Rattle.model_print.specs.Printed as printed
 use Rattle.print_laws.specs.Unlined as unlined

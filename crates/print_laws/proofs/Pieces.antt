@@ -16,7 +16,7 @@ use Rattle.model_tree.specs.Vocabulary.{word_text, symbol_text}
 use Rattle.model_tree.specs.Leaves.{is_letter, is_word_byte, is_word, is_name, is_print_text}
 use Rattle.model_tree.specs.Limits.{is_number}
 use Rattle.model_grammar.specs.Tokens.{Token, name, number, logic, quoted, word, symbol}
-use Rattle.model_grammar.specs.Expressions.{unary_symbol}
+use Rattle.model_tree.specs.Spelling.{unary_symbol}
 use Rattle.model_lexer.specs.Forms.{is_digit, is_decimal}
 use Rattle.model_print.specs.declared.page.Shape.{Shape}
 use Rattle.model_print.specs.declared.page.Shape.TheVariants as shape

@@ -147,7 +147,7 @@ next_name x h = led false leaf.comma (symbol s.Comma) comma_piece refl (name_spe
 pub waiting_spelled : (n : ℕ) (x : tree.Waiting) → fits_waiting n x ≡ true → Spelled false DerivesWaiting (λ y. unlined.waiting y ≡ unlined.waiting x) (printed.waiting x)
 waiting_spelled n tree.static h = as_one (λ y. tree.static) (λ y s. refl) (λ y ts rest d. d) of_nothing
 waiting_spelled n tree.delta h = as_one (λ y. tree.delta) (λ y s. refl) (λ y ts rest d. d) (one false (leaf.word w.Delta) (word w.Delta) (word_piece w.Delta) refl refl)
-waiting_spelled n (tree.span e) h = as_one (λ y. tree.span y) (λ y s. ap tree.span s) (λ y ts rest d. d) (span_spelled n e h)
+waiting_spelled n (tree.for_ e) h = as_one (λ y. tree.for_ y) (λ y s. ap tree.for_ s) (λ y ts rest d. d) (span_spelled n e h)
 waiting_spelled n (tree.one e t) h =
     let parts = and_parts (fits_event n e) (fits_option n t) h in
     as_one (λ y. tree.one y.0 y.1) (λ y s. rw (s.0, s.1) refl) (λ y ts rest d. d) (both (loose (event_spelled n e parts.0)) (time_out_spelled n t parts.1))

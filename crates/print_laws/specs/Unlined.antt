@@ -49,7 +49,7 @@ event e = record { channel = channel e.channel; member = e.member }
 abbrev pub waiting : tree.Waiting → tree.Waiting
 waiting tree.static = tree.static
 waiting tree.delta = tree.delta
-waiting (tree.span e) = tree.span (expression e)
+waiting (tree.for_ e) = tree.for_ (expression e)
 waiting (tree.one e t) = tree.one (event e) (option_map expression t)
 waiting (tree.any es t) = tree.any (map event es) (option_map expression t)
 waiting (tree.all es t) = tree.all (map event es) (option_map expression t)
@@ -103,7 +103,7 @@ action (tree.spawn x) = tree.spawn (spawn x)
 action (tree.control c p) = tree.control c (process p)
 action (tree.throw_it p x) = tree.throw_it (process p) x
 action (tree.throw x) = tree.throw x
-action (tree.answer e) = tree.answer (option_map expression e)
+action (tree.return_ e) = tree.return_ (option_map expression e)
 action tree.stop = tree.stop
 
 abbrev pub signal_type : SignalType → SignalType
@@ -121,10 +121,10 @@ abbrev mutual
   statement (tree.assign line t e) = tree.assign 0 (target t) (expression e)
   statement (tree.operate line x at o) = tree.operate 0 x 0 (operation o)
   statement (tree.act line a) = tree.act 0 (action a)
-  statement (tree.branch line e body other) = tree.branch 0 (expression e) (block body) (otherwise other)
-  statement (tree.loop line e body) = tree.loop 0 (expression e) (block body)
+  statement (tree.if_ line e body other) = tree.if_ 0 (expression e) (block body) (otherwise other)
+  statement (tree.while_ line e body) = tree.while_ 0 (expression e) (block body)
   statement (tree.guard line body undo) = tree.guard 0 (block body) (block undo)
-  statement (tree.attempt line body hs) = tree.attempt 0 (block body) (handlers hs)
+  statement (tree.try_ line body hs) = tree.try_ 0 (block body) (handlers hs)
 
   pub block : tree.Block → tree.Block
   block tree.over = tree.over

@@ -6,9 +6,9 @@ use Rattle.std.proofs.lemmas.List.Elements.{All-nil, All-cons}
 use Rattle.std.proofs.lemmas.Bool.Decides.{nat_tests}
 use Rattle.logic_values.specs.declared.kinds.Value.{Value}
 use Rattle.logic_values.specs.declared.kinds.Value.TheVariants as value
-use Rattle.model_tree.specs.declared.designs.Object.{Object}
+use Rattle.method_design.specs.declared.designs.Object.{Object}
 use Rattle.model_tree.specs.declared.faults.Fault.{Fault}
-use Rattle.sim_model.specs.declared.plain.Command.{Command}
+use Rattle.method_model.specs.declared.plain.Command.{Command}
 use Rattle.script_text.specs.declared.forms.CommandForm.{CommandForm}
 use Rattle.script_text.specs.declared.forms.CommandForm.TheVariants as form
 use Rattle.script_text.specs.declared.forms.TextCommand.{TextCommand}

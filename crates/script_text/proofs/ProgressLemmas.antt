@@ -4,7 +4,7 @@ use Rattle.std.proofs.lemmas.Option.{slice_get_past}
 use Rattle.std.proofs.lemmas.Grind.{common_steps}
 use Rattle.model_tree.specs.declared.faults.ParseStop.{ParseStop}
 use Rattle.model_tree.specs.declared.faults.ParseStop.TheVariants as parse
-use Rattle.model_rules.specs.Stops.{IfSyntax}
+use Rattle.model_tree.specs.Stops.{IfSyntax}
 use Rattle.script_text.specs.declared.forms.CommandForm.{CommandForm}
 use Rattle.script_text.specs.declared.forms.LineForm.{LineForm}
 use Rattle.script_text.specs.declared.forms.LineForm.TheVariants as line

@@ -2,9 +2,9 @@
 use Rattle.std.specs.Prelude.{ℕ, ◌<◌, Bool, true, false, nat_eq, IsTrue, List, length, IsSomeAnd, ⊤}
 use Rattle.logic_values.specs.declared.kinds.Value.{Value}
 use Rattle.logic_values.specs.declared.kinds.Value.TheVariants as value
-use Rattle.model_tree.specs.declared.designs.Object.{Object}
-use Rattle.sim_model.specs.declared.plain.Command.{Command}
-use Rattle.sim_model.specs.declared.plain.Command.TheVariants as command
+use Rattle.method_design.specs.declared.designs.Object.{Object}
+use Rattle.method_model.specs.declared.plain.Command.{Command}
+use Rattle.method_model.specs.declared.plain.Command.TheVariants as command
 use Rattle.script_text.specs.NamedScript.{first_value_at}
 
 -- whether two values are of one type

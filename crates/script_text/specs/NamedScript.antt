@@ -2,15 +2,15 @@
 use Rattle.std.specs.Prelude.{ℕ, Bool, true, false, ◌&&◌, if◌then◌else◌, List, [], ◌∷◌, slice_get, position, bytes_eq, codes, Option, Some, None, option_and_then, Result, Ok, Err}
 use Rattle.logic_values.specs.declared.kinds.Value.{Value}
 use Rattle.logic_values.specs.declared.kinds.Value.TheVariants as value
-use Rattle.model_tree.specs.declared.designs.Object.{Object}
-use Rattle.model_tree.specs.declared.designs.ObjectForm.{ObjectForm}
-use Rattle.model_tree.specs.declared.designs.ObjectForm.TheVariants as object
+use Rattle.method_design.specs.declared.designs.Object.{Object}
+use Rattle.method_design.specs.declared.designs.ObjectForm.{ObjectForm}
+use Rattle.method_design.specs.declared.designs.ObjectForm.TheVariants as object
 use Rattle.model_tree.specs.declared.faults.Fault.{Fault}
 use Rattle.model_tree.specs.declared.faults.Kind.{Kind}
 use Rattle.model_tree.specs.declared.faults.Kind.TheVariants as kind
-use Rattle.sim_model.specs.Configuration.{initial_of}
-use Rattle.sim_model.specs.declared.plain.Command.{Command}
-use Rattle.sim_model.specs.declared.plain.Command.TheVariants as command
+use Rattle.method_model.specs.Configuration.{initial_of}
+use Rattle.method_model.specs.declared.plain.Command.{Command}
+use Rattle.method_model.specs.declared.plain.Command.TheVariants as command
 use Rattle.script_text.specs.declared.forms.CommandForm.{CommandForm}
 use Rattle.script_text.specs.declared.forms.CommandForm.TheVariants as form
 use Rattle.script_text.specs.declared.forms.TextCommand.{TextCommand}

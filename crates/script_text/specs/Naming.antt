@@ -2,8 +2,8 @@
 use Rattle.std.specs.Prelude.{◌≡◌, List, ◌++◌, Result, Ok, Err}
 use Rattle.model_tree.specs.declared.faults.Fault.{Fault}
 use Rattle.model_tree.specs.declared.faults.CheckStop.{CheckStop}
-use Rattle.sim_model.specs.declared.plain.Command.{Command}
-use Rattle.model_rules.specs.Stops.{IfRefused}
+use Rattle.method_model.specs.declared.plain.Command.{Command}
+use Rattle.model_tree.specs.Stops.{IfRefused}
 
 -- a value or a refusal is the defined one
 abbrev pub Names : {T : Type 0} → Result T CheckStop → Result T Fault → Type 0

@@ -1,8 +1,8 @@
 ghost use Rattle.std.specs.Prelude.{◌≡◌, filter, position, slice_get, All, IfOk, IfErr};
 ghost use Rattle.std.specs.Option.{option_copied};
-ghost use Rattle.model_rules.specs.Stops.{IfRefused};
-ghost use Rattle.sim_model.specs.Configuration as configuration;
-ghost use Rattle.sim_model.specs.Configuration.{visible};
+ghost use Rattle.model_tree.specs.Stops.{IfRefused};
+ghost use Rattle.method_model.specs.Configuration as configuration;
+ghost use Rattle.method_model.specs.Configuration.{visible};
 ghost use Rattle.script_text.specs.NamedScript as spec;
 ghost use Rattle.script_text.specs.NamedScript.{name_script};
 ghost use Rattle.script_text.specs.Fits.{Fits};
@@ -11,8 +11,10 @@ ghost use Rattle.script_text.specs.Naming.{Names};
 use super::forms::{CommandForm, TextCommand};
 use super::reading::Commands;
 use logic_values::{Text, Value};
-use model_tree::{CheckStop, Design, Fault, Items, Kind, Object, ObjectForm};
-use sim_model::{Command, initial_of, is_visible, visible_at};
+use method_design::{Design, Object, ObjectForm};
+use model_tree::{CheckStop, Fault, Kind};
+use plain_lists::Items;
+use method_model::{Command, initial_of, is_visible, visible_at};
 use std::alloc::Global;
 
 /// The commands of a script over a design, in order. Contracts see the list of them.
@@ -27,13 +29,13 @@ fn is_set_by_scripts(form: ObjectForm) -> bool
 fn is_shown_at(path: &[u8], object: &Object) -> bool
     ensures { result ≡ spec.is_shown_at path.now object.now }
 {
-    object.path.items() == path
+    object.path.as_slice() == path
 }
 
 fn is_set_at(path: &[u8], object: &Object) -> bool
     ensures { result ≡ spec.is_set_at path.now object.now }
 {
-    object.path.items() == path && is_set_by_scripts(object.form)
+    object.path.as_slice() == path && is_set_by_scripts(object.form)
 }
 
 /// The place of the object to be shown under a path, among the visible ones.
@@ -93,7 +95,7 @@ fn refused(alloc: Global, kind: Kind, line: u32, path: &[u8]) -> CheckStop
         Ok(bytes) => CheckStop::Refused(Fault {
             kind,
             line,
-            name: Text::new(bytes),
+            name: Text::from_vec(bytes),
         }),
         Err(_) => CheckStop::NoMemory,
     }
@@ -143,9 +145,9 @@ fn named(alloc: Global, objects: &[Object], command: &TextCommand) -> Result<Com
     match &command.form {
         CommandForm::Run => Ok(Command::Run(None)),
         CommandForm::Set { path, value } => {
-            set_named(alloc, objects, command.line, path.items(), value.items())
+            set_named(alloc, objects, command.line, path.as_slice(), value.as_slice())
         }
-        CommandForm::Show { path } => show_named(alloc, objects, command.line, path.items()),
+        CommandForm::Show { path } => show_named(alloc, objects, command.line, path.as_slice()),
     }
 }
 

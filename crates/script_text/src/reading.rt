@@ -1,5 +1,5 @@
 ghost use Rattle.std.specs.Prelude.{◌≡◌, ◌≤◌, [], ◌∷◌, ◌++◌, length, IfOk, IfErr, OnOk};
-ghost use Rattle.model_rules.specs.Stops.{IfSyntax};
+ghost use Rattle.model_tree.specs.Stops.{IfSyntax};
 ghost use Rattle.script_text.specs.ScriptText as spec;
 ghost use Rattle.script_text.specs.ScriptText.{words, read_script};
 ghost use Rattle.script_text.specs.Progress.{GoesOn, StopsAt};
@@ -7,7 +7,8 @@ ghost use Rattle.script_text.specs.Progress.{GoesOn, StopsAt};
 use super::cuts::{cut, is_comment, next_word, without_return};
 use super::forms::{CommandForm, LineForm, TextCommand};
 use logic_values::Text;
-use model_tree::{Items, ParseStop};
+use model_tree::ParseStop;
+use plain_lists::Items;
 use std::alloc::{AllocError, Global};
 
 /// The greatest number of commands of a script.
@@ -19,7 +20,7 @@ pub type Commands = Items<TextCommand>;
 fn text_of(alloc: Global, bytes: &[u8]) -> Result<Text, AllocError>
     ensures { IfOk result (λ text. text ≡ bytes.now) }
 {
-    Ok(Text::new(Vec::from_slice(alloc, bytes)?))
+    Ok(Text::from_vec(Vec::from_slice(alloc, bytes)?))
 }
 
 fn run_form(word: &[u8]) -> LineForm

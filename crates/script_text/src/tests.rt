@@ -1,9 +1,9 @@
 use super::{commands, name_all};
 use logic_values::{Text, Value};
-use model_tree::{
-    CheckStop, Code, Design, Items, Kind, Object, ObjectForm, Objects, ParseStop, SignalKind,
-};
-use sim_model::Command;
+use method_design::{Code, Design, Object, ObjectForm, Objects};
+use model_tree::{CheckStop, Kind, ParseStop, SignalKind};
+use plain_lists::Items;
+use method_model::Command;
 use std::alloc::{AllocError, Global};
 
 /// What a script is to a design: one of its commands, or the refusal of all of it.
@@ -40,7 +40,7 @@ fn refusal(stop: CheckStop) -> Said {
 
 fn object(alloc: Global, path: &[u8], form: ObjectForm) -> Result<Object, AllocError> {
     Ok(Object {
-        path: Text::new(Vec::from_slice(alloc, path)?),
+        path: Text::from_vec(Vec::from_slice(alloc, path)?),
         line: 1,
         instance: 0,
         form,

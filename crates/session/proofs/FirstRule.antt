@@ -8,16 +8,16 @@ use Rattle.std.specs.FinSet.{FinSet, contains, from_list}
 use Rattle.std.proofs.lemmas.Bool.Decides.{nat_tests}
 use Rattle.ready_set.specs.Ready.{rising, IsLeast}
 use Rattle.sim_time.specs.declared.moments.Time.{Time}
-use Rattle.sim_model.specs.Configuration.{Config}
-use Rattle.sim_model.specs.Statements.{Did, did, refused, statement_step}
-use Rattle.sim_model.specs.Steps.{Outcome, went, faulted, takes, ended, step, step_in, next_command, carry_out, begin_run, begin_until, evaluate, as_outcome}
-use Rattle.sim_model.specs.Runs.{AllFrom, PicksLeast}
-use Rattle.sim_model.specs.declared.plain.Command.{Command}
-use Rattle.sim_model.specs.declared.plain.Command.TheVariants.{Run, Set, Show}
-use Rattle.sim_model.specs.declared.plain.Phase.{Phase}
-use Rattle.sim_model.specs.declared.plain.Phase.TheVariants.{Idle, Start, Evaluate, Notify, Timed}
-use Rattle.scheduler.specs.declared.kernel.Kernel.{Kernel}
-use Rattle.scheduler.specs.Kernel.{StandsFor, IsUntaken, IsUnready}
+use Rattle.method_model.specs.Configuration.{Config}
+use Rattle.method_model.specs.Statements.{Did, did, refused, statement_step}
+use Rattle.method_model.specs.Steps.{Outcome, went, faulted, takes, ended, step, step_in, next_command, carry_out, begin_run, begin_until, evaluate, as_outcome}
+use Rattle.method_model.specs.Runs.{AllFrom, PicksLeast}
+use Rattle.method_model.specs.declared.plain.Command.{Command}
+use Rattle.method_model.specs.declared.plain.Command.TheVariants.{Run, Set, Show}
+use Rattle.method_model.specs.declared.plain.Phase.{Phase}
+use Rattle.method_model.specs.declared.plain.Phase.TheVariants.{Idle, Start, Evaluate, Notify, Timed}
+use Rattle.method_kernel.specs.declared.kernel.Kernel.{Kernel}
+use Rattle.method_kernel.specs.Kernel.{StandsFor, IsUntaken, IsUnready}
 use Rattle.session.specs.Course.{picks_of}
 use Rattle.session.specs.Made.{StepsOn, Chosen, MadeBy}
 use Rattle.session.specs.declared.run.Rule.{Rule}

@@ -4,8 +4,8 @@ use Rattle.std.proofs.Math.Seq.{take-append-add, take-append_seam}
 use Rattle.std.proofs.lemmas.List.{take-append-le}
 use Rattle.sim_io.specs.Told.{Grew}
 use Rattle.sim_io.proofs.Chains.{grew_on}
-use Rattle.sim_model.specs.Texts.{joined}
-use Rattle.scheduler.specs.Kernel.{with_line}
+use Rattle.method_model.specs.Texts.{joined}
+use Rattle.method_kernel.specs.Kernel.{with_line}
 use Rattle.session.specs.Course.{WroteFront, WroteShort, WroteFirst, all_but_last, line_bytes}
 
 -- one text more at the end

@@ -5,16 +5,16 @@ use Rattle.sim_io.specs.Told.{Grew}
 use Rattle.sim_io.specs.Taken.{TookOf}
 use Rattle.sim_io.specs.declared.outside.Trouble.TheVariants as trouble
 use Rattle.sim_io.proofs.Chains.{grew_on, grew_none}
-use Rattle.sim_model.specs.Configuration.{Config}
-use Rattle.sim_model.specs.Steps.{Outcome, went, faulted, takes, ended, step}
-use Rattle.sim_model.specs.Runs.{stop_of, stop_within}
-use Rattle.sim_model.specs.Texts.{joined, closing, report}
-use Rattle.sim_model.specs.declared.plain.Command.{Command}
-use Rattle.sim_model.specs.declared.plain.Stop.{Stop}
-use Rattle.sim_model.specs.declared.plain.Stop.TheVariants as stop
-use Rattle.model_tree.specs.declared.faults.RunFault.{RunFault}
-use Rattle.scheduler.specs.declared.kernel.Kernel.{Kernel}
-use Rattle.scheduler.specs.Kernel.{StandsFor, GoesTo, TookTo, IsFault, with_line}
+use Rattle.method_model.specs.Configuration.{Config}
+use Rattle.method_model.specs.Steps.{Outcome, went, faulted, takes, ended, step}
+use Rattle.method_model.specs.Runs.{stop_of, stop_within}
+use Rattle.method_model.specs.Texts.{joined, closing, report}
+use Rattle.method_model.specs.declared.plain.Command.{Command}
+use Rattle.method_model.specs.declared.plain.Stop.{Stop}
+use Rattle.method_model.specs.declared.plain.Stop.TheVariants as stop
+use Rattle.flat_design.specs.declared.faults.RunFault.{RunFault}
+use Rattle.method_kernel.specs.declared.kernel.Kernel.{Kernel}
+use Rattle.method_kernel.specs.Kernel.{StandsFor, GoesTo, TookTo, IsFault, with_line}
 use Rattle.session.specs.Show.{closing_of}
 use Rattle.session.specs.Made.{StepsOn, MadeBy, IsOver}
 use Rattle.session.specs.declared.run.Rule.{Rule}

@@ -1,13 +1,13 @@
 -- The step of a configuration between commands.
 use Rattle.std.proofs.Common.{◌≡◌, ℕ, ◌+◌, ◌^◌, Bool, true, false, List, [], ◌∷◌, Option, Some, None, sym, ◌∙◌, refl, subst, nat_lt}
 use Rattle.sim_time.specs.declared.moments.Time.{Time}
-use Rattle.sim_model.specs.Configuration.{Config}
-use Rattle.sim_model.specs.Steps.{Outcome, step, next_command, carry_out, begin_run, begin_until}
-use Rattle.sim_model.specs.declared.plain.Command.{Command}
-use Rattle.sim_model.specs.declared.plain.Command.TheVariants.{Run, Set, Show}
-use Rattle.sim_model.specs.declared.plain.Phase.TheVariants.{Idle}
-use Rattle.scheduler.specs.declared.kernel.Kernel.{Kernel}
-use Rattle.scheduler.specs.Kernel.{StandsFor}
+use Rattle.method_model.specs.Configuration.{Config}
+use Rattle.method_model.specs.Steps.{Outcome, step, next_command, carry_out, begin_run, begin_until}
+use Rattle.method_model.specs.declared.plain.Command.{Command}
+use Rattle.method_model.specs.declared.plain.Command.TheVariants.{Run, Set, Show}
+use Rattle.method_model.specs.declared.plain.Phase.TheVariants.{Idle}
+use Rattle.method_kernel.specs.declared.kernel.Kernel.{Kernel}
+use Rattle.method_kernel.specs.Kernel.{StandsFor}
 use Rattle.session.specs.Course.{IsOverAs, is_empty}
 
 pub idle_step : (k : Kernel) (c : Config) → StandsFor k c → k.stopped ≡ false → k.phase ≡ Idle → step c ≡ next_command c c.script

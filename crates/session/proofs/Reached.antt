@@ -1,9 +1,9 @@
 -- How far a run has come: what it leads to from here is what it led to from the start, and what a rule picks from here
 -- on it picks from the start on.
 use Rattle.std.proofs.Common.{◌≡◌, ◌+◌, ℕ, suc, List, [], ◌∷◌, ◌++◌, Some, refl, sym, ◌∙◌, ap, subst, arith, append_assoc, append-nil, zero-add, add-zero}
-use Rattle.sim_model.specs.Configuration.{Config}
-use Rattle.sim_model.specs.Steps.{went, takes, step, taking}
-use Rattle.sim_model.specs.Runs.{after, and_then, took, Ruled, ruled_on, took_as}
+use Rattle.method_model.specs.Configuration.{Config}
+use Rattle.method_model.specs.Steps.{went, takes, step, taking}
+use Rattle.method_model.specs.Runs.{after, and_then, took, Ruled, ruled_on, took_as}
 
 pub record Reached (picks : List ℕ → ℕ → Type 0) (first : Config) (choices : List ℕ) (steps : ℕ) (at : Config) : Type 0 where
   pub goes_on : (n : ℕ) (cs : List ℕ) → after (steps + n) (choices ++ cs) first ≡ after n cs at

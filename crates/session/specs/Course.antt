@@ -1,13 +1,13 @@
 -- How a session went, and what it wrote.
 use Rattle.std.specs.Prelude.{◌≡◌, ◌<◌, ◌≤◌, ℕ, Bool, true, false, List, [], ◌∷◌, ◌++◌, length, take, Option, Some, None, ⊤, if◌then◌else◌}
 use Rattle.sim_io.specs.Told.{Grew}
-use Rattle.scheduler.specs.declared.kernel.Kernel.{Kernel}
-use Rattle.sim_model.specs.Steps.{Outcome, went, faulted, takes, ended}
-use Rattle.sim_model.specs.Configuration.{Config}
-use Rattle.sim_model.specs.Runs.{after, Ruled, PicksLeast, stop_of}
-use Rattle.sim_model.specs.Texts.{joined, report}
-use Rattle.sim_model.specs.declared.plain.Stop.{Stop}
-use Rattle.sim_model.specs.declared.plain.Stop.TheVariants as stop
+use Rattle.method_kernel.specs.declared.kernel.Kernel.{Kernel}
+use Rattle.method_model.specs.Steps.{Outcome, went, faulted, takes, ended}
+use Rattle.method_model.specs.Configuration.{Config}
+use Rattle.method_model.specs.Runs.{after, Ruled, PicksLeast, stop_of}
+use Rattle.method_model.specs.Texts.{joined, report}
+use Rattle.method_model.specs.declared.plain.Stop.{Stop}
+use Rattle.method_model.specs.declared.plain.Stop.TheVariants as stop
 use Rattle.session.specs.declared.run.Rule.{Rule}
 use Rattle.session.specs.declared.run.Rule.TheVariants as rule
 

@@ -2,11 +2,11 @@
 use Rattle.std.specs.Prelude.{◌⊎◌, ◌≡◌, ℕ, List, Option, Some, ⊤}
 use Rattle.std.specs.Ordering.{nat_cmp}
 use Rattle.std.specs.FinSet as set
-use Rattle.sim_model.specs.Configuration.{Config}
-use Rattle.sim_model.specs.Steps.{Outcome, went, faulted, takes, ended}
-use Rattle.sim_model.specs.declared.plain.Command.{Command}
-use Rattle.scheduler.specs.declared.kernel.Kernel.{Kernel}
-use Rattle.scheduler.specs.Kernel.{StandsFor, GoesTo, TookTo, IsFault, IsUntaken, IsUnready}
+use Rattle.method_model.specs.Configuration.{Config}
+use Rattle.method_model.specs.Steps.{Outcome, went, faulted, takes, ended}
+use Rattle.method_model.specs.declared.plain.Command.{Command}
+use Rattle.method_kernel.specs.declared.kernel.Kernel.{Kernel}
+use Rattle.method_kernel.specs.Kernel.{StandsFor, GoesTo, TookTo, IsFault, IsUntaken, IsUnready}
 use Rattle.session.specs.declared.steps.Made.{Made}
 use Rattle.session.specs.declared.steps.Made.TheVariants as made
 

@@ -1,12 +1,12 @@
 -- What a show and the end of a session write, in terms of a kernel.
 use Rattle.std.specs.Prelude.{ℕ, List, ◌++◌, Option, Some, None, slice_get}
-use Rattle.model_tree.specs.declared.designs.Object.{Object}
+use Rattle.method_design.specs.declared.designs.Object.{Object}
 use Rattle.signal_channel.specs.declared.signal.Signal.{Signal}
-use Rattle.sim_model.specs.Configuration.{visible}
-use Rattle.sim_model.specs.Steps.{show_line}
-use Rattle.sim_model.specs.Texts.{final_lines, end_line}
-use Rattle.sim_model.specs.declared.plain.Stop.{Stop}
-use Rattle.scheduler.specs.declared.kernel.Kernel.{Kernel}
+use Rattle.method_model.specs.Configuration.{visible}
+use Rattle.method_model.specs.Steps.{show_line}
+use Rattle.method_model.specs.Texts.{final_lines, end_line}
+use Rattle.method_model.specs.declared.plain.Stop.{Stop}
+use Rattle.method_kernel.specs.declared.kernel.Kernel.{Kernel}
 
 -- the line of a show of this object with this signal, where both are there
 abbrev pub line_for : ℕ → Option Object → Option Signal → Option (List ℕ)

@@ -1,8 +1,8 @@
 ghost use Rattle.std.specs.Prelude.{◌≡◌, ◌≤◌, ℕ, List, [], drop, length, Err, Some, true};
-ghost use Rattle.sim_model.specs.Configuration.{Config, start};
-ghost use Rattle.sim_model.specs.Steps.{step};
-ghost use Rattle.sim_model.specs.Runs.{stop_within};
-ghost use Rattle.scheduler.specs.Kernel.{StandsFor, IsSound};
+ghost use Rattle.method_model.specs.Configuration.{Config, start};
+ghost use Rattle.method_model.specs.Steps.{step};
+ghost use Rattle.method_model.specs.Runs.{stop_within};
+ghost use Rattle.method_kernel.specs.Kernel.{StandsFor, IsSound};
 ghost use Rattle.sim_io.specs.Cause.{RoseIf};
 ghost use Rattle.sim_io.specs.Taken.{TookOf};
 ghost use Rattle.session.specs.Show.{closing_of};
@@ -11,11 +11,12 @@ ghost use Rattle.session.specs.Course.{Ran, picks_of, Closes, IsEnd, IsEndedAs, 
 
 use super::steps::{Made, make_step};
 use super::texts::closing;
-use model_tree::{Choices, Design, Line};
+use flat_design::{Choices, Line};
+use method_design::Design;
 use ready_set::least_of_a_set;
-use scheduler::{First, Kernel};
+use method_kernel::{First, Kernel};
 use sim_io::{Sink, Trouble, write_all};
-use sim_model::{Command, Phase, Stop};
+use method_model::{Command, Phase, Stop};
 use std::alloc::Global;
 
 /// The rule by which a turn's process is chosen.
@@ -110,7 +111,7 @@ fn not_ready(choices: &Choices) -> Stop
     ensures { IsEnd result }
 {
     Stop::Replay {
-        place: choices.items().len() as u64 + 1,
+        place: choices.as_slice().len() as u64 + 1,
     }
 }
 

@@ -1,13 +1,13 @@
 ghost use Rattle.std.specs.Prelude.{◌≡◌, ◌≢◌, ◌≤◌, ℕ, List, drop, length, false};
-ghost use Rattle.sim_model.specs.Steps as spec;
-ghost use Rattle.sim_model.specs.declared.plain.Phase.TheVariants as phase;
-ghost use Rattle.scheduler.specs.Kernel.{IsSound};
+ghost use Rattle.method_model.specs.Steps as spec;
+ghost use Rattle.method_model.specs.declared.plain.Phase.TheVariants as phase;
+ghost use Rattle.method_kernel.specs.Kernel.{IsSound};
 ghost use Rattle.session.specs.Made.{Makes, StepsOn, Chosen, IsPlain};
 
 use super::texts::show;
-use model_tree::{Line, RunFault};
-use scheduler::{Chooser, Kernel, StepStop, Stepped, begin_run, set_signal, step};
-use sim_model::{Command, Phase};
+use flat_design::{Line, RunFault};
+use method_kernel::{Chooser, Kernel, StepStop, Stepped, begin_run, set_signal, step};
+use method_model::{Command, Phase};
 use std::alloc::Global;
 
 /// What became of a step.

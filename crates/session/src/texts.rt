@@ -1,15 +1,16 @@
 ghost use Rattle.std.specs.Prelude.{◌≡◌, ◌++◌, ◌∷◌, [], ℕ, List, Option, IfOk, OnOk, filter, slice_get, option_map, unwrap_or, codes};
 ghost use Rattle.std.specs.Option.{option_copied};
-ghost use Rattle.sim_model.specs.Configuration as config;
-ghost use Rattle.sim_model.specs.Steps.{show_line as line_of_show};
-ghost use Rattle.sim_model.specs.Texts as spec;
+ghost use Rattle.method_model.specs.Configuration as config;
+ghost use Rattle.method_model.specs.Steps.{show_line as line_of_show};
+ghost use Rattle.method_model.specs.Texts as spec;
 ghost use Rattle.session.specs.Show.{line_for, line_at, closing_of};
 
 use logic_values::Value;
-use model_tree::{Design, Line, Object, RunFault};
-use scheduler::{Kernel, push_number, push_value};
+use flat_design::{Line, RunFault};
+use method_design::{Design, Object};
+use method_kernel::{Kernel, push_number, push_value};
 use signal_channel::Signal;
-use sim_model::{Stop, is_visible, visible_at};
+use method_model::{Stop, is_visible, visible_at};
 use std::alloc::{AllocError, Global};
 
 fn push_bytes(text: &mut Vec<u8>, piece: &[u8]) -> Result<(), AllocError>
@@ -49,10 +50,10 @@ pub fn show(alloc: Global, k: &Kernel, number: u32) -> Result<Option<Line>, Allo
                 alloc,
                 &mut text,
                 k.time.0,
-                object.path.items(),
+                object.path.as_slice(),
                 signal.value,
             )?;
-            Ok(Some(Line::new(text)))
+            Ok(Some(Line::from_vec(text)))
         }
         _ => Ok(None),
     }
@@ -88,7 +89,7 @@ fn push_finals(
             if next == signals.len() {
                 return Ok(());
             }
-            push_final(alloc, text, object.path.items(), signals[next].value)?;
+            push_final(alloc, text, object.path.as_slice(), signals[next].value)?;
             next += 1;
         }
     }
@@ -125,7 +126,7 @@ fn push_name(text: &mut Vec<u8>, design: &Design, name: u32) -> Result<(), Alloc
     ensures { OnOk result (text.new.items ≡ text.old.items ++ spec.name_text design.now name) }
 {
     match design.names.as_slice().get(name as usize) {
-        Some(name) => text.extend_from_slice(name.items()),
+        Some(name) => text.extend_from_slice(name.as_slice()),
         None => Ok(()),
     }
 }
@@ -134,7 +135,7 @@ fn push_path(text: &mut Vec<u8>, design: &Design, object: u32) -> Result<(), All
     ensures { OnOk result (text.new.items ≡ text.old.items ++ spec.path_at design.now object) }
 {
     match design.objects.list.as_slice().get(object as usize) {
-        Some(object) => text.extend_from_slice(object.path.items()),
+        Some(object) => text.extend_from_slice(object.path.as_slice()),
         None => Ok(()),
     }
 }

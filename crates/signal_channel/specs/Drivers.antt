@@ -6,7 +6,8 @@ use Rattle.logic_values.specs.declared.kinds.Digit.TheVariants.{X}
 use Rattle.logic_values.specs.declared.kinds.Value.TheVariants.{Logic}
 use Rattle.logic_values.specs.contracts.kinds.Digit as digit
 use Rattle.logic_values.specs.LogicTables.{resolved}
-use Rattle.signal_channel.specs.SameValue.{is_same, is_one, is_zero}
+use Rattle.logic_values.specs.SameValue.{is_same}
+use Rattle.signal_channel.specs.Edges.{is_one, is_zero}
 use Rattle.signal_channel.specs.declared.signal.Changed.{Changed}
 
 -- the serials of the processes that wrote, by their first writes, at the same places what each drives,

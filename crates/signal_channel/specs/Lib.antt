@@ -1,3 +1,3 @@
-pub mod SameValue
+pub mod Edges
 pub mod Signals
 pub mod Drivers

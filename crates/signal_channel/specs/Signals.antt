@@ -1,7 +1,8 @@
 -- Signals and buffers: what a write and an update do, and what an update announces (IEEE 1666-2011, 6.4 and 6.6).
 use Rattle.std.specs.Prelude.{ℕ, Bool, true, false, ◌&&◌, ◌||◌, ◌==◌, not, Option, Some, None, if◌then◌else◌}
 use Rattle.logic_values.specs.declared.kinds.Value.{Value}
-use Rattle.signal_channel.specs.SameValue.{is_same, is_one, is_zero}
+use Rattle.logic_values.specs.SameValue.{is_same}
+use Rattle.signal_channel.specs.Edges.{is_one, is_zero}
 use Rattle.signal_channel.specs.declared.signal.Policy.{Policy}
 use Rattle.signal_channel.specs.declared.signal.Policy.TheVariants.{One, Many, Buffer, BufferMany}
 use Rattle.signal_channel.specs.declared.signal.Signal.{Signal}

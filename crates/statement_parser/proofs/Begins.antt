@@ -48,10 +48,10 @@ statement_begins (tree.assign line place e) ts rest h = (rw h.1.1 refl, (rw h.1.
 statement_begins (tree.operate line None at x) ts rest h = (operate_begins line at x ts rest h, (operate_begins_no w.Else refl line at x ts rest h, operate_begins_no w.Catch refl line at x ts rest h))
 statement_begins (tree.operate line (Some bytes) at x) ts rest h = (rw h.1.1 refl, (rw h.1.1 refl, rw h.1.1 refl))
 statement_begins (tree.act line a) ts rest h = (action_begins_no_symbol s.RightBrace line a ts h.0 h.1, (act_begins_no w.Else refl line a ts rest h, act_begins_no w.Catch refl line a ts rest h))
-statement_begins (tree.branch line e body other) ts rest h = (rw h.1 refl, (rw h.1 refl, rw h.1 refl))
-statement_begins (tree.loop line e body) ts rest h = (rw h.1 refl, (rw h.1 refl, rw h.1 refl))
+statement_begins (tree.if_ line e body other) ts rest h = (rw h.1 refl, (rw h.1 refl, rw h.1 refl))
+statement_begins (tree.while_ line e body) ts rest h = (rw h.1 refl, (rw h.1 refl, rw h.1 refl))
 statement_begins (tree.guard line body undo) ts rest h = (rw h.1 refl, (rw h.1 refl, rw h.1 refl))
-statement_begins (tree.attempt line body handlers) ts rest h = (rw h.1 refl, (rw h.1 refl, rw h.1 refl))
+statement_begins (tree.try_ line body handlers) ts rest h = (rw h.1 refl, (rw h.1 refl, rw h.1 refl))
 
 -- a brace that closes follows a statement
 pub brace_follows : (ts rest : Tokens) (line : ℕ) → ts ≡ (t.symbol s.RightBrace, line) ∷ rest → Follow ts

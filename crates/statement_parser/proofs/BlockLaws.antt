@@ -216,12 +216,12 @@ module _ (inner : Parser tree.Block) (d : ℕ) (inner_reads : (b : tree.Block) (
       let others = many_reads at_no_catch (handler inner) DerivesHandler (FewIn d) (λ ts. Unit {0}) (λ x ts rest h g f. handler_reads x ts rest h g) (λ x ts rest h. (rw (word_sees w.Catch ts h.0 h.1) refl, tt)) (λ x ts rest h. handler_shortens x.0 x.1 ts rest h) (handlers_list more) ((x, body) ∷ []) c rest each every (rw follow.1 refl) tt in
       rw first others
 
-  attempted_reads : (line : ℕ) (body : tree.Block) (hs : tree.Handlers) (ts rest : Tokens) → DerivesStatement (tree.attempt line body hs) ts rest → max (suc (in_block body)) (in_handlers hs) ≤ d → Follow rest → attempted inner ts ≡ Some (tree.attempt line body hs, rest)
+  attempted_reads : (line : ℕ) (body : tree.Block) (hs : tree.Handlers) (ts rest : Tokens) → DerivesStatement (tree.try_ line body hs) ts rest → max (suc (in_block body)) (in_handlers hs) ≤ d → Follow rest → attempted inner ts ≡ Some (tree.try_ line body hs, rest)
   unfolding attempted
   attempted_reads line body hs ts rest (a, word_at, (b, body_at, handlers_at)) few follow =
       let one : suc (in_block body) ≤ d = omega arith in
       let two : in_handlers hs ≤ d = omega arith in
-      rw (word_reads w.Try ts a (line, word_at), inner_reads body a b body_at one, handlers_read hs b rest handlers_at two follow) (ap (λ z. Some (tree.attempt line body z, rest)) (handlers_of_listed hs))
+      rw (word_reads w.Try ts a (line, word_at), inner_reads body a b body_at one, handlers_read hs b rest handlers_at two follow) (ap (λ z. Some (tree.try_ line body z, rest)) (handlers_of_listed hs))
 
   plain_reads : (x : tree.Statement) (ts rest : Tokens) → Apart ts → plain d ts ≡ Some (x, rest) → statement inner d ts ≡ Some (x, rest)
   unfolding statement
@@ -238,13 +238,13 @@ module _ (inner : Parser tree.Block) (d : ℕ) (inner_reads : (b : tree.Block) (
   statement_reads (tree.operate line None at o) ts rest h few follow = plain_reads _ ts rest (operate_apart line None at o ts rest h) (operated_reads d line at o ts rest h few)
   statement_reads (tree.operate line (Some x) at o) ts rest h few follow = plain_reads _ ts rest (operate_apart line (Some x) at o ts rest h) (resulting_reads d line x at o ts rest h few)
   statement_reads (tree.act line a) ts rest h few follow = plain_reads _ ts rest (act_apart line a ts rest h) (acted_reads d line a ts rest h few)
-  statement_reads (tree.branch line e body other) ts rest (a, word_at, (b, test_at, (c, body_at, else_at))) few follow =
+  statement_reads (tree.if_ line e body other) ts rest (a, word_at, (b, test_at, (c, body_at, else_at))) few follow =
       let one : depth e ≤ d = omega arith in
       let two : suc (in_block body) ≤ d = omega arith in
       let three : in_else other ≤ d = omega arith in
       choose_first (sees (is_the_word w.If)) (branch inner d) (looped_or_less inner d) ts _ (word_sees w.If ts a (line, word_at))
       (rw (word_reads w.If ts a (line, word_at), test_reads d e body a b c test_at one body_at, inner_reads body b c body_at two, else_reads other c rest else_at three follow) refl)
-  statement_reads (tree.loop line e body) ts rest (a, word_at, (b, test_at, body_at)) few follow =
+  statement_reads (tree.while_ line e body) ts rest (a, word_at, (b, test_at, body_at)) few follow =
       let one : depth e ≤ d = omega arith in
       let two : suc (in_block body) ≤ d = omega arith in
       choose_other (sees (is_the_word w.If)) (branch inner d) (looped_or_less inner d) ts _ (rw word_at refl)
@@ -257,7 +257,7 @@ module _ (inner : Parser tree.Block) (d : ℕ) (inner_reads : (b : tree.Block) (
       (choose_other (sees (is_the_word w.While)) (looped inner d) (guarded_or_less inner d) ts _ (rw word_at refl)
       (choose_first (sees (is_the_word w.Guard)) (guarded inner) (attempted_or_plain inner d) ts _ (word_sees w.Guard ts a (line, word_at))
       (rw (word_reads w.Guard ts a (line, word_at), inner_reads body a b body_at one, word_reads w.Unwind b c unwind_at, inner_reads undo c rest undo_at two) refl)))
-  statement_reads (tree.attempt line body hs) ts rest h few follow =
+  statement_reads (tree.try_ line body hs) ts rest h few follow =
       choose_other (sees (is_the_word w.If)) (branch inner d) (looped_or_less inner d) ts _ (rw h.1 refl)
       (choose_other (sees (is_the_word w.While)) (looped inner d) (guarded_or_less inner d) ts _ (rw h.1 refl)
       (choose_other (sees (is_the_word w.Guard)) (guarded inner) (attempted_or_plain inner d) ts _ (rw h.1 refl)

@@ -15,8 +15,8 @@ handlers_same : (seen : List ℕ × Vec Statement → List ℕ × Vec tree.State
 handlers_same seen same [] = refl
 handlers_same seen same (h ∷ hs) = rw ((same h).0, (same h).1, handlers_same seen same hs) refl
 
-try_view : (line : ℕ) (body : Vec Statement) (hs : Vec (List ℕ × Vec Statement)) → statement_of (Try line body hs) ≡ tree.attempt line (body_of body.items) (handlers_of_list (handlers_in hs.items))
-try_view line body hs = ap statement_of (sym (rolls-Try line body hs)) ∙ (fold-roll-Statement tree.Statement statement_step (Statement-F.Try line body hs) ∙ ap (tree.attempt line (body_of body.items)) (handlers_same _ (λ h. (refl, refl)) hs.items))
+try_view : (line : ℕ) (body : Vec Statement) (hs : Vec (List ℕ × Vec Statement)) → statement_of (Try line body hs) ≡ tree.try_ line (body_of body.items) (handlers_of_list (handlers_in hs.items))
+try_view line body hs = ap statement_of (sym (rolls-Try line body hs)) ∙ (fold-roll-Statement tree.Statement statement_step (Statement-F.Try line body hs) ∙ ap (tree.try_ line (body_of body.items)) (handlers_same _ (λ h. (refl, refl)) hs.items))
 
 -- a try whose parts are read is read
 pub try_reads : (inner : Parser tree.Block) (line : ℕ) (body : Vec Statement) (hs : Vec (List ℕ × Vec Statement)) (ts a b rest : Tokens) → word w.Try ts ≡ Some (line, a) → inner a ≡ Some (body_of body.items, b) → handlers inner b ≡ Some (handlers_in hs.items, rest) → attempted inner ts ≡ Some (statement_of (Try line body hs), rest)

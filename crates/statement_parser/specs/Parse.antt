@@ -120,14 +120,14 @@ branch inner depth = do
   e ← expression depth
   body ← inner
   other ← else_part inner
-  pure (tree.branch line e body other)
+  pure (tree.if_ line e body other)
 
 unfoldable pub looped : Parser tree.Block → ℕ → Parser tree.Statement
 looped inner depth = do
   line ← word w.While
   e ← expression depth
   body ← inner
-  pure (tree.loop line e body)
+  pure (tree.while_ line e body)
 
 unfoldable pub guarded : Parser tree.Block → Parser tree.Statement
 guarded inner = do
@@ -166,7 +166,7 @@ attempted inner = do
   line ← word w.Try
   body ← inner
   hs ← handlers inner
-  pure (tree.attempt line body (handlers_of_list hs))
+  pure (tree.try_ line body (handlers_of_list hs))
 
 abbrev pub attempted_or_plain : Parser tree.Block → ℕ → Parser tree.Statement
 attempted_or_plain inner depth = choose (sees (is_the_word w.Try)) (attempted inner) (plain depth)

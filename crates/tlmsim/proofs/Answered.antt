@@ -5,13 +5,13 @@ use Rattle.std.proofs.lemmas.Bool.Decides.{nat_tests}
 use Rattle.sim_io.specs.Told.{Files}
 use Rattle.sim_io.specs.Cause.{Rose}
 use Rattle.model_tree.specs.Tree as tree
-use Rattle.model_tree.specs.declared.faults.RunFault.{RunFault}
-use Rattle.sim_model.specs.Configuration.{Config}
-use Rattle.sim_model.specs.Steps.{Outcome, went, faulted, takes, ended, step}
-use Rattle.sim_model.specs.Runs.{stop_within}
-use Rattle.sim_model.specs.declared.plain.Command.{Command}
-use Rattle.sim_model.specs.declared.plain.Stop.{Stop}
-use Rattle.sim_model.specs.declared.plain.Stop.TheVariants as stop
+use Rattle.flat_design.specs.declared.faults.RunFault.{RunFault}
+use Rattle.method_model.specs.Configuration.{Config}
+use Rattle.method_model.specs.Steps.{Outcome, went, faulted, takes, ended, step}
+use Rattle.method_model.specs.Runs.{stop_within}
+use Rattle.method_model.specs.declared.plain.Command.{Command}
+use Rattle.method_model.specs.declared.plain.Stop.{Stop}
+use Rattle.method_model.specs.declared.plain.Stop.TheVariants as stop
 use Rattle.tlmsim.specs.Line.{line_of}
 use Rattle.tlmsim.specs.Call.{Call, Texts, model_limit, script_limit}
 use Rattle.tlmsim.specs.Judged.{IsBrokenModel, AcceptsModel, IsBrokenScript, Accepts}

@@ -4,16 +4,16 @@ use Rattle.model_tree.specs.Tree as tree
 use Rattle.model_tree.specs.declared.faults.Fault.{Fault}
 use Rattle.model_tree.specs.declared.faults.CheckStop.{CheckStop}
 use Rattle.model_tree.specs.declared.faults.CheckStop.TheVariants.{Refused}
-use Rattle.model_tree.specs.declared.designs.Design.{Design}
+use Rattle.method_design.specs.declared.designs.Design.{Design}
 use Rattle.model_lexer.specs.Reads.{Reads}
 use Rattle.not_built.specs.Missing.{first_not_built}
 use Rattle.model_rules.specs.FirstFault.{first_fault}
-use Rattle.model_rules.specs.Stops.{IfRefused}
-use Rattle.model_tree.specs.declared.code.Code.{Code}
-use Rattle.model_tree.specs.declared.designs.Object.{Object}
+use Rattle.model_tree.specs.Stops.{IfRefused}
+use Rattle.method_design.specs.declared.code.Code.{Code}
+use Rattle.method_design.specs.declared.designs.Object.{Object}
 use Rattle.model_rules.specs.FlatDesign.{IsDesign, IsCodeOf}
-use Rattle.sim_model.specs.Configuration.{visible, is_visible}
-use Rattle.sim_model.specs.declared.plain.Command.{Command}
+use Rattle.method_model.specs.Configuration.{visible, is_visible}
+use Rattle.method_model.specs.declared.plain.Command.{Command}
 use Rattle.tlmsim.specs.Judged.{HasUnbuilt, BreaksRule, AcceptsModel, Accepts, BreaksScript, IsBrokenScript, NamesScript, IsDesignOf, shown_objects}
 use Rattle.tlmsim.specs.Forms.{IfNotBuilt}
 use Rattle.tlmsim.specs.declared.forms.FormStop.{FormStop}

@@ -2,13 +2,13 @@
 use Rattle.std.specs.Prelude.{◌≡◌, ◌≤◌, ◌⊎◌, ◌<◌, ℕ, List, [], Some, None, length}
 use Rattle.sim_io.specs.Told.{Files, Lacks}
 use Rattle.sim_io.specs.Cause.{Rose}
-use Rattle.model_tree.specs.declared.faults.RunFault.{RunFault}
+use Rattle.flat_design.specs.declared.faults.RunFault.{RunFault}
 use Rattle.model_tree.specs.Tree as tree
-use Rattle.model_tree.specs.declared.designs.Design.{Design}
-use Rattle.sim_model.specs.Configuration.{start}
-use Rattle.sim_model.specs.declared.plain.Command.{Command}
-use Rattle.sim_model.specs.declared.plain.Stop.{Stop}
-use Rattle.sim_model.specs.declared.plain.Stop.TheVariants as stop
+use Rattle.method_design.specs.declared.designs.Design.{Design}
+use Rattle.method_model.specs.Configuration.{start}
+use Rattle.method_model.specs.declared.plain.Command.{Command}
+use Rattle.method_model.specs.declared.plain.Stop.{Stop}
+use Rattle.method_model.specs.declared.plain.Stop.TheVariants as stop
 use Rattle.session.specs.Course.{Ran}
 use Rattle.session.specs.declared.run.Rule.TheVariants as rule
 use Rattle.tlmsim.specs.Line.{Names, line_of}

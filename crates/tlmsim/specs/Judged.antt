@@ -2,14 +2,14 @@
 use Rattle.std.specs.Prelude.{◌≡◌, ◌⊎◌, ℕ, List, filter, None, IsSome, Ok, Err}
 use Rattle.model_tree.specs.Tree as tree
 use Rattle.model_tree.specs.declared.faults.Fault.{Fault}
-use Rattle.model_tree.specs.declared.designs.Object.{Object}
+use Rattle.method_design.specs.declared.designs.Object.{Object}
 use Rattle.model_lexer.specs.Reads.{Reads}
 use Rattle.not_built.specs.Missing.{first_not_built}
 use Rattle.model_rules.specs.FirstFault.{first_fault}
-use Rattle.model_tree.specs.declared.designs.Design.{Design}
+use Rattle.method_design.specs.declared.designs.Design.{Design}
 use Rattle.model_rules.specs.FlatDesign.{objects_of, IsDesign, IsCodeOf}
-use Rattle.sim_model.specs.Configuration.{is_visible}
-use Rattle.sim_model.specs.declared.plain.Command.{Command}
+use Rattle.method_model.specs.Configuration.{is_visible}
+use Rattle.method_model.specs.declared.plain.Command.{Command}
 use Rattle.script_text.specs.ScriptText.{read_script}
 use Rattle.script_text.specs.NamedScript.{name_script}
 use Rattle.script_text.specs.declared.forms.TextCommand.{TextCommand}

@@ -1,7 +1,7 @@
 -- The cause of each answer of the work below the statuses.
 use Rattle.std.specs.Prelude.{◌≡◌, ℕ, Result, Ok, Err, None, ⊤}
 use Rattle.sim_io.specs.Cause.{Rose}
-use Rattle.sim_model.specs.declared.plain.Stop.TheVariants as stop
+use Rattle.method_model.specs.declared.plain.Stop.TheVariants as stop
 use Rattle.session.specs.declared.run.Outcome.{Outcome}
 use Rattle.tlmsim.specs.Line.{line_of}
 use Rattle.tlmsim.specs.Call.{Call}

@@ -38,7 +38,7 @@ pub fn judge_forms(alloc: Global, tree: &Tree) -> Result<(), FormStop>
     match Vec::from_slice(alloc, found.name.bytes()) {
         Ok(bytes) => Err(FormStop::NotBuilt(NotBuilt {
             line: found.line,
-            name: Text::new(bytes),
+            name: Text::from_vec(bytes),
         })),
         Err(_) => Err(FormStop::NoMemory),
     }

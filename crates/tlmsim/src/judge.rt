@@ -4,7 +4,7 @@ ghost use Rattle.model_lexer.specs.Reads.{Reads};
 ghost use Rattle.model_tree.specs.Seen.{model_of};
 ghost use Rattle.not_built.specs.Missing.{first_not_built};
 ghost use Rattle.model_rules.specs.FlatDesign.{IsDesign, IsCodeOf};
-ghost use Rattle.sim_model.specs.Configuration.{visible};
+ghost use Rattle.method_model.specs.Configuration.{visible};
 ghost use Rattle.tlmsim.specs.Judged.{IsBrokenModel, AcceptsModel, IsBrokenScript, NamesScript, Accepts, BreaksScript, IsDesignOf};
 
 use super::forms::{FormStop, judge_forms};
@@ -12,10 +12,12 @@ use super::load::Texts;
 use elaborate::elaborate;
 use model_check::{Checked, check};
 use model_parser::parse;
-use model_tree::{CheckStop, Design, Items, ParseStop, Tree};
+use method_design::Design;
+use model_tree::{CheckStop, ParseStop, Tree};
+use plain_lists::Items;
 use not_built::nothing_missing;
 use script_text::{commands, name_all};
-use sim_model::Command;
+use method_model::Command;
 use std::alloc::Global;
 
 /// Why texts were not accepted.

@@ -1,8 +1,8 @@
 ghost use Rattle.std.specs.Prelude.{◌≡◌, ◌≤◌, OnErr};
 ghost use Rattle.sim_io.specs.Told.{AfterTold, Same};
 ghost use Rattle.sim_io.specs.Cause.{RoseIf};
-ghost use Rattle.sim_model.specs.Configuration.{start};
-ghost use Rattle.sim_model.specs.declared.plain.Stop.{Stop};
+ghost use Rattle.method_model.specs.Configuration.{start};
+ghost use Rattle.method_model.specs.declared.plain.Stop.{Stop};
 ghost use Rattle.session.specs.Course.{Ran};
 ghost use Rattle.tlmsim.specs.Call.{called};
 ghost use Rattle.tlmsim.specs.Simulated.{Causes};

@@ -2,8 +2,8 @@ ghost use Rattle.std.specs.Prelude.{◌≡◌, ◌≤◌, ◌<◌, ◌⊎◌, �
 ghost use Rattle.sim_io.specs.Told.{Files, AfterTold, Same};
 ghost use Rattle.sim_io.specs.Cause.{Rose};
 ghost use Rattle.model_tree.specs.Tree as tree;
-ghost use Rattle.sim_model.specs.declared.plain.Command.{Command};
-ghost use Rattle.model_tree.specs.declared.faults.RunFault.{RunFault};
+ghost use Rattle.method_model.specs.declared.plain.Command.{Command};
+ghost use Rattle.flat_design.specs.declared.faults.RunFault.{RunFault};
 ghost use Rattle.tlmsim.specs.Line.{line_of};
 ghost use Rattle.tlmsim.specs.Call.{called, model_limit, script_limit};
 ghost use Rattle.tlmsim.specs.Judged.{IsBrokenModel, AcceptsModel, IsBrokenScript, Accepts};
@@ -13,9 +13,9 @@ ghost use Rattle.tlmsim.specs.Simulated as spec;
 use super::simulate::{Refusal, simulate};
 use super::words::Words;
 use model_parser::one_tree;
-use model_tree::Choices;
+use flat_design::Choices;
 use sim_io::{Shelf, Sink};
-use sim_model::Stop;
+use method_model::Stop;
 use std::alloc::Global;
 
 /// What the top call answers.

@@ -4,8 +4,8 @@ use Rattle.model_tree.specs.Tree as tree
 use Rattle.std.specs.Global.{Vec}
 use Rattle.model_tree.specs.declared.statements.Statement.{Statement, If}
 use Rattle.model_tree.specs.Views.{expression_of, statement_of, block_of, body_of}
-use Rattle.model_tree.specs.Code.{Arena, act_of, term_of}
-use Rattle.model_tree.specs.Code as code
+use Rattle.method_design.specs.Code.{Arena, act_of, term_of}
+use Rattle.method_design.specs.Code as code
 use Rattle.model_rules.specs.ReadBack.{IsForm, IsBlock}
 use Rattle.model_check.specs.Lowered.{HasForm}
 use Rattle.model_check.proofs.ListLemmas.{map_drop_more}
@@ -51,7 +51,7 @@ lower_block-returns-clause-reads t c =
 
 pub lower_statement-returns-in-None-clause-reads : goal.lower_statement-returns-in-None-clause-reads
 lower_statement-returns-in-None-clause-reads t c =
-    let view : statement_of c.args.statement.now ≡ tree.branch c.in-If.field-0 (expression_of c.in-If.condition) (body_of c.in-If.body.items) tree.no_else =
+    let view : statement_of c.args.statement.now ≡ tree.if_ c.in-If.field-0 (expression_of c.in-If.condition) (body_of c.in-If.body.items) tree.no_else =
     ap statement_of c.in-If.is ∙ ap (λ (o : Option (Vec Statement)). statement_of (If c.in-If.field-0 c.in-If.condition c.in-If.body o)) c.in-None.is
     ∙ if_alone c.in-If.field-0 c.in-If.condition c.in-If.body in
     let b : ℕ = c.in_ok-body-in-If.body in
@@ -68,7 +68,7 @@ lower_statement-returns-in_ok-other-in-Some-clause-grows t c =
 pub lower_statement-returns-in_ok-other-in-Some-clause-reads : goal.lower_statement-returns-in_ok-other-in-Some-clause-reads
 lower_statement-returns-in_ok-other-in-Some-clause-reads t c =
     let other : Vec Statement = c.in-Some.other in
-    let view : statement_of c.args.statement.now ≡ tree.branch c.in-If.field-0 (expression_of c.in-If.condition) (body_of c.in-If.body.items) (tree.else_block (body_of other.items)) =
+    let view : statement_of c.args.statement.now ≡ tree.if_ c.in-If.field-0 (expression_of c.in-If.condition) (body_of c.in-If.body.items) (tree.else_block (body_of other.items)) =
     ap statement_of c.in-If.is ∙ ap (λ (o : Option (Vec Statement)). statement_of (If c.in-If.field-0 c.in-If.condition c.in-If.body o)) c.in-Some.is
     ∙ if_else c.in-If.field-0 c.in-If.condition c.in-If.body other in
     let b : ℕ = c.in_ok-body-in-If.body in

@@ -3,9 +3,9 @@ use Rattle.std.specs.List.{flat_map}
 use Rattle.std.proofs.lemmas.List.{append-nil, drop_all}
 use Rattle.model_tree.specs.Tree as tree
 use Rattle.model_tree.specs.Views.{item_of}
-use Rattle.model_tree.specs.Code.{act_of, arena_of}
-use Rattle.model_tree.specs.declared.code.Code.{Code}
-use Rattle.model_tree.specs.declared.code.CodeBody.{CodeBody}
+use Rattle.method_design.specs.Code.{act_of, arena_of}
+use Rattle.method_design.specs.declared.code.Code.{Code}
+use Rattle.method_design.specs.declared.code.CodeBody.{CodeBody}
 use Rattle.model_tree.specs.declared.items.Item.{Item}
 use Rattle.model_rules.specs.FlatDesign.{bodies_in}
 use Rattle.model_rules.specs.ReadBack.{AreBodies}

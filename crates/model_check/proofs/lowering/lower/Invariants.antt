@@ -1,8 +1,8 @@
 use Rattle.std.proofs.Common.{List, ◌++◌, map, drop}
 use Rattle.std.specs.List.{flat_map}
 use Rattle.model_tree.specs.Views.{item_of}
-use Rattle.model_tree.specs.Code.{Arena}
-use Rattle.model_tree.specs.declared.code.CodeBody.{CodeBody}
+use Rattle.method_design.specs.Code.{Arena}
+use Rattle.method_design.specs.declared.code.CodeBody.{CodeBody}
 use Rattle.model_rules.specs.FlatDesign.{bodies_in}
 use Rattle.model_rules.specs.ReadBack.{AreBodies}
 use Rattle.model_check.specs.Lowered.{BeginsWith, HaveBlocks}

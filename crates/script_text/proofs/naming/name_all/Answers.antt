@@ -1,6 +1,6 @@
 use Rattle.std.proofs.Common.{◌≡◌, Ok, arith}
 use Rattle.std.proofs.lemmas.Grind.{common_steps}
-use Rattle.sim_model.specs.Configuration.{visible}
+use Rattle.method_model.specs.Configuration.{visible}
 use Rattle.script_text.specs.NamedScript.{name_script}
 use Rattle.script_text.proofs.FitsLemmas.{script_fits}
 use Rattle.script_text.proofs.naming.name_all.Goals as goal

@@ -1,5 +1,5 @@
 use Rattle.std.proofs.Common.{◌≡◌, drop}
-use Rattle.sim_model.specs.Configuration.{visible}
+use Rattle.method_model.specs.Configuration.{visible}
 use Rattle.script_text.specs.NamedScript.{name_script}
 use Rattle.script_text.specs.Naming.{behind}
 use Rattle.script_text.proofs.naming.name_all.Given as goal

@@ -1,6 +1,6 @@
 use Rattle.std.proofs.Common.{◌-◌, ◌≡◌, ◌≤◌, [], drop, length}
-use Rattle.sim_model.specs.Configuration.{Config}
-use Rattle.scheduler.specs.Kernel.{StandsFor, IsSound}
+use Rattle.method_model.specs.Configuration.{Config}
+use Rattle.method_kernel.specs.Kernel.{StandsFor, IsSound}
 use Rattle.session.proofs.Going.{Going}
 use Rattle.session.proofs.run.run_on.Given as goal
 

@@ -1,5 +1,5 @@
 use Rattle.std.proofs.Common.{subst, sym, drop}
-use Rattle.sim_model.specs.Steps.{Outcome}
+use Rattle.method_model.specs.Steps.{Outcome}
 use Rattle.session.specs.Made.{StepAs}
 use Rattle.session.proofs.Idle.{idle_step}
 use Rattle.session.proofs.steps.make_step.Goals as goal

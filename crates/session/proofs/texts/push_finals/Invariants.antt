@@ -1,6 +1,6 @@
 use Rattle.std.proofs.Common.{◌≡◌, ◌≤◌, ◌++◌, filter, drop, length}
-use Rattle.sim_model.specs.Configuration as config
-use Rattle.sim_model.specs.Texts as spec
+use Rattle.method_model.specs.Configuration as config
+use Rattle.method_model.specs.Texts as spec
 use Rattle.session.proofs.texts.push_finals.Given as goal
 
 -- the lines so far and those of what is left are those of all

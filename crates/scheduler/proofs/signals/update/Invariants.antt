@@ -1,7 +1,0 @@
-use Rattle.std.proofs.Common.{◌≡◌, ◌++◌, map, take, drop}
-use Rattle.sim_model.specs.Signals as spec
-use Rattle.scheduler.proofs.signals.update.Given as goal
-
--- the signals so far are updated, and the others are as they were
-abbrev pub invariant-loop-signal : goal.invariant-loop-signal
-invariant-loop-signal l = l.signals ≡ map spec.updated (take l.signal-index l.initial.signals) ++ drop l.signal-index l.initial.signals
