@@ -1,1 +1,2 @@
+pub mod Ev
 pub mod Notifications

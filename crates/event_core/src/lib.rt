@@ -1,14 +1,16 @@
-//! Events by number, each with at most one pending notification.
+//! The names of events, and events by number, each with at most one pending notification.
 //!
 //! A new notification overrides the pending one where it is earlier (IEEE 1666-2011, 5.10.8).
 #![tactic(auto)]
 
 ghost use Rattle.std.specs.Prelude.{◌≡◌, ◌<◌, IfOk, length, replicate, slice_set};
 
+mod event;
 mod notifications;
 #[cfg(test)]
 mod tests;
 
+pub use event::{Ev, same_event, same_events_are_equal};
 pub use notifications::{Effect, Pending, When};
 use notifications::{answer_to, surviving};
 use std::alloc::{AllocError, Global};
