@@ -8,7 +8,7 @@ use Rattle.std.proofs.Math.ListN.{get_or-map}
 use Rattle.std.specs.Ordering.{nat_cmp}
 use Rattle.std.specs.FinMap as maps
 use Rattle.std.specs.FinSet as sets
-use Rattle.wait_lists.specs.declared.Ev.{Ev}
+use Rattle.event_core.specs.declared.event.Ev.{Ev}
 use Rattle.wait_lists.specs.Waits.{Wait, Waits, names, left_by, after, updated, marked, with_wait, with_mark, wait_after, named_by, waits_for, waits_naming, is_met_by}
 use Rattle.wait_lists.specs.Waiters.{Shown, idle, indexed, marks, waits_of, struck, is_met, met_from}
 use Rattle.wait_lists.proofs.MapLemmas.{get-updated_same, get-updated_other, is_updated, same_gets, len-updated, contains-marked_same, contains-marked_other, is_marked, same_members}

@@ -8,7 +8,7 @@ use Rattle.std.proofs.lemmas.List.Edits.{map_over_more}
 use Rattle.std.proofs.Math.ListN.{get_or-map}
 use Rattle.std.proofs.Math.Seq.{get_or-append_seam, map-set_same}
 use Rattle.std.specs.FinMap as maps
-use Rattle.wait_lists.specs.declared.Ev.{Ev}
+use Rattle.event_core.specs.declared.event.Ev.{Ev}
 use Rattle.wait_lists.specs.declared.waiter.Waiter.{Waiter}
 use Rattle.wait_lists.specs.Waits.{Wait, Waits, any_of, all_of, with_wait, with_mark, room_for, HasRoom, has, named_by}
 use Rattle.wait_lists.specs.Waiters.{Shown, show, listed, idle, waits_of, struck, is_met, met_from}

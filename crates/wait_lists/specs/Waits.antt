@@ -5,16 +5,9 @@ use Rattle.std.specs.Ordering.{nat_cmp}
 use Rattle.std.specs.Coded.{Coded, code_by, coded×, coded_ℕ, coded_bool, coded_list}
 use Rattle.std.specs.FinMap as map
 use Rattle.std.specs.FinSet as set
-use Rattle.wait_lists.specs.declared.Ev.{Ev}
-use Rattle.wait_lists.specs.declared.Ev.TheVariants.{Fixed, Terminated, Restarted}
-use Rattle.wait_lists.specs.contracts.Ev as ev
-
--- both are the same event
-abbrev pub same_event : Ev → Ev → Bool
-same_event (Fixed a) (Fixed b) = a == b
-same_event (Terminated a) (Terminated b) = a == b
-same_event (Restarted a) (Restarted b) = a == b
-same_event _ _ = false
+use Rattle.event_core.specs.declared.event.Ev.{Ev}
+use Rattle.event_core.specs.contracts.event.Ev as ev
+use Rattle.event_core.specs.Ev.{same_event}
 
 -- the event stands in the list
 abbrev pub has : Ev → List Ev → Bool

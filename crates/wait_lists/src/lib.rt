@@ -4,37 +4,15 @@
 ghost use Rattle.std.specs.Prelude.{◌≡◌, ℕ, ◌≢◌, ◌+◌, ◌≤◌, None, IsTrue, OnOk, OnErr, length, vec_len, vec_capacity};
 ghost use Rattle.std.specs.FinMap as map;
 ghost use Rattle.std.specs.FinSet as set;
-ghost use Rattle.wait_lists.specs.Waits.{same_event as same};
 
 #[cfg(test)]
 mod tests;
 mod waiter;
 
+pub use event_core::Ev;
 use std::alloc::{AllocError, Global};
 use std::marker::Model;
 use waiter::{Waiter, make_place, set_wait, strike_all, widen};
-
-/// An event: one of the design's by its number, or one of those that each instance has, by its serial.
-#[derive(Clone, Copy, PartialEq, Eq, Debug)]
-pub enum Ev {
-    /// An event of the design.
-    Fixed(u32),
-    /// The end of the instance of this serial.
-    Terminated(u32),
-    /// The reset of the instance of this serial.
-    Restarted(u32),
-}
-
-fn same_event(a: Ev, b: Ev) -> bool
-    ensures { result ≡ same a b }
-{
-    match (a, b) {
-        (Ev::Fixed(m), Ev::Fixed(n)) => m == n,
-        (Ev::Terminated(m), Ev::Terminated(n)) => m == n,
-        (Ev::Restarted(m), Ev::Restarted(n)) => m == n,
-        _ => false,
-    }
-}
 
 /// The waits of all instances.
 #[derive(Drop)]

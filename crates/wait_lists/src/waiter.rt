@@ -3,7 +3,7 @@ ghost use Rattle.std.specs.Prelude.{◌≡◌, ℕ, ◌+◌, ◌^◌, ◌≤◌,
 ghost use Rattle.wait_lists.specs.Waits.{has, without};
 ghost use Rattle.wait_lists.specs.Waiters.{show, listed, idle, struck, waits_of, met_from};
 
-use crate::{Ev, same_event};
+use event_core::{Ev, same_event};
 use std::alloc::{AllocError, Global};
 
 #[derive(Drop)]

@@ -1,7 +1,7 @@
 use Rattle.std.specs.Prelude.{not}
 use Rattle.std.proofs.Common.{rules}
 use Rattle.std.proofs.lemmas.Fn.{filter_same}
-use Rattle.wait_lists.specs.Waits.{same_event}
+use Rattle.event_core.specs.Ev.{same_event}
 use Rattle.wait_lists.proofs.waiter.strike_out.Goals as goal
 
 pub returns-clause-items : goal.returns-clause-items
