@@ -1,5 +1,4 @@
-/// The number of an exception's name, by its spelling over the whole tree.
-pub type NameId = u32;
+use super::names::NameId;
 
 /// A fault of a run: it ends the session at its step, which changes nothing.
 #[derive(Clone, Copy)]

@@ -1,8 +1,27 @@
-//! The flat design of a model, and what a run of it answers.
+//! The flat design of a model: its objects, each kind of them by number, what names stand for, and the code of all
+//! bodies; and what a run of it answers.
 #![tactic(auto)]
 
+mod code;
+mod design;
 mod faults;
+mod names;
+mod objects;
 mod runs;
+mod terms;
+mod value_types;
 
-pub use faults::{NameId, RunFault};
+pub use code::{
+    Argument, Await, BlockId, BodyKind, ChannelUse, Code, CodeBody, CodeId, Controlled,
+    Destination, EventUse, Handler, Local, SpawnForm, Statement, StaticUse, StmtId, Store,
+};
+pub use design::{
+    ChannelId, Denoted, Design, FifoPart, Hop, InstancePart, MemoryPart, PortPart, ProcessPart,
+    ResolvedPart, SemaphorePart, SignalPart, VariablePart, Visible, VisibleId,
+};
+pub use faults::RunFault;
+pub use names::{EventMember, Member, NameId, NameUse, PayloadBytes, PayloadField};
+pub use objects::{Binding, LeadsTo, Object, ObjectForm, Objects};
 pub use runs::{Choices, Line};
+pub use terms::Expr;
+pub use value_types::{ValueType, default_value};

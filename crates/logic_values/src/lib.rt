@@ -20,4 +20,4 @@ pub use kinds::{Digit, Sign, Value};
 pub use planes::Lv;
 pub use tables::resolve;
 pub use texts::value_text;
-pub use vectors::{and, concat, digit, not, or, slice, xor};
+pub use vectors::{and, concat, digit, not, or, slice, vector_of_digits, xor};

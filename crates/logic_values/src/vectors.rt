@@ -1,5 +1,6 @@
-ghost use Rattle.std.specs.Prelude.{◌≡◌, ◌+◌, ◌<◌, ◌≤◌, map, ◌++◌, ◌∷◌, [], slice_get, slice_range, replicate};
+ghost use Rattle.std.specs.Prelude.{◌≡◌, ◌+◌, ◌<◌, ◌≤◌, map, ◌++◌, ◌∷◌, [], slice_get, slice_range, replicate, List};
 ghost use Rattle.logic_values.specs.Digits.{digits};
+ghost use Rattle.logic_values.specs.Planes.{lv_of};
 ghost use Rattle.logic_values.specs.LogicTables.{and_of, or_of, xor_of, not_of};
 ghost use Rattle.logic_values.specs.Vectors.{digit_by_digit};
 
@@ -96,3 +97,8 @@ pub fn concat(a: Lv, b: Lv) -> Lv
         unknown: (a.unknown << b.width) | b.unknown,
     }
 }
+
+/// A vector is known by its digits.
+pub fn vector_of_digits()
+    ensures { (v : Lv) (ds : List Digit) → digits v ≡ ds → v ≡ lv_of ds }
+{}
