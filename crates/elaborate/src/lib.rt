@@ -1,7 +1,8 @@
 //! The flat design of a tree that breaks no rule.
 #![tactic(auto)]
 
-mod flat;
-mod signals;
+mod elaborated;
+mod objects;
+mod parts;
 
-pub use flat::elaborate;
+pub use elaborated::elaborate;

@@ -241,8 +241,8 @@ pub struct Local {
 pub struct CodeBody {
     /// What it is that of.
     pub kind: BodyKind,
-    /// The module that declares it, by its place in the text.
-    pub module: u32,
+    /// The place in the text of the module that declares it.
+    pub module_place: u32,
     /// The name of the function, the process or the clock.
     pub name: Text,
     /// Its parameters in order, and then its local variables in text order, numbered together from 0.

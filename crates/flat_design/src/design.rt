@@ -80,8 +80,8 @@ pub enum Denoted {
 pub struct InstancePart {
     /// Its number among the objects.
     pub object: u32,
-    /// Its module, by the module's place in the text.
-    pub module: u32,
+    /// The place of its module in the text.
+    pub module_place: u32,
     /// What each name that the module declares stands for here, by the name's place in the module.
     pub names: Items<Denoted>,
 }

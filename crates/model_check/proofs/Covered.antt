@@ -1,16 +1,16 @@
 -- Where a model has no first fault and is built, each body of its processes has code.
-use Rattle.std.proofs.Common.{◌≡◌, ℕ, true, ◌&&◌, List, [], ◌∷◌, Option, Some, None, refl, sym, ap, ◌∙◌, subst}
+use Rattle.std.proofs.Common.{◌≡◌, ℕ, true, ◌&&◌, List, [], ◌∷◌, Option, Some, None, refl, subst}
 use Rattle.std.specs.List.{list_all, flat_map}
 use Rattle.model_tree.specs.Tree as tree
 use Rattle.model_tree.specs.declared.expressions.UnaryOp.TheVariants as unary_op
 use Rattle.model_rules.specs.FirstFault.{first_fault, double_module, unknown_top, or_else, in_expression, in_option, in_channel, in_events, in_action, in_statement, in_block, in_else, in_items, in_modules}
-use Rattle.model_rules.specs.FlatDesign.{names_of, bodies_in, is_module, top_items, IsCodeOf}
-use Rattle.method_design.specs.Code.{arena_of}
-use Rattle.method_design.specs.declared.code.Code.{Code}
-use Rattle.model_rules.specs.ReadBack.{AreBodies}
+use Rattle.model_rules.specs.FlatDesign.{names_of, bodies_in, is_module, top_items, top_place, IsCodeOf}
+use Rattle.flat_design.specs.Code.{arena_of}
+use Rattle.flat_design.specs.declared.code.Code.{Code}
+use Rattle.model_rules.specs.ReadBack.{Source, AreBodies}
 use Rattle.model_rules.specs.Built.{is_built_expression, is_built_option, is_first_place, is_built_action, is_built_statement, is_built_block, is_built_else, is_built}
 use Rattle.model_rules.proofs.NoFault.{or_else_none, both_true, use_declared, found_items}
-use Rattle.model_check.specs.Lowered.{HasTerm, HasOptionTerm, HasAction, HasForm, HasBlock, HasElse, HaveBlocks}
+use Rattle.model_check.specs.Lowered.{HasTerm, HasOptionTerm, HasAction, HasStatement, HasBlock, HasElse, HaveBlocks}
 
 first_place : (p : tree.Place) → is_first_place p ≡ true → p ≡ tree.first
 first_place tree.first h = refl
@@ -76,7 +76,7 @@ module _ (items : List tree.Item) where
   action_covered tree.stop h b = cc
 
   mutual
-    form_covered : (s : tree.Statement) → in_statement items s ≡ None → is_built_statement s ≡ true → HasForm (names_of items) s
+    form_covered : (s : tree.Statement) → in_statement items s ≡ None → is_built_statement s ≡ true → HasStatement (names_of items) s
     form_covered (tree.var line t name e) h b = cc
     form_covered (tree.assign line t e) h b = cc
     form_covered (tree.operate line name at o) h b = cc
@@ -102,7 +102,7 @@ module _ (items : List tree.Item) where
     else_covered tree.no_else h b = tt
     else_covered (tree.else_block body) h b = block_covered body h b
 
-  blocks_covered : (is : List tree.Item) → in_items items is ≡ None → list_all is_built_block (flat_map bodies_in is) ≡ true → HaveBlocks (names_of items) (flat_map bodies_in is)
+  blocks_covered : (is : List tree.Item) → in_items items is ≡ None → list_all (λ (s : Source). is_built_block s.block) (flat_map bodies_in is) ≡ true → HaveBlocks (names_of items) (flat_map bodies_in is)
   blocks_covered [] h b = tt
   blocks_covered (tree.signal line s ∷ is) h b = blocks_covered is h b
   blocks_covered (tree.resolved line name ∷ is) h b = blocks_covered is h b
@@ -122,7 +122,7 @@ module _ (items : List tree.Item) where
   blocks_covered (tree.process line p ∷ is) h b =
       let uses = or_else_none (or_else (in_events items p.sensitive) (in_block items p.body)) (in_items items is) h in
       let here = or_else_none (in_events items p.sensitive) (in_block items p.body) uses.0 in
-      let parts = both_true (is_built_block p.body) (list_all is_built_block (flat_map bodies_in is)) b in
+      let parts = both_true (is_built_block p.body) (list_all (λ (s : Source). is_built_block s.block) (flat_map bodies_in is)) b in
       (block_covered p.body here.1 parts.0, blocks_covered is uses.1 parts.1)
 
 pub top_covered : (m : tree.Model) → first_fault m ≡ None → is_built m ≡ true → HaveBlocks (names_of (top_items m)) (flat_map bodies_in (top_items m))
@@ -132,11 +132,12 @@ top_covered m h b =
     blocks_covered (top_items m) (top_items m) (found_items (is_module m.top.module) m.modules uses.0) b
 
 -- what was lowered for the items of the top instance is the code of the model
-pub lowered_code : (m : tree.Model) (given names : List (List ℕ)) (items : List tree.Item) (code : Code) → given ≡ names → names ≡ names_of items → items ≡ top_items m
-    → (HaveBlocks given (flat_map bodies_in items) → AreBodies given (arena_of code) (flat_map bodies_in items) code.bodies)
-    → first_fault m ≡ None → is_built m ≡ true → IsCodeOf m names code
-lowered_code m given names items code same of_items of_top lowered h b =
-    let Reads : List (List ℕ) → List tree.Item → Type 0 = λ ns is. HaveBlocks ns (flat_map bodies_in is) → AreBodies ns (arena_of code) (flat_map bodies_in is) code.bodies in
-    let here : Reads names items = subst (λ (ns : List (List ℕ)). Reads ns items) same lowered in
-    let there : Reads names (top_items m) = subst (λ (is : List tree.Item). Reads names is) of_top here in
-    there (subst (λ (ns : List (List ℕ)). HaveBlocks ns (flat_map bodies_in (top_items m))) (sym (of_items ∙ ap names_of of_top)) (top_covered m h b))
+pub lowered_code : (m : tree.Model) (place : ℕ) (given : List (List ℕ)) (items : List tree.Item) (code : Code) → place ≡ top_place m → given ≡ names_of items → items ≡ top_items m
+    → (HaveBlocks given (flat_map bodies_in items) → AreBodies place given (arena_of code) (flat_map bodies_in items) code.bodies)
+    → first_fault m ≡ None → is_built m ≡ true → IsCodeOf m code
+lowered_code m place given items code at of_items of_top lowered h b =
+    let Reads : ℕ → List (List ℕ) → List tree.Item → Type 0 = λ n ns is. HaveBlocks ns (flat_map bodies_in is) → AreBodies n ns (arena_of code) (flat_map bodies_in is) code.bodies in
+    let placed : Reads (top_place m) given items = subst (λ (n : ℕ). Reads n given items) at lowered in
+    let here : Reads (top_place m) (names_of items) items = subst (λ (ns : List (List ℕ)). Reads (top_place m) ns items) of_items placed in
+    let there : Reads (top_place m) (names_of (top_items m)) (top_items m) = subst (λ (is : List tree.Item). Reads (top_place m) (names_of is) is) of_top here in
+    there (top_covered m h b)

@@ -2,8 +2,8 @@
 use Rattle.std.proofs.Common.{◌≡◌, ℕ, List, [], ◌∷◌, ◌++◌, length, suc, map, Some, refl, sym, ap, ◌∙◌, append_assoc}
 use Rattle.std.specs.Prelude.{slice_get}
 use Rattle.std.proofs.lemmas.List.{map-append}
-use Rattle.method_design.specs.Code.{Arena, act_of, act_at}
-use Rattle.method_design.specs.declared.code.Form.{Form}
+use Rattle.flat_design.specs.Code.{Arena, statement_of, statement_at}
+use Rattle.flat_design.specs.declared.code.Statement.{Statement}
 use Rattle.model_check.specs.declared.lowered.Lowered.{Lowered}
 use Rattle.model_check.specs.Lowered.{BeginsWith, Grows, FromNowOn}
 
@@ -22,33 +22,33 @@ length-map f (x ∷ xs) = ap (λ n. suc n) (length-map f xs)
 
 module _ (old new : Lowered) where
   -- one more statement
-  module _ (form : Form) (same : new.blocks ≡ old.blocks) (more : new.forms.items ≡ old.forms.items ++ form ∷ []) where
-    acts_more : (a : Arena) (h : BeginsWith new a) → a.acts ≡ map act_of old.forms.items ++ act_of form ∷ h.acts.0
-    acts_more a h =
-        one_more (map act_of old.forms.items) (act_of form) a.acts h.acts.0
-        (h.acts.1 ∙ ap (λ fs. map act_of fs ++ h.acts.0) more ∙ ap (λ fs. fs ++ h.acts.0) (map-append act_of old.forms.items (form ∷ [])))
+  module _ (s : Statement) (same : new.blocks ≡ old.blocks) (more : new.statements ≡ old.statements ++ s ∷ []) where
+    statements_more : (a : Arena) (h : BeginsWith new a) → a.statements ≡ map statement_of old.statements ++ statement_of s ∷ h.statements.0
+    statements_more a h =
+        one_more (map statement_of old.statements) (statement_of s) a.statements h.statements.0
+        (h.statements.1 ∙ ap (λ fs. map statement_of fs ++ h.statements.0) more ∙ ap (λ fs. fs ++ h.statements.0) (map-append statement_of old.statements (s ∷ [])))
 
-    pub form_grows : Grows old new
-    form_grows = λ a h. record {
+    pub statement_grows : Grows old new
+    statement_grows = λ a h. record {
       blocks = (h.blocks.0, h.blocks.1 ∙ ap (λ bs. bs ++ h.blocks.0) same);
-      acts = (act_of form ∷ h.acts.0, acts_more a h);
+      statements = (statement_of s ∷ h.statements.0, statements_more a h);
     }
 
-    pub form_at : (n : ℕ) → n ≡ length old.forms.items → FromNowOn new (λ a. act_at a n ≡ Some (act_of form))
-    form_at n e = λ a h.
-        ap (λ xs. slice_get xs n) (acts_more a h)
-        ∙ ap (slice_get (map act_of old.forms.items ++ act_of form ∷ h.acts.0)) (e ∙ sym (length-map act_of old.forms.items))
-        ∙ seam (map act_of old.forms.items) (act_of form) h.acts.0
+    pub statement_stands : (n : ℕ) → n ≡ length old.statements → FromNowOn new (λ a. statement_at a n ≡ Some (statement_of s))
+    statement_stands n e = λ a h.
+        ap (λ xs. slice_get xs n) (statements_more a h)
+        ∙ ap (slice_get (map statement_of old.statements ++ statement_of s ∷ h.statements.0)) (e ∙ sym (length-map statement_of old.statements))
+        ∙ seam (map statement_of old.statements) (statement_of s) h.statements.0
 
   -- one more block
-  module _ (ids : List ℕ) (same : new.forms ≡ old.forms) (more : new.blocks ≡ old.blocks ++ ids ∷ []) where
+  module _ (ids : List ℕ) (same : new.statements ≡ old.statements) (more : new.blocks ≡ old.blocks ++ ids ∷ []) where
     blocks_more : (a : Arena) (h : BeginsWith new a) → a.blocks ≡ old.blocks ++ ids ∷ h.blocks.0
     blocks_more a h = one_more old.blocks ids a.blocks h.blocks.0 (h.blocks.1 ∙ ap (λ bs. bs ++ h.blocks.0) more)
 
     pub block_grows : Grows old new
     block_grows = λ a h. record {
       blocks = (ids ∷ h.blocks.0, blocks_more a h);
-      acts = (h.acts.0, h.acts.1 ∙ ap (λ (fs : List Form). map act_of fs ++ h.acts.0) (ap (λ v. v.items) same));
+      statements = (h.statements.0, h.statements.1 ∙ ap (λ (ss : List Statement). map statement_of ss ++ h.statements.0) same);
     }
 
     pub block_at : (n : ℕ) → n ≡ length old.blocks → FromNowOn new (λ a. slice_get a.blocks n ≡ Some ids)

@@ -7,19 +7,19 @@ use Rattle.model_tree.specs.declared.expressions.Expression.{Expression}
 use Rattle.model_tree.specs.declared.statements.Statement.{Statement, If, fold-roll-Statement}
 use Rattle.model_tree.specs.declared.statements.Statement.TheVariants.{rolls-If}
 use Rattle.model_tree.specs.declared.statements.Statement.TheOpen.{Statement-F}
-use Rattle.method_design.specs.Code as code
-use Rattle.method_design.specs.Code.{Arena, Term, Act, act_at}
-use Rattle.method_design.specs.declared.code.CodeBody.{CodeBody}
-use Rattle.model_rules.specs.ReadBack.{IsTerm, IsForm, AtBlock, IsBlock, IsElse, AreBodies}
-use Rattle.model_check.specs.Lowered.{HasTerm, HasForm, HasBlock, HasElse, HaveBlocks}
+use Rattle.flat_design.specs.Code as code
+use Rattle.flat_design.specs.Code.{Arena, Term, statement_at}
+use Rattle.flat_design.specs.declared.code.CodeBody.{CodeBody}
+use Rattle.model_rules.specs.ReadBack.{IsTerm, IsStatement, AtBlock, IsBlock, IsElse, Source, AreBodies}
+use Rattle.model_check.specs.Lowered.{HasTerm, HasStatement, HasBlock, HasElse, HaveBlocks}
 
-module _ (names : List (List ℕ)) where
+module _ (place : ℕ) (names : List (List ℕ)) where
   -- the parts of a block that begins with a statement
-  pub has_parts : (here : tree.Block) (s : tree.Statement) (after : tree.Block) → here ≡ tree.then s after → HasBlock names here → HasForm names s × HasBlock names after
+  pub has_parts : (here : tree.Block) (s : tree.Statement) (after : tree.Block) → here ≡ tree.then s after → HasBlock names here → HasStatement names s × HasBlock names after
   has_parts here s after e h = subst (HasBlock names) e h
 
-  pub one_statement : (a : Arena) (whole here : tree.Block) (s : tree.Statement) (after : tree.Block) (ids : List ℕ) (n : ℕ) (f : Act)
-      → here ≡ tree.then s after → act_at a n ≡ Some f → IsForm names a s f
+  pub one_statement : (a : Arena) (whole here : tree.Block) (s : tree.Statement) (after : tree.Block) (ids : List ℕ) (n : ℕ) (f : code.Statement)
+      → here ≡ tree.then s after → statement_at a n ≡ Some f → IsStatement names a s f
       → ((rest : List ℕ) → IsBlock names a here rest → IsBlock names a whole (ids ++ rest))
       → (rest : List ℕ) → IsBlock names a after rest → IsBlock names a whole ((ids ++ n ∷ []) ++ rest)
   one_statement a whole here s after ids n f e at form before rest h =
@@ -28,26 +28,26 @@ module _ (names : List (List ℕ)) where
       subst (IsBlock names a whole) (sym (append_assoc ids (n ∷ []) rest)) (before (n ∷ rest) from_here)
 
   -- blocks of an item before those of the others
-  pub have_parts : (xs ys : List tree.Block) → HaveBlocks names (xs ++ ys) → HaveBlocks names xs × HaveBlocks names ys
+  pub have_parts : (xs ys : List Source) → HaveBlocks names (xs ++ ys) → HaveBlocks names xs × HaveBlocks names ys
   have_parts [] ys h = (tt, h)
   have_parts (x ∷ xs) ys h = let more = have_parts xs ys h.1 in ((h.0, more.0), more.1)
 
-  are_both : (a : Arena) (xs ys : List tree.Block) (more rest : List CodeBody) → AreBodies names a xs more → AreBodies names a ys rest → AreBodies names a (xs ++ ys) (more ++ rest)
-  are_both a [] ys more rest h k = subst (λ (bs : List CodeBody). AreBodies names a ys (bs ++ rest)) (sym h) k
+  are_both : (a : Arena) (xs ys : List Source) (more rest : List CodeBody) → AreBodies place names a xs more → AreBodies place names a ys rest → AreBodies place names a (xs ++ ys) (more ++ rest)
+  are_both a [] ys more rest h k = subst (λ (bs : List CodeBody). AreBodies place names a ys (bs ++ rest)) (sym h) k
   are_both a (x ∷ xs) ys more rest (b, bs, e, body, h) k =
-      subst (λ (ms : List CodeBody). AreBodies names a (x ∷ (xs ++ ys)) (ms ++ rest)) (sym e) (b, bs ++ rest, refl, body, are_both a xs ys bs rest h k)
+      subst (λ (ms : List CodeBody). AreBodies place names a (x ∷ (xs ++ ys)) (ms ++ rest)) (sym e) (b, bs ++ rest, refl, body, are_both a xs ys bs rest h k)
 
-  pub one_item : (a : Arena) (whole here xs ys : List tree.Block) (bodies more : List CodeBody)
-      → here ≡ xs ++ ys → AreBodies names a xs more
-      → ((rest : List CodeBody) → AreBodies names a here rest → AreBodies names a whole (bodies ++ rest))
-      → (rest : List CodeBody) → AreBodies names a ys rest → AreBodies names a whole ((bodies ++ more) ++ rest)
+  pub one_item : (a : Arena) (whole here xs ys : List Source) (bodies more : List CodeBody)
+      → here ≡ xs ++ ys → AreBodies place names a xs more
+      → ((rest : List CodeBody) → AreBodies place names a here rest → AreBodies place names a whole (bodies ++ rest))
+      → (rest : List CodeBody) → AreBodies place names a ys rest → AreBodies place names a whole ((bodies ++ more) ++ rest)
   one_item a whole here xs ys bodies more e are before rest h =
-      let from_here : AreBodies names a here (more ++ rest) = subst (λ (bs : List tree.Block). AreBodies names a bs (more ++ rest)) (sym e) (are_both a xs ys more rest are h) in
-      subst (AreBodies names a whole) (sym (append_assoc bodies more rest)) (before (more ++ rest) from_here)
+      let from_here : AreBodies place names a here (more ++ rest) = subst (λ (bs : List Source). AreBodies place names a bs (more ++ rest)) (sym e) (are_both a xs ys more rest are h) in
+      subst (AreBodies place names a whole) (sym (append_assoc bodies more rest)) (before (more ++ rest) from_here)
 
   pub branch_reads : (a : Arena) (line : ℕ) (e : tree.Expression) (body : tree.Block) (other : tree.Else) (t : Term) (b : ℕ) (o : Option ℕ)
       → (HasTerm names e → IsTerm names e t) → (HasBlock names body → AtBlock a b (IsBlock names a body)) → (HasElse names other → IsElse names a other o)
-      → HasForm names (tree.if_ line e body other) → IsForm names a (tree.if_ line e body other) (code.branch t b o)
+      → HasStatement names (tree.if_ line e body other) → IsStatement names a (tree.if_ line e body other) (code.if_ t b o)
   branch_reads a line e body other t b o term block rest h = (t, b, o, refl, term h.0, block h.1, rest h.2)
 
 -- what a result's value brings

@@ -2,14 +2,15 @@
 use Rattle.std.specs.Prelude.{◌≡◌, ℕ, true, ⊤, List, [], ◌∷◌, ◌++◌, map, Option, Some, None, bytes_eq}
 use Rattle.std.specs.List.{list_any}
 use Rattle.model_tree.specs.Tree as tree
-use Rattle.method_design.specs.Code.{Arena, Act, act_of}
+use Rattle.flat_design.specs.Code.{Arena, Statement, statement_of}
+use Rattle.model_rules.specs.ReadBack.{Source}
 use Rattle.model_tree.specs.declared.expressions.UnaryOp.TheVariants as unary_op
 use Rattle.model_check.specs.declared.lowered.Lowered.{Lowered}
 
 -- that an arena has what was lowered so far, and maybe more behind it
 pub record BeginsWith (l : Lowered) (a : Arena) : Type 0 where
   pub blocks : (more : List (List ℕ)) × (a.blocks ≡ l.blocks ++ more)
-  pub acts : (more : List Act) × (a.acts ≡ map act_of l.forms.items ++ more)
+  pub statements : (more : List Statement) × (a.statements ≡ map statement_of l.statements ++ more)
 
 -- what was lowered stays
 abbrev pub Grows : Lowered → Lowered → Type 0
@@ -41,19 +42,19 @@ HasAction names (tree.print text e) = HasOptionTerm names e
 HasAction names other = ⊥
 
 abbrev mutual
-  pub HasForm : List (List ℕ) → tree.Statement → Type 0
-  HasForm names (tree.act line a) = HasAction names a
-  HasForm names (tree.if_ line e body other) = HasTerm names e × HasBlock names body × HasElse names other
-  HasForm names other = ⊥
+  pub HasStatement : List (List ℕ) → tree.Statement → Type 0
+  HasStatement names (tree.act line a) = HasAction names a
+  HasStatement names (tree.if_ line e body other) = HasTerm names e × HasBlock names body × HasElse names other
+  HasStatement names other = ⊥
 
   pub HasBlock : List (List ℕ) → tree.Block → Type 0
   HasBlock names tree.over = ⊤
-  HasBlock names (tree.then s ss) = HasForm names s × HasBlock names ss
+  HasBlock names (tree.then s ss) = HasStatement names s × HasBlock names ss
 
   pub HasElse : List (List ℕ) → tree.Else → Type 0
   HasElse names tree.no_else = ⊤
   HasElse names (tree.else_block body) = HasBlock names body
 
-abbrev pub HaveBlocks : List (List ℕ) → List tree.Block → Type 0
+abbrev pub HaveBlocks : List (List ℕ) → List Source → Type 0
 HaveBlocks names [] = ⊤
-HaveBlocks names (body ∷ bodies) = HasBlock names body × HaveBlocks names bodies
+HaveBlocks names (source ∷ sources) = HasBlock names source.block × HaveBlocks names sources

@@ -1,6 +1,7 @@
-ghost use Rattle.std.specs.Prelude.{◌≡◌, IsTrue, IfOk, IfErr, is_none, not, map, find, true, Some, None};
+ghost use Rattle.std.specs.Prelude.{◌≡◌, IsTrue, IfOk, IfErr, IfSome, is_none, not, map, find, true, Some, None};
 ghost use Rattle.model_rules.specs.FirstFault.{broken_if, first_fault, is_module_name};
-ghost use Rattle.model_rules.specs.FlatDesign.{IsCodeOf, is_module, items_of, names_of, top_items};
+ghost use Rattle.model_rules.specs.FlatDesign.{IsCodeOf, is_module, items_of, top_items, top_place};
+ghost use Rattle.std.specs.List.{position_or_len};
 ghost use Rattle.model_rules.specs.Built.{is_built};
 ghost use Rattle.model_tree.specs.Views.{item_of, module_of, modules_of};
 ghost use Rattle.model_tree.specs.Seen.{model_of};
@@ -11,10 +12,9 @@ use super::doubles::{double_module, is_module_name};
 use super::findings::Finding;
 use super::lowering::{lower, names_of};
 use super::uses::in_modules;
+use flat_design::Code;
 use logic_values::Text;
-use method_design::Code;
 use model_tree::{CheckStop, Fault, Item, Kind, Module, Top, Tree};
-use plain_lists::Items;
 use std::alloc::Global;
 
 /// A tree that breaks no rule, and the code of its top instance's processes.
@@ -22,12 +22,9 @@ use std::alloc::Global;
 pub struct Checked {
     /// The tree.
     pub tree: Tree,
-    /// The names of the top instance's module, in text order: their places are the numbers in the code.
-    pub names: Items<Text>,
     /// The code: a body for each process of the top instance, in text order.
     pub code: Code,
     pub ghost accepted: { IsTrue (is_none (first_fault (model_of tree))) },
-    pub ghost named: { names ≡ names_of (top_items (model_of tree)) },
 }
 
 /// Whether a module has this name.
@@ -54,6 +51,28 @@ pub fn top_items(tree: &Tree) -> &[Item]
     ensures { map item_of result.now ≡ top_items (model_of tree.now) }
 {
     module_items(tree.modules.as_slice(), tree.top.module.bytes())
+}
+
+/// The place of the first module of this name; their number where there is none.
+fn module_place(modules: &[Module], name: &[u8]) -> usize
+    ensures { result ≡ position_or_len (is_module name.now) (modules_of modules.now) }
+{
+    for (i, module) in modules.iter().enumerate() {
+        if is_module(name, module) {
+            return i;
+        }
+    }
+    modules.len()
+}
+
+/// The place in the text of the top instance's module. There is none where it does not fit 32 bits.
+pub fn top_place(tree: &Tree) -> Option<u32>
+    ensures { IfSome result (λ place. place ≡ top_place (model_of tree.now)) }
+{
+    match u32::try_from(module_place(tree.modules.as_slice(), tree.top.module.bytes())) {
+        Ok(place) => Some(place),
+        Err(_) => None,
+    }
 }
 
 /// The finding of a top instance whose module is not declared.
@@ -109,18 +128,21 @@ fn refused(alloc: Global, finding: Finding<'_>) -> CheckStop
 pub fn check(alloc: Global, tree: Tree) -> Result<Checked, CheckStop>
     ensures same_tree { IfOk result (λ checked. checked.tree ≡ tree) }
     ensures accepted { IfOk result (λ _. first_fault (model_of tree) ≡ None) }
-    ensures code { IfOk result (λ checked. is_built (model_of tree) ≡ true → IsCodeOf (model_of tree) checked.names checked.code) }
+    ensures code { IfOk result (λ checked. is_built (model_of tree) ≡ true → IsCodeOf (model_of tree) checked.code) }
     ensures refused { IfErr result (λ stop. IfRefused stop (λ fault. first_fault (model_of tree) ≡ Some fault)) }
 {
     if let Some(finding) = first_fault(&tree) {
         return Err(refused(alloc, finding));
     }
+    let Some(place) = top_place(&tree) else {
+        return Err(CheckStop::NoMemory);
+    };
     let items = top_items(&tree);
     let Ok(names) = names_of(alloc, items) else {
         return Err(CheckStop::NoMemory);
     };
-    let Ok(code) = lower(alloc, names.as_slice(), items) else {
+    let Ok(code) = lower(alloc, place, names.as_slice(), items) else {
         return Err(CheckStop::NoMemory);
     };
-    Ok(Checked { tree, names, code })
+    Ok(Checked { tree, code })
 }

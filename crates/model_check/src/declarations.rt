@@ -1,4 +1,4 @@
-ghost use Rattle.std.specs.Prelude.{◌≡◌, map, bytes_eq};
+ghost use Rattle.std.specs.Prelude.{◌≡◌, map, bytes_eq, is_some};
 ghost use Rattle.std.specs.Option.{option_copied};
 ghost use Rattle.model_tree.specs.Views.{item_of};
 ghost use Rattle.model_rules.specs.FirstFault as spec;
@@ -27,6 +27,13 @@ pub(crate) fn item_name(item: &Item) -> Option<&[u8]>
         Item::Function(_, function) => Some(function.name.bytes()),
         Item::Process(_, process) => Some(process.name.bytes()),
     }
+}
+
+/// Whether an item declares a name; a binding declares none.
+pub fn declares_a_name(item: &Item) -> bool
+    ensures { result ≡ is_some (spec.item_name (item_of item.now)) }
+{
+    item_name(item).is_some()
 }
 
 /// Whether an item declares this name.

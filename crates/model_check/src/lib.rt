@@ -9,5 +9,5 @@ mod lowered;
 mod lowering;
 mod uses;
 
-pub use checked::{Checked, check, is_module, top_items};
-pub use declarations::declares;
+pub use checked::{Checked, check, is_module, top_items, top_place};
+pub use declarations::{declares, declares_a_name};

@@ -1,4 +1,4 @@
-use method_design::{Form, StmtId};
+use flat_design::{Statement, StmtId};
 use plain_lists::Items;
 
 /// The blocks and statements that were lowered so far.
@@ -7,5 +7,5 @@ pub(crate) struct Lowered {
     /// The blocks, by their numbers: the numbers of their statements.
     pub blocks: Items<Items<StmtId>>,
     /// The statements, by their numbers.
-    pub forms: Vec<Form>,
+    pub statements: Items<Statement>,
 }

@@ -1,16 +1,22 @@
 ghost use Rattle.std.specs.Prelude.{◌≡◌, ℕ, List, ◌++◌, ◌∷◌, [], map, slice_get, Some, None, option_map, bytes_eq, IfOk, OnOk};
 ghost use Rattle.std.specs.List.{position_or_len, flat_map};
 ghost use Rattle.model_tree.specs.Views.{action_of, body_of, expression_of, item_of, statement_of};
-ghost use Rattle.method_design.specs.Code.{Arena, act_at, act_of, arena_of, term_of};
+ghost use Rattle.flat_design.specs.Code.{Arena, statement_at, arena_of, term_of};
+ghost use Rattle.flat_design.specs.Code as code;
+ghost use Rattle.model_rules.specs.FlatDesign as flat;
 ghost use Rattle.model_rules.specs.FlatDesign.{bodies_in, names_of};
-ghost use Rattle.model_rules.specs.ReadBack.{AreBodies, AtBlock, IsAction, IsBlock, IsBody, IsForm, IsTerm};
-ghost use Rattle.model_check.specs.Lowered.{FromNowOn, Grows, HasAction, HasBlock, HasForm, HasTerm, HaveBlocks};
+ghost use Rattle.model_rules.specs.ReadBack.{AreBodies, AtBlock, IsAction, IsBlock, IsBody, IsStatement, IsTerm};
+ghost use Rattle.model_check.specs.Lowered.{FromNowOn, Grows, HasAction, HasBlock, HasStatement, HasTerm, HaveBlocks};
 
 use super::declarations::item_name;
 use super::lowered::Lowered;
+use flat_design::{
+    BlockId, BodyKind, ChannelUse, Code, CodeBody, Expr, NameUse, StmtId, ValueType,
+};
 use logic_values::{Text, Value};
-use method_design::{BlockId, ChannelUse, Code, CodeBody, Expr, Form, NameId, Operands, StmtId};
-use model_tree::{Action, Expression, Item, PrintText, Statement, UnaryOp};
+use model_tree::{
+    Action, Expression, Item, PrintText, ProcessItem, ProcessKind, Statement, UnaryOp,
+};
 use plain_lists::Items;
 use std::alloc::{AllocError, Global};
 
@@ -40,10 +46,10 @@ fn name_place(names: &[Text], name: &[u8]) -> usize
 }
 
 /// The number of a name. Past 32 bits it is called want of memory.
-fn name_number(names: &[Text], name: &[u8]) -> Result<NameId, AllocError>
+fn name_number(names: &[Text], name: &[u8]) -> Result<u32, AllocError>
     ensures { IfOk result (λ n. n ≡ position_or_len (λ declared. bytes_eq declared name.now) names.now) }
 {
-    match NameId::try_from(name_place(names, name)) {
+    match u32::try_from(name_place(names, name)) {
         Ok(number) => Ok(number),
         Err(_) => Err(AllocError),
     }
@@ -61,12 +67,12 @@ fn lower_expression(
         Expression::Truth(_, truth) => Ok(Expr::Literal(Value::Bool(*truth))),
         Expression::Named(_, name) => {
             let number = name_number(names, name.bytes())?;
-            Ok(Expr::Name(number))
+            Ok(Expr::Name(NameUse::Declared(number)))
         }
         Expression::Paren(_, inner) => lower_expression(alloc, names, inner),
         Expression::Unary(_, UnaryOp::Not, inner) => {
             let operand = Box::new(alloc, lower_expression(alloc, names, inner)?)?;
-            Ok(Expr::Unary(UnaryOp::Not, Operands::Bool, operand))
+            Ok(Expr::Unary(UnaryOp::Not, ValueType::Bool, operand))
         }
         _ => Ok(Expr::Now),
     }
@@ -83,37 +89,48 @@ fn copied(alloc: Global, text: &PrintText) -> Result<PrintText, AllocError>
 }
 
 /// The code of an action; one of a form that has no code gives `stop`.
-fn lower_action(alloc: Global, names: &[Text], action: &Action) -> Result<Form, AllocError>
-    ensures { IfOk result (λ form. HasAction names.now (action_of action.now) → IsAction names.now (action_of action.now) (act_of form)) }
+fn lower_action(
+    alloc: Global,
+    names: &[Text],
+    action: &Action,
+) -> Result<flat_design::Statement, AllocError>
+    ensures { IfOk result (λ form. HasAction names.now (action_of action.now) → IsAction names.now (action_of action.now) (code.statement_of form)) }
 {
     match action {
         Action::Write(channel, value) => {
             let name = name_number(names, channel.name.bytes())?;
             let value = lower_expression(alloc, names, value)?;
-            Ok(Form::Write(ChannelUse { name, place: None }, value))
+            Ok(flat_design::Statement::Write(
+                ChannelUse { name, place: None },
+                ValueType::Bool,
+                value,
+            ))
         }
         Action::Print(text, None) => {
             let text = copied(alloc, text)?;
-            Ok(Form::Print(text, None))
+            Ok(flat_design::Statement::Print(text, None))
         }
         Action::Print(text, Some(value)) => {
             let text = copied(alloc, text)?;
             let value = lower_expression(alloc, names, value)?;
-            Ok(Form::Print(text, Some(value)))
+            Ok(flat_design::Statement::Print(text, Some(value)))
         }
-        _ => Ok(Form::Stop),
+        _ => Ok(flat_design::Statement::Stop),
     }
 }
 
 /// Adds a statement behind those that were lowered, and tells its number.
-fn push_form(lowered: &mut Lowered, form: Form) -> Result<StmtId, AllocError>
+fn push_statement(
+    lowered: &mut Lowered,
+    statement: flat_design::Statement,
+) -> Result<StmtId, AllocError>
     ensures grows { OnOk result (Grows lowered.old lowered.new) }
-    ensures at { IfOk result (λ i. FromNowOn lowered.new (λ a. act_at a i ≡ Some (act_of form))) }
+    ensures at { IfOk result (λ i. FromNowOn lowered.new (λ a. statement_at a i ≡ Some (code.statement_of statement))) }
 {
-    let Ok(number) = StmtId::try_from(lowered.forms.len()) else {
+    let Ok(number) = StmtId::try_from(lowered.statements.as_slice().len()) else {
         return Err(AllocError);
     };
-    lowered.forms.push(form)?;
+    lowered.statements.push(statement)?;
     Ok(number)
 }
 
@@ -137,9 +154,9 @@ fn lower_statement(
     alloc: Global,
     names: &[Text],
     lowered: &mut Lowered,
-) -> Result<Form, AllocError>
+) -> Result<flat_design::Statement, AllocError>
     ensures grows { OnOk result (Grows lowered.old lowered.new) }
-    ensures reads { IfOk result (λ form. FromNowOn lowered.new (λ a. HasForm names.now (statement_of statement.now) → IsForm names.now a (statement_of statement.now) (act_of form))) }
+    ensures reads { IfOk result (λ form. FromNowOn lowered.new (λ a. HasStatement names.now (statement_of statement.now) → IsStatement names.now a (statement_of statement.now) (code.statement_of form))) }
 {
     match statement {
         Statement::Act(_, action) => lower_action(alloc, names, action),
@@ -147,14 +164,14 @@ fn lower_statement(
             let condition = lower_expression(alloc, names, condition)?;
             let body = lower_block(body, alloc, names, lowered)?;
             match other {
-                None => Ok(Form::If(condition, body, None)),
+                None => Ok(flat_design::Statement::If(condition, body, None)),
                 Some(other) => {
                     let other = lower_block(other, alloc, names, lowered)?;
-                    Ok(Form::If(condition, body, Some(other)))
+                    Ok(flat_design::Statement::If(condition, body, Some(other)))
                 }
             }
         }
-        _ => Ok(Form::Stop),
+        _ => Ok(flat_design::Statement::Stop),
     }
 }
 
@@ -172,45 +189,62 @@ fn lower_block(
     let mut statements = Items::new(alloc);
     for statement in body {
         let form = lower_statement(statement, alloc, names, lowered)?;
-        let number = push_form(lowered, form)?;
+        let number = push_statement(lowered, form)?;
         statements.push(number)?;
     }
     push_block(lowered, statements)
 }
 
-/// The body of these statements.
+fn body_kind(kind: ProcessKind) -> BodyKind
+    ensures { result ≡ flat.process_body kind }
+{
+    match kind {
+        ProcessKind::Thread => BodyKind::Thread,
+        ProcessKind::Method => BodyKind::Method,
+    }
+}
+
+/// The body of a process of the module at this place.
 fn lower_body(
     alloc: Global,
+    place: u32,
     names: &[Text],
-    body: &Vec<Statement>,
+    process: &ProcessItem,
     lowered: &mut Lowered,
 ) -> Result<CodeBody, AllocError>
     ensures grows { OnOk result (Grows lowered.old lowered.new) }
-    ensures reads { IfOk result (λ b. FromNowOn lowered.new (λ a. HasBlock names.now (body_of body.now.items) → IsBody names.now a (body_of body.now.items) b)) }
+    ensures reads { IfOk result (λ b. FromNowOn lowered.new (λ a. HasBlock names.now (body_of process.now.body.items)
+        → IsBody place names.now a (record { kind = flat.process_body process.now.kind; name = process.now.name; block = body_of process.now.body.items }) b)) }
 {
-    let block = lower_block(body, alloc, names, lowered)?;
+    let name = Text::from_vec(Vec::from_slice(alloc, process.name.bytes())?);
+    let block = lower_block(&process.body, alloc, names, lowered)?;
     Ok(CodeBody {
-        parameters: Items::new(alloc),
+        kind: body_kind(process.kind),
+        module_place: place,
+        name,
         locals: Items::new(alloc),
+        parameters: 0,
         answer: None,
         block,
+        room: 0,
     })
 }
 
 /// Adds the body of an item that has one.
 fn lower_item(
     alloc: Global,
+    place: u32,
     names: &[Text],
     item: &Item,
     bodies: &mut Items<CodeBody>,
     lowered: &mut Lowered,
 ) -> Result<(), AllocError>
     ensures grows { OnOk result (Grows lowered.old lowered.new) }
-    ensures reads { OnOk result ((more : List CodeBody) × (bodies.new ≡ bodies.old ++ more) × FromNowOn lowered.new (λ a. HaveBlocks names.now (bodies_in (item_of item.now)) → AreBodies names.now a (bodies_in (item_of item.now)) more)) }
+    ensures reads { OnOk result ((more : List CodeBody) × (bodies.new ≡ bodies.old ++ more) × FromNowOn lowered.new (λ a. HaveBlocks names.now (bodies_in (item_of item.now)) → AreBodies place names.now a (bodies_in (item_of item.now)) more)) }
 {
     match item {
         Item::Process(_, process) => {
-            let body = lower_body(alloc, names, &process.body, lowered)?;
+            let body = lower_body(alloc, place, names, process, lowered)?;
             bodies.push(body)?;
             Ok(())
         }
@@ -218,22 +252,27 @@ fn lower_item(
     }
 }
 
-/// The code of items: a body for each process, in text order.
-pub(crate) fn lower(alloc: Global, names: &[Text], items: &[Item]) -> Result<Code, AllocError>
-    ensures { IfOk result (λ code. HaveBlocks names.now (flat_map bodies_in (map item_of items.now)) → AreBodies names.now (arena_of code) (flat_map bodies_in (map item_of items.now)) code.bodies) }
+/// The code of the items of the module at this place: a body for each process, in text order.
+pub(crate) fn lower(
+    alloc: Global,
+    place: u32,
+    names: &[Text],
+    items: &[Item],
+) -> Result<Code, AllocError>
+    ensures { IfOk result (λ code. HaveBlocks names.now (flat_map bodies_in (map item_of items.now)) → AreBodies place names.now (arena_of code) (flat_map bodies_in (map item_of items.now)) code.bodies) }
 {
     let mut bodies = Items::new(alloc);
     let mut lowered = Lowered {
         blocks: Items::new(alloc),
-        forms: Vec::new(alloc),
+        statements: Items::new(alloc),
     };
     for item in items {
-        lower_item(alloc, names, item, &mut bodies, &mut lowered)?;
+        lower_item(alloc, place, names, item, &mut bodies, &mut lowered)?;
     }
-    let Lowered { blocks, forms } = lowered;
+    let Lowered { blocks, statements } = lowered;
     Ok(Code {
         bodies,
         blocks,
-        forms,
+        statements,
     })
 }

@@ -1,7 +1,7 @@
 -- A model without a first fault has sound names.
 use Rattle.std.proofs.Common.{◌≡◌, ℕ, Bool, true, false, ◌||◌, List, [], ◌∷◌, ◌++◌, map, Option, Some, None, refl, sym, ap, ◌∙◌, subst, not}
 use Rattle.std.specs.Prelude.{bytes_eq, find}
-use Rattle.std.specs.List.{AllByRecursion, IsDistinct, list_any, flat_map}
+use Rattle.std.specs.List.{AllByRecursion, IsDistinct, list_any}
 use Rattle.std.proofs.lemmas.Cmp.{nat_list_eq_equiv}
 use Rattle.std.proofs.lemmas.Grind.{flat_map-append}
 use Rattle.std.proofs.lemmas.List.{map-append, append-nil}
@@ -10,10 +10,10 @@ use Rattle.model_tree.specs.Tree as tree
 use Rattle.model_tree.specs.declared.faults.Kind.{Kind}
 use Rattle.model_tree.specs.declared.faults.Kind.TheVariants as kind
 use Rattle.model_tree.specs.declared.items.SignalItem.{SignalItem}
-use Rattle.model_rules.specs.FirstFault.{or_else, broken_if, item_name, is_name_of, declares, is_item_name, is_module_name, double_name, double_item, double_module, not_a_signal, signal_use, in_expression, in_option, in_channel, in_events, in_action, in_statement, in_block, in_else, in_item, in_items, in_modules, unknown_top, first_fault}
+use Rattle.model_rules.specs.FirstFault.{or_else, broken_if, item_name, is_name_of, declares, is_item_name, is_module_name, double_name, double_item, double_module, not_a_signal, in_expression, in_option, in_channel, in_events, in_action, in_statement, in_block, in_else, in_item, in_items, in_modules, unknown_top, first_fault}
 use Rattle.model_tree.specs.Lines.{item_line}
 use Rattle.model_rules.specs.FlatDesign.{name_list, names_of}
-use Rattle.model_rules.specs.SoundNames.{expression_uses, option_uses, action_uses, statement_uses, block_uses, else_uses, item_uses, IsSignalOf, UsesSignals, HasSoundNames}
+use Rattle.model_rules.specs.SoundNames.{expression_uses, option_uses, action_uses, statement_uses, block_uses, else_uses, IsSignalOf, UsesSignals, HasSoundNames}
 use Rattle.model_rules.proofs.NoFault.{or_else_none}
 
 not_broken : (b : Bool) (k : Kind) (line : ℕ) (name : List ℕ) → broken_if b k line name ≡ None → b ≡ false

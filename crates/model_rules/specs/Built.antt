@@ -3,6 +3,7 @@ use Rattle.std.specs.Prelude.{Bool, true, false, ◌&&◌, Option, Some, None}
 use Rattle.std.specs.List.{list_all, flat_map}
 use Rattle.model_tree.specs.Tree as tree
 use Rattle.model_tree.specs.declared.expressions.UnaryOp.TheVariants as unary_op
+use Rattle.model_rules.specs.ReadBack.{Source}
 use Rattle.model_rules.specs.FlatDesign.{bodies_in, top_items}
 
 abbrev pub is_built_expression : tree.Expression → Bool
@@ -42,4 +43,4 @@ abbrev mutual
 
 -- the bodies of the top instance's processes
 abbrev pub is_built : tree.Model → Bool
-is_built m = list_all is_built_block (flat_map bodies_in (top_items m))
+is_built m = list_all (λ (s : Source). is_built_block s.block) (flat_map bodies_in (top_items m))

@@ -4,10 +4,10 @@ use Rattle.model_tree.specs.Tree as tree
 use Rattle.std.specs.Global.{Vec}
 use Rattle.model_tree.specs.declared.statements.Statement.{Statement, If}
 use Rattle.model_tree.specs.Views.{expression_of, statement_of, block_of, body_of}
-use Rattle.method_design.specs.Code.{Arena, act_of, term_of}
-use Rattle.method_design.specs.Code as code
-use Rattle.model_rules.specs.ReadBack.{IsForm, IsBlock}
-use Rattle.model_check.specs.Lowered.{HasForm}
+use Rattle.flat_design.specs.Code.{Arena, term_of}
+use Rattle.flat_design.specs.Code as code
+use Rattle.model_rules.specs.ReadBack.{IsStatement, IsBlock}
+use Rattle.model_check.specs.Lowered.{HasStatement}
 use Rattle.model_check.proofs.ListLemmas.{map_drop_more}
 use Rattle.model_check.proofs.Read.{has_parts, one_statement, branch_reads, ok_then, ok_both, if_alone, if_else}
 use Rattle.model_check.proofs.lowering.+lowering.Goals as goal
@@ -23,11 +23,11 @@ lower_block-loop-statement-preserved t c =
     let here : body_of (drop i ss) ≡ tree.then (statement_of s) (body_of (drop (i + 1) ss)) = ap block_of (map_drop_more statement_of ss i s within is) in
     record {
       grows = λ a begins. c.loop-statement.invariant.grows a (c.in_ok-form.ensures.grows a (c.in_ok-number.ensures.grows a begins));
-      has = λ h. (has_parts names (body_of (drop i ss)) (statement_of s) (body_of (drop (i + 1) ss)) here (c.loop-statement.invariant.has h)).1;
+      has = λ h. (has_parts 0 names (body_of (drop i ss)) (statement_of s) (body_of (drop (i + 1) ss)) here (c.loop-statement.invariant.has h)).1;
       reads = λ a begins h rest block.
-          let form = c.in_ok-form.ensures.reads a (c.in_ok-number.ensures.grows a begins) (has_parts names (body_of (drop i ss)) (statement_of s) (body_of (drop (i + 1) ss)) here (c.loop-statement.invariant.has h)).0 in
+          let form = c.in_ok-form.ensures.reads a (c.in_ok-number.ensures.grows a begins) (has_parts 0 names (body_of (drop i ss)) (statement_of s) (body_of (drop (i + 1) ss)) here (c.loop-statement.invariant.has h)).0 in
           let whole : IsBlock names a (body_of ss) ((c.loop-statement.statements ++ c.in_ok-number.number ∷ []) ++ rest) =
-          one_statement names a (body_of ss) (body_of (drop i ss)) (statement_of s) (body_of (drop (i + 1) ss)) c.loop-statement.statements c.in_ok-number.number (act_of c.in_ok-form.form)
+          one_statement 0 names a (body_of ss) (body_of (drop i ss)) (statement_of s) (body_of (drop (i + 1) ss)) c.loop-statement.statements c.in_ok-number.number (code.statement_of c.in_ok-form.form)
           here (c.in_ok-number.ensures.at a begins) form (c.loop-statement.invariant.reads a (c.in_ok-form.ensures.grows a (c.in_ok-number.ensures.grows a begins)) h) rest block in
           subst (λ (ids : List ℕ). IsBlock names a (body_of ss) (ids ++ rest)) (sym c.in_ok-push.ensures.ok) whole;
     }
@@ -56,8 +56,8 @@ lower_statement-returns-in-None-clause-reads t c =
     ∙ if_alone c.in-If.field-0 c.in-If.condition c.in-If.body in
     let b : ℕ = c.in_ok-body-in-If.body in
     λ a begins.
-    subst (λ (s : tree.Statement). HasForm c.args.names.now s → IsForm c.args.names.now a s (code.branch (term_of c.in_ok-condition-in-If.condition) b None)) (sym view)
-    (branch_reads c.args.names.now a c.in-If.field-0 (expression_of c.in-If.condition) (body_of c.in-If.body.items) tree.no_else
+    subst (λ (s : tree.Statement). HasStatement c.args.names.now s → IsStatement c.args.names.now a s (code.if_ (term_of c.in_ok-condition-in-If.condition) b None)) (sym view)
+    (branch_reads 0 c.args.names.now a c.in-If.field-0 (expression_of c.in-If.condition) (body_of c.in-If.body.items) tree.no_else
     (term_of c.in_ok-condition-in-If.condition) b None
     c.in_ok-condition-in-If.ensures (c.in_ok-body-in-If.ensures.reads a begins) (λ h. refl))
 
@@ -74,8 +74,8 @@ lower_statement-returns-in_ok-other-in-Some-clause-reads t c =
     let b : ℕ = c.in_ok-body-in-If.body in
     let o : ℕ = c.in_ok-other-in-Some.other in
     λ a begins.
-    subst (λ (s : tree.Statement). HasForm c.args.names.now s → IsForm c.args.names.now a s (code.branch (term_of c.in_ok-condition-in-If.condition) b (Some o))) (sym view)
-    (branch_reads c.args.names.now a c.in-If.field-0 (expression_of c.in-If.condition) (body_of c.in-If.body.items) (tree.else_block (body_of other.items))
+    subst (λ (s : tree.Statement). HasStatement c.args.names.now s → IsStatement c.args.names.now a s (code.if_ (term_of c.in_ok-condition-in-If.condition) b (Some o))) (sym view)
+    (branch_reads 0 c.args.names.now a c.in-If.field-0 (expression_of c.in-If.condition) (body_of c.in-If.body.items) (tree.else_block (body_of other.items))
     (term_of c.in_ok-condition-in-If.condition) b (Some o)
     c.in_ok-condition-in-If.ensures (c.in_ok-body-in-If.ensures.reads a (c.in_ok-other-in-Some.ensures.grows a begins))
     (λ h. (o, refl, c.in_ok-other-in-Some.ensures.reads a begins h)))

@@ -1,6 +1,6 @@
 use Rattle.std.proofs.Common.{ℕ, List, ◌++◌, drop}
 use Rattle.model_tree.specs.Views.{body_of}
-use Rattle.method_design.specs.Code.{Arena}
+use Rattle.flat_design.specs.Code.{Arena}
 use Rattle.model_rules.specs.ReadBack.{IsBlock}
 use Rattle.model_check.specs.Lowered.{BeginsWith, Grows, HasBlock}
 use Rattle.model_check.proofs.lowering.+lowering.Given as goal

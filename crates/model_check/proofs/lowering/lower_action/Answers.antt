@@ -1,5 +1,5 @@
 use Rattle.std.proofs.Common.{None, refl}
-use Rattle.method_design.specs.Code.{channel_term, term_of}
+use Rattle.flat_design.specs.Code.{channel_term, term_of}
 use Rattle.model_check.proofs.Numbered.{numbered_as}
 use Rattle.model_check.proofs.lowering.lower_action.Goals as goal
 

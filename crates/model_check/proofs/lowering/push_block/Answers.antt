@@ -5,7 +5,7 @@ use Rattle.model_check.proofs.lowering.push_block.Goals as goal
 
 pub returns : goal.returns
 returns c =
-    let new : Lowered = record { blocks = c.push.new.self; forms = c.args.lowered.now.forms } in
+    let new : Lowered = record { blocks = c.push.new.self; statements = c.args.lowered.now.statements } in
     let at : c.in-Ok.number ≡ length c.args.lowered.now.blocks = search rules in
     record {
       grows = block_grows c.args.lowered.now new c.args.statements refl c.in_ok-push.ensures.ok;

@@ -2,7 +2,7 @@ use Rattle.std.proofs.Common.{◌≡◌, ◌+◌, drop}
 use Rattle.std.specs.List.{position_or_len}
 use Rattle.model_tree.specs.Views.{modules_of}
 use Rattle.model_rules.specs.FlatDesign.{is_module}
-use Rattle.elaborate.proofs.flat.module_place.Given as goal
+use Rattle.model_check.proofs.checked.module_place.Given as goal
 
 abbrev pub invariant-loop-i : goal.invariant-loop-i
 invariant-loop-i l =

@@ -4,7 +4,7 @@ use Rattle.std.specs.List.{position_or_len}
 use Rattle.model_tree.specs.Views.{item_of}
 use Rattle.model_rules.specs.FirstFault.{declares}
 use Rattle.model_rules.specs.FlatDesign.{is_signal}
-use Rattle.elaborate.proofs.signals.signal_number.Given as goal
+use Rattle.elaborate.proofs.parts.signal_number.Given as goal
 
 abbrev pub invariant-loop-item : goal.invariant-loop-item
 invariant-loop-item l =
