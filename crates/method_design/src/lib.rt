@@ -3,6 +3,7 @@
 
 mod code;
 mod designs;
+mod made;
 mod terms;
 
 pub use code::{
@@ -10,4 +11,5 @@ pub use code::{
     Local, SpawnForm, StmtId,
 };
 pub use designs::{Binding, CodeId, Design, Hop, Object, ObjectForm, Objects};
+pub use made::method_design;
 pub use terms::{Expr, NameId, Operands};
