@@ -38,10 +38,10 @@ formed (tree.binary o left right) n =
 
 -- how many tokens it takes
 
-at_takes : (line : ℕ) (x : Token) (ts rest : Tokens) → At line x ts rest → length ts ≡ suc (length rest)
+pub at_takes : (line : ℕ) (x : Token) (ts rest : Tokens) → At line x ts rest → length ts ≡ suc (length rest)
 at_takes line x ts rest h = ap length h
 
-takes_one : (x : Token) (ts rest : Tokens) → Takes x ts rest → length ts ≡ suc (length rest)
+pub takes_one : (x : Token) (ts rest : Tokens) → Takes x ts rest → length ts ≡ suc (length rest)
 takes_one x ts rest h = ap length h.1
 
 pub counted : (e : tree.Expression) (n : ℕ) (ts rest : Tokens) → DerivesAt n e ts rest → length ts ≡ token_count e + length rest

@@ -1,22 +1,15 @@
 -- The expressions of the model language: which tokens derive an expression, and where it is over.
-use Rattle.std.specs.Prelude.{◌≡◌, ℕ, suc, ◌+◌, ◌≤◌, Bool, true, false, ◌||◌, if◌then◌else◌, List, [], ◌∷◌, length, Option, Some, None, is_some, codes}
+use Rattle.std.specs.Prelude.{◌≡◌, ℕ, suc, ◌+◌, ◌≤◌, Bool, false, ◌||◌, if◌then◌else◌, List, [], ◌∷◌, length, Option, Some, None, is_some, codes}
 use Rattle.std.specs.Str.{bytes_eq}
 use denote.Enum.Bare.{sameb}
 use Rattle.sim_time.specs.declared.moments.Unit.{Unit as TimeUnit}
 use Rattle.sim_time.specs.declared.moments.Unit.TheVariants as unit
 use Rattle.model_tree.specs.contracts.vocabulary.Symbol.{the_type as the_symbol}
-use Rattle.model_tree.specs.declared.vocabulary.Word.{Word}
 use Rattle.model_tree.specs.declared.vocabulary.Word.TheVariants as w
 use Rattle.model_tree.specs.declared.vocabulary.Symbol.{Symbol}
 use Rattle.model_tree.specs.declared.vocabulary.Symbol.TheVariants as s
-use Rattle.model_tree.specs.declared.expressions.UnaryOp.{UnaryOp}
-use Rattle.model_tree.specs.declared.expressions.UnaryOp.TheVariants as sign
 use Rattle.model_tree.specs.declared.expressions.BinaryOp.{BinaryOp}
 use Rattle.model_tree.specs.declared.expressions.BinaryOp.TheVariants as op
-use Rattle.model_tree.specs.declared.expressions.Conversion.{Conversion}
-use Rattle.model_tree.specs.declared.expressions.Conversion.TheVariants as conversion
-use Rattle.model_tree.specs.declared.expressions.NamedConstant.{NamedConstant}
-use Rattle.model_tree.specs.declared.expressions.NamedConstant.TheVariants as constant
 use Rattle.model_tree.specs.Limits.{level, operand_level, primary_level, chain_level, token_limit, depth}
 use Rattle.model_tree.specs.Spelling.{unary_symbol, binary_symbol, truth_word, conversion_word, constant_word, unit_name}
 use Rattle.model_tree.specs.Tree as tree

@@ -17,12 +17,6 @@ use Rattle.model_tree.specs.declared.types.BoundRule.TheVariants as bound
 use Rattle.model_tree.specs.declared.types.PortSize.{PortSize}
 use Rattle.model_tree.specs.declared.types.Parameter.{Parameter}
 use Rattle.model_tree.specs.declared.types.End.{End}
-use Rattle.model_tree.specs.declared.items.SignalKind.{SignalKind}
-use Rattle.model_tree.specs.declared.items.SignalKind.TheVariants as kind
-use Rattle.model_tree.specs.declared.items.PlainKind.{PlainKind}
-use Rattle.model_tree.specs.declared.items.PlainKind.TheVariants as plain
-use Rattle.model_tree.specs.declared.items.ProcessKind.{ProcessKind}
-use Rattle.model_tree.specs.declared.items.ProcessKind.TheVariants as process
 use Rattle.model_tree.specs.declared.items.InitiatorRole.{InitiatorRole}
 use Rattle.model_tree.specs.declared.items.InitiatorRole.TheVariants as initiator
 use Rattle.model_tree.specs.declared.items.TargetRole.{TargetRole}

@@ -2,7 +2,6 @@
 use Rattle.std.specs.Prelude.{ℕ, List, [], ◌∷◌, Option, Some, None}
 use Rattle.model_tree.specs.Spelling.{control_word}
 use Rattle.model_tree.specs.Tree as tree
-use Rattle.model_tree.specs.declared.vocabulary.Word.{Word}
 use Rattle.model_tree.specs.declared.vocabulary.Word.TheVariants as w
 use Rattle.model_tree.specs.declared.vocabulary.Symbol.TheVariants as s
 use Rattle.model_tree.specs.declared.types.SignalType.{SignalType}
@@ -12,8 +11,6 @@ use Rattle.model_tree.specs.declared.types.VarType.{VarType}
 use Rattle.model_tree.specs.declared.types.VarType.TheVariants as var_type
 use Rattle.model_tree.specs.declared.statements.Who.{Who}
 use Rattle.model_tree.specs.declared.statements.Who.TheVariants as who
-use Rattle.model_tree.specs.declared.statements.Control.{Control}
-use Rattle.model_tree.specs.declared.statements.Control.TheVariants as control
 use Rattle.model_grammar.specs.Tokens.{name, number, quoted, word, symbol}
 use Rattle.model_grammar.specs.Rules.{Rule, ◌⨾◌, At, Takes, Nothing, Never, Separated, Maybe, Written, OnLine}
 use Rattle.model_grammar.specs.Expressions.{Parenthesized, DerivesAt, DerivesExpression}
