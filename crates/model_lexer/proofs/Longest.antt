@@ -293,9 +293,6 @@ module _ (b : ℕ) (bs : List ℕ) (letter : is_letter b ≡ false) (digit : is_
       let zero_apart : (b == 48) ≡ false = grind (arith, nat_tests) in
       form_by (b ∷ take m bs) false false false false false false false v (no_blank b (take m bs) blank) (no_comment_front b bs comment m) (rw letter refl) (rw digit refl) (no_hexadecimal b (take m bs) zero_apart) (rw single refl) (rw double refl) e
 
-  form_from : (m : ℕ) (v : Bool) → is_some (symbol_of (take (suc m) (b ∷ bs))) ≡ v → form_of (take (suc m) (b ∷ bs)) ≡ ranked false false false false false false false v
-  form_from = symbol_form
-
   formless : (m : ℕ) → is_some (symbol_of (take m (b ∷ bs))) ≡ false → form_of (take m (b ∷ bs)) ≡ None
   formless zero e = nothing_formless
   formless (suc m) e = symbol_form m false e
