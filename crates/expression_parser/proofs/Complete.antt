@@ -6,7 +6,6 @@ use Rattle.std.proofs.lemmas.Bool.Decides.{nat_tests}
 use Rattle.std.proofs.lemmas.Option.{same_Some}
 use Rattle.logic_values.specs.declared.kinds.Digit.{Digit}
 use Rattle.sim_time.specs.declared.moments.Unit.{Unit as TimeUnit}
-use Rattle.model_tree.specs.declared.vocabulary.Word.{Word}
 use Rattle.model_tree.specs.declared.vocabulary.Symbol.{Symbol}
 use Rattle.model_tree.specs.declared.vocabulary.Symbol.TheVariants as s
 use Rattle.model_tree.specs.declared.expressions.BinaryOp.{BinaryOp}
@@ -26,49 +25,13 @@ use Rattle.expression_parser.specs.declared.starts.Start.{Start}
 use Rattle.expression_parser.specs.declared.starts.Start.TheVariants as start
 use Rattle.model_grammar.specs.Expressions.{Short, Parenthesized, DerivesAt, unit_in, operator_in, is_the_symbol, is_link, extends, goes_on, sees, IsOver, BeginsWith}
 use Rattle.model_tree.specs.Spelling.{unit_name, binary_symbol, unary_symbol, conversion_word}
-use Rattle.expression_parser.specs.Parse.{Parser, and_then, repeat, unit_ahead, operator_ahead, sign_in, sign_ahead, token_start, is_the_word, start_of, leaf_tree, number_or_time, literal, leaf_expression, member, bounds, short, at_no_link, is_not_of, at_none_of, joined, levelled, sees_number, sees_bounds, group, paren, convert, vector, concat, placed, placed_by, place, channel, index, link, chain, primary_of, primary, signed, operand, climb, inside, expression}
+use Rattle.expression_parser.specs.Parse.{Parser, and_then, repeat, unit_ahead, operator_ahead, sign_in, sign_ahead, token_start, start_of, leaf_tree, number_or_time, literal, leaf_expression, member, bounds, short, at_no_link, is_not_of, at_none_of, binary, levelled, sees_number, sees_bounds, group, paren, convert, vector, concat, placed, placed_by, place, channel, index, link, chain, primary_of, primary, unary, operand, climb, inside, expression}
 use Rattle.expression_parser.proofs.Parsers.{choose_first, choose_other, repeat_stops, repeat_goes}
-use Rattle.expression_parser.proofs.OneToken.{is_symbol_same, is_word_same, skip_reads, symbol_reads, opened_reads, named_reads, name_reads, numbered_reads, number_reads, logical_reads, symbol_sees, named_unit, operator_symbol, sign_symbol, truth_begins, conversion_begins, constant_begins}
+use Rattle.expression_parser.proofs.OneToken.{is_symbol_same, skip_reads, symbol_reads, opened_reads, named_reads, name_reads, numbered_reads, number_reads, logical_reads, symbol_sees, named_unit, operator_symbol, sign_symbol, truth_begins, conversion_begins, constant_begins}
+use Rattle.model_grammar.proofs.SoundExpressions.{counted}
 use Rattle.expression_parser.proofs.Sound.{AtFree, NoneFrom, level_small, lower}
 
--- how many tokens it takes
-
-pub at_takes : (line : ℕ) (x : t.Token) (ts rest : Tokens) → At line x ts rest → length ts ≡ suc (length rest)
-at_takes line x ts rest h = ap length h
-
-pub takes_one : (x : t.Token) (ts rest : Tokens) → Takes x ts rest → length ts ≡ suc (length rest)
-takes_one x ts rest h = ap length h.1
-
-pub counted : (e : tree.Expression) (n : ℕ) (ts rest : Tokens) → DerivesAt n e ts rest → length ts ≡ token_count e + length rest
-counted (tree.number line v) n ts rest (k, h) = let one = at_takes _ _ ts rest h in omega arith
-counted (tree.time line v u) n ts rest (k, (a, h, g)) = let one = at_takes _ _ ts a h in let two = takes_one _ a rest g in omega arith
-counted (tree.logic line v) n ts rest (k, h) = let one = at_takes _ _ ts rest h in omega arith
-counted (tree.truth line b) n ts rest (k, h) = let one = at_takes _ _ ts rest h in omega arith
-counted (tree.now line) n ts rest (k, h) = let one = at_takes _ _ ts rest h in omega arith
-counted (tree.myself line) n ts rest (k, h) = let one = at_takes _ _ ts rest h in omega arith
-counted (tree.constant line c) n ts rest (k, h) = let one = at_takes _ _ ts rest h in omega arith
-counted (tree.paren line e) n ts rest (k, (a, one, (b, inner, two))) =
-    let p = at_takes _ _ ts a one in let q = counted e 0 a b inner.0 in let r = takes_one _ b rest two in omega arith
-counted (tree.convert line c e) n ts rest (k, (a, one, (b, two, (f, inner, three)))) =
-    let p = at_takes _ _ ts a one in let q = takes_one _ a b two in let r = counted e 0 b f inner.0 in let u = takes_one _ f rest three in omega arith
-counted (tree.to_vector line width e) n ts rest (k, (a, one, (b, two, (c, three, (f, four, (g, five, (i, inner, six))))))) =
-    let p1 = at_takes _ _ ts a one in let p2 = takes_one _ a b two in let p3 = takes_one _ b c three in let p4 = takes_one _ c f four in let p5 = takes_one _ f g five in let p6 = counted e 0 g i inner.0 in let p7 = takes_one _ i rest six in omega arith
-counted (tree.concat line x y) n ts rest (k, (a, one, (b, two, (c, upper, (f, three, (g, lower_at, four)))))) =
-    let p1 = at_takes _ _ ts a one in let p2 = takes_one _ a b two in let p3 = counted x 0 b c upper.0 in let p4 = takes_one _ c f three in let p5 = counted y 0 f g lower_at.0 in let p6 = takes_one _ g rest four in omega arith
-counted (tree.named line x) n ts rest h = let one = at_takes _ _ ts rest h in omega arith
-counted (tree.placed line x v) n ts rest (a, one, (b, two, three)) = let p1 = at_takes _ _ ts a one in let p2 = takes_one _ a b two in let p3 = takes_one _ b rest three in omega arith
-counted (tree.placed_by line x e) n ts rest (a, one, (b, two, (c, three, (f, inner, four)))) =
-    let p1 = at_takes _ _ ts a one in let p2 = takes_one _ a b two in let p3 = takes_one _ b c three in let p4 = counted e 0 c f inner.0 in let p5 = takes_one _ f rest four in omega arith
-counted (tree.member e x) n ts rest (a, inner, (b, one, two)) = let p1 = counted e 12 ts a inner in let p2 = takes_one _ a b one in let p3 = takes_one _ b rest two in omega arith
-counted (tree.element e i) n ts rest (a, inner, (b, one, (c, at, two))) =
-    let p1 = counted e 12 ts a inner in let p2 = takes_one _ a b one in let p3 = counted i 0 b c at.0 in let p4 = takes_one _ c rest two in omega arith
-counted (tree.slice e x y) n ts rest (a, inner, (b, one, (c, two, (f, three, (g, four, five))))) =
-    let p1 = counted e 12 ts a inner in let p2 = takes_one _ a b one in let p3 = takes_one _ b c two in let p4 = takes_one _ c f three in let p5 = takes_one _ f g four in let p6 = takes_one _ g rest five in omega arith
-counted (tree.unary line o e) n ts rest (k, (a, one, inner)) = let p1 = at_takes _ _ ts a one in let p2 = counted e 11 a rest inner in omega arith
-counted (tree.binary o x y) n ts rest (k, (a, left, (b, one, right))) =
-    let p1 = counted x (level o) ts a left in let p2 = takes_one _ a b one in let p3 = counted y (suc (level o)) b rest right in omega arith
-
--- it takes one at least
+-- an expression takes a token at least
 pub some_tokens : (e : tree.Expression) → 1 ≤ token_count e
 some_tokens (tree.member e x) = omega arith
 some_tokens (tree.element e i) = omega arith
@@ -391,21 +354,21 @@ module _ (d : ℕ) (within : Parser tree.Expression) (within_reads : (e : tree.E
   abbrev After : ℕ → tree.Expression → ℕ → Tokens → Tokens → Type 0
   After m e j ts rest = (left : ℕ) × (suc j ≤ left) × (and_then (channel d within ts) (repeat at_no_link (link d within) m) ≡ repeat at_no_link (link d within) left e rest)
 
-  one_more : (m j : ℕ) (x y : tree.Expression) (ts a rest : Tokens) → After m x (suc j) ts a → at_no_link a ≡ false → link d within x a ≡ Some (y, rest) → After m y j ts rest
-  one_more m j x y ts a rest (zero, some, go) none step = absurd (omega arith)
-  one_more m j x y ts a rest (suc left, some, go) none step = (left, omega (arith, some), go ∙ repeat_goes at_no_link (link d within) left x y a rest none step)
+  link_more : (m j : ℕ) (x y : tree.Expression) (ts a rest : Tokens) → After m x (suc j) ts a → at_no_link a ≡ false → link d within x a ≡ Some (y, rest) → After m y j ts rest
+  link_more m j x y ts a rest (zero, some, go) none step = absurd (omega arith)
+  link_more m j x y ts a rest (suc left, some, go) none step = (left, omega (arith, some), go ∙ repeat_goes at_no_link (link d within) left x y a rest none step)
 
   links : (e : tree.Expression) (m j : ℕ) (ts rest : Tokens) → DerivesAt 12 e ts rest → depth e ≤ d → AtFree e rest → token_count e + j ≤ m → After m e j ts rest
   links (tree.named line x) m j ts rest h few f turns = (m, omega (arith, turns), rw (channel_named line x ts rest h f) refl)
   links (tree.placed line x v) m j ts rest (a, one, (b, two, three)) few f turns = (m, omega (arith, turns), rw (channel_placed line x (tree.placed line x v) ts a b rest one two (place_numbered line x v a b rest two three)) refl)
   links (tree.placed_by line x e) m j ts rest (a, one, (b, two, three)) few f turns = (m, omega (arith, turns), rw (channel_placed line x (tree.placed_by line x e) ts a b rest one two (place_computed line x e a b rest two three few)) refl)
   links (tree.member e x) m j ts rest (a, inner, (b, one, two)) few f turns =
-      one_more m j e (tree.member e x) ts a rest (links e m (suc j) ts a inner few (at_free e _ a b refl one) (omega (arith, turns))) (link_comes _ a b refl one) (link_member e x a b rest one two)
+      link_more m j e (tree.member e x) ts a rest (links e m (suc j) ts a inner few (at_free e _ a b refl one) (omega (arith, turns))) (link_comes _ a b refl one) (link_member e x a b rest one two)
   links (tree.element e i) m j ts rest (a, inner, (b, one, (c, at, two))) few f turns =
-      one_more m j e (tree.element e i) ts a rest (links e m (suc j) ts a inner (omega (arith, few)) (at_free e _ a b refl one) (omega (arith, turns))) (link_comes _ a b refl one)
+      link_more m j e (tree.element e i) ts a rest (links e m (suc j) ts a inner (omega (arith, few)) (at_free e _ a b refl one) (omega (arith, turns))) (link_comes _ a b refl one)
       (link_index e (tree.element e i) a b rest one (index_element e i a b c rest one at two (omega (arith, few)) (no_bounds i b c rest at.0 two)))
   links (tree.slice e x y) m j ts rest (a, inner, (b, one, (c, two, (f', three, (g, four, five))))) few f turns =
-      one_more m j e (tree.slice e x y) ts a rest (links e m (suc j) ts a inner (omega (arith, few)) (at_free e _ a b refl one) (omega (arith, turns))) (link_comes _ a b refl one)
+      link_more m j e (tree.slice e x y) ts a rest (links e m (suc j) ts a inner (omega (arith, few)) (at_free e _ a b refl one) (omega (arith, turns))) (link_comes _ a b refl one)
       (link_index e (tree.slice e x y) a b rest one (index_slice e x y a b c f' g rest one two three four five (omega (arith, few))))
   links (tree.binary o x y) m j ts rest h few f turns = let small = level_small o in absurd (omega (arith, h.0))
   links _ m j ts rest h few f turns = absurd (omega (arith, h.0))
@@ -449,12 +412,12 @@ module _ (d : ℕ) (within : Parser tree.Expression) (within_reads : (e : tree.E
   sign_comes : (o : UnaryOp) (line : ℕ) (ts rest : Tokens) → At line (t.symbol (unary_symbol o)) ts rest → sign_ahead ts ≡ Some o
   sign_comes o line ts rest h = rw h (sign_symbol o)
 
-  signed_reads : (line : ℕ) (o : UnaryOp) (e : tree.Expression) (ts a rest : Tokens) → At line (t.symbol (unary_symbol o)) ts a → DerivesAt 11 e a rest → depth e ≤ d → token_count e ≤ 256 → sees (extends e) rest ≡ false → operand d within ts ≡ Some (tree.unary line o e, rest)
-  unfolding operand signed
-  signed_reads line o e ts a rest h g few short f = rw (sign_comes o line ts a h, skip_reads _ line ts a h, primary_reads e a rest g few short f) refl
+  unary_reads : (line : ℕ) (o : UnaryOp) (e : tree.Expression) (ts a rest : Tokens) → At line (t.symbol (unary_symbol o)) ts a → DerivesAt 11 e a rest → depth e ≤ d → token_count e ≤ 256 → sees (extends e) rest ≡ false → operand d within ts ≡ Some (tree.unary line o e, rest)
+  unfolding operand unary
+  unary_reads line o e ts a rest h g few short f = rw (sign_comes o line ts a h, skip_reads _ line ts a h, primary_reads e a rest g few short f) refl
 
   operand_reads : (e : tree.Expression) (ts rest : Tokens) → DerivesAt 10 e ts rest → depth e ≤ d → token_count e ≤ 256 → sees (extends e) rest ≡ false → operand d within ts ≡ Some (e, rest)
-  operand_reads (tree.unary line o e) ts rest (k, (a, one, inner)) few short f = signed_reads line o e ts a rest one inner few (omega (arith, short)) f
+  operand_reads (tree.unary line o e) ts rest (k, (a, one, inner)) few short f = unary_reads line o e ts a rest one inner few (omega (arith, short)) f
   operand_reads (tree.binary o x y) ts rest h few short f = let small = level_small o in absurd (omega (arith, h.0))
   operand_reads e ts rest h few short f = plain_reads e ts rest (tighter e 10 11 ts rest (omega arith) h) few short f
 
@@ -487,15 +450,15 @@ stop_here n ts free = stop_at n (operator_ahead ts) free
 
 module _ (n d : ℕ) (ten : n < 10) (next : Parser tree.Expression) (next_reads : (e : tree.Expression) (ts rest : Tokens) → DerivesAt (suc n) e ts rest → depth e ≤ d → token_count e ≤ 256 → sees (extends e) rest ≡ false → NoneFrom (suc n) rest → next ts ≡ Some (e, rest)) where
   abbrev Up : ℕ → tree.Expression → ℕ → Tokens → Tokens → Type 0
-  Up m e j ts rest = (left : ℕ) × (suc j ≤ left) × (and_then (next ts) (repeat (at_none_of n) (joined next) m) ≡ repeat (at_none_of n) (joined next) left e rest)
+  Up m e j ts rest = (left : ℕ) × (suc j ≤ left) × (and_then (next ts) (repeat (at_none_of n) (binary next) m) ≡ repeat (at_none_of n) (binary next) left e rest)
 
-  up_more : (m j : ℕ) (x y : tree.Expression) (ts a rest : Tokens) → Up m x (suc j) ts a → at_none_of n a ≡ false → joined next x a ≡ Some (y, rest) → Up m y j ts rest
+  up_more : (m j : ℕ) (x y : tree.Expression) (ts a rest : Tokens) → Up m x (suc j) ts a → at_none_of n a ≡ false → binary next x a ≡ Some (y, rest) → Up m y j ts rest
   up_more m j x y ts a rest (zero, some, go) none step = absurd (omega arith)
-  up_more m j x y ts a rest (suc left, some, go) none step = (left, omega (arith, some), go ∙ repeat_goes (at_none_of n) (joined next) left x y a rest none step)
+  up_more m j x y ts a rest (suc left, some, go) none step = (left, omega (arith, some), go ∙ repeat_goes (at_none_of n) (binary next) left x y a rest none step)
 
-  joined_reads : (o : BinaryOp) (x y : tree.Expression) (ts a rest : Tokens) → Takes (t.symbol (binary_symbol o)) ts a → next a ≡ Some (y, rest) → joined next x ts ≡ Some (tree.binary o x y, rest)
-  unfolding joined
-  joined_reads o x y ts a rest h g = rw (operator_comes o ts a h, skip_reads _ h.0 ts a h.1, g) refl
+  binary_reads : (o : BinaryOp) (x y : tree.Expression) (ts a rest : Tokens) → Takes (t.symbol (binary_symbol o)) ts a → next a ≡ Some (y, rest) → binary next x ts ≡ Some (tree.binary o x y, rest)
+  unfolding binary
+  binary_reads o x y ts a rest h g = rw (operator_comes o ts a h, skip_reads _ h.0 ts a h.1, g) refl
 
   up_base : (e : tree.Expression) (m j : ℕ) (ts rest : Tokens) → DerivesAt (suc n) e ts rest → depth e ≤ d → token_count e ≤ 256 → sees (extends e) rest ≡ false → NoneFrom (suc n) rest → token_count e + j ≤ m → Up m e j ts rest
   up_base e m j ts rest h few short f free turns =
@@ -516,7 +479,7 @@ module _ (n d : ℕ) (ten : n < 10) (next : Parser tree.Expression) (next_reads 
       let none : at_none_of n a ≡ false = rw (operator_comes o a b one) (of_own n o same) in
       let apart : sees (extends x) a ≡ false = rw one.1 (operator_extends_not o x) in
       up_more m j x (tree.binary o x y) ts a rest (up x m (suc j) ts a left_at (omega (arith, few)) (omega (arith, short)) apart (free_at o a b same one) (omega (arith, turns))) none
-      (joined_reads o x y a b rest one (next_reads y b rest right_at (omega (arith, few)) (omega (arith, short)) f free)))
+      (binary_reads o x y a b rest one (next_reads y b rest right_at (omega (arith, few)) (omega (arith, short)) f free)))
       (λ (other : suc n ≤ level o). up_base (tree.binary o x y) m j ts rest (other, (a, left, (b, one, right))) few short f free turns)
       (same_or_above n (level o) k)
   up e m j ts rest h few short f free turns = up_base e m j ts rest (tighter e n (suc n) ts rest (omega (arith, ten)) h) few short f free turns
@@ -525,7 +488,7 @@ module _ (n d : ℕ) (ten : n < 10) (next : Parser tree.Expression) (next_reads 
   unfolding levelled
   levelled_reads e ts rest h few short f free =
       let (left, some, go) = up e 257 0 ts rest h few short f (λ o is. let less = free o is in omega arith) (omega (arith, short)) in
-      go ∙ repeat_stops (at_none_of n) (joined next) left e rest (omega (arith, some)) (stop_here n rest free)
+      go ∙ repeat_stops (at_none_of n) (binary next) left e rest (omega (arith, some)) (stop_here n rest free)
 
 module _ (d : ℕ) (within : Parser tree.Expression) (within_reads : (e : tree.Expression) (ts rest : Tokens) → Short (DerivesAt 0 e) ts rest → suc (depth e) ≤ d → IsOver e rest → within ts ≡ Some (e, rest)) where
   climb_reads : (k n : ℕ) → n + k ≡ 10 → (e : tree.Expression) (ts rest : Tokens) → DerivesAt n e ts rest → depth e ≤ d → token_count e ≤ 256 → sees (extends e) rest ≡ false → NoneFrom n rest → climb d within k n ts ≡ Some (e, rest)
@@ -620,44 +583,15 @@ symbol_is_not v f x h =
     (λ (e : is_the_symbol v x ≡ false). e)
     (cases_Bool (is_the_symbol v x))
 
-word_is_not : (v : Word) → begins_expression (t.word v) ≡ false → (x : t.Token) → begins_expression x ≡ true → is_the_word v x ≡ false
-word_is_not v f x h =
-    ⊎_elim
-    (λ (e : is_the_word v x ≡ true). let same = is_word_same v x e in absurd (cc (sym (rw same at h) ∙ f)))
-    (λ (e : is_the_word v x ≡ false). e)
-    (cases_Bool (is_the_word v x))
-
--- no expression begins with a symbol or a word that begins none: the premise on it is `refl`
+-- no expression begins with a symbol that begins none: the premise on it is `refl`
 pub symbol_begins_not : (v : Symbol) → begins_expression (t.symbol v) ≡ false → (e : tree.Expression) (n : ℕ) (ts rest : Tokens) → DerivesAt n e ts rest → sees (is_the_symbol v) ts ≡ false
 symbol_begins_not v f e n ts rest h = begins_not (is_the_symbol v) (symbol_is_not v f) ts (expression_begins e n ts rest h)
 
-pub word_begins_not : (v : Word) → begins_expression (t.word v) ≡ false → (e : tree.Expression) (n : ℕ) (ts rest : Tokens) → DerivesAt n e ts rest → sees (is_the_word v) ts ≡ false
-word_begins_not v f e n ts rest h = begins_not (is_the_word v) (word_is_not v f) ts (expression_begins e n ts rest h)
-
 pub at_begins_none : (e : tree.Expression) (n : ℕ) (ts rest : Tokens) → DerivesAt n e ts rest → sees (is_the_symbol s.At) ts ≡ false
 at_begins_none = symbol_begins_not s.At refl
-
-pub dot_begins_none : (e : tree.Expression) (n : ℕ) (ts rest : Tokens) → DerivesAt n e ts rest → sees (is_the_symbol s.Dot) ts ≡ false
-dot_begins_none = symbol_begins_not s.Dot refl
-
-pub comma_begins_none : (e : tree.Expression) (n : ℕ) (ts rest : Tokens) → DerivesAt n e ts rest → sees (is_the_symbol s.Comma) ts ≡ false
-comma_begins_none = symbol_begins_not s.Comma refl
 
 pub semicolon_begins_none : (e : tree.Expression) (n : ℕ) (ts rest : Tokens) → DerivesAt n e ts rest → sees (is_the_symbol s.Semicolon) ts ≡ false
 semicolon_begins_none = symbol_begins_not s.Semicolon refl
 
 pub right_paren_begins_none : (e : tree.Expression) (n : ℕ) (ts rest : Tokens) → DerivesAt n e ts rest → sees (is_the_symbol s.RightParen) ts ≡ false
 right_paren_begins_none = symbol_begins_not s.RightParen refl
-
-pub right_bracket_begins_none : (e : tree.Expression) (n : ℕ) (ts rest : Tokens) → DerivesAt n e ts rest → sees (is_the_symbol s.RightBracket) ts ≡ false
-right_bracket_begins_none = symbol_begins_not s.RightBracket refl
-
-pub right_brace_begins_none : (e : tree.Expression) (n : ℕ) (ts rest : Tokens) → DerivesAt n e ts rest → sees (is_the_symbol s.RightBrace) ts ≡ false
-right_brace_begins_none = symbol_begins_not s.RightBrace refl
-
--- an expression takes a token at least
-pub expression_shorter : (e : tree.Expression) (n : ℕ) (ts rest : Tokens) → DerivesAt n e ts rest → length rest < length ts
-expression_shorter e n ts rest h =
-    let all = counted e n ts rest h in
-    let some = some_tokens e in
-    omega arith

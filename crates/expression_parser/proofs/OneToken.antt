@@ -31,7 +31,7 @@ use Rattle.expression_parser.specs.declared.starts.Start.{Start}
 use Rattle.expression_parser.specs.declared.starts.Start.TheVariants as start
 use Rattle.model_grammar.specs.Expressions.{operator_of, operator_in, unit_of, unit_in, is_the_symbol, sees}
 use Rattle.model_tree.specs.Spelling.{unary_symbol, binary_symbol, truth_word, conversion_word, constant_word, unit_name}
-use Rattle.expression_parser.specs.Parse.{skip, symbol, named, name_in, name, numbered, number_in, number, logical, logic_in, opened, operator_ahead, sign_of, sign_in, sign_ahead, word_start, symbol_start, token_start, start_of, pure, is_the_word, word, taken, flag, text_in, text}
+use Rattle.expression_parser.specs.Parse.{skip, symbol, named, name_in, name, numbered, number_in, number, logical, logic_in, opened, operator_ahead, sign_of, sign_in, sign_ahead, word_start, symbol_start, token_start, start_of, pure, is_the_word, word, true_behind, flag, text_in, text}
 use Rattle.expression_parser.proofs.Parsers.{and_then_ok, choose_cases, choose_first, choose_other}
 
 pub is_symbol_same : (v : Symbol) (x : t.Token) → is_the_symbol v x ≡ true → x ≡ t.symbol v
@@ -118,7 +118,7 @@ text_ok (y ∷ ts) rest x h = text_in_ok y.0 y.1 ts rest x h
 pub flag_ok : (v : Word) (ts rest : Tokens) (b : Bool) → flag v ts ≡ Some (b, rest) → Written (t.word v) b ts rest
 unfolding flag
 flag_ok v ts rest b h =
-    choose_cases (sees (is_the_word v)) (taken v) (pure false) ts (b, rest) h
+    choose_cases (sees (is_the_word v)) (true_behind v) (pure false) ts (b, rest) h
     (λ is h1.
     let (line, mid, one, more) = and_then_ok (word v ts) _ (b, rest) h1 in
     let e : ◌≡◌ {A = Bool × Tokens} (true, mid) (b, rest) = cc more in
@@ -465,11 +465,7 @@ text_reads x ts rest h = rw h.1 refl
 pub flag_reads : (v : Word) (b : Bool) (ts rest : Tokens) → Written (t.word v) b ts rest → (b ≡ false → sees (is_the_word v) rest ≡ false) → flag v ts ≡ Some (b, rest)
 unfolding flag
 flag_reads v true ts rest h f =
-    let inner : taken v ts ≡ Some (true, rest) = rw (word_reads v ts rest h) refl in
-    choose_first (sees (is_the_word v)) (taken v) (pure false) ts _ (word_sees v ts rest h) inner
+    let inner : true_behind v ts ≡ Some (true, rest) = rw (word_reads v ts rest h) refl in
+    choose_first (sees (is_the_word v)) (true_behind v) (pure false) ts _ (word_sees v ts rest h) inner
 flag_reads v false ts rest h f =
-    choose_other (sees (is_the_word v)) (taken v) (pure false) ts _ (rw h (f refl)) (rw h refl)
-
--- what one token is, no other is
-pub sees_other : (test : t.Token → Bool) (x : t.Token) (ts rest : Tokens) → test x ≡ false → Takes x ts rest → sees test ts ≡ false
-sees_other test x ts rest f h = rw h.1 f
+    choose_other (sees (is_the_word v)) (true_behind v) (pure false) ts _ (rw h (f refl)) (rw h refl)

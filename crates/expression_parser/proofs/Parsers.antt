@@ -1,7 +1,6 @@
 -- What parsers that are put together give, and each turn of a loop.
 use Rattle.std.proofs.Common.{◌≡◌, ℕ, zero, suc, ◌+◌, ◌-◌, ◌<◌, ◌≤◌, Bool, true, false, Option, Some, None, sym, ◌∙◌, refl, subst, ⊎_elim, arith}
 use Rattle.std.proofs.lemmas.Bool.{cases_Bool}
-use Rattle.model_tree.specs.Tree as tree
 use Rattle.model_grammar.specs.Tokens.{Tokens}
 use Rattle.expression_parser.specs.Parse.{Parser, and_then, choose, where_some, repeat}
 
@@ -30,10 +29,10 @@ and_then_ok None f r h = cc
 and_then_ok (Some q) f r h = (q.0, q.1, refl, h)
 
 -- what holds of what was made holds of what was given
-pub given : (P : tree.Expression → Tokens → Type 0) {x y : tree.Expression} {a b : Tokens} → ◌≡◌ {A = Option (tree.Expression × Tokens)} (Some (x, a)) (Some (y, b)) → P x a → P y b
-given P {x} {y} {a} {b} h p =
-    let e : ◌≡◌ {A = tree.Expression × Tokens} (x, a) (y, b) = cc h in
-    subst (λ (z : tree.Expression × Tokens). P z.0 z.1) e p
+pub made : {A : Type 0} (P : A → Tokens → Type 0) {x y : A} {a b : Tokens} → ◌≡◌ {A = Option (A × Tokens)} (Some (x, a)) (Some (y, b)) → P x a → P y b
+made {A} P {x} {y} {a} {b} h p =
+    let e : ◌≡◌ {A = A × Tokens} (x, a) (y, b) = cc h in
+    subst (λ (z : A × Tokens). P z.0 z.1) e p
 
 module _ {A : Type 0} (stops : Tokens → Bool) (step : A → Parser A) where
   pub repeat_stops : (n : ℕ) (x : A) (ts : Tokens) → 0 < n → stops ts ≡ true → repeat stops step n x ts ≡ Some (x, ts)
@@ -53,19 +52,19 @@ module _ {A : Type 0} (stops : Tokens → Bool) (step : A → Parser A) where
   unfolding repeat
   repeat_ends x ts = refl
 
-  -- what each step keeps, all of them keep
-  module _ (Keeps : A → Tokens → Type 0) (kept : (x y : A) (ts rest : Tokens) → Keeps x ts → stops ts ≡ false → step x ts ≡ Some (y, rest) → Keeps y rest) where
-    pub repeat_ok : (n : ℕ) (x y : A) (ts rest : Tokens) → Keeps x ts → repeat stops step n x ts ≡ Some (y, rest) → Keeps y rest × (stops rest ≡ true)
+  -- what holds of each step holds of all of them
+  module _ (Holds : A → Tokens → Type 0) (preserved : (x y : A) (ts rest : Tokens) → Holds x ts → stops ts ≡ false → step x ts ≡ Some (y, rest) → Holds y rest) where
+    pub repeat_ok : (n : ℕ) (x y : A) (ts rest : Tokens) → Holds x ts → repeat stops step n x ts ≡ Some (y, rest) → Holds y rest × (stops rest ≡ true)
     unfolding repeat
     repeat_ok zero x y ts rest k h = cc
     repeat_ok (suc n) x y ts rest k h =
         ⊎_elim
         (λ (e : stops ts ≡ true).
         let p : ◌≡◌ {A = A × Tokens} (x, ts) (y, rest) = cc (rw e at h) in
-        subst (λ (z : A × Tokens). Keeps z.0 z.1 × (stops z.1 ≡ true)) p (k, e))
+        subst (λ (z : A × Tokens). Holds z.0 z.1 × (stops z.1 ≡ true)) p (k, e))
         (λ (e : stops ts ≡ false).
         let (z, mid, one, more) = and_then_ok (step x ts) (repeat stops step n) (y, rest) (rw e at h) in
-        repeat_ok n z y mid rest (kept x z ts mid k e one) more)
+        repeat_ok n z y mid rest (preserved x z ts mid k e one) more)
         (cases_Bool (stops ts))
 
 -- a turn of a loop that has so many turns
@@ -76,8 +75,8 @@ module _ {A : Type 0} (stops : Tokens → Bool) (step : A → Parser A) (turns t
   pub turn_goes : (y : A) (rest : Tokens) → turn < turns → stops ts ≡ false → step x ts ≡ Some (y, rest) → repeat stops step (turns - (turn + 1)) y rest ≡ all
   turn_goes y rest h e f =
       let left : turns - turn ≡ suc (turns - (turn + 1)) = omega arith in
-      let kept : repeat stops step (suc (turns - (turn + 1))) x ts ≡ all = rw left at invariant in
-      sym (repeat_goes stops step (turns - (turn + 1)) x y ts rest e f) ∙ kept
+      let unrolled : repeat stops step (suc (turns - (turn + 1))) x ts ≡ all = rw left at invariant in
+      sym (repeat_goes stops step (turns - (turn + 1)) x y ts rest e f) ∙ unrolled
 
   pub turn_fails : turn < turns → stops ts ≡ false → step x ts ≡ None → all ≡ None
   turn_fails h e f =

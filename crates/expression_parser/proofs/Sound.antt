@@ -21,8 +21,8 @@ use Rattle.expression_parser.specs.declared.starts.Start.{Start}
 use Rattle.expression_parser.specs.declared.starts.Start.TheVariants as start
 use Rattle.model_grammar.specs.Expressions.{Short, Parenthesized, DerivesAt, unit_in, operator_in, is_the_symbol, is_link, extends, goes_on, sees, BeginsWith}
 use Rattle.model_tree.specs.Spelling.{unit_name}
-use Rattle.expression_parser.specs.Parse.{Parser, pure, skip, named, name, numbered, number, logical, symbol, opened, unit_ahead, operator_ahead, sign_ahead, start_of, leaf_tree, with_unit, number_or_time, literal, leaf_expression, member, bounds, measured, short, at_no_link, is_not_of, at_none_of, with_operator, joined, levelled, sees_number, sees_bounds, group, paren, convert, vector, concat, placed, placed_by, place, channel, element, index, link, chain, primary_of, primary, signed, operand, climb, inside, expression}
-use Rattle.expression_parser.proofs.Parsers.{choose_cases, where_cases, and_then_ok, given, repeat_ok}
+use Rattle.expression_parser.specs.Parse.{Parser, pure, skip, named, name, numbered, number, logical, symbol, opened, unit_ahead, operator_ahead, sign_ahead, start_of, leaf_tree, with_unit, number_or_time, literal, leaf_expression, member, bounds, measured, short, at_no_link, is_not_of, at_none_of, with_operator, binary, levelled, sees_number, sees_bounds, group, paren, convert, vector, concat, placed, placed_by, place, channel, element, index, link, chain, primary_of, primary, unary, operand, climb, inside, expression}
+use Rattle.expression_parser.proofs.Parsers.{choose_cases, where_cases, and_then_ok, made, repeat_ok}
 use Rattle.expression_parser.proofs.OneToken.{symbol_ok, opened_ok, named_ok, name_ok, numbered_ok, number_ok, logical_ok, unit_in_named, sign_at, operator_at, leaf_word, leaf_at, conversion_at, vector_at, concat_at, at_front}
 
 -- what binds tightly may stand where less is wanted
@@ -93,16 +93,16 @@ unfolding number_or_time
 number_or_time_ok d ts rest e h =
     let (x, a, one, h1) = and_then_ok (numbered ts) _ (e, rest) h in
     where_cases (unit_ahead a) (pure (tree.number x.0 x.1)) (with_unit x) a (e, rest) h1
-    (λ none h2. given (Good 11 d ts) h2 ((omega arith, numbered_ok ts a x one), omega arith, unit_unseen a none))
+    (λ none h2. made (Good 11 d ts) h2 ((omega arith, numbered_ok ts a x one), omega arith, unit_unseen a none))
     (λ u some h2.
     let (line, b, two, h3) = and_then_ok (skip a) _ (e, rest) h2 in
-    given (Good 11 d ts) h3 ((omega arith, (a, numbered_ok ts a x one, unit_taken u line a b some two)), omega arith, unseen _ b (λ x. refl)))
+    made (Good 11 d ts) h3 ((omega arith, (a, numbered_ok ts a x one, unit_taken u line a b some two)), omega arith, unseen _ b (λ x. refl)))
 
 literal_ok : (d : ℕ) (ts rest : Tokens) (e : tree.Expression) → literal ts ≡ Some (e, rest) → Good 11 d ts e rest
 unfolding literal
 literal_ok d ts rest e h =
     let (x, a, one, h1) = and_then_ok (logical ts) _ (e, rest) h in
-    given (Good 11 d ts) h1 ((omega arith, logical_ok ts a x one), omega arith, unseen _ a (λ x. refl))
+    made (Good 11 d ts) h1 ((omega arith, logical_ok ts a x one), omega arith, unseen _ a (λ x. refl))
 
 leaf_good : (l : Leaf) (d line : ℕ) (ts rest : Tokens) → At line (t.word (leaf_word l)) ts rest → Good 11 d ts (leaf_tree line l) rest
 leaf_good (leaf.Truth b) d line ts rest h = ((omega arith, h), omega arith, unseen _ rest (λ x. refl))
@@ -114,7 +114,7 @@ leaf_ok : (l : Leaf) (d : ℕ) (ts rest : Tokens) (e : tree.Expression) → star
 unfolding leaf_expression
 leaf_ok l d ts rest e begins h =
     let (line, a, one, h1) = and_then_ok (skip ts) _ (e, rest) h in
-    given (Good 11 d ts) h1 (leaf_good l d line ts a (leaf_at l line ts a begins one))
+    made (Good 11 d ts) h1 (leaf_good l d line ts a (leaf_at l line ts a begins one))
 
 -- a name goes on with its place
 abbrev pub AtFree : tree.Expression → Tokens → Type 0
@@ -149,7 +149,7 @@ unfolding member
 member_ok d first ts rest e x c h =
     let (line, a, one, h1) = and_then_ok (symbol s.Dot ts) _ (e, rest) h in
     let (y, b, two, h2) = and_then_ok (name a) _ (e, rest) h1 in
-    given (Chained d first) h2 ((ts, c.0, (a, symbol_ok s.Dot ts a line one, name_ok a b y two)), c.1, tt)
+    made (Chained d first) h2 ((ts, c.0, (a, symbol_ok s.Dot ts a line one, name_ok a b y two)), c.1, tt)
 
 bounds_ok : (d : ℕ) (first ts mid rest : Tokens) (e x : tree.Expression) → Chained d first x ts → 1 ≤ d → Takes (t.symbol s.LeftBracket) ts mid → bounds x mid ≡ Some (e, rest) → Chained d first e rest
 unfolding bounds
@@ -159,7 +159,7 @@ bounds_ok d first ts mid rest e x c some bracket h =
     let (low, f, three, h3) = and_then_ok (number b) _ (e, rest) h2 in
     let (close, g, four, h4) = and_then_ok (symbol s.RightBracket f) _ (e, rest) h3 in
     let few : max (depth x) 1 ≤ d = omega (arith, c.1) in
-    given (Chained d first) h4 ((ts, c.0, (mid, bracket, (a, number_ok mid a high one, (b, symbol_ok s.Colon a b colon two, (f, number_ok b f low three, symbol_ok s.RightBracket f g close four))))), few, tt)
+    made (Chained d first) h4 ((ts, c.0, (mid, bracket, (a, number_ok mid a high one, (b, symbol_ok s.Colon a b colon two, (f, number_ok b f low three, symbol_ok s.RightBracket f g close four))))), few, tt)
 
 -- what stands in brackets, where so many may still be opened
 module _ (d : ℕ) (within : Parser tree.Expression) (within_ok : (ts rest : Tokens) (e : tree.Expression) → within ts ≡ Some (e, rest) → Short (DerivesAt 0 e) ts rest × (suc (depth e) ≤ d)) where
@@ -169,9 +169,9 @@ module _ (d : ℕ) (within : Parser tree.Expression) (within_ok : (ts rest : Tok
       let (line, a, one, h1) = and_then_ok (opened d s.LeftParen ts) _ (x, rest) h in
       let (e, b, two, h2) = and_then_ok (within a) _ (x, rest) h1 in
       let (close, c, three, h3) = and_then_ok (symbol s.RightParen b) _ (x, rest) h2 in
-      let made : ◌≡◌ {A = (ℕ × tree.Expression) × Tokens} ((line, e), c) (x, rest) = cc h3 in
+      let same : ◌≡◌ {A = (ℕ × tree.Expression) × Tokens} ((line, e), c) (x, rest) = cc h3 in
       let inner = within_ok a b e two in
-      subst (λ (z : (ℕ × tree.Expression) × Tokens). (At z.0.0 (t.symbol s.LeftParen) ⨾ Short (DerivesAt 0 z.0.1) ⨾ Takes (t.symbol s.RightParen)) ts z.1 × (suc (depth z.0.1) ≤ d)) made
+      subst (λ (z : (ℕ × tree.Expression) × Tokens). (At z.0.0 (t.symbol s.LeftParen) ⨾ Short (DerivesAt 0 z.0.1) ⨾ Takes (t.symbol s.RightParen)) ts z.1 × (suc (depth z.0.1) ≤ d)) same
       ((a, (opened_ok d s.LeftParen ts a line one).0, (b, inner.0, symbol_ok s.RightParen b c close three)), inner.1)
 
   -- the same whatever the line
@@ -185,7 +185,7 @@ module _ (d : ℕ) (within : Parser tree.Expression) (within_ok : (ts rest : Tok
   paren_ok ts rest e h =
       let (x, a, one, h1) = and_then_ok (group d within ts) _ (e, rest) h in
       let (g, few) = group_ok ts a x one in
-      given (Good 11 d ts) h1 ((omega arith, g), few, unseen _ a (λ x. refl))
+      made (Good 11 d ts) h1 ((omega arith, g), few, unseen _ a (λ x. refl))
 
   convert_ok : (c : Conversion) (ts rest : Tokens) (e : tree.Expression) → start_of ts ≡ start.Convert c → convert d within c ts ≡ Some (e, rest) → Good 11 d ts e rest
   unfolding convert
@@ -193,7 +193,7 @@ module _ (d : ℕ) (within : Parser tree.Expression) (within_ok : (ts rest : Tok
       let (line, a, one, h1) = and_then_ok (skip ts) _ (e, rest) h in
       let (x, b, two, h2) = and_then_ok (group d within a) _ (e, rest) h1 in
       let (g, few) = parens_ok a b x two in
-      given (Good 11 d ts) h2 ((omega arith, (a, conversion_at c line ts a begins one, g)), few, unseen _ b (λ x. refl))
+      made (Good 11 d ts) h2 ((omega arith, (a, conversion_at c line ts a begins one, g)), few, unseen _ b (λ x. refl))
 
   vector_ok : (ts rest : Tokens) (e : tree.Expression) → start_of ts ≡ start.Vector → vector d within ts ≡ Some (e, rest) → Good 11 d ts e rest
   unfolding vector
@@ -204,7 +204,7 @@ module _ (d : ℕ) (within : Parser tree.Expression) (within_ok : (ts rest : Tok
       let (more, f, four, h4) = and_then_ok (symbol s.Greater c) _ (e, rest) h3 in
       let (x, g, five, h5) = and_then_ok (group d within f) _ (e, rest) h4 in
       let (inner, few) = parens_ok f g x five in
-      given (Good 11 d ts) h5 ((omega arith, (a, vector_at line ts a begins one, (b, symbol_ok s.Less a b less two, (c, number_ok b c width three, (f, symbol_ok s.Greater c f more four, inner))))), few, unseen _ g (λ x. refl))
+      made (Good 11 d ts) h5 ((omega arith, (a, vector_at line ts a begins one, (b, symbol_ok s.Less a b less two, (c, number_ok b c width three, (f, symbol_ok s.Greater c f more four, inner))))), few, unseen _ g (λ x. refl))
 
   concat_ok : (ts rest : Tokens) (e : tree.Expression) → start_of ts ≡ start.Concat → concat d within ts ≡ Some (e, rest) → Good 11 d ts e rest
   unfolding concat
@@ -218,7 +218,7 @@ module _ (d : ℕ) (within : Parser tree.Expression) (within_ok : (ts rest : Tok
       let upper = within_ok b c x three in
       let lower = within_ok f g y five in
       let few : suc (max (depth x) (depth y)) ≤ d = omega (arith, upper.1, lower.1) in
-      given (Good 11 d ts) h6 ((omega arith, (a, concat_at line ts a begins one, (b, (paren, (opened_ok d s.LeftParen a b paren two).0), (c, upper.0, (f, symbol_ok s.Comma c f comma four, (g, lower.0, symbol_ok s.RightParen g i close six)))))), few, unseen _ i (λ x. refl))
+      made (Good 11 d ts) h6 ((omega arith, (a, concat_at line ts a begins one, (b, (paren, (opened_ok d s.LeftParen a b paren two).0), (c, upper.0, (f, symbol_ok s.Comma c f comma four, (g, lower.0, symbol_ok s.RightParen g i close six)))))), few, unseen _ i (λ x. refl))
 
   place_ok : (x : ℕ × List ℕ) (ts mid rest : Tokens) (e : tree.Expression) → At x.0 (t.name x.1) ts mid → place d within x mid ≡ Some (e, rest) → Chained d ts e rest
   unfolding place
@@ -227,11 +227,11 @@ module _ (d : ℕ) (within : Parser tree.Expression) (within_ok : (ts rest : Tok
       choose_cases sees_number (placed d within x) (placed_by d within x) a (e, rest) h1
       (λ is h2.
       let (v, b, two, h3) = and_then_ok (number a) _ (e, rest) h2 in
-      given (Chained d ts) h3 ((mid, name_at, (a, symbol_ok s.At mid a line one, number_ok a b v two)), omega arith, tt))
+      made (Chained d ts) h3 ((mid, name_at, (a, symbol_ok s.At mid a line one, number_ok a b v two)), omega arith, tt))
       (λ is h2.
       let (y, b, two, h3) = and_then_ok (group d within a) _ (e, rest) h2 in
       let (g, few) = parens_ok a b y two in
-      given (Chained d ts) h3 ((mid, name_at, (a, symbol_ok s.At mid a line one, g)), few, tt))
+      made (Chained d ts) h3 ((mid, name_at, (a, symbol_ok s.At mid a line one, g)), few, tt))
 
   channel_ok : (ts rest : Tokens) (e : tree.Expression) → channel d within ts ≡ Some (e, rest) → Chained d ts e rest
   unfolding channel
@@ -239,7 +239,7 @@ module _ (d : ℕ) (within : Parser tree.Expression) (within_ok : (ts rest : Tok
       let (x, a, one, h1) = and_then_ok (named ts) _ (e, rest) h in
       choose_cases (sees (is_the_symbol s.At)) (place d within x) (pure (tree.named x.0 x.1)) a (e, rest) h1
       (λ is h2. place_ok x ts a rest e (named_ok ts a x one) h2)
-      (λ is h2. given (Chained d ts) h2 (named_ok ts a x one, omega arith, is))
+      (λ is h2. made (Chained d ts) h2 (named_ok ts a x one, omega arith, is))
 
   index_ok : (first ts rest : Tokens) (e x : tree.Expression) → Chained d first x ts → index d within x ts ≡ Some (e, rest) → Chained d first e rest
   unfolding index
@@ -253,7 +253,7 @@ module _ (d : ℕ) (within : Parser tree.Expression) (within_ok : (ts rest : Tok
       let (close, f, three, h4) = and_then_ok (symbol s.RightBracket b) _ (e, rest) h3 in
       let inner = within_ok a b i two in
       let few : max (depth x) (suc (depth i)) ≤ d = omega (arith, c.1, inner.1) in
-      given (Chained d first) h4 ((ts, c.0, (a, (line, bracket), (b, inner.0, symbol_ok s.RightBracket b f close three))), few, tt))
+      made (Chained d first) h4 ((ts, c.0, (a, (line, bracket), (b, inner.0, symbol_ok s.RightBracket b f close three))), few, tt))
 
   link_ok : (first ts rest : Tokens) (e x : tree.Expression) → Chained d first x ts → link d within x ts ≡ Some (e, rest) → Chained d first e rest
   unfolding link
@@ -284,20 +284,20 @@ module _ (d : ℕ) (within : Parser tree.Expression) (within_ok : (ts rest : Tok
   unfolding primary
   primary_ok ts rest e h = primary_by (start_of ts) ts rest e refl h
 
-  signed_ok : (o : UnaryOp) (ts rest : Tokens) (e : tree.Expression) → sign_ahead ts ≡ Some o → signed d within o ts ≡ Some (e, rest) → Good 10 d ts e rest
-  unfolding signed
-  signed_ok o ts rest e is h =
+  unary_ok : (o : UnaryOp) (ts rest : Tokens) (e : tree.Expression) → sign_ahead ts ≡ Some o → unary d within o ts ≡ Some (e, rest) → Good 10 d ts e rest
+  unfolding unary
+  unary_ok o ts rest e is h =
       let (line, a, one, h1) = and_then_ok (skip ts) _ (e, rest) h in
       let (x, b, two, h2) = and_then_ok (primary d within a) _ (e, rest) h1 in
       let inner = primary_ok a b x two in
-      given (Good 10 d ts) h2 ((omega arith, (a, sign_at o line ts a is one, inner.0)), inner.1, inner.2)
+      made (Good 10 d ts) h2 ((omega arith, (a, sign_at o line ts a is one, inner.0)), inner.1, inner.2)
 
   operand_ok : (ts rest : Tokens) (e : tree.Expression) → operand d within ts ≡ Some (e, rest) → Good 10 d ts e rest
   unfolding operand
   operand_ok ts rest e h =
-      where_cases (sign_ahead ts) (primary d within) (signed d within) ts (e, rest) h
+      where_cases (sign_ahead ts) (primary d within) (unary d within) ts (e, rest) h
       (λ none h1. let one = primary_ok ts rest e h1 in (lower e 10 11 ts rest (omega arith) one.0, one.1, one.2))
-      (λ o some h1. signed_ok o ts rest e some h1)
+      (λ o some h1. unary_ok o ts rest e some h1)
 
 -- levels
 
@@ -328,9 +328,9 @@ some_operator n None h = cc
 some_operator n (Some o) h = (o, refl, of_level n o h)
 
 -- an operator and what its right operand's parser reads
-joined_ok : (next : Parser tree.Expression) (n d : ℕ) (next_ok : (ts rest : Tokens) (e : tree.Expression) → next ts ≡ Some (e, rest) → Levelled (suc n) d ts e rest) (first ts rest : Tokens) (x e : tree.Expression) → Good n d first x ts → at_none_of n ts ≡ false → joined next x ts ≡ Some (e, rest) → Good n d first e rest × NoneFrom (suc n) rest
-unfolding joined
-joined_ok next n d next_ok first ts rest x e g go h =
+binary_ok : (next : Parser tree.Expression) (n d : ℕ) (next_ok : (ts rest : Tokens) (e : tree.Expression) → next ts ≡ Some (e, rest) → Levelled (suc n) d ts e rest) (first ts rest : Tokens) (x e : tree.Expression) → Good n d first x ts → at_none_of n ts ≡ false → binary next x ts ≡ Some (e, rest) → Good n d first e rest × NoneFrom (suc n) rest
+unfolding binary
+binary_ok next n d next_ok first ts rest x e g go h =
     let (o, is, same) = some_operator n (operator_ahead ts) go in
     let h0 : with_operator next x (Some o) ts ≡ Some (e, rest) = rw is at h in
     let (line, a, one, h1) = and_then_ok (skip ts) _ (e, rest) h0 in
@@ -339,14 +339,14 @@ joined_ok next n d next_ok first ts rest x e g go h =
     let left_at : DerivesAt (level o) x first ts = subst (λ m. DerivesAt m x first ts) (sym same) g.0 in
     let right_at : DerivesAt (suc (level o)) y a b = subst (λ m. DerivesAt (suc m) y a b) (sym same) right.0 in
     let few : max (depth x) (depth y) ≤ d = omega (arith, g.1, right.1) in
-    given (λ z r. Good n d first z r × NoneFrom (suc n) r) h2 (((omega (arith, same), (ts, left_at, (a, (line, operator_at o line ts a is one), right_at))), few, right.2), free)
+    made (λ z r. Good n d first z r × NoneFrom (suc n) r) h2 (((omega (arith, same), (ts, left_at, (a, (line, operator_at o line ts a is one), right_at))), few, right.2), free)
 
 levelled_ok : (next : Parser tree.Expression) (n d : ℕ) (next_ok : (ts rest : Tokens) (e : tree.Expression) → next ts ≡ Some (e, rest) → Levelled (suc n) d ts e rest) (ts rest : Tokens) (e : tree.Expression) → levelled n next ts ≡ Some (e, rest) → Levelled n d ts e rest
 unfolding levelled
 levelled_ok next n d next_ok ts rest e h =
     let (x, a, one, h1) = and_then_ok (next ts) _ (e, rest) h in
     let (first, free) = next_ok ts a x one in
-    let (all, stop) = repeat_ok (at_none_of n) (joined next) (λ z r. Good n d ts z r × NoneFrom (suc n) r) (λ x y ts' rest' k go more. joined_ok next n d next_ok ts ts' rest' x y k.0 go more) 257 x e a rest ((lower x n (suc n) ts a (omega arith) first.0, first.1, first.2), free) h1 in
+    let (all, stop) = repeat_ok (at_none_of n) (binary next) (λ z r. Good n d ts z r × NoneFrom (suc n) r) (λ x y ts' rest' k go more. binary_ok next n d next_ok ts ts' rest' x y k.0 go more) 257 x e a rest ((lower x n (suc n) ts a (omega arith) first.0, first.1, first.2), free) h1 in
     (all.0, none_of_level n rest stop all.1)
 
 module _ (d : ℕ) (within : Parser tree.Expression) (within_ok : (ts rest : Tokens) (e : tree.Expression) → within ts ≡ Some (e, rest) → Short (DerivesAt 0 e) ts rest × (suc (depth e) ≤ d)) where

@@ -105,14 +105,14 @@ is_the_word v (t.symbol u) = false
 unfoldable pub word : Word → Parser ℕ
 word v = expect (is_the_word v)
 
--- whether this word comes, which is taken
-abbrev pub taken : Word → Parser Bool
-taken v = do
+-- true, behind this word
+abbrev pub true_behind : Word → Parser Bool
+true_behind v = do
   line ← word v
   pure true
 
 unfoldable pub flag : Word → Parser Bool
-flag v = choose (sees (is_the_word v)) (taken v) (pure false)
+flag v = choose (sees (is_the_word v)) (true_behind v) (pure false)
 
 abbrev pub text_in : t.Token → t.Tokens → Option (List ℕ × t.Tokens)
 text_in (t.name x) ts = None
@@ -368,14 +368,14 @@ with_operator next left (Some o) = do
   right ← next
   pure (tree.binary o left right)
 
-unfoldable pub joined : Parser tree.Expression → tree.Expression → Parser tree.Expression
-joined next left ts = with_operator next left (operator_ahead ts) ts
+unfoldable pub binary : Parser tree.Expression → tree.Expression → Parser tree.Expression
+binary next left ts = with_operator next left (operator_ahead ts) ts
 
 -- operands, with operators of this level between them
 unfoldable pub levelled : ℕ → Parser tree.Expression → Parser tree.Expression
 levelled n next = do
   e ← next
-  repeat (at_none_of n) (joined next) turns e
+  repeat (at_none_of n) (binary next) turns e
 
 -- where so many brackets may still be opened, and what stands in one more of them
 module _ (depth : ℕ) (inside : Parser tree.Expression) where
@@ -475,14 +475,14 @@ module _ (depth : ℕ) (inside : Parser tree.Expression) where
   unfoldable pub primary : Parser tree.Expression
   primary ts = primary_of (start_of ts) ts
 
-  unfoldable pub signed : UnaryOp → Parser tree.Expression
-  signed o = do
+  unfoldable pub unary : UnaryOp → Parser tree.Expression
+  unary o = do
     line ← skip
     e ← primary
     pure (tree.unary line o e)
 
   unfoldable pub operand : Parser tree.Expression
-  operand ts = where_some (sign_ahead ts) primary signed ts
+  operand ts = where_some (sign_ahead ts) primary unary ts
 
   -- so many levels of operators, from the one of this number on
   unfoldable pub climb : ℕ → ℕ → Parser tree.Expression

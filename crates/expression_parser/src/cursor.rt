@@ -1,7 +1,7 @@
 ghost use Rattle.std.specs.Prelude.{◌≡◌, ◌≢◌, ℕ, ◌^◌, ◌<◌, ◌≤◌, List, [], length, IsTrue, OnOk, OnErr};
 ghost use Rattle.model_grammar.specs.Tokens.{are_limited};
 ghost use Rattle.logic_values.specs.Digits.{digits};
-ghost use Rattle.expression_parser.specs.Seen.{tokens_view};
+ghost use Rattle.expression_parser.specs.Cursor.{tokens_view};
 ghost use Rattle.model_grammar.specs.Expressions as grammar;
 ghost use Rattle.expression_parser.specs.Parse as spec;
 
@@ -26,7 +26,7 @@ pub struct Cursor<'a> {
 impl<'a> Model for Cursor<'a> {
     ghost use Rattle.std.specs.Prelude.{IsTrue};
     ghost use Rattle.model_grammar.specs.Tokens.{Tokens, are_limited};
-    ghost use Rattle.expression_parser.specs.Seen.{tokens_view};
+    ghost use Rattle.expression_parser.specs.Cursor.{tokens_view};
 
     ghost Value = { Tokens };
 
@@ -48,7 +48,7 @@ impl<'a> Cursor<'a> {
     }
 
     /// The line of the token so many places on; past the end, that which was given for it.
-    pub fn line_at(&self, place: usize) -> u32 {
+    pub(crate) fn line_at(&self, place: usize) -> u32 {
         match self.rest.get(place) {
             Some(token) => token.line,
             None => self.last_line,
@@ -99,7 +99,7 @@ impl<'a> Cursor<'a> {
     }
 
     /// Whether a number and a colon come.
-    pub fn sees_bounds(&self) -> bool
+    pub(crate) fn sees_bounds(&self) -> bool
         ensures { result ≡ spec.sees_bounds self.now }
     {
         match self.rest {
@@ -111,7 +111,7 @@ impl<'a> Cursor<'a> {
     }
 
     /// Whether a `.` or a `[` comes.
-    pub fn sees_link(&self) -> bool
+    pub(crate) fn sees_link(&self) -> bool
         ensures { result ≡ grammar.sees grammar.is_link self.now }
     {
         match self.rest {
@@ -154,7 +154,7 @@ impl<'a> Cursor<'a> {
     }
 
     /// The binary operator that comes, if one does.
-    pub fn operator(&self) -> Option<BinaryOp>
+    pub(crate) fn operator(&self) -> Option<BinaryOp>
         ensures { result ≡ spec.operator_ahead self.now }
     {
         match self.rest {
@@ -164,7 +164,7 @@ impl<'a> Cursor<'a> {
     }
 
     /// The prefix operator that comes, if one does.
-    pub fn sign(&self) -> Option<UnaryOp>
+    pub(crate) fn sign(&self) -> Option<UnaryOp>
         ensures { result ≡ spec.sign_ahead self.now }
     {
         match self.rest {
@@ -174,7 +174,7 @@ impl<'a> Cursor<'a> {
     }
 
     /// What operand comes.
-    pub fn start(&self) -> Start
+    pub(crate) fn start(&self) -> Start
         ensures { result ≡ spec.start_of self.now }
     {
         match self.rest {

@@ -202,14 +202,14 @@ fn primary(alloc: Global, tokens: &mut Cursor<'_>, depth: u8) -> Result<Expressi
 
 /// An operand behind this prefix operator, the next token.
 #[cycle(expression)]
-#[tactic(auto, unfolding(crate::specs::Parse::signed))]
-fn signed(
+#[tactic(auto, unfolding(crate::specs::Parse::unary))]
+fn unary(
     alloc: Global,
     tokens: &mut Cursor<'_>,
     depth: u8,
     sign: UnaryOp,
 ) -> Result<Expression, ParseStop>
-    ensures { spec.Parses expression_of (spec.signed depth (spec.inside depth) sign) tokens.old result tokens.new }
+    ensures { spec.Parses expression_of (spec.unary depth (spec.inside depth) sign) tokens.old result tokens.new }
 {
     let line = tokens.skip()?;
     let operand = primary(alloc, tokens, depth)?;
@@ -224,14 +224,14 @@ fn operand(alloc: Global, tokens: &mut Cursor<'_>, depth: u8) -> Result<Expressi
 {
     match tokens.sign() {
         None => primary(alloc, tokens, depth),
-        Some(sign) => signed(alloc, tokens, depth, sign),
+        Some(sign) => unary(alloc, tokens, depth, sign),
     }
 }
 
 /// What was read with the operator that comes and its right operand, of so many levels from the wanted one on.
 #[cycle(expression)]
-#[tactic(auto, unfolding(crate::specs::Parse::joined))]
-fn joined(
+#[tactic(auto, unfolding(crate::specs::Parse::binary))]
+fn binary(
     alloc: Global,
     tokens: &mut Cursor<'_>,
     depth: u8,
@@ -240,7 +240,7 @@ fn joined(
     left: Expression,
 ) -> Result<Expression, ParseStop>
     requires { levels + wanted ≤ 10 }
-    ensures { spec.Parses expression_of (spec.joined (spec.climb depth (spec.inside depth) levels wanted) (expression_of left)) tokens.old result tokens.new }
+    ensures { spec.Parses expression_of (spec.binary (spec.climb depth (spec.inside depth) levels wanted) (expression_of left)) tokens.old result tokens.new }
 {
     let Some(operator) = tokens.operator() else {
         return Err(ParseStop::Syntax {
@@ -270,7 +270,7 @@ fn levelled(
         if at_none_of(tokens, wanted) {
             return Ok(found);
         }
-        let longer = joined(alloc, tokens, depth, levels, wanted + 1, found)?;
+        let longer = binary(alloc, tokens, depth, levels, wanted + 1, found)?;
         found = longer;
     }
     Err(ParseStop::Syntax {

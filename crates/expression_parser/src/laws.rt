@@ -9,7 +9,8 @@ pub fn one_expression()
     ensures { (brackets : ℕ) (e f : tree.Expression) (ts rest left : Tokens) → BeginsWith brackets e ts rest → BeginsWith brackets f ts left → (e ≡ f) × (rest ≡ left) }
 {}
 
-/// What is read as an expression is what the tokens begin with, and nothing else is refused.
+/// An expression is read up to a token exactly where the tokens begin with it up to there. So it is refused
+/// exactly where they begin with none.
 pub fn expression_exactly()
     ensures { (depth : ℕ) (e : tree.Expression) (ts rest : Tokens) → BeginsWith depth e ts rest ↔ (expression depth ts ≡ Some (e, rest)) }
 {}

@@ -15,4 +15,3 @@ pub use building::push;
 pub use cursor::Cursor;
 pub use expressions::{expression, group, inside};
 pub use laws::{expression_exactly, one_expression};
-pub use starts::{Leaf, Start};

@@ -13,14 +13,14 @@ decreases-climb l = 1000 * l.depth + 10 * l.levels + 50
 abbrev pub decreases-levelled : goal.decreases-levelled
 decreases-levelled l = 1000 * l.depth + 10 * l.levels + 55
 
-abbrev pub decreases-joined : goal.decreases-joined
-decreases-joined l = 1000 * l.depth + 10 * l.levels + 52
+abbrev pub decreases-binary : goal.decreases-binary
+decreases-binary l = 1000 * l.depth + 10 * l.levels + 52
 
 abbrev pub decreases-operand : goal.decreases-operand
 decreases-operand l = 1000 * l.depth + 40
 
-abbrev pub decreases-signed : goal.decreases-signed
-decreases-signed l = 1000 * l.depth + 39
+abbrev pub decreases-unary : goal.decreases-unary
+decreases-unary l = 1000 * l.depth + 39
 
 abbrev pub decreases-primary : goal.decreases-primary
 decreases-primary l = 1000 * l.depth + 38
@@ -64,4 +64,4 @@ invariant-chain-loop-turn l = spec.repeat spec.at_no_link (spec.link l.depth (sp
 
 -- and so of the operators
 abbrev pub invariant-levelled-loop-turn : goal.invariant-levelled-loop-turn
-invariant-levelled-loop-turn l = spec.repeat (spec.at_none_of l.wanted) (spec.joined (spec.climb l.depth (spec.inside l.depth) l.levels (l.wanted + 1))) (257 - l.turn) (expression_of l.found) l.tokens ≡ spec.levelled l.wanted (spec.climb l.depth (spec.inside l.depth) l.levels (l.wanted + 1)) l.fn.tokens
+invariant-levelled-loop-turn l = spec.repeat (spec.at_none_of l.wanted) (spec.binary (spec.climb l.depth (spec.inside l.depth) l.levels (l.wanted + 1))) (257 - l.turn) (expression_of l.found) l.tokens ≡ spec.levelled l.wanted (spec.climb l.depth (spec.inside l.depth) l.levels (l.wanted + 1)) l.fn.tokens

@@ -1,4 +1,4 @@
--- What contracts see of tokens that are read.
+-- What contracts see of a cursor: the tokens that are left.
 use Rattle.std.specs.Prelude.{List}
 use Rattle.model_grammar.specs.Tokens.{Tokens}
 use Rattle.model_lexer.specs.declared.token.Token.{Token}
