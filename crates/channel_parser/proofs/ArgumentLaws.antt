@@ -10,13 +10,13 @@ use Rattle.model_grammar.specs.Expressions.{DerivesExpression, IsOver, is_the_sy
 use Rattle.model_grammar.specs.Statements.{DerivesArguments, DerivesIndex, NextExpression}
 use Rattle.model_grammar.specs.Brackets.{in_all, in_index, in_option}
 use Rattle.expression_parser.specs.Parse.{pure, symbol, opened, inside, expression}
-use Rattle.expression_parser.proofs.Parsers.{choose_cases, choose_first, and_then_ok}
+use Rattle.expression_parser.proofs.Parsers.{choose_cases, choose_first, and_then_ok, made}
 use Rattle.expression_parser.proofs.OneToken.{symbol_ok, opened_ok, symbol_reads, opened_reads, symbol_sees, at_front, is_symbol_same}
 use Rattle.expression_parser.proofs.Many.{Every, many_ok, many_reads}
 use Rattle.expression_parser.proofs.Sound.{inside_ok, expression_ok}
-use Rattle.expression_parser.proofs.Complete.{inside_reads, expression_reads, over_at, takes_one, counted, right_paren_begins_none, semicolon_begins_none}
+use Rattle.model_grammar.proofs.SoundExpressions.{takes_one, counted}
+use Rattle.expression_parser.proofs.Complete.{inside_reads, expression_reads, over_at, right_paren_begins_none, semicolon_begins_none}
 use Rattle.channel_parser.specs.Parse.{next_inside, at_no_comma, more_inside, some_inside, at_right_paren, listed, arguments, some_index, optional_index, at_semicolon, some_expression, optional_expression}
-use Rattle.channel_parser.proofs.Made.{made}
 
 -- no more brackets than that are open in it and around it
 abbrev Few : ℕ → tree.Expression → Type 0

@@ -10,13 +10,13 @@ use Rattle.model_grammar.specs.Expressions.{is_the_symbol, sees}
 use Rattle.model_grammar.specs.Statements.{DerivesPlace, DerivesChannel, DerivesMember, DerivesEvent, DerivesSensitive}
 use Rattle.model_grammar.specs.Brackets.{in_place, in_channel, in_events}
 use Rattle.expression_parser.specs.Parse.{pure, symbol, word, is_the_word, named, name, number, sees_number, inside, group}
-use Rattle.expression_parser.proofs.Parsers.{choose_cases, choose_first, choose_other, and_then_ok}
+use Rattle.expression_parser.proofs.Parsers.{choose_cases, choose_first, choose_other, and_then_ok, made}
 use Rattle.expression_parser.proofs.OneToken.{symbol_ok, named_ok, name_ok, number_ok, symbol_reads, named_reads, name_reads, number_reads, symbol_sees, word_ok, word_reads, word_sees}
 use Rattle.expression_parser.proofs.Many.{Every, many_ok, many_reads}
 use Rattle.expression_parser.proofs.Sound.{inside_ok, parens_ok}
-use Rattle.expression_parser.proofs.Complete.{inside_reads, parens_read, at_takes, takes_one, counted}
+use Rattle.model_grammar.proofs.SoundExpressions.{at_takes, takes_one, counted}
+use Rattle.expression_parser.proofs.Complete.{inside_reads, parens_read}
 use Rattle.channel_parser.specs.Parse.{numbered_place, computed_place, some_place, place, channel, some_member, optional_member, event, next_event, at_no_comma, more_events, events, some_sensitivity, sensitive}
-use Rattle.channel_parser.proofs.Made.{made}
 
 -- places and channels
 

@@ -1,4 +1,3 @@
-pub mod Made
 pub mod TypeLaws
 pub mod ChannelLaws
 pub mod ArgumentLaws

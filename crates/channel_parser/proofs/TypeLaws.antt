@@ -1,5 +1,5 @@
 -- What the parser functions of types read is derived, and what is derived is read.
-use Rattle.std.proofs.Common.{◌≡◌, ℕ, false, Some, refl}
+use Rattle.std.proofs.Common.{◌≡◌, ℕ, Bool, false, Some, refl}
 use Rattle.model_tree.specs.declared.vocabulary.Word.{Word}
 use Rattle.model_tree.specs.declared.vocabulary.Word.TheVariants as w
 use Rattle.model_tree.specs.declared.vocabulary.Symbol.TheVariants as s
@@ -14,10 +14,9 @@ use Rattle.model_grammar.specs.Rules.{At}
 use Rattle.model_grammar.specs.Expressions.{sees}
 use Rattle.model_grammar.specs.Statements.{Width, DerivesForm, DerivesType, DerivesVarTypeAt}
 use Rattle.expression_parser.specs.Parse.{symbol, number, word, is_the_word}
-use Rattle.expression_parser.proofs.Parsers.{choose_cases, and_then_ok}
+use Rattle.expression_parser.proofs.Parsers.{choose_cases, and_then_ok, made}
 use Rattle.expression_parser.proofs.OneToken.{symbol_ok, number_ok, symbol_reads, number_reads, this_word_at}
 use Rattle.channel_parser.specs.Parse.{width, plain_type, int_type, uint_type, vector_type, uint_or_vector, integer_or_vector, logic_or_wide, signal_type, type_word, plain_variable_type, payload_or_plain, process_or_less, variable_type}
-use Rattle.channel_parser.proofs.Made.{made}
 
 width_ok : (ts rest : Tokens) (n : ℕ) → width ts ≡ Some (n, rest) → Width n ts rest
 unfolding width
@@ -107,19 +106,25 @@ variable_type_ok ts rest x h =
     (λ is h. type_word_ok w.Payload var_type.Payload ts rest x (λ line mid at. at) h)
     (λ is h. plain_variable_ok ts rest x h)))
 
--- a type of a signal begins with none of the three words
-no_other : (line : ℕ) (f : TypeForm) (ts rest : Tokens) → DerivesForm line f ts rest → (sees (is_the_word w.Time) ts ≡ false) × (sees (is_the_word w.Process) ts ≡ false) × (sees (is_the_word w.Payload) ts ≡ false)
-no_other line form.Bool ts rest h = (rw h refl, rw h refl, rw h refl)
-no_other line form.Logic ts rest h = (rw h refl, rw h refl, rw h refl)
-no_other line (form.Int n) ts rest h = (rw h.1 refl, rw h.1 refl, rw h.1 refl)
-no_other line (form.Uint n) ts rest h = (rw h.1 refl, rw h.1 refl, rw h.1 refl)
-no_other line (form.Vector n) ts rest h = (rw h.1 refl, rw h.1 refl, rw h.1 refl)
+-- none of the five words that a type of signals begins with passes the test
+abbrev pub PassesNoTypeWord : (t.Token → Bool) → Type 0
+PassesNoTypeWord test = (test (t.word w.Bool) ≡ false) × (test (t.word w.Logic) ≡ false) × (test (t.word w.Int) ≡ false) × (test (t.word w.Uint) ≡ false) × (test (t.word w.Lv) ≡ false)
+
+-- so where such a type comes, no token that passes does
+pub form_begins_not : (test : t.Token → Bool) → PassesNoTypeWord test → (line : ℕ) (f : TypeForm) (ts rest : Tokens) → DerivesForm line f ts rest → sees test ts ≡ false
+form_begins_not test fails line form.Bool ts rest h = rw h fails.0
+form_begins_not test fails line form.Logic ts rest h = rw h fails.1
+form_begins_not test fails line (form.Int n) ts rest h = rw h.1 fails.2
+form_begins_not test fails line (form.Uint n) ts rest h = rw h.1 fails.3
+form_begins_not test fails line (form.Vector n) ts rest h = rw h.1 fails.4
 
 plain_variable_reads : (x : SignalType) (ts rest : Tokens) → DerivesType x ts rest → variable_type ts ≡ Some ((x.line, var_type.Plain x), rest)
 unfolding variable_type plain_variable_type
 plain_variable_reads x ts rest h =
-    let others = no_other x.line x.form ts rest h in
-    rw (others.0, others.1, others.2, signal_type_reads x ts rest h) refl
+    let no_time = form_begins_not (is_the_word w.Time) (refl, refl, refl, refl, refl) x.line x.form ts rest h in
+    let no_process = form_begins_not (is_the_word w.Process) (refl, refl, refl, refl, refl) x.line x.form ts rest h in
+    let no_payload = form_begins_not (is_the_word w.Payload) (refl, refl, refl, refl, refl) x.line x.form ts rest h in
+    rw (no_time, no_process, no_payload, signal_type_reads x ts rest h) refl
 
 pub variable_type_reads : (line : ℕ) (x : VarType) (ts rest : Tokens) → DerivesVarTypeAt line x ts rest → variable_type ts ≡ Some ((line, x), rest)
 unfolding variable_type type_word word
