@@ -16,17 +16,16 @@ use Rattle.model_grammar.specs.Expressions.{DerivesExpression, is_the_symbol, se
 use Rattle.model_grammar.specs.Statements.{DerivesChannel, NextName, NextExpression, DerivesWaiting, DerivesNotification, DerivesSpawn, DerivesWho, DerivesAction}
 use Rattle.model_grammar.specs.Brackets.{in_option, in_channel, in_notification, in_waiting, in_action}
 use Rattle.expression_parser.specs.Parse.{pure, text, name, expression}
-use Rattle.expression_parser.proofs.Parsers.{choose_cases, choose_first, choose_other, and_then_ok}
+use Rattle.expression_parser.proofs.Parsers.{choose_cases, choose_first, choose_other, and_then_ok, made}
 use Rattle.expression_parser.proofs.OneToken.{name_ok, name_reads, text_ok, text_reads}
 use Rattle.expression_parser.proofs.Sound.{expression_ok}
 use Rattle.expression_parser.proofs.Complete.{at_begins_none}
 use Rattle.channel_parser.specs.Parse.{channel, optional_expression}
-use Rattle.channel_parser.proofs.Made.{made}
 use Rattle.channel_parser.proofs.ChannelLaws.{channel_ok, channel_reads}
 use Rattle.channel_parser.proofs.ArgumentLaws.{optional_expression_ok, optional_expression_reads}
 use Rattle.action_parser.specs.Operations.{next_name, next_expression}
 use Rattle.action_parser.specs.Waits.{waiting, notification, who, spawn}
-use Rattle.action_parser.specs.Actions.{write, print, notify, some_next_expression, optional_next_expression, make, carry, b_transport, name_and_expression, throw_it, of_name, of_name_and_expression, of_waiting, of_expression, of_spawn, of_who, of_answer, action_of}
+use Rattle.action_parser.specs.Actions.{write, print, notify, some_next_expression, optional_next_expression, make, carry, b_transport, name_and_expression, throw_it, of_name, of_name_and_expression, of_waiting, of_expression, of_spawn, of_who, of_answer, started_action}
 use Rattle.action_parser.specs.Parse.{action_start}
 use Rattle.action_parser.proofs.PartLaws.{next_name_ok, next_name_reads, next_expression_ok, next_expression_before, next_expression_between, expression_before}
 use Rattle.action_parser.proofs.OperationLaws.{of_channel_ok}
@@ -150,39 +149,39 @@ of_who_ok P c ts rest o f h =
     let (x, a, one, h1) = and_then_ok (who ts) _ (o, rest) h in
     made P h1 (f x a (who_ok ts a x one))
 
-pub action_of_ok : (v : Word) (d line : ℕ) (ts a rest : Tokens) (o : tree.Action) → At line (t.word v) ts a → action_of d (action_start v) a ≡ Some (o, rest) → Acts d line ts o rest
-unfolding action_of
-action_of_ok w.Write d line ts a rest o at h = write_ok d line ts a rest o at h
-action_of_ok w.Print d line ts a rest o at h = print_ok d line ts a rest o at h
-action_of_ok w.Notify d line ts a rest o at h = notify_ok d line ts a rest o at h
-action_of_ok w.Cancel d line ts a rest o at h = of_name_ok (Acts d line ts) tree.cancel a rest o (λ x mid one. ((a, at, one), omega arith)) h
-action_of_ok w.Wait d line ts a rest o at h = of_waiting_ok (Acts d line ts) d tree.wait a rest o (λ x mid one few. ((a, at, one), few)) h
-action_of_ok w.NextTrigger d line ts a rest o at h = of_waiting_ok (Acts d line ts) d tree.next_trigger a rest o (λ x mid one few. ((a, at, one), few)) h
-action_of_ok w.Lock d line ts a rest o at h = of_channel_ok (Acts d line ts) d tree.lock a rest o (λ c mid one few. ((a, at, one), few)) h
-action_of_ok w.SemWait d line ts a rest o at h = of_channel_ok (Acts d line ts) d tree.sem_wait a rest o (λ c mid one few. ((a, at, one), few)) h
-action_of_ok w.Post d line ts a rest o at h = of_channel_ok (Acts d line ts) d tree.post a rest o (λ c mid one few. ((a, at, one), few)) h
-action_of_ok w.Make d line ts a rest o at h = make_ok d line ts a rest o at h
-action_of_ok w.Acquire d line ts a rest o at h = of_name_ok (Acts d line ts) tree.acquire a rest o (λ x mid one. ((a, at, one), omega arith)) h
-action_of_ok w.Release d line ts a rest o at h = of_name_ok (Acts d line ts) tree.release a rest o (λ x mid one. ((a, at, one), omega arith)) h
-action_of_ok w.Carry d line ts a rest o at h = carry_ok d line ts a rest o at h
-action_of_ok w.BTransport d line ts a rest o at h = b_transport_ok d line ts a rest o at h
-action_of_ok w.QkGlobal d line ts a rest o at h = of_expression_ok d line ts a rest o at h
-action_of_ok w.QkInc d line ts a rest o at h = of_both_ok (Acts d line ts) d tree.qk_inc a rest o (λ x e mid last one two few. ((a, at, (mid, one, two)), few)) h
-action_of_ok w.QkSet d line ts a rest o at h = of_both_ok (Acts d line ts) d tree.qk_set a rest o (λ x e mid last one two few. ((a, at, (mid, one, two)), few)) h
-action_of_ok w.QkReset d line ts a rest o at h = of_name_ok (Acts d line ts) tree.qk_reset a rest o (λ x mid one. ((a, at, one), omega arith)) h
-action_of_ok w.QkSync d line ts a rest o at h = of_name_ok (Acts d line ts) tree.qk_sync a rest o (λ x mid one. ((a, at, one), omega arith)) h
-action_of_ok w.Spawn d line ts a rest o at h = of_spawn_ok d line ts a rest o at h
-action_of_ok w.Suspend d line ts a rest o at h = of_who_ok (Acts d line ts) control.Suspend a rest o (λ x mid one. ((a, at, one), omega arith)) h
-action_of_ok w.Resume d line ts a rest o at h = of_who_ok (Acts d line ts) control.Resume a rest o (λ x mid one. ((a, at, one), omega arith)) h
-action_of_ok w.Disable d line ts a rest o at h = of_who_ok (Acts d line ts) control.Disable a rest o (λ x mid one. ((a, at, one), omega arith)) h
-action_of_ok w.Enable d line ts a rest o at h = of_who_ok (Acts d line ts) control.Enable a rest o (λ x mid one. ((a, at, one), omega arith)) h
-action_of_ok w.Kill d line ts a rest o at h = of_who_ok (Acts d line ts) control.Kill a rest o (λ x mid one. ((a, at, one), omega arith)) h
-action_of_ok w.Reset d line ts a rest o at h = of_who_ok (Acts d line ts) control.Reset a rest o (λ x mid one. ((a, at, one), omega arith)) h
-action_of_ok w.ThrowIt d line ts a rest o at h = throw_it_ok d line ts a rest o at h
-action_of_ok w.Throw d line ts a rest o at h = of_name_ok (Acts d line ts) tree.throw a rest o (λ x mid one. ((a, at, one), omega arith)) h
-action_of_ok w.Return d line ts a rest o at h = of_answer_ok d line ts a rest o at h
-action_of_ok w.Stop d line ts a rest o at h = made (Acts d line ts) h (at, omega arith)
-action_of_ok _ d line ts a rest o at h = cc
+pub started_action_ok : (v : Word) (d line : ℕ) (ts a rest : Tokens) (o : tree.Action) → At line (t.word v) ts a → started_action d (action_start v) a ≡ Some (o, rest) → Acts d line ts o rest
+unfolding started_action
+started_action_ok w.Write d line ts a rest o at h = write_ok d line ts a rest o at h
+started_action_ok w.Print d line ts a rest o at h = print_ok d line ts a rest o at h
+started_action_ok w.Notify d line ts a rest o at h = notify_ok d line ts a rest o at h
+started_action_ok w.Cancel d line ts a rest o at h = of_name_ok (Acts d line ts) tree.cancel a rest o (λ x mid one. ((a, at, one), omega arith)) h
+started_action_ok w.Wait d line ts a rest o at h = of_waiting_ok (Acts d line ts) d tree.wait a rest o (λ x mid one few. ((a, at, one), few)) h
+started_action_ok w.NextTrigger d line ts a rest o at h = of_waiting_ok (Acts d line ts) d tree.next_trigger a rest o (λ x mid one few. ((a, at, one), few)) h
+started_action_ok w.Lock d line ts a rest o at h = of_channel_ok (Acts d line ts) d tree.lock a rest o (λ c mid one few. ((a, at, one), few)) h
+started_action_ok w.SemWait d line ts a rest o at h = of_channel_ok (Acts d line ts) d tree.sem_wait a rest o (λ c mid one few. ((a, at, one), few)) h
+started_action_ok w.Post d line ts a rest o at h = of_channel_ok (Acts d line ts) d tree.post a rest o (λ c mid one few. ((a, at, one), few)) h
+started_action_ok w.Make d line ts a rest o at h = make_ok d line ts a rest o at h
+started_action_ok w.Acquire d line ts a rest o at h = of_name_ok (Acts d line ts) tree.acquire a rest o (λ x mid one. ((a, at, one), omega arith)) h
+started_action_ok w.Release d line ts a rest o at h = of_name_ok (Acts d line ts) tree.release a rest o (λ x mid one. ((a, at, one), omega arith)) h
+started_action_ok w.Carry d line ts a rest o at h = carry_ok d line ts a rest o at h
+started_action_ok w.BTransport d line ts a rest o at h = b_transport_ok d line ts a rest o at h
+started_action_ok w.QkGlobal d line ts a rest o at h = of_expression_ok d line ts a rest o at h
+started_action_ok w.QkInc d line ts a rest o at h = of_both_ok (Acts d line ts) d tree.qk_inc a rest o (λ x e mid last one two few. ((a, at, (mid, one, two)), few)) h
+started_action_ok w.QkSet d line ts a rest o at h = of_both_ok (Acts d line ts) d tree.qk_set a rest o (λ x e mid last one two few. ((a, at, (mid, one, two)), few)) h
+started_action_ok w.QkReset d line ts a rest o at h = of_name_ok (Acts d line ts) tree.qk_reset a rest o (λ x mid one. ((a, at, one), omega arith)) h
+started_action_ok w.QkSync d line ts a rest o at h = of_name_ok (Acts d line ts) tree.qk_sync a rest o (λ x mid one. ((a, at, one), omega arith)) h
+started_action_ok w.Spawn d line ts a rest o at h = of_spawn_ok d line ts a rest o at h
+started_action_ok w.Suspend d line ts a rest o at h = of_who_ok (Acts d line ts) control.Suspend a rest o (λ x mid one. ((a, at, one), omega arith)) h
+started_action_ok w.Resume d line ts a rest o at h = of_who_ok (Acts d line ts) control.Resume a rest o (λ x mid one. ((a, at, one), omega arith)) h
+started_action_ok w.Disable d line ts a rest o at h = of_who_ok (Acts d line ts) control.Disable a rest o (λ x mid one. ((a, at, one), omega arith)) h
+started_action_ok w.Enable d line ts a rest o at h = of_who_ok (Acts d line ts) control.Enable a rest o (λ x mid one. ((a, at, one), omega arith)) h
+started_action_ok w.Kill d line ts a rest o at h = of_who_ok (Acts d line ts) control.Kill a rest o (λ x mid one. ((a, at, one), omega arith)) h
+started_action_ok w.Reset d line ts a rest o at h = of_who_ok (Acts d line ts) control.Reset a rest o (λ x mid one. ((a, at, one), omega arith)) h
+started_action_ok w.ThrowIt d line ts a rest o at h = throw_it_ok d line ts a rest o at h
+started_action_ok w.Throw d line ts a rest o at h = of_name_ok (Acts d line ts) tree.throw a rest o (λ x mid one. ((a, at, one), omega arith)) h
+started_action_ok w.Return d line ts a rest o at h = of_answer_ok d line ts a rest o at h
+started_action_ok w.Stop d line ts a rest o at h = made (Acts d line ts) h (at, omega arith)
+started_action_ok _ d line ts a rest o at h = cc
 
 -- what is derived is read
 

@@ -1,5 +1,5 @@
 -- Operations and actions: what is read is derived, what is derived is read, and what each begins with.
-use Rattle.std.proofs.Common.{◌≡◌, ℕ, ◌≤◌, Bool, true, false, List, Some, refl, sym, ◌∙◌, ⊎_elim}
+use Rattle.std.proofs.Common.{◌≡◌, ℕ, ◌≤◌, Bool, true, false, Some, refl, sym, ◌∙◌, ⊎_elim}
 use Rattle.std.proofs.lemmas.Bool.{cases_Bool}
 use denote.Enum.Bare.{sameb, same_true}
 use Rattle.model_tree.specs.contracts.vocabulary.Word.{the_type as the_word}
@@ -18,16 +18,15 @@ use Rattle.model_grammar.specs.Statements.{DerivesOperation, DerivesAction}
 use Rattle.model_tree.specs.Spelling.{control_word}
 use Rattle.model_grammar.specs.Brackets.{in_operation, in_action}
 use Rattle.expression_parser.specs.Parse.{refuse, skip, is_the_word, word_ahead}
-use Rattle.expression_parser.proofs.Parsers.{where_cases, and_then_ok}
+use Rattle.expression_parser.proofs.Parsers.{where_cases, and_then_ok, made}
 use Rattle.expression_parser.proofs.OneToken.{skip_reads}
-use Rattle.channel_parser.proofs.Made.{made}
 use Rattle.action_parser.specs.declared.starts.ActionStart.TheVariants as acts
-use Rattle.action_parser.specs.Operations.{operation_of}
-use Rattle.action_parser.specs.Actions.{action_of}
+use Rattle.action_parser.specs.Operations.{started_operation}
+use Rattle.action_parser.specs.Actions.{started_action}
 use Rattle.action_parser.specs.Parse.{operation_start, action_start, begins_operation, begins_action, sees_operation, sees_action, operation_by, operation, action_by, action}
 use Rattle.action_parser.proofs.PartLaws.{word_at, word_comes, semicolon_comes}
-use Rattle.action_parser.proofs.OperationLaws.{of_channel_reads, operation_of_ok, call_reads, nb_read_reads, nb_write_reads, nb_transport_reads}
-use Rattle.action_parser.proofs.ActionLaws.{action_of_ok, write_reads, print_reads, notify_reads, make_reads, carry_reads, b_transport_reads, throw_it_reads, of_name_reads, of_both_reads, of_waiting_reads, of_expression_reads, of_spawn_reads, of_answer_reads, of_who_reads}
+use Rattle.action_parser.proofs.OperationLaws.{of_channel_reads, started_operation_ok, call_reads, nb_read_reads, nb_write_reads, nb_transport_reads}
+use Rattle.action_parser.proofs.ActionLaws.{started_action_ok, write_reads, print_reads, notify_reads, make_reads, carry_reads, b_transport_reads, throw_it_reads, of_name_reads, of_both_reads, of_waiting_reads, of_expression_reads, of_spawn_reads, of_answer_reads, of_who_reads}
 
 -- operations
 
@@ -38,15 +37,15 @@ operation_ok d ts rest x h =
     (λ none h1. absurd (cc h1))
     (λ v some h1.
     let (line, a, one, h2) = and_then_ok (skip ts) _ (x, rest) h1 in
-    let (o, b, two, h3) = and_then_ok (operation_of d (operation_start v) a) _ (x, rest) h2 in
-    made (λ (z : ℕ × tree.Operation) r. DerivesOperation z.0 z.1 ts r × (in_operation z.1 ≤ d)) h3 (operation_of_ok v d line ts a b o (word_at v line ts a some one) two))
+    let (o, b, two, h3) = and_then_ok (started_operation d (operation_start v) a) _ (x, rest) h2 in
+    made (λ (z : ℕ × tree.Operation) r. DerivesOperation z.0 z.1 ts r × (in_operation z.1 ≤ d)) h3 (started_operation_ok v d line ts a b o (word_at v line ts a some one) two))
 
-operation_so : (v : Word) (d line : ℕ) (o : tree.Operation) (ts a rest : Tokens) → At line (t.word v) ts a → operation_of d (operation_start v) a ≡ Some (o, rest) → operation d ts ≡ Some ((line, o), rest)
+operation_so : (v : Word) (d line : ℕ) (o : tree.Operation) (ts a rest : Tokens) → At line (t.word v) ts a → started_operation d (operation_start v) a ≡ Some (o, rest) → operation d ts ≡ Some ((line, o), rest)
 unfolding operation operation_by
 operation_so v d line o ts a rest at h = rw (word_comes v line ts a at, skip_reads _ line ts a at, h) refl
 
 operation_before : (d line : ℕ) (o : tree.Operation) (ts rest last : Tokens) → DerivesOperation line o ts rest → in_operation o ≤ d → Takes (t.symbol s.Semicolon) rest last → operation d ts ≡ Some ((line, o), rest)
-unfolding operation_of
+unfolding started_operation
 operation_before d line (tree.call x es) ts rest last (a, at, (b, one, two)) few end = operation_so w.Call d line (tree.call x es) ts a rest at (call_reads d x es a b rest one two few)
 operation_before d line (tree.read c) ts rest last (a, at, one) few end = operation_so w.Read d line (tree.read c) ts a rest at (of_channel_reads d tree.read c a rest last one few end)
 operation_before d line (tree.nb_read c x) ts rest last (a, at, (b, one, two)) few end = operation_so w.NbRead d line (tree.nb_read c x) ts a rest at (nb_read_reads d c x a b rest one two few)
@@ -68,10 +67,10 @@ action_ok d ts rest x h =
     (λ none h1. absurd (cc h1))
     (λ v some h1.
     let (line, a, one, h2) = and_then_ok (skip ts) _ (x, rest) h1 in
-    let (o, b, two, h3) = and_then_ok (action_of d (action_start v) a) _ (x, rest) h2 in
-    made (λ (z : ℕ × tree.Action) r. DerivesAction z.0 z.1 ts r × (in_action z.1 ≤ d)) h3 (action_of_ok v d line ts a b o (word_at v line ts a some one) two))
+    let (o, b, two, h3) = and_then_ok (started_action d (action_start v) a) _ (x, rest) h2 in
+    made (λ (z : ℕ × tree.Action) r. DerivesAction z.0 z.1 ts r × (in_action z.1 ≤ d)) h3 (started_action_ok v d line ts a b o (word_at v line ts a some one) two))
 
-action_so : (v : Word) (d line : ℕ) (o : tree.Action) (ts a rest : Tokens) → At line (t.word v) ts a → action_of d (action_start v) a ≡ Some (o, rest) → action d ts ≡ Some ((line, o), rest)
+action_so : (v : Word) (d line : ℕ) (o : tree.Action) (ts a rest : Tokens) → At line (t.word v) ts a → started_action d (action_start v) a ≡ Some (o, rest) → action d ts ≡ Some ((line, o), rest)
 unfolding action action_by
 action_so v d line o ts a rest at h = rw (word_comes v line ts a at, skip_reads _ line ts a at, h) refl
 
@@ -84,7 +83,7 @@ control_starts control.Kill = refl
 control_starts control.Reset = refl
 
 action_before : (d line : ℕ) (o : tree.Action) (ts rest last : Tokens) → DerivesAction line o ts rest → in_action o ≤ d → Takes (t.symbol s.Semicolon) rest last → action d ts ≡ Some ((line, o), rest)
-unfolding action_of
+unfolding started_action
 action_before d line (tree.write c e) ts rest last (a, at, (b, one, two)) few end = action_so w.Write d line (tree.write c e) ts a rest at (write_reads d c e a b rest last one two few end)
 action_before d line (tree.print x e) ts rest last (a, at, (b, one, two)) few end = action_so w.Print d line (tree.print x e) ts a rest at (print_reads d x e a b rest last one two few end)
 action_before d line (tree.notify x n) ts rest last (a, at, (b, one, two)) few end = action_so w.Notify d line (tree.notify x n) ts a rest at (notify_reads d x n a b rest last one two few end)
@@ -192,7 +191,7 @@ action_begins line (tree.throw x) ts rest h = (h.0, h.1)
 action_begins line (tree.return_ x) ts rest h = (h.0, h.1)
 action_begins line tree.stop ts rest h = (rest, h)
 
--- each begins as it should, and neither as the other
+-- each begins as it should, and no operation as an action does
 
 operation_words : (o : tree.Operation) → (begins_operation (operation_word o) ≡ true) × (begins_action (operation_word o) ≡ false)
 operation_words (tree.call x es) = (refl, refl)
@@ -204,40 +203,40 @@ operation_words (tree.unlock c) = (refl, refl)
 operation_words (tree.sem_trywait c) = (refl, refl)
 operation_words (tree.nb_transport x y z u) = (refl, refl)
 
-control_words : (c : Control) → (begins_action (control_word c) ≡ true) × (begins_operation (control_word c) ≡ false)
-control_words control.Suspend = (refl, refl)
-control_words control.Resume = (refl, refl)
-control_words control.Disable = (refl, refl)
-control_words control.Enable = (refl, refl)
-control_words control.Kill = (refl, refl)
-control_words control.Reset = (refl, refl)
+control_words : (c : Control) → begins_action (control_word c) ≡ true
+control_words control.Suspend = refl
+control_words control.Resume = refl
+control_words control.Disable = refl
+control_words control.Enable = refl
+control_words control.Kill = refl
+control_words control.Reset = refl
 
-action_words : (o : tree.Action) → (begins_action (action_word o) ≡ true) × (begins_operation (action_word o) ≡ false)
-action_words (tree.write c e) = (refl, refl)
-action_words (tree.print x e) = (refl, refl)
-action_words (tree.notify x n) = (refl, refl)
-action_words (tree.cancel x) = (refl, refl)
-action_words (tree.wait x) = (refl, refl)
-action_words (tree.next_trigger x) = (refl, refl)
-action_words (tree.lock c) = (refl, refl)
-action_words (tree.sem_wait c) = (refl, refl)
-action_words (tree.post c) = (refl, refl)
-action_words (tree.make x e y) = (refl, refl)
-action_words (tree.acquire x) = (refl, refl)
-action_words (tree.release x) = (refl, refl)
-action_words (tree.carry x y) = (refl, refl)
-action_words (tree.b_transport x y z) = (refl, refl)
-action_words (tree.qk_global e) = (refl, refl)
-action_words (tree.qk_inc x e) = (refl, refl)
-action_words (tree.qk_set x e) = (refl, refl)
-action_words (tree.qk_reset x) = (refl, refl)
-action_words (tree.qk_sync x) = (refl, refl)
-action_words (tree.spawn x) = (refl, refl)
+action_words : (o : tree.Action) → begins_action (action_word o) ≡ true
+action_words (tree.write c e) = refl
+action_words (tree.print x e) = refl
+action_words (tree.notify x n) = refl
+action_words (tree.cancel x) = refl
+action_words (tree.wait x) = refl
+action_words (tree.next_trigger x) = refl
+action_words (tree.lock c) = refl
+action_words (tree.sem_wait c) = refl
+action_words (tree.post c) = refl
+action_words (tree.make x e y) = refl
+action_words (tree.acquire x) = refl
+action_words (tree.release x) = refl
+action_words (tree.carry x y) = refl
+action_words (tree.b_transport x y z) = refl
+action_words (tree.qk_global e) = refl
+action_words (tree.qk_inc x e) = refl
+action_words (tree.qk_set x e) = refl
+action_words (tree.qk_reset x) = refl
+action_words (tree.qk_sync x) = refl
+action_words (tree.spawn x) = refl
 action_words (tree.control c x) = control_words c
-action_words (tree.throw_it p x) = (refl, refl)
-action_words (tree.throw x) = (refl, refl)
-action_words (tree.return_ x) = (refl, refl)
-action_words tree.stop = (refl, refl)
+action_words (tree.throw_it p x) = refl
+action_words (tree.throw x) = refl
+action_words (tree.return_ x) = refl
+action_words tree.stop = refl
 
 pub operation_sees : (line : ℕ) (o : tree.Operation) (ts rest : Tokens) → DerivesOperation line o ts rest → sees_operation ts ≡ true
 operation_sees line o ts rest h = rw (operation_begins line o ts rest h).1 (operation_words o).0
@@ -246,12 +245,9 @@ pub operation_sees_no_action : (line : ℕ) (o : tree.Operation) (ts rest : Toke
 operation_sees_no_action line o ts rest h = rw (operation_begins line o ts rest h).1 (operation_words o).1
 
 pub action_sees : (line : ℕ) (o : tree.Action) (ts rest : Tokens) → DerivesAction line o ts rest → sees_action ts ≡ true
-action_sees line o ts rest h = rw (action_begins line o ts rest h).1 (action_words o).0
+action_sees line o ts rest h = rw (action_begins line o ts rest h).1 (action_words o)
 
-pub action_sees_no_operation : (line : ℕ) (o : tree.Action) (ts rest : Tokens) → DerivesAction line o ts rest → sees_operation ts ≡ false
-action_sees_no_operation line o ts rest h = rw (action_begins line o ts rest h).1 (action_words o).1
-
--- no operation and no action begins with a symbol or a name, nor with a word that begins none: the premise on it is `refl`
+-- no operation and no action begins with a symbol, nor with a word that begins none: the premise on it is `refl`
 
 pub operation_begins_no_symbol : (v : Symbol) (line : ℕ) (o : tree.Operation) (ts rest : Tokens) → DerivesOperation line o ts rest → sees (is_the_symbol v) ts ≡ false
 operation_begins_no_symbol v line o ts rest h = rw (operation_begins line o ts rest h).1 refl
@@ -270,18 +266,4 @@ pub operation_begins_no : (v : Word) → begins_operation v ≡ false → (line 
 operation_begins_no v f line o ts rest h = rw (operation_begins line o ts rest h).1 (other_word begins_operation (operation_word o) v (operation_words o).0 f)
 
 pub action_begins_no : (v : Word) → begins_action v ≡ false → (line : ℕ) (o : tree.Action) (ts rest : Tokens) → DerivesAction line o ts rest → sees (is_the_word v) ts ≡ false
-action_begins_no v f line o ts rest h = rw (action_begins line o ts rest h).1 (other_word begins_action (action_word o) v (action_words o).0 f)
-
--- where a symbol or a name comes, neither does; where a word comes, as its tests say
-pub symbol_sees_neither : (v : Symbol) (ts rest : Tokens) → Takes (t.symbol v) ts rest → (sees_operation ts ≡ false) × (sees_action ts ≡ false)
-symbol_sees_neither v ts rest h = (rw h.1 refl, rw h.1 refl)
-
-pub name_sees_neither : (x : List ℕ) (line : ℕ) (ts rest : Tokens) → At line (t.name x) ts rest → (sees_operation ts ≡ false) × (sees_action ts ≡ false)
-name_sees_neither x line ts rest h = (rw h refl, rw h refl)
-
-pub word_sees_neither : (v : Word) → begins_operation v ≡ false → begins_action v ≡ false → (line : ℕ) (ts rest : Tokens) → At line (t.word v) ts rest → (sees_operation ts ≡ false) × (sees_action ts ≡ false)
-word_sees_neither v f g line ts rest h = (rw h f, rw h g)
-
--- a statement's own words begin neither
-pub others_begin_neither : (begins_operation w.Var ≡ false) × (begins_action w.Var ≡ false) × (begins_operation w.If ≡ false) × (begins_action w.If ≡ false) × (begins_operation w.While ≡ false) × (begins_action w.While ≡ false) × (begins_operation w.Guard ≡ false) × (begins_action w.Guard ≡ false) × (begins_operation w.Try ≡ false) × (begins_action w.Try ≡ false) × (begins_operation w.Else ≡ false) × (begins_action w.Else ≡ false)
-others_begin_neither = (refl, refl, refl, refl, refl, refl, refl, refl, refl, refl, refl, refl)
+action_begins_no v f line o ts rest h = rw (action_begins line o ts rest h).1 (other_word begins_action (action_word o) v (action_words o) f)

@@ -12,11 +12,10 @@ use Rattle.model_grammar.specs.Rules.{At, Takes}
 use Rattle.model_grammar.specs.Statements.{DerivesChannel, NextName, NextExpression, DerivesArguments, DerivesOperation}
 use Rattle.model_grammar.specs.Brackets.{in_all, in_channel, in_operation}
 use Rattle.expression_parser.specs.Parse.{name}
-use Rattle.expression_parser.proofs.Parsers.{and_then_ok}
+use Rattle.expression_parser.proofs.Parsers.{and_then_ok, made}
 use Rattle.expression_parser.proofs.OneToken.{name_ok, name_reads}
 use Rattle.channel_parser.specs.Parse.{channel, arguments}
-use Rattle.channel_parser.proofs.Made.{made}
-use Rattle.action_parser.specs.Operations.{next_name, next_expression, call, nb_read, nb_write, nb_transport, of_channel, operation_of}
+use Rattle.action_parser.specs.Operations.{next_name, next_expression, call, nb_read, nb_write, nb_transport, of_channel, started_operation}
 use Rattle.action_parser.specs.Parse.{operation_start}
 use Rattle.channel_parser.proofs.ChannelLaws.{channel_ok, channel_reads}
 use Rattle.channel_parser.proofs.ArgumentLaws.{arguments_ok, arguments_reads}
@@ -73,17 +72,17 @@ nb_transport_ok d line ts a rest o at h =
     let (u, g, four, h4) = and_then_ok (next_name f) _ (o, rest) h3 in
     made (Operates d line ts) h4 ((a, at, (b, name_ok a b x one, (c, next_name_ok b c y two, (f, next_name_ok c f z three, next_name_ok f g u four)))), omega arith)
 
-pub operation_of_ok : (v : Word) (d line : ℕ) (ts a rest : Tokens) (o : tree.Operation) → At line (t.word v) ts a → operation_of d (operation_start v) a ≡ Some (o, rest) → Operates d line ts o rest
-unfolding operation_of
-operation_of_ok w.Call d line ts a rest o at h = call_ok d line ts a rest o at h
-operation_of_ok w.Read d line ts a rest o at h = of_channel_ok (Operates d line ts) d tree.read a rest o (λ c mid one few. ((a, at, one), few)) h
-operation_of_ok w.NbRead d line ts a rest o at h = nb_read_ok d line ts a rest o at h
-operation_of_ok w.NbWrite d line ts a rest o at h = nb_write_ok d line ts a rest o at h
-operation_of_ok w.Trylock d line ts a rest o at h = of_channel_ok (Operates d line ts) d tree.trylock a rest o (λ c mid one few. ((a, at, one), few)) h
-operation_of_ok w.Unlock d line ts a rest o at h = of_channel_ok (Operates d line ts) d tree.unlock a rest o (λ c mid one few. ((a, at, one), few)) h
-operation_of_ok w.SemTrywait d line ts a rest o at h = of_channel_ok (Operates d line ts) d tree.sem_trywait a rest o (λ c mid one few. ((a, at, one), few)) h
-operation_of_ok w.NbTransport d line ts a rest o at h = nb_transport_ok d line ts a rest o at h
-operation_of_ok _ d line ts a rest o at h = cc
+pub started_operation_ok : (v : Word) (d line : ℕ) (ts a rest : Tokens) (o : tree.Operation) → At line (t.word v) ts a → started_operation d (operation_start v) a ≡ Some (o, rest) → Operates d line ts o rest
+unfolding started_operation
+started_operation_ok w.Call d line ts a rest o at h = call_ok d line ts a rest o at h
+started_operation_ok w.Read d line ts a rest o at h = of_channel_ok (Operates d line ts) d tree.read a rest o (λ c mid one few. ((a, at, one), few)) h
+started_operation_ok w.NbRead d line ts a rest o at h = nb_read_ok d line ts a rest o at h
+started_operation_ok w.NbWrite d line ts a rest o at h = nb_write_ok d line ts a rest o at h
+started_operation_ok w.Trylock d line ts a rest o at h = of_channel_ok (Operates d line ts) d tree.trylock a rest o (λ c mid one few. ((a, at, one), few)) h
+started_operation_ok w.Unlock d line ts a rest o at h = of_channel_ok (Operates d line ts) d tree.unlock a rest o (λ c mid one few. ((a, at, one), few)) h
+started_operation_ok w.SemTrywait d line ts a rest o at h = of_channel_ok (Operates d line ts) d tree.sem_trywait a rest o (λ c mid one few. ((a, at, one), few)) h
+started_operation_ok w.NbTransport d line ts a rest o at h = nb_transport_ok d line ts a rest o at h
+started_operation_ok _ d line ts a rest o at h = cc
 
 -- what is derived is read
 

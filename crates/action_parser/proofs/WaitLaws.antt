@@ -14,11 +14,10 @@ use Rattle.model_grammar.specs.Expressions.{DerivesExpression, is_the_symbol, se
 use Rattle.model_grammar.specs.Statements.{DerivesEvent, DerivesSensitive, DerivesArguments, DerivesSpan, DerivesWaiting, DerivesNotification, DerivesHandle, DerivesSpawn, DerivesWho}
 use Rattle.model_grammar.specs.Brackets.{in_option, in_all, in_channel, in_events, in_waiting, in_notification}
 use Rattle.expression_parser.specs.Parse.{pure, word, is_the_word, sees_second, flag, symbol, named, name, expression}
-use Rattle.expression_parser.proofs.Parsers.{choose_cases, choose_first, choose_other, and_then_ok}
+use Rattle.expression_parser.proofs.Parsers.{choose_cases, choose_first, choose_other, and_then_ok, made}
 use Rattle.expression_parser.proofs.OneToken.{symbol_ok, symbol_reads, named_ok, name_ok, name_reads, word_ok, this_word_at, word_reads, word_sees, flag_ok, flag_reads}
 use Rattle.expression_parser.proofs.Sound.{expression_ok}
 use Rattle.channel_parser.specs.Parse.{event, events, sensitive, arguments, at_semicolon}
-use Rattle.channel_parser.proofs.Made.{made}
 use Rattle.action_parser.specs.Waits.{some_span, optional_span, for_delta, for_span, for_any, for_all, for_one, all_or_one, for_events, span_or_events, some_waiting, waiting, in_delta, after_span, later, notification, myself, process_name, who, some_handle, optional_handle, spawn}
 use Rattle.channel_parser.proofs.ChannelLaws.{event_ok, event_reads, events_ok, events_reads, sensitive_ok, sensitive_reads}
 use Rattle.channel_parser.proofs.ArgumentLaws.{arguments_ok, arguments_reads}

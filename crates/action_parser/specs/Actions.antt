@@ -110,30 +110,30 @@ of_answer depth = do
   pure (tree.return_ e)
 
 -- the action that begins so, behind its word
-unfoldable pub action_of : ℕ → ActionStart → Parser tree.Action
-action_of depth start.Write = write depth
-action_of depth start.Print = print depth
-action_of depth start.Notify = notify depth
-action_of depth start.Cancel = of_name tree.cancel
-action_of depth start.Wait = of_waiting depth tree.wait
-action_of depth start.NextTrigger = of_waiting depth tree.next_trigger
-action_of depth start.Lock = of_channel depth tree.lock
-action_of depth start.SemWait = of_channel depth tree.sem_wait
-action_of depth start.Post = of_channel depth tree.post
-action_of depth start.Make = make depth
-action_of depth start.Acquire = of_name tree.acquire
-action_of depth start.Release = of_name tree.release
-action_of depth start.Carry = carry
-action_of depth start.BTransport = b_transport
-action_of depth start.QkGlobal = of_expression depth
-action_of depth start.QkInc = of_name_and_expression depth tree.qk_inc
-action_of depth start.QkSet = of_name_and_expression depth tree.qk_set
-action_of depth start.QkReset = of_name tree.qk_reset
-action_of depth start.QkSync = of_name tree.qk_sync
-action_of depth start.Spawn = of_spawn depth
-action_of depth (start.Control c) = of_who c
-action_of depth start.ThrowIt = throw_it
-action_of depth start.Throw = of_name tree.throw
-action_of depth start.Return = of_answer depth
-action_of depth start.Stop = pure tree.stop
-action_of depth start.Nothing = refuse
+unfoldable pub started_action : ℕ → ActionStart → Parser tree.Action
+started_action depth start.Write = write depth
+started_action depth start.Print = print depth
+started_action depth start.Notify = notify depth
+started_action depth start.Cancel = of_name tree.cancel
+started_action depth start.Wait = of_waiting depth tree.wait
+started_action depth start.NextTrigger = of_waiting depth tree.next_trigger
+started_action depth start.Lock = of_channel depth tree.lock
+started_action depth start.SemWait = of_channel depth tree.sem_wait
+started_action depth start.Post = of_channel depth tree.post
+started_action depth start.Make = make depth
+started_action depth start.Acquire = of_name tree.acquire
+started_action depth start.Release = of_name tree.release
+started_action depth start.Carry = carry
+started_action depth start.BTransport = b_transport
+started_action depth start.QkGlobal = of_expression depth
+started_action depth start.QkInc = of_name_and_expression depth tree.qk_inc
+started_action depth start.QkSet = of_name_and_expression depth tree.qk_set
+started_action depth start.QkReset = of_name tree.qk_reset
+started_action depth start.QkSync = of_name tree.qk_sync
+started_action depth start.Spawn = of_spawn depth
+started_action depth (start.Control c) = of_who c
+started_action depth start.ThrowIt = throw_it
+started_action depth start.Throw = of_name tree.throw
+started_action depth start.Return = of_answer depth
+started_action depth start.Stop = pure tree.stop
+started_action depth start.Nothing = refuse

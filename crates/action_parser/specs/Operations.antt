@@ -53,13 +53,13 @@ of_channel depth make = do
   pure (make c)
 
 -- the operation that begins so, behind its word
-unfoldable pub operation_of : ℕ → OperationStart → Parser tree.Operation
-operation_of depth start.Call = call depth
-operation_of depth start.Read = of_channel depth tree.read
-operation_of depth start.NbRead = nb_read depth
-operation_of depth start.NbWrite = nb_write depth
-operation_of depth start.Trylock = of_channel depth tree.trylock
-operation_of depth start.Unlock = of_channel depth tree.unlock
-operation_of depth start.SemTrywait = of_channel depth tree.sem_trywait
-operation_of depth start.NbTransport = nb_transport
-operation_of depth start.Nothing = refuse
+unfoldable pub started_operation : ℕ → OperationStart → Parser tree.Operation
+started_operation depth start.Call = call depth
+started_operation depth start.Read = of_channel depth tree.read
+started_operation depth start.NbRead = nb_read depth
+started_operation depth start.NbWrite = nb_write depth
+started_operation depth start.Trylock = of_channel depth tree.trylock
+started_operation depth start.Unlock = of_channel depth tree.unlock
+started_operation depth start.SemTrywait = of_channel depth tree.sem_trywait
+started_operation depth start.NbTransport = nb_transport
+started_operation depth start.Nothing = refuse

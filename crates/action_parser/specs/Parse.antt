@@ -11,8 +11,8 @@ use Rattle.action_parser.specs.declared.starts.OperationStart.{OperationStart}
 use Rattle.action_parser.specs.declared.starts.OperationStart.TheVariants as operates
 use Rattle.action_parser.specs.declared.starts.ActionStart.{ActionStart}
 use Rattle.action_parser.specs.declared.starts.ActionStart.TheVariants as acts
-use Rattle.action_parser.specs.Operations.{operation_of}
-use Rattle.action_parser.specs.Actions.{action_of}
+use Rattle.action_parser.specs.Operations.{started_operation}
+use Rattle.action_parser.specs.Actions.{started_action}
 
 -- what begins with a word
 
@@ -93,7 +93,7 @@ sees_action ts = passes begins_action (word_ahead ts)
 unfoldable pub operation_by : ℕ → Word → Parser (ℕ × tree.Operation)
 operation_by depth v = do
   line ← skip
-  o ← operation_of depth (operation_start v)
+  o ← started_operation depth (operation_start v)
   pure (line, o)
 
 unfoldable pub operation : ℕ → Parser (ℕ × tree.Operation)
@@ -102,7 +102,7 @@ operation depth ts = where_some (word_ahead ts) refuse (operation_by depth) ts
 unfoldable pub action_by : ℕ → Word → Parser (ℕ × tree.Action)
 action_by depth v = do
   line ← skip
-  a ← action_of depth (action_start v)
+  a ← started_action depth (action_start v)
   pure (line, a)
 
 unfoldable pub action : ℕ → Parser (ℕ × tree.Action)

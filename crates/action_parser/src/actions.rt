@@ -98,15 +98,15 @@ fn throw_it(alloc: Global, tokens: &mut Cursor<'_>) -> Result<Action, ParseStop>
 }
 
 /// The action that begins so, behind its word, which is on this line.
-#[tactic(auto, unfolding(crate::specs::Actions::action_of))]
-pub fn action_of(
+#[tactic(auto, unfolding(crate::specs::Actions::started_action))]
+pub fn started_action(
     alloc: Global,
     tokens: &mut Cursor<'_>,
     depth: u8,
     start: ActionStart,
     line: u32,
 ) -> Result<Action, ParseStop>
-    ensures { Parses views.action_of (spec.action_of depth start) tokens.old result tokens.new }
+    ensures { Parses views.action_of (spec.started_action depth start) tokens.old result tokens.new }
 {
     match start {
         ActionStart::Write => write(alloc, tokens, depth),

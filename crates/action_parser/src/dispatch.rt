@@ -3,8 +3,8 @@ ghost use Rattle.model_tree.specs.Views as views;
 ghost use Rattle.expression_parser.specs.Parse.{Parses};
 ghost use Rattle.action_parser.specs.Parse as spec;
 
-use super::actions::action_of;
-use super::operations::operation_of;
+use super::actions::started_action;
+use super::operations::started_operation;
 use super::starts::{action_start, begins_action, begins_operation, operation_start};
 use expression_parser::Cursor;
 use model_tree::{Action, Operation, ParseStop, Word};
@@ -41,7 +41,7 @@ fn operation_by(
     ensures { Parses (λ found. (found.0, views.operation_of found.1)) (spec.operation_by depth word) tokens.old result tokens.new }
 {
     let line = tokens.skip()?;
-    let found = operation_of(alloc, tokens, depth, operation_start(word), line)?;
+    let found = started_operation(alloc, tokens, depth, operation_start(word), line)?;
     Ok((line, found))
 }
 
@@ -74,7 +74,7 @@ fn action_by(
     ensures { Parses (λ found. (found.0, views.action_of found.1)) (spec.action_by depth word) tokens.old result tokens.new }
 {
     let line = tokens.skip()?;
-    let found = action_of(alloc, tokens, depth, action_start(word), line)?;
+    let found = started_action(alloc, tokens, depth, action_start(word), line)?;
     Ok((line, found))
 }
 

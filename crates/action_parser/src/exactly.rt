@@ -7,14 +7,13 @@ ghost use Rattle.model_grammar.specs.Statements.{DerivesOperation, DerivesAction
 ghost use Rattle.model_grammar.specs.Brackets.{in_operation, in_action};
 ghost use Rattle.action_parser.specs.Parse as spec;
 
-/// What is read as an operation before a semicolon is what is derived there with so few brackets, and nothing
-/// else is refused.
+/// An operation is read up to a semicolon exactly where the grammar derives it up to there with no more brackets
+/// open than may be. What is read up to another token is not spoken of.
 pub fn operation_exactly()
     ensures { (depth line : ℕ) (o : tree.Operation) (ts rest : Tokens) → sees (is_the_symbol s.Semicolon) rest ≡ true → DerivesOperation line o ts rest × (in_operation o ≤ depth) ↔ (spec.operation depth ts ≡ Some ((line, o), rest)) }
 {}
 
-/// What is read as an action before a semicolon is what is derived there with so few brackets, and nothing else
-/// is refused.
+/// The same of an action.
 pub fn action_exactly()
     ensures { (depth line : ℕ) (a : tree.Action) (ts rest : Tokens) → sees (is_the_symbol s.Semicolon) rest ≡ true → DerivesAction line a ts rest × (in_action a ≤ depth) ↔ (spec.action depth ts ≡ Some ((line, a), rest)) }
 {}

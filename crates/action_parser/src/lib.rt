@@ -12,4 +12,3 @@ mod waiting;
 
 pub use dispatch::{action, operation, sees_action, sees_operation};
 pub use exactly::{action_exactly, operation_exactly};
-pub use starts::{ActionStart, OperationStart, begins_action, begins_operation};

@@ -52,15 +52,15 @@ fn nb_transport(alloc: Global, tokens: &mut Cursor<'_>) -> Result<Operation, Par
 }
 
 /// The operation that begins so, behind its word, which is on this line.
-#[tactic(auto, unfolding(crate::specs::Operations::operation_of))]
-pub fn operation_of(
+#[tactic(auto, unfolding(crate::specs::Operations::started_operation))]
+pub fn started_operation(
     alloc: Global,
     tokens: &mut Cursor<'_>,
     depth: u8,
     start: OperationStart,
     line: u32,
 ) -> Result<Operation, ParseStop>
-    ensures { Parses views.operation_of (spec.operation_of depth start) tokens.old result tokens.new }
+    ensures { Parses views.operation_of (spec.started_operation depth start) tokens.old result tokens.new }
 {
     match start {
         OperationStart::Call => call(alloc, tokens, depth),
