@@ -12,14 +12,13 @@ use Rattle.model_grammar.specs.Expressions.{sees, DerivesExpression}
 use Rattle.model_grammar.specs.Statements.{Braced, HasHandler, DerivesStatement, DerivesStatements, DerivesElse, DerivesHandlers, DerivesBlock}
 use Rattle.model_grammar.specs.Brackets.{in_statement, in_block, in_else, in_handlers}
 use Rattle.expression_parser.specs.Parse.{Parser, pure, word, is_the_word, symbol, name, expression}
-use Rattle.expression_parser.proofs.Parsers.{and_then_ok, choose_cases, choose_first, choose_other}
+use Rattle.expression_parser.proofs.Parsers.{and_then_ok, choose_cases, choose_first, choose_other, made}
 use Rattle.expression_parser.proofs.OneToken.{symbol_ok, name_ok, word_ok, this_word_at, symbol_reads, name_reads, word_reads, symbol_sees, word_sees}
 use Rattle.expression_parser.proofs.Many.{Every, many_ok, many_reads}
 use Rattle.expression_parser.proofs.Sound.{expression_ok}
 use Rattle.expression_parser.proofs.Complete.{expression_reads, over_at}
-use Rattle.channel_parser.proofs.Made.{made}
-use Rattle.statement_parser.specs.Parse.{plain, else_branch, else_part, branch, looped, guarded, handler, at_no_catch, more_handlers, handlers, handlers_of_list, attempted, attempted_or_plain, guarded_or_less, looped_or_less, statement, at_right_brace, statements, braced, block}
-use Rattle.statement_parser.proofs.PlainLaws.{Within, plain_ok, var_reads, assign_reads, resulting_reads, operated_reads, acted_reads}
+use Rattle.statement_parser.specs.Parse.{plain, some_else, else_part, if_statement, while_statement, guard_statement, handler, at_no_catch, more_handlers, handlers, handlers_of_list, try_statement, try_or_plain, guard_or_less, while_or_less, statement, at_right_brace, statements, braced, block}
+use Rattle.statement_parser.proofs.PlainLaws.{Within, plain_ok, var_reads, assign_reads, result_statement_reads, operate_statement_reads, act_statement_reads}
 use Rattle.model_grammar.proofs.Shrinks.{statement_shortens, handler_shortens}
 use Rattle.statement_parser.proofs.Begins.{Apart, act_apart, operate_apart, Follow, statement_begins, brace_follows}
 
@@ -56,7 +55,7 @@ module _ (inner : Parser tree.Block) (d : ℕ) (inner_ok : (ts rest : Tokens) (b
   else_ok : (ts rest : Tokens) (o : tree.Else) → else_part inner ts ≡ Some (o, rest) → DerivesElse o ts rest × (in_else o ≤ d)
   unfolding else_part
   else_ok ts rest o h =
-      choose_cases (sees (is_the_word w.Else)) (else_branch inner) (pure tree.no_else) ts (o, rest) h
+      choose_cases (sees (is_the_word w.Else)) (some_else inner) (pure tree.no_else) ts (o, rest) h
       (λ e h.
       let (line, a, one, h1) = and_then_ok (word w.Else ts) _ (o, rest) h in
       let (body, b, two, h2) = and_then_ok (inner a) _ (o, rest) h1 in
@@ -64,9 +63,9 @@ module _ (inner : Parser tree.Block) (d : ℕ) (inner_ok : (ts rest : Tokens) (b
       made (λ z r. DerivesElse z ts r × (in_else z ≤ d)) h2 ((a, word_ok w.Else ts a line one, body_at), few))
       (λ e h. made (λ z r. DerivesElse z ts r × (in_else z ≤ d)) h (refl, omega arith))
 
-  branch_ok : (ts rest : Tokens) (x : tree.Statement) → branch inner d ts ≡ Some (x, rest) → Within d x ts rest
-  unfolding branch
-  branch_ok ts rest x h =
+  if_statement_ok : (ts rest : Tokens) (x : tree.Statement) → if_statement inner d ts ≡ Some (x, rest) → Within d x ts rest
+  unfolding if_statement
+  if_statement_ok ts rest x h =
       let (line, a, one, h1) = and_then_ok (word w.If ts) _ (x, rest) h in
       let (e, b, two, h2) = and_then_ok (expression d a) _ (x, rest) h1 in
       let (body, c, three, h3) = and_then_ok (inner b) _ (x, rest) h2 in
@@ -77,9 +76,9 @@ module _ (inner : Parser tree.Block) (d : ℕ) (inner_ok : (ts rest : Tokens) (b
       let all : max (depth e) (max (suc (in_block body)) (in_else other)) ≤ d = omega (arith, test.1, few, less) in
       made (λ z. Within d z ts) h4 ((a, this_word_at w.If ts a line one, (b, test.0, (c, body_at, other_at))), all)
 
-  looped_ok : (ts rest : Tokens) (x : tree.Statement) → looped inner d ts ≡ Some (x, rest) → Within d x ts rest
-  unfolding looped
-  looped_ok ts rest x h =
+  while_statement_ok : (ts rest : Tokens) (x : tree.Statement) → while_statement inner d ts ≡ Some (x, rest) → Within d x ts rest
+  unfolding while_statement
+  while_statement_ok ts rest x h =
       let (line, a, one, h1) = and_then_ok (word w.While ts) _ (x, rest) h in
       let (e, b, two, h2) = and_then_ok (expression d a) _ (x, rest) h1 in
       let (body, c, three, h3) = and_then_ok (inner b) _ (x, rest) h2 in
@@ -88,9 +87,9 @@ module _ (inner : Parser tree.Block) (d : ℕ) (inner_ok : (ts rest : Tokens) (b
       let all : max (depth e) (suc (in_block body)) ≤ d = omega (arith, test.1, few) in
       made (λ z. Within d z ts) h3 ((a, this_word_at w.While ts a line one, (b, test.0, body_at)), all)
 
-  guarded_ok : (ts rest : Tokens) (x : tree.Statement) → guarded inner ts ≡ Some (x, rest) → Within d x ts rest
-  unfolding guarded
-  guarded_ok ts rest x h =
+  guard_statement_ok : (ts rest : Tokens) (x : tree.Statement) → guard_statement inner ts ≡ Some (x, rest) → Within d x ts rest
+  unfolding guard_statement
+  guard_statement_ok ts rest x h =
       let (line, a, one, h1) = and_then_ok (word w.Guard ts) _ (x, rest) h in
       let (body, b, two, h2) = and_then_ok (inner a) _ (x, rest) h1 in
       let (at, c, three, h3) = and_then_ok (word w.Unwind b) _ (x, rest) h2 in
@@ -118,9 +117,9 @@ module _ (inner : Parser tree.Block) (d : ℕ) (inner_ok : (ts rest : Tokens) (b
       let all = handlers_listed d (x ∷ xs) ts rest (a, one_at, each) (few, every) in
       subst (λ zs. HasHandler (handlers_of_list zs) (DerivesHandlers (handlers_of_list zs)) ts rest × (in_handlers (handlers_of_list zs) ≤ d)) (sym same) all
 
-  attempted_ok : (ts rest : Tokens) (x : tree.Statement) → attempted inner ts ≡ Some (x, rest) → Within d x ts rest
-  unfolding attempted
-  attempted_ok ts rest x h =
+  try_statement_ok : (ts rest : Tokens) (x : tree.Statement) → try_statement inner ts ≡ Some (x, rest) → Within d x ts rest
+  unfolding try_statement
+  try_statement_ok ts rest x h =
       let (line, a, one, h1) = and_then_ok (word w.Try ts) _ (x, rest) h in
       let (body, b, two, h2) = and_then_ok (inner a) _ (x, rest) h1 in
       let (hs, c, three, h3) = and_then_ok (handlers inner b) _ (x, rest) h2 in
@@ -132,14 +131,14 @@ module _ (inner : Parser tree.Block) (d : ℕ) (inner_ok : (ts rest : Tokens) (b
   pub statement_ok : (ts rest : Tokens) (x : tree.Statement) → statement inner d ts ≡ Some (x, rest) → Within d x ts rest
   unfolding statement
   statement_ok ts rest x h =
-      choose_cases (sees (is_the_word w.If)) (branch inner d) (looped_or_less inner d) ts (x, rest) h
-      (λ e h. branch_ok ts rest x h)
-      (λ e h. choose_cases (sees (is_the_word w.While)) (looped inner d) (guarded_or_less inner d) ts (x, rest) h
-      (λ e h. looped_ok ts rest x h)
-      (λ e h. choose_cases (sees (is_the_word w.Guard)) (guarded inner) (attempted_or_plain inner d) ts (x, rest) h
-      (λ e h. guarded_ok ts rest x h)
-      (λ e h. choose_cases (sees (is_the_word w.Try)) (attempted inner) (plain d) ts (x, rest) h
-      (λ e h. attempted_ok ts rest x h)
+      choose_cases (sees (is_the_word w.If)) (if_statement inner d) (while_or_less inner d) ts (x, rest) h
+      (λ e h. if_statement_ok ts rest x h)
+      (λ e h. choose_cases (sees (is_the_word w.While)) (while_statement inner d) (guard_or_less inner d) ts (x, rest) h
+      (λ e h. while_statement_ok ts rest x h)
+      (λ e h. choose_cases (sees (is_the_word w.Guard)) (guard_statement inner) (try_or_plain inner d) ts (x, rest) h
+      (λ e h. guard_statement_ok ts rest x h)
+      (λ e h. choose_cases (sees (is_the_word w.Try)) (try_statement inner) (plain d) ts (x, rest) h
+      (λ e h. try_statement_ok ts rest x h)
       (λ e h. plain_ok d ts rest x h))))
 
   braced_ok : (ts rest : Tokens) (b : tree.Block) → braced inner d ts ≡ Some (b, rest) → DerivesBlock b ts rest × (suc (in_block b) ≤ suc d)
@@ -197,9 +196,9 @@ test_reads d e body ts a rest h few block_at = expression_reads d e ts a (h, few
 module _ (inner : Parser tree.Block) (d : ℕ) (inner_reads : (b : tree.Block) (ts rest : Tokens) → DerivesBlock b ts rest → suc (in_block b) ≤ d → inner ts ≡ Some (b, rest)) where
   else_reads : (o : tree.Else) (ts rest : Tokens) → DerivesElse o ts rest → in_else o ≤ d → Follow rest → else_part inner ts ≡ Some (o, rest)
   unfolding else_part
-  else_reads tree.no_else ts rest h few follow = choose_other (sees (is_the_word w.Else)) (else_branch inner) (pure tree.no_else) ts _ (rw h follow.0) (rw h refl)
+  else_reads tree.no_else ts rest h few follow = choose_other (sees (is_the_word w.Else)) (some_else inner) (pure tree.no_else) ts _ (rw h follow.0) (rw h refl)
   else_reads (tree.else_block body) ts rest (a, word_at, body_at) few follow =
-      choose_first (sees (is_the_word w.Else)) (else_branch inner) (pure tree.no_else) ts _ (word_sees w.Else ts a word_at)
+      choose_first (sees (is_the_word w.Else)) (some_else inner) (pure tree.no_else) ts _ (word_sees w.Else ts a word_at)
       (rw (word_reads w.Else ts a word_at, inner_reads body a rest body_at few) refl)
 
   handler_reads : (x : Handler) (ts rest : Tokens) → DerivesHandler x ts rest → FewIn d x → handler inner ts ≡ Some (x, rest)
@@ -216,9 +215,9 @@ module _ (inner : Parser tree.Block) (d : ℕ) (inner_reads : (b : tree.Block) (
       let others = many_reads at_no_catch (handler inner) DerivesHandler (FewIn d) (λ ts. Unit {0}) (λ x ts rest h g f. handler_reads x ts rest h g) (λ x ts rest h. (rw (word_sees w.Catch ts h.0 h.1) refl, tt)) (λ x ts rest h. handler_shortens x.0 x.1 ts rest h) (handlers_list more) ((x, body) ∷ []) c rest each every (rw follow.1 refl) tt in
       rw first others
 
-  attempted_reads : (line : ℕ) (body : tree.Block) (hs : tree.Handlers) (ts rest : Tokens) → DerivesStatement (tree.try_ line body hs) ts rest → max (suc (in_block body)) (in_handlers hs) ≤ d → Follow rest → attempted inner ts ≡ Some (tree.try_ line body hs, rest)
-  unfolding attempted
-  attempted_reads line body hs ts rest (a, word_at, (b, body_at, handlers_at)) few follow =
+  try_statement_reads : (line : ℕ) (body : tree.Block) (hs : tree.Handlers) (ts rest : Tokens) → DerivesStatement (tree.try_ line body hs) ts rest → max (suc (in_block body)) (in_handlers hs) ≤ d → Follow rest → try_statement inner ts ≡ Some (tree.try_ line body hs, rest)
+  unfolding try_statement
+  try_statement_reads line body hs ts rest (a, word_at, (b, body_at, handlers_at)) few follow =
       let one : suc (in_block body) ≤ d = omega arith in
       let two : in_handlers hs ≤ d = omega arith in
       rw (word_reads w.Try ts a (line, word_at), inner_reads body a b body_at one, handlers_read hs b rest handlers_at two follow) (ap (λ z. Some (tree.try_ line body z, rest)) (handlers_of_listed hs))
@@ -226,43 +225,43 @@ module _ (inner : Parser tree.Block) (d : ℕ) (inner_reads : (b : tree.Block) (
   plain_reads : (x : tree.Statement) (ts rest : Tokens) → Apart ts → plain d ts ≡ Some (x, rest) → statement inner d ts ≡ Some (x, rest)
   unfolding statement
   plain_reads x ts rest apart h =
-      choose_other (sees (is_the_word w.If)) (branch inner d) (looped_or_less inner d) ts _ apart.0
-      (choose_other (sees (is_the_word w.While)) (looped inner d) (guarded_or_less inner d) ts _ apart.1
-      (choose_other (sees (is_the_word w.Guard)) (guarded inner) (attempted_or_plain inner d) ts _ apart.2
-      (choose_other (sees (is_the_word w.Try)) (attempted inner) (plain d) ts _ apart.3 h)))
+      choose_other (sees (is_the_word w.If)) (if_statement inner d) (while_or_less inner d) ts _ apart.0
+      (choose_other (sees (is_the_word w.While)) (while_statement inner d) (guard_or_less inner d) ts _ apart.1
+      (choose_other (sees (is_the_word w.Guard)) (guard_statement inner) (try_or_plain inner d) ts _ apart.2
+      (choose_other (sees (is_the_word w.Try)) (try_statement inner) (plain d) ts _ apart.3 h)))
 
   pub statement_reads : (x : tree.Statement) (ts rest : Tokens) → DerivesStatement x ts rest → in_statement x ≤ d → Follow rest → statement inner d ts ≡ Some (x, rest)
-  unfolding statement branch looped guarded
+  unfolding statement if_statement while_statement guard_statement
   statement_reads (tree.var line v bytes o) ts rest h few follow = plain_reads _ ts rest (rw h.1 refl, rw h.1 refl, rw h.1 refl, rw h.1 refl) (var_reads d line v bytes o ts rest h few)
   statement_reads (tree.assign line place e) ts rest h few follow = plain_reads _ ts rest (rw h.1.1 refl, rw h.1.1 refl, rw h.1.1 refl, rw h.1.1 refl) (assign_reads d line place e ts rest h few)
-  statement_reads (tree.operate line None at o) ts rest h few follow = plain_reads _ ts rest (operate_apart line None at o ts rest h) (operated_reads d line at o ts rest h few)
-  statement_reads (tree.operate line (Some x) at o) ts rest h few follow = plain_reads _ ts rest (operate_apart line (Some x) at o ts rest h) (resulting_reads d line x at o ts rest h few)
-  statement_reads (tree.act line a) ts rest h few follow = plain_reads _ ts rest (act_apart line a ts rest h) (acted_reads d line a ts rest h few)
+  statement_reads (tree.operate line None at o) ts rest h few follow = plain_reads _ ts rest (operate_apart line None at o ts rest h) (operate_statement_reads d line at o ts rest h few)
+  statement_reads (tree.operate line (Some x) at o) ts rest h few follow = plain_reads _ ts rest (operate_apart line (Some x) at o ts rest h) (result_statement_reads d line x at o ts rest h few)
+  statement_reads (tree.act line a) ts rest h few follow = plain_reads _ ts rest (act_apart line a ts rest h) (act_statement_reads d line a ts rest h few)
   statement_reads (tree.if_ line e body other) ts rest (a, word_at, (b, test_at, (c, body_at, else_at))) few follow =
       let one : depth e ≤ d = omega arith in
       let two : suc (in_block body) ≤ d = omega arith in
       let three : in_else other ≤ d = omega arith in
-      choose_first (sees (is_the_word w.If)) (branch inner d) (looped_or_less inner d) ts _ (word_sees w.If ts a (line, word_at))
+      choose_first (sees (is_the_word w.If)) (if_statement inner d) (while_or_less inner d) ts _ (word_sees w.If ts a (line, word_at))
       (rw (word_reads w.If ts a (line, word_at), test_reads d e body a b c test_at one body_at, inner_reads body b c body_at two, else_reads other c rest else_at three follow) refl)
   statement_reads (tree.while_ line e body) ts rest (a, word_at, (b, test_at, body_at)) few follow =
       let one : depth e ≤ d = omega arith in
       let two : suc (in_block body) ≤ d = omega arith in
-      choose_other (sees (is_the_word w.If)) (branch inner d) (looped_or_less inner d) ts _ (rw word_at refl)
-      (choose_first (sees (is_the_word w.While)) (looped inner d) (guarded_or_less inner d) ts _ (word_sees w.While ts a (line, word_at))
+      choose_other (sees (is_the_word w.If)) (if_statement inner d) (while_or_less inner d) ts _ (rw word_at refl)
+      (choose_first (sees (is_the_word w.While)) (while_statement inner d) (guard_or_less inner d) ts _ (word_sees w.While ts a (line, word_at))
       (rw (word_reads w.While ts a (line, word_at), test_reads d e body a b rest test_at one body_at, inner_reads body b rest body_at two) refl))
   statement_reads (tree.guard line body undo) ts rest (a, word_at, (b, body_at, (c, unwind_at, undo_at))) few follow =
       let one : suc (in_block body) ≤ d = omega arith in
       let two : suc (in_block undo) ≤ d = omega arith in
-      choose_other (sees (is_the_word w.If)) (branch inner d) (looped_or_less inner d) ts _ (rw word_at refl)
-      (choose_other (sees (is_the_word w.While)) (looped inner d) (guarded_or_less inner d) ts _ (rw word_at refl)
-      (choose_first (sees (is_the_word w.Guard)) (guarded inner) (attempted_or_plain inner d) ts _ (word_sees w.Guard ts a (line, word_at))
+      choose_other (sees (is_the_word w.If)) (if_statement inner d) (while_or_less inner d) ts _ (rw word_at refl)
+      (choose_other (sees (is_the_word w.While)) (while_statement inner d) (guard_or_less inner d) ts _ (rw word_at refl)
+      (choose_first (sees (is_the_word w.Guard)) (guard_statement inner) (try_or_plain inner d) ts _ (word_sees w.Guard ts a (line, word_at))
       (rw (word_reads w.Guard ts a (line, word_at), inner_reads body a b body_at one, word_reads w.Unwind b c unwind_at, inner_reads undo c rest undo_at two) refl)))
   statement_reads (tree.try_ line body hs) ts rest h few follow =
-      choose_other (sees (is_the_word w.If)) (branch inner d) (looped_or_less inner d) ts _ (rw h.1 refl)
-      (choose_other (sees (is_the_word w.While)) (looped inner d) (guarded_or_less inner d) ts _ (rw h.1 refl)
-      (choose_other (sees (is_the_word w.Guard)) (guarded inner) (attempted_or_plain inner d) ts _ (rw h.1 refl)
-      (choose_first (sees (is_the_word w.Try)) (attempted inner) (plain d) ts _ (word_sees w.Try ts h.0 (line, h.1))
-      (attempted_reads line body hs ts rest h few follow))))
+      choose_other (sees (is_the_word w.If)) (if_statement inner d) (while_or_less inner d) ts _ (rw h.1 refl)
+      (choose_other (sees (is_the_word w.While)) (while_statement inner d) (guard_or_less inner d) ts _ (rw h.1 refl)
+      (choose_other (sees (is_the_word w.Guard)) (guard_statement inner) (try_or_plain inner d) ts _ (rw h.1 refl)
+      (choose_first (sees (is_the_word w.Try)) (try_statement inner) (plain d) ts _ (word_sees w.Try ts h.0 (line, h.1))
+      (try_statement_reads line body hs ts rest h few follow))))
 
   braced_reads : (b : tree.Block) (ts rest : Tokens) → DerivesBlock b ts rest → in_block b ≤ d → braced inner d ts ≡ Some (b, rest)
   unfolding braced statements

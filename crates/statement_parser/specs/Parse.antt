@@ -41,28 +41,28 @@ ended x = do
   pure x
 
 -- what is assigned to a place, behind its `=`
-unfoldable pub assigned : ℕ → ℕ → tree.Target → Parser tree.Statement
-assigned depth line place = do
+unfoldable pub assign_statement : ℕ → ℕ → tree.Target → Parser tree.Statement
+assign_statement depth line place = do
   e ← expression depth
   end ← symbol s.Semicolon
   pure (tree.assign line place e)
 
 -- an operation whose value a variable gets, behind its `=`
-unfoldable pub resulting : ℕ → ℕ × List ℕ → Parser tree.Statement
-resulting depth x = do
+unfoldable pub result_statement : ℕ → ℕ × List ℕ → Parser tree.Statement
+result_statement depth x = do
   o ← operation depth
   end ← symbol s.Semicolon
   pure (tree.operate x.0 (Some x.1) o.0 o.1)
 
 -- an operation alone
-unfoldable pub operated : ℕ → Parser tree.Statement
-operated depth = do
+unfoldable pub operate_statement : ℕ → Parser tree.Statement
+operate_statement depth = do
   o ← operation depth
   end ← symbol s.Semicolon
   pure (tree.operate o.0 None o.0 o.1)
 
-unfoldable pub acted : ℕ → Parser tree.Statement
-acted depth = do
+unfoldable pub act_statement : ℕ → Parser tree.Statement
+act_statement depth = do
   a ← action depth
   ended (tree.act a.0 a.1)
 
@@ -74,63 +74,63 @@ plain_target x = record { name = x; member = None; index = None }
 unfoldable pub equated : ℕ → ℕ × List ℕ → Parser tree.Statement
 equated depth x = do
   sign ← symbol s.Equal
-  choose sees_operation (resulting depth x) (assigned depth x.0 (plain_target x.1))
+  choose sees_operation (result_statement depth x) (assign_statement depth x.0 (plain_target x.1))
 
 -- a place that begins with this name, and its assignment
-unfoldable pub placed : ℕ → ℕ × List ℕ → Parser tree.Statement
-placed depth x = do
+unfoldable pub target_statement : ℕ → ℕ × List ℕ → Parser tree.Statement
+target_statement depth x = do
   m ← optional_member
   i ← optional_index depth
   sign ← symbol s.Equal
-  assigned depth x.0 (record { name = x.1; member = m; index = i })
+  assign_statement depth x.0 (record { name = x.1; member = m; index = i })
 
-abbrev pub equated_or_placed : ℕ → ℕ × List ℕ → Parser tree.Statement
-equated_or_placed depth x = choose (sees (is_the_symbol s.Equal)) (equated depth x) (placed depth x)
+abbrev pub equated_or_target : ℕ → ℕ × List ℕ → Parser tree.Statement
+equated_or_target depth x = choose (sees (is_the_symbol s.Equal)) (equated depth x) (target_statement depth x)
 
 -- a statement that begins with a name
 unfoldable pub name_statement : ℕ → Parser tree.Statement
 name_statement depth = do
   x ← named
-  equated_or_placed depth x
+  equated_or_target depth x
 
 abbrev pub var_or_name : ℕ → Parser tree.Statement
 var_or_name depth = choose (sees (is_the_word w.Var)) (var_statement depth) (name_statement depth)
 
-abbrev pub operated_or_named : ℕ → Parser tree.Statement
-operated_or_named depth = choose sees_operation (operated depth) (var_or_name depth)
+abbrev pub operate_or_less : ℕ → Parser tree.Statement
+operate_or_less depth = choose sees_operation (operate_statement depth) (var_or_name depth)
 
 -- a statement that holds no block
 unfoldable pub plain : ℕ → Parser tree.Statement
-plain depth = choose sees_action (acted depth) (operated_or_named depth)
+plain depth = choose sees_action (act_statement depth) (operate_or_less depth)
 
 -- statements that hold blocks, which the first parser reads
 
-abbrev pub else_branch : Parser tree.Block → Parser tree.Else
-else_branch inner = do
+abbrev pub some_else : Parser tree.Block → Parser tree.Else
+some_else inner = do
   line ← word w.Else
   body ← inner
   pure (tree.else_block body)
 
 unfoldable pub else_part : Parser tree.Block → Parser tree.Else
-else_part inner = choose (sees (is_the_word w.Else)) (else_branch inner) (pure tree.no_else)
+else_part inner = choose (sees (is_the_word w.Else)) (some_else inner) (pure tree.no_else)
 
-unfoldable pub branch : Parser tree.Block → ℕ → Parser tree.Statement
-branch inner depth = do
+unfoldable pub if_statement : Parser tree.Block → ℕ → Parser tree.Statement
+if_statement inner depth = do
   line ← word w.If
   e ← expression depth
   body ← inner
   other ← else_part inner
   pure (tree.if_ line e body other)
 
-unfoldable pub looped : Parser tree.Block → ℕ → Parser tree.Statement
-looped inner depth = do
+unfoldable pub while_statement : Parser tree.Block → ℕ → Parser tree.Statement
+while_statement inner depth = do
   line ← word w.While
   e ← expression depth
   body ← inner
   pure (tree.while_ line e body)
 
-unfoldable pub guarded : Parser tree.Block → Parser tree.Statement
-guarded inner = do
+unfoldable pub guard_statement : Parser tree.Block → Parser tree.Statement
+guard_statement inner = do
   line ← word w.Guard
   body ← inner
   at ← word w.Unwind
@@ -161,24 +161,24 @@ abbrev pub handlers_of_list : List (List ℕ × tree.Block) → tree.Handlers
 handlers_of_list [] = tree.no_more
 handlers_of_list (h ∷ hs) = tree.handler h.0 h.1 (handlers_of_list hs)
 
-unfoldable pub attempted : Parser tree.Block → Parser tree.Statement
-attempted inner = do
+unfoldable pub try_statement : Parser tree.Block → Parser tree.Statement
+try_statement inner = do
   line ← word w.Try
   body ← inner
   hs ← handlers inner
   pure (tree.try_ line body (handlers_of_list hs))
 
-abbrev pub attempted_or_plain : Parser tree.Block → ℕ → Parser tree.Statement
-attempted_or_plain inner depth = choose (sees (is_the_word w.Try)) (attempted inner) (plain depth)
+abbrev pub try_or_plain : Parser tree.Block → ℕ → Parser tree.Statement
+try_or_plain inner depth = choose (sees (is_the_word w.Try)) (try_statement inner) (plain depth)
 
-abbrev pub guarded_or_less : Parser tree.Block → ℕ → Parser tree.Statement
-guarded_or_less inner depth = choose (sees (is_the_word w.Guard)) (guarded inner) (attempted_or_plain inner depth)
+abbrev pub guard_or_less : Parser tree.Block → ℕ → Parser tree.Statement
+guard_or_less inner depth = choose (sees (is_the_word w.Guard)) (guard_statement inner) (try_or_plain inner depth)
 
-abbrev pub looped_or_less : Parser tree.Block → ℕ → Parser tree.Statement
-looped_or_less inner depth = choose (sees (is_the_word w.While)) (looped inner depth) (guarded_or_less inner depth)
+abbrev pub while_or_less : Parser tree.Block → ℕ → Parser tree.Statement
+while_or_less inner depth = choose (sees (is_the_word w.While)) (while_statement inner depth) (guard_or_less inner depth)
 
 unfoldable pub statement : Parser tree.Block → ℕ → Parser tree.Statement
-statement inner depth = choose (sees (is_the_word w.If)) (branch inner depth) (looped_or_less inner depth)
+statement inner depth = choose (sees (is_the_word w.If)) (if_statement inner depth) (while_or_less inner depth)
 
 abbrev pub at_right_brace : t.Tokens → Bool
 at_right_brace = sees (is_the_symbol s.RightBrace)

@@ -28,9 +28,9 @@ fn else_part(
 
 /// A choice by a test.
 #[cycle(statement)]
-#[tactic(auto, unfolding(crate::specs::Parse::branch))]
-fn branch(alloc: Global, tokens: &mut Cursor<'_>, depth: u8) -> Result<Statement, ParseStop>
-    ensures { parse.Parses statement_of (spec.branch (spec.block depth) depth) tokens.old result tokens.new }
+#[tactic(auto, unfolding(crate::specs::Parse::if_statement))]
+fn if_statement(alloc: Global, tokens: &mut Cursor<'_>, depth: u8) -> Result<Statement, ParseStop>
+    ensures { parse.Parses statement_of (spec.if_statement (spec.block depth) depth) tokens.old result tokens.new }
 {
     let line = tokens.word(Word::If)?;
     let test = expression(alloc, tokens, depth)?;
@@ -41,9 +41,13 @@ fn branch(alloc: Global, tokens: &mut Cursor<'_>, depth: u8) -> Result<Statement
 
 /// What is done again and again while a test holds.
 #[cycle(statement)]
-#[tactic(auto, unfolding(crate::specs::Parse::looped))]
-fn looped(alloc: Global, tokens: &mut Cursor<'_>, depth: u8) -> Result<Statement, ParseStop>
-    ensures { parse.Parses statement_of (spec.looped (spec.block depth) depth) tokens.old result tokens.new }
+#[tactic(auto, unfolding(crate::specs::Parse::while_statement))]
+fn while_statement(
+    alloc: Global,
+    tokens: &mut Cursor<'_>,
+    depth: u8,
+) -> Result<Statement, ParseStop>
+    ensures { parse.Parses statement_of (spec.while_statement (spec.block depth) depth) tokens.old result tokens.new }
 {
     let line = tokens.word(Word::While)?;
     let test = expression(alloc, tokens, depth)?;
@@ -53,9 +57,13 @@ fn looped(alloc: Global, tokens: &mut Cursor<'_>, depth: u8) -> Result<Statement
 
 /// What is done, and what undoes it.
 #[cycle(statement)]
-#[tactic(auto, unfolding(crate::specs::Parse::guarded))]
-fn guarded(alloc: Global, tokens: &mut Cursor<'_>, depth: u8) -> Result<Statement, ParseStop>
-    ensures { parse.Parses statement_of (spec.guarded (spec.block depth)) tokens.old result tokens.new }
+#[tactic(auto, unfolding(crate::specs::Parse::guard_statement))]
+fn guard_statement(
+    alloc: Global,
+    tokens: &mut Cursor<'_>,
+    depth: u8,
+) -> Result<Statement, ParseStop>
+    ensures { parse.Parses statement_of (spec.guard_statement (spec.block depth)) tokens.old result tokens.new }
 {
     let line = tokens.word(Word::Guard)?;
     let body = block(alloc, tokens, depth)?;
@@ -130,9 +138,9 @@ fn handlers(
 
 /// What is done, and what is done where it throws.
 #[cycle(statement)]
-#[tactic(auto, unfolding(crate::specs::Parse::attempted))]
-fn attempted(alloc: Global, tokens: &mut Cursor<'_>, depth: u8) -> Result<Statement, ParseStop>
-    ensures { parse.Parses statement_of (spec.attempted (spec.block depth)) tokens.old result tokens.new }
+#[tactic(auto, unfolding(crate::specs::Parse::try_statement))]
+fn try_statement(alloc: Global, tokens: &mut Cursor<'_>, depth: u8) -> Result<Statement, ParseStop>
+    ensures { parse.Parses statement_of (spec.try_statement (spec.block depth)) tokens.old result tokens.new }
 {
     let line = tokens.word(Word::Try)?;
     let body = block(alloc, tokens, depth)?;
@@ -147,16 +155,16 @@ fn statement(alloc: Global, tokens: &mut Cursor<'_>, depth: u8) -> Result<Statem
     ensures { parse.Parses statement_of (spec.statement (spec.block depth) depth) tokens.old result tokens.new }
 {
     if tokens.sees_word(Word::If) {
-        return branch(alloc, tokens, depth);
+        return if_statement(alloc, tokens, depth);
     }
     if tokens.sees_word(Word::While) {
-        return looped(alloc, tokens, depth);
+        return while_statement(alloc, tokens, depth);
     }
     if tokens.sees_word(Word::Guard) {
-        return guarded(alloc, tokens, depth);
+        return guard_statement(alloc, tokens, depth);
     }
     if tokens.sees_word(Word::Try) {
-        return attempted(alloc, tokens, depth);
+        return try_statement(alloc, tokens, depth);
     }
     plain(alloc, tokens, depth)
 }

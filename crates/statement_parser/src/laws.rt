@@ -5,8 +5,8 @@ ghost use Rattle.model_grammar.specs.Statements.{DerivesBlock};
 ghost use Rattle.model_grammar.specs.Brackets.{in_block};
 ghost use Rattle.statement_parser.specs.Parse.{block};
 
-/// What is read as a block is what is derived with so few brackets, its own among them, and nothing else is
-/// refused.
+/// A block is read up to a token exactly where the grammar derives it up to there with no more brackets open than
+/// may be, its own among them. So it is refused exactly where none is derived.
 pub fn block_exactly()
     ensures { (depth : ℕ) (body : tree.Block) (ts rest : Tokens) → DerivesBlock body ts rest × (suc (in_block body) ≤ depth) ↔ (block depth ts ≡ Some (body, rest)) }
 {}

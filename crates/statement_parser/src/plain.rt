@@ -40,15 +40,15 @@ fn var_statement(alloc: Global, tokens: &mut Cursor<'_>, depth: u8) -> Result<St
 }
 
 /// What is assigned to a place, behind its `=`.
-#[tactic(auto, unfolding(crate::specs::Parse::assigned))]
-fn assigned(
+#[tactic(auto, unfolding(crate::specs::Parse::assign_statement))]
+fn assign_statement(
     alloc: Global,
     tokens: &mut Cursor<'_>,
     depth: u8,
     line: u32,
     place: Target,
 ) -> Result<Statement, ParseStop>
-    ensures { parse.Parses statement_of (spec.assigned depth line (target_of place)) tokens.old result tokens.new }
+    ensures { parse.Parses statement_of (spec.assign_statement depth line (target_of place)) tokens.old result tokens.new }
 {
     let value = expression(alloc, tokens, depth)?;
     let _semicolon = tokens.symbol(Symbol::Semicolon)?;
@@ -56,15 +56,15 @@ fn assigned(
 }
 
 /// An operation whose value this variable gets, behind its `=`.
-#[tactic(auto, unfolding(crate::specs::Parse::resulting))]
-fn resulting(
+#[tactic(auto, unfolding(crate::specs::Parse::result_statement))]
+fn result_statement(
     alloc: Global,
     tokens: &mut Cursor<'_>,
     depth: u8,
     line: u32,
     name: Name,
 ) -> Result<Statement, ParseStop>
-    ensures { parse.Parses statement_of (spec.resulting depth (line, name)) tokens.old result tokens.new }
+    ensures { parse.Parses statement_of (spec.result_statement depth (line, name)) tokens.old result tokens.new }
 {
     let (at, operation) = operation(alloc, tokens, depth)?;
     let _semicolon = tokens.symbol(Symbol::Semicolon)?;
@@ -72,9 +72,13 @@ fn resulting(
 }
 
 /// An operation alone.
-#[tactic(auto, unfolding(crate::specs::Parse::operated))]
-fn operated(alloc: Global, tokens: &mut Cursor<'_>, depth: u8) -> Result<Statement, ParseStop>
-    ensures { parse.Parses statement_of (spec.operated depth) tokens.old result tokens.new }
+#[tactic(auto, unfolding(crate::specs::Parse::operate_statement))]
+fn operate_statement(
+    alloc: Global,
+    tokens: &mut Cursor<'_>,
+    depth: u8,
+) -> Result<Statement, ParseStop>
+    ensures { parse.Parses statement_of (spec.operate_statement depth) tokens.old result tokens.new }
 {
     let (line, operation) = operation(alloc, tokens, depth)?;
     let _semicolon = tokens.symbol(Symbol::Semicolon)?;
@@ -91,9 +95,9 @@ fn ended(tokens: &mut Cursor<'_>, statement: Statement) -> Result<Statement, Par
 }
 
 /// A statement that gives no value.
-#[tactic(auto, unfolding(crate::specs::Parse::acted))]
-fn acted(alloc: Global, tokens: &mut Cursor<'_>, depth: u8) -> Result<Statement, ParseStop>
-    ensures { parse.Parses statement_of (spec.acted depth) tokens.old result tokens.new }
+#[tactic(auto, unfolding(crate::specs::Parse::act_statement))]
+fn act_statement(alloc: Global, tokens: &mut Cursor<'_>, depth: u8) -> Result<Statement, ParseStop>
+    ensures { parse.Parses statement_of (spec.act_statement depth) tokens.old result tokens.new }
 {
     let (line, action) = action(alloc, tokens, depth)?;
     ended(tokens, Statement::Act(line, action))
@@ -112,26 +116,26 @@ fn equated(
 {
     let _equal = tokens.symbol(Symbol::Equal)?;
     if sees_operation(tokens) {
-        return resulting(alloc, tokens, depth, line, name);
+        return result_statement(alloc, tokens, depth, line, name);
     }
     let place = Target {
         name,
         member: None,
         index: None,
     };
-    assigned(alloc, tokens, depth, line, place)
+    assign_statement(alloc, tokens, depth, line, place)
 }
 
 /// The rest of a place that begins with this name, and what is assigned to it.
-#[tactic(auto, unfolding(crate::specs::Parse::placed))]
-fn placed(
+#[tactic(auto, unfolding(crate::specs::Parse::target_statement))]
+fn target_statement(
     alloc: Global,
     tokens: &mut Cursor<'_>,
     depth: u8,
     line: u32,
     name: Name,
 ) -> Result<Statement, ParseStop>
-    ensures { parse.Parses statement_of (spec.placed depth (line, name)) tokens.old result tokens.new }
+    ensures { parse.Parses statement_of (spec.target_statement depth (line, name)) tokens.old result tokens.new }
 {
     let member = optional_member(alloc, tokens)?;
     let index = optional_index(alloc, tokens, depth)?;
@@ -141,7 +145,7 @@ fn placed(
         member,
         index,
     };
-    assigned(alloc, tokens, depth, line, place)
+    assign_statement(alloc, tokens, depth, line, place)
 }
 
 /// A statement that begins with a name.
@@ -153,7 +157,7 @@ fn name_statement(alloc: Global, tokens: &mut Cursor<'_>, depth: u8) -> Result<S
     if tokens.sees_symbol(Symbol::Equal) {
         return equated(alloc, tokens, depth, line, name);
     }
-    placed(alloc, tokens, depth, line, name)
+    target_statement(alloc, tokens, depth, line, name)
 }
 
 /// A statement that holds no block. So many brackets may be opened in it.
@@ -162,10 +166,10 @@ pub fn plain(alloc: Global, tokens: &mut Cursor<'_>, depth: u8) -> Result<Statem
     ensures { parse.Parses statement_of (spec.plain depth) tokens.old result tokens.new }
 {
     if sees_action(tokens) {
-        return acted(alloc, tokens, depth);
+        return act_statement(alloc, tokens, depth);
     }
     if sees_operation(tokens) {
-        return operated(alloc, tokens, depth);
+        return operate_statement(alloc, tokens, depth);
     }
     if tokens.sees_word(Word::Var) {
         return var_statement(alloc, tokens, depth);

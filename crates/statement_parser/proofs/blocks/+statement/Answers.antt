@@ -50,5 +50,5 @@ statements-loop-turn-preserved t c =
 pub statements-returns : goal.statements-returns
 statements-returns t c other = many_ends at_right_brace (statement (block c.args.depth) c.args.depth) (c.left-turns.result + 1) c.loop-turn.turn (map statement_of c.loop-turn.found.items) c.loop-turn.tokens (statements (block c.args.depth) c.args.depth c.args.tokens.now) c.loop-turn.invariant c.loop-turn-test.false
 
-pub attempted-returns : goal.attempted-returns
-attempted-returns t c = try_reads (block c.args.depth) c.in_ok-line.line c.in_ok-body.body c.in_ok-caught.caught c.args.tokens.now c.word.new.self c.block.new.tokens c.handlers.new.tokens c.in_ok-line.ensures c.in_ok-body.ensures c.in_ok-caught.ensures
+pub try_statement-returns : goal.try_statement-returns
+try_statement-returns t c = try_reads (block c.args.depth) c.in_ok-line.line c.in_ok-body.body c.in_ok-caught.caught c.args.tokens.now c.word.new.self c.block.new.tokens c.handlers.new.tokens c.in_ok-line.ensures c.in_ok-body.ensures c.in_ok-caught.ensures

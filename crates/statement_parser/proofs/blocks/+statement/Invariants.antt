@@ -5,8 +5,8 @@ use Rattle.statement_parser.specs.Parse.{handler, at_no_catch, more_handlers, st
 use Rattle.statement_parser.proofs.blocks.+statement.Given as goal
 
 -- each block has one bracket less to open
-abbrev pub decreases-attempted : goal.decreases-attempted
-decreases-attempted l = 20 * l.depth + 6
+abbrev pub decreases-try_statement : goal.decreases-try_statement
+decreases-try_statement l = 20 * l.depth + 6
 
 abbrev pub decreases-block : goal.decreases-block
 decreases-block l = 20 * l.depth + 1
@@ -14,14 +14,14 @@ decreases-block l = 20 * l.depth + 1
 abbrev pub decreases-braced : goal.decreases-braced
 decreases-braced l = 20 * l.depth + 9
 
-abbrev pub decreases-branch : goal.decreases-branch
-decreases-branch l = 20 * l.depth + 6
+abbrev pub decreases-if_statement : goal.decreases-if_statement
+decreases-if_statement l = 20 * l.depth + 6
 
 abbrev pub decreases-else_part : goal.decreases-else_part
 decreases-else_part l = 20 * l.depth + 2
 
-abbrev pub decreases-guarded : goal.decreases-guarded
-decreases-guarded l = 20 * l.depth + 6
+abbrev pub decreases-guard_statement : goal.decreases-guard_statement
+decreases-guard_statement l = 20 * l.depth + 6
 
 abbrev pub decreases-handler : goal.decreases-handler
 decreases-handler l = 20 * l.depth + 3
@@ -29,8 +29,8 @@ decreases-handler l = 20 * l.depth + 3
 abbrev pub decreases-handlers : goal.decreases-handlers
 decreases-handlers l = 20 * l.depth + 5
 
-abbrev pub decreases-looped : goal.decreases-looped
-decreases-looped l = 20 * l.depth + 6
+abbrev pub decreases-while_statement : goal.decreases-while_statement
+decreases-while_statement l = 20 * l.depth + 6
 
 abbrev pub decreases-more_handlers : goal.decreases-more_handlers
 decreases-more_handlers l = 20 * l.depth + 4
