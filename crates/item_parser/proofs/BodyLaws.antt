@@ -1,9 +1,7 @@
 -- The laws of functions and processes, both ways.
-use Rattle.std.proofs.Common.{◌≡◌, ℕ, suc, ◌+◌, ◌<◌, ◌≤◌, max, Bool, true, false, List, [], ◌∷◌, ◌++◌, length, Option, Some, None, refl, sym, ap, subst, arith}
+use Rattle.std.proofs.Common.{◌≡◌, ℕ, suc, ◌<◌, ◌≤◌, max, Bool, true, false, List, [], ◌∷◌, length, Option, Some, None, refl, sym, subst, arith}
 use Rattle.model_tree.specs.declared.vocabulary.Word.TheVariants as w
 use Rattle.model_tree.specs.declared.vocabulary.Symbol.TheVariants as s
-use Rattle.model_tree.specs.declared.types.TypeForm.{TypeForm}
-use Rattle.model_tree.specs.declared.types.TypeForm.TheVariants as form
 use Rattle.model_tree.specs.declared.types.VarType.{VarType}
 use Rattle.model_tree.specs.declared.types.VarType.TheVariants as var_type
 use Rattle.model_tree.specs.declared.types.Parameter.{Parameter}
@@ -11,20 +9,19 @@ use Rattle.model_tree.specs.declared.items.ProcessKind.{ProcessKind}
 use Rattle.model_tree.specs.Tree as tree
 use Rattle.model_grammar.specs.Tokens as t
 use Rattle.model_grammar.specs.Tokens.{Tokens}
-use Rattle.model_grammar.specs.Rules.{Rule, ◌⨾◌, At, Takes, Each, Separated, Maybe, Written}
+use Rattle.model_grammar.specs.Rules.{Rule, ◌⨾◌, Takes, Maybe, Written}
 use Rattle.model_grammar.specs.Expressions.{is_the_symbol, sees}
-use Rattle.model_grammar.specs.Statements.{DerivesForm, DerivesVarTypeAt, DerivesBlock}
+use Rattle.model_grammar.specs.Statements.{DerivesVarTypeAt}
 use Rattle.model_grammar.specs.Items.{DerivesMode, DerivesParameter, DerivesParameters, DerivesAnswer, DerivesItem}
 use Rattle.model_tree.specs.Spelling.{process_word}
 use Rattle.model_grammar.specs.Brackets.{in_block, in_events}
-use Rattle.expression_parser.specs.Parse.{pure, choose, word, is_the_word, flag, symbol, name, opened}
-use Rattle.expression_parser.proofs.Parsers.{and_then_ok, choose_cases, choose_first, choose_other}
-use Rattle.expression_parser.proofs.OneToken.{symbol_ok, symbol_reads, symbol_sees, opened_ok, opened_reads, name_ok, name_reads, this_word_at, word_ok, word_reads, word_sees, flag_ok, flag_reads}
+use Rattle.expression_parser.specs.Parse.{pure, word, is_the_word, flag, symbol, name, opened}
+use Rattle.expression_parser.proofs.Parsers.{and_then_ok, choose_cases, choose_first, choose_other, made}
+use Rattle.expression_parser.proofs.OneToken.{symbol_ok, symbol_reads, symbol_sees, opened_ok, opened_reads, name_ok, name_reads, this_word_at, word_reads, word_sees, flag_ok, flag_reads}
 use Rattle.model_grammar.proofs.Shrinks.{first, takes_shortens, parameter_shrinks}
 use Rattle.expression_parser.proofs.Many.{Every, many_ok, many_reads}
 use Rattle.channel_parser.specs.Parse.{variable_type, sensitive, at_no_comma, at_right_paren}
-use Rattle.channel_parser.proofs.Made.{made}
-use Rattle.channel_parser.proofs.TypeLaws.{variable_type_ok, variable_type_reads}
+use Rattle.channel_parser.proofs.TypeLaws.{variable_type_ok, variable_type_reads, form_begins_not}
 use Rattle.channel_parser.proofs.ChannelLaws.{EventsEnd, sensitive_ok, sensitive_reads}
 use Rattle.statement_parser.specs.Parse.{block}
 use Rattle.statement_parser.proofs.BlockLaws.{block_ok, block_reads}
@@ -57,15 +54,9 @@ parameter_ok ts rest p h =
 
 -- a type of variables begins neither with `inout` nor with a closing parenthesis
 
-form_begins : (line : ℕ) (f : TypeForm) (ts rest : Tokens) → DerivesForm line f ts rest → (sees (is_the_word w.Inout) ts ≡ false) × (at_right_paren ts ≡ false)
-form_begins line form.Bool ts rest h = (rw h refl, rw h refl)
-form_begins line form.Logic ts rest h = (rw h refl, rw h refl)
-form_begins line (form.Int n) ts rest (a, one, two) = (rw one refl, rw one refl)
-form_begins line (form.Uint n) ts rest (a, one, two) = (rw one refl, rw one refl)
-form_begins line (form.Vector n) ts rest (a, one, two) = (rw one refl, rw one refl)
-
 type_begins : (line : ℕ) (x : VarType) (ts rest : Tokens) → DerivesVarTypeAt line x ts rest → (sees (is_the_word w.Inout) ts ≡ false) × (at_right_paren ts ≡ false)
-type_begins line (var_type.Plain x) ts rest (same, h) = form_begins x.line x.form ts rest h
+type_begins line (var_type.Plain x) ts rest (same, h) =
+    (form_begins_not (is_the_word w.Inout) (refl, refl, refl, refl, refl) x.line x.form ts rest h, form_begins_not (is_the_symbol s.RightParen) (refl, refl, refl, refl, refl) x.line x.form ts rest h)
 type_begins line var_type.Time ts rest h = (rw h refl, rw h refl)
 type_begins line var_type.Process ts rest h = (rw h refl, rw h refl)
 type_begins line var_type.Payload ts rest h = (rw h refl, rw h refl)

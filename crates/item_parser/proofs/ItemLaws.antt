@@ -1,8 +1,7 @@
 -- The laws of any item, both ways.
-use Rattle.std.proofs.Common.{◌≡◌, ℕ, suc, ◌<◌, ◌≤◌, max, true, false, List, [], ◌∷◌, ◌++◌, length, Option, Some, None, refl, sym, ◌∙◌, subst, arith}
+use Rattle.std.proofs.Common.{◌≡◌, ℕ, ◌≤◌, true, false, List, [], ◌∷◌, Some, refl, sym, ◌∙◌, subst, arith}
 use Rattle.model_tree.specs.declared.vocabulary.Word.{Word}
 use Rattle.model_tree.specs.declared.vocabulary.Word.TheVariants as w
-use Rattle.model_tree.specs.declared.vocabulary.Symbol.TheVariants as s
 use Rattle.model_tree.specs.declared.types.Interface.{Interface}
 use Rattle.model_tree.specs.declared.types.Interface.TheVariants as interface_form
 use Rattle.model_tree.specs.declared.items.SignalKind.{SignalKind}
@@ -23,43 +22,43 @@ use Rattle.expression_parser.proofs.Many.{Every, many_ok, many_reads}
 use Rattle.statement_parser.specs.Parse.{at_right_brace}
 use Rattle.item_parser.specs.declared.starts.ItemStart.{ItemStart}
 use Rattle.item_parser.specs.declared.starts.ItemStart.TheVariants as start
-use Rattle.item_parser.specs.Starts.{item_start, item_of}
-use Rattle.item_parser.specs.Bodies.{started, item, items}
+use Rattle.item_parser.specs.Starts.{item_start, item_ahead}
+use Rattle.item_parser.specs.Bodies.{started_item, item, items}
 use Rattle.item_parser.proofs.PlainItemLaws.{Within, signal_item_ok, signal_item_reads, resolved_item_ok, resolved_item_reads, plain_item_ok, plain_item_reads, clock_item_ok, clock_item_reads, fifo_item_ok, fifo_item_reads, semaphore_item_ok, semaphore_item_reads, memory_item_ok, memory_item_reads, variable_item_ok, variable_item_reads}
 use Rattle.item_parser.proofs.PortLaws.{port_item_ok, port_item_reads, export_item_ok, export_item_reads}
 use Rattle.item_parser.proofs.SocketLaws.{initiator_item_ok, initiator_item_reads, target_item_ok, target_item_reads, instance_item_ok, instance_item_reads, bind_item_ok, bind_item_reads}
 use Rattle.item_parser.proofs.BodyLaws.{function_item_ok, function_item_reads, process_item_ok, process_item_reads}
 
-started_ok : (a : ItemStart) (d : ℕ) (ts rest : Tokens) (x : tree.Item) → started a d ts ≡ Some (x, rest) → Within d ts x rest
-started_ok (start.Signal k) d ts rest x h = signal_item_ok k d ts rest x h
-started_ok start.Resolved d ts rest x h = resolved_item_ok d ts rest x h
-started_ok start.Clock d ts rest x h = clock_item_ok d ts rest x h
-started_ok start.Fifo d ts rest x h = fifo_item_ok d ts rest x h
-started_ok (start.Plain k) d ts rest x h = plain_item_ok k d ts rest x h
-started_ok start.Semaphore d ts rest x h = semaphore_item_ok d ts rest x h
-started_ok start.Memory d ts rest x h = memory_item_ok d ts rest x h
-started_ok start.Variable d ts rest x h = variable_item_ok d ts rest x h
-started_ok start.Port d ts rest x h = port_item_ok d ts rest x h
-started_ok start.Export d ts rest x h = export_item_ok d ts rest x h
-started_ok start.Initiator d ts rest x h = initiator_item_ok d ts rest x h
-started_ok start.Target d ts rest x h = target_item_ok d ts rest x h
-started_ok start.Instance d ts rest x h = instance_item_ok d ts rest x h
-started_ok start.Bind d ts rest x h = bind_item_ok d ts rest x h
-started_ok start.Function d ts rest x h = function_item_ok d ts rest x h
-started_ok (start.Process k) d ts rest x h = process_item_ok k d ts rest x h
-started_ok start.Nothing d ts rest x h = cc
+started_item_ok : (a : ItemStart) (d : ℕ) (ts rest : Tokens) (x : tree.Item) → started_item a d ts ≡ Some (x, rest) → Within d ts x rest
+started_item_ok (start.Signal k) d ts rest x h = signal_item_ok k d ts rest x h
+started_item_ok start.Resolved d ts rest x h = resolved_item_ok d ts rest x h
+started_item_ok start.Clock d ts rest x h = clock_item_ok d ts rest x h
+started_item_ok start.Fifo d ts rest x h = fifo_item_ok d ts rest x h
+started_item_ok (start.Plain k) d ts rest x h = plain_item_ok k d ts rest x h
+started_item_ok start.Semaphore d ts rest x h = semaphore_item_ok d ts rest x h
+started_item_ok start.Memory d ts rest x h = memory_item_ok d ts rest x h
+started_item_ok start.Variable d ts rest x h = variable_item_ok d ts rest x h
+started_item_ok start.Port d ts rest x h = port_item_ok d ts rest x h
+started_item_ok start.Export d ts rest x h = export_item_ok d ts rest x h
+started_item_ok start.Initiator d ts rest x h = initiator_item_ok d ts rest x h
+started_item_ok start.Target d ts rest x h = target_item_ok d ts rest x h
+started_item_ok start.Instance d ts rest x h = instance_item_ok d ts rest x h
+started_item_ok start.Bind d ts rest x h = bind_item_ok d ts rest x h
+started_item_ok start.Function d ts rest x h = function_item_ok d ts rest x h
+started_item_ok (start.Process k) d ts rest x h = process_item_ok k d ts rest x h
+started_item_ok start.Nothing d ts rest x h = cc
 
 pub item_ok : (d : ℕ) (ts rest : Tokens) (x : tree.Item) → item d ts ≡ Some (x, rest) → DerivesItem x ts rest × (in_item x ≤ d)
 unfolding item
-item_ok d ts rest x h = started_ok (item_of ts) d ts rest x h
+item_ok d ts rest x h = started_item_ok (item_ahead ts) d ts rest x h
 
 -- each item is known by its first word
 
-by_start : (a : ItemStart) (d : ℕ) (ts : Tokens) (r : tree.Item × Tokens) → item_of ts ≡ a → started a d ts ≡ Some r → item d ts ≡ Some r
+by_start : (a : ItemStart) (d : ℕ) (ts : Tokens) (r : tree.Item × Tokens) → item_ahead ts ≡ a → started_item a d ts ≡ Some r → item d ts ≡ Some r
 unfolding item
 by_start a d ts r e h = rw e h
 
-by_word : (v : Word) (line : ℕ) (ts rest : Tokens) → At line (t.word v) ts rest → item_of ts ≡ item_start v
+by_word : (v : Word) (line : ℕ) (ts rest : Tokens) → At line (t.word v) ts rest → item_ahead ts ≡ item_start v
 by_word v line ts rest h = rw h refl
 
 signal_start : (k : SignalKind) → item_start (signal_word k) ≡ start.Signal k
@@ -75,7 +74,7 @@ process_start : (k : ProcessKind) → item_start (process_word k) ≡ start.Proc
 process_start process.Thread = refl
 process_start process.Method = refl
 
-port_start : (line : ℕ) (i : Interface) (ts rest : Tokens) → DerivesInterface (At line) i ts rest → (item_of ts ≡ start.Port) × (at_right_brace ts ≡ false)
+port_start : (line : ℕ) (i : Interface) (ts rest : Tokens) → DerivesInterface (At line) i ts rest → (item_ahead ts ≡ start.Port) × (at_right_brace ts ≡ false)
 port_start line (interface_form.In x) ts rest (a, one, two) = (rw one refl, rw one refl)
 port_start line (interface_form.Out x) ts rest (a, one, two) = (rw one refl, rw one refl)
 port_start line (interface_form.FifoIn x) ts rest (a, one, two) = (rw one refl, rw one refl)

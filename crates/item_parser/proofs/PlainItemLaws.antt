@@ -1,11 +1,9 @@
 -- The laws of signals, clocks, fifos and other items that have names, types and numbers alone, both ways.
-use Rattle.std.proofs.Common.{◌≡◌, ℕ, ◌≤◌, Bool, true, false, List, Option, Some, None, refl, sym, arith}
+use Rattle.std.proofs.Common.{◌≡◌, ℕ, ◌≤◌, false, List, Option, Some, None, refl, sym, arith}
 use Rattle.std.specs.Prelude.{is_some}
 use Rattle.model_tree.specs.declared.vocabulary.Word.TheVariants as w
 use Rattle.model_tree.specs.declared.vocabulary.Symbol.TheVariants as s
 use Rattle.model_tree.specs.declared.types.SignalType.{SignalType}
-use Rattle.model_tree.specs.declared.types.TypeForm.{TypeForm}
-use Rattle.model_tree.specs.declared.types.TypeForm.TheVariants as form
 use Rattle.model_tree.specs.declared.types.VarType.{VarType}
 use Rattle.model_tree.specs.declared.types.Constant.{Constant}
 use Rattle.model_tree.specs.declared.types.Span.{Span}
@@ -16,18 +14,16 @@ use Rattle.model_tree.specs.declared.items.PlainKind.{PlainKind}
 use Rattle.model_tree.specs.Tree as tree
 use Rattle.model_grammar.specs.Tokens as t
 use Rattle.model_grammar.specs.Tokens.{Tokens}
-use Rattle.model_grammar.specs.Rules.{At, Takes, Maybe, Written}
+use Rattle.model_grammar.specs.Rules.{Takes, Maybe}
 use Rattle.model_grammar.specs.Expressions.{is_the_symbol, sees, unit_in}
-use Rattle.model_grammar.specs.Statements.{DerivesForm}
 use Rattle.model_grammar.specs.Items.{DerivesStart, DerivesFifoSize, DerivesItem}
 use Rattle.model_tree.specs.Spelling.{signal_word, plain_word}
 use Rattle.model_grammar.specs.Brackets.{in_item}
-use Rattle.expression_parser.specs.Parse.{pure, choose, word, is_the_word, flag, symbol, name, number, opened}
-use Rattle.expression_parser.proofs.Parsers.{and_then_ok, choose_cases, choose_first, choose_other}
-use Rattle.expression_parser.proofs.OneToken.{symbol_ok, symbol_reads, opened_ok, opened_reads, name_ok, name_reads, number_ok, number_reads, this_word_at, word_ok, word_reads, word_sees, flag_ok, flag_reads, sees_other}
+use Rattle.expression_parser.specs.Parse.{pure, word, is_the_word, flag, symbol, name, number, opened}
+use Rattle.expression_parser.proofs.Parsers.{and_then_ok, choose_cases, choose_first, choose_other, made}
+use Rattle.expression_parser.proofs.OneToken.{symbol_ok, symbol_reads, opened_ok, opened_reads, name_ok, name_reads, number_ok, number_reads, this_word_at, word_ok, word_reads, word_sees, flag_ok, flag_reads}
 use Rattle.channel_parser.specs.Parse.{signal_type, variable_type}
-use Rattle.channel_parser.proofs.Made.{made}
-use Rattle.channel_parser.proofs.TypeLaws.{signal_type_ok, signal_type_reads, variable_type_ok, variable_type_reads}
+use Rattle.channel_parser.proofs.TypeLaws.{signal_type_ok, signal_type_reads, variable_type_ok, variable_type_reads, form_begins_not}
 use Rattle.item_parser.specs.Parse.{time_span, constant, first_value, signal_item, resolved_item, some_start, clock_start, clock_item, some_size, fifo_size, fifo_item, plain_item, semaphore_item, memory_item, variable_item}
 use Rattle.item_parser.proofs.ValueLaws.{time_span_ok, time_span_reads, constant_ok, constant_reads, first_value_ok, first_value_reads}
 
@@ -49,14 +45,6 @@ signal_item_ok k d ts rest x h =
     made (Within d ts) h6
     ((a, this_word_at (signal_word k) ts a line one, (b, flag_ok w.Many a b several two, (c, signal_type_ok b c value_type three, (e, name_ok c e bytes four, (f, first_value_ok e f initial five, symbol_ok s.Semicolon f g end six))))), omega arith)
 
--- a type begins with no `many`
-no_many : (line : ℕ) (f : TypeForm) (ts rest : Tokens) → DerivesForm line f ts rest → sees (is_the_word w.Many) ts ≡ false
-no_many line form.Bool ts rest h = rw h refl
-no_many line form.Logic ts rest h = rw h refl
-no_many line (form.Int n) ts rest (a, one, two) = rw one refl
-no_many line (form.Uint n) ts rest (a, one, two) = rw one refl
-no_many line (form.Vector n) ts rest (a, one, two) = rw one refl
-
 -- where a semicolon comes, no first value and no unit does
 value_free : (ts rest : Tokens) → Takes (t.symbol s.Semicolon) ts rest → (sees (is_the_symbol s.Equal) ts ≡ false) × (sees (λ x. is_some (unit_in x)) ts ≡ false)
 value_free ts rest h = (rw h.1 refl, rw h.1 refl)
@@ -66,7 +54,7 @@ unfolding signal_item
 signal_item_reads k line i ts rest same (a, one, (b, two, (c, three, (d, four, (e, five, six))))) =
     let free = value_free e rest six in
     let read = word_reads (signal_word i.kind) ts a (line, one) in
-    rw (sym same) (rw (read, flag_reads w.Many i.many a b two (λ none. no_many i.value_type.line i.value_type.form b c three), signal_type_reads i.value_type b c three, name_reads i.name c d four, first_value_reads i.initial d e five free.0 free.1, symbol_reads s.Semicolon e rest six) refl)
+    rw (sym same) (rw (read, flag_reads w.Many i.many a b two (λ none. form_begins_not (is_the_word w.Many) (refl, refl, refl, refl, refl) i.value_type.line i.value_type.form b c three), signal_type_reads i.value_type b c three, name_reads i.name c d four, first_value_reads i.initial d e five free.0 free.1, symbol_reads s.Semicolon e rest six) refl)
 
 -- resolved signals and what has a name alone
 

@@ -15,18 +15,17 @@ use Rattle.model_grammar.specs.Rules.{At, Takes, Maybe}
 use Rattle.model_grammar.specs.Expressions.{is_the_symbol, sees}
 use Rattle.model_grammar.specs.Items.{DerivesInterface, DerivesBound, DerivesPortSize, DerivesItem}
 use Rattle.model_grammar.specs.Brackets.{in_size}
-use Rattle.expression_parser.specs.Parse.{pure, choose, word, is_the_word, symbol, name, number, opened}
-use Rattle.expression_parser.proofs.Parsers.{and_then_ok, choose_cases, choose_first, choose_other}
+use Rattle.expression_parser.specs.Parse.{pure, word, is_the_word, symbol, name, number, opened}
+use Rattle.expression_parser.proofs.Parsers.{and_then_ok, choose_cases, choose_first, choose_other, made}
 use Rattle.expression_parser.proofs.OneToken.{symbol_ok, symbol_reads, symbol_sees, opened_ok, opened_reads, name_ok, name_reads, number_ok, number_reads, this_word_at, word_ok, word_reads}
 use Rattle.channel_parser.specs.Parse.{signal_type}
-use Rattle.channel_parser.proofs.Made.{made}
 use Rattle.channel_parser.proofs.TypeLaws.{signal_type_ok, signal_type_reads}
 use Rattle.item_parser.specs.declared.starts.Direction.{Direction}
 use Rattle.item_parser.specs.declared.starts.Direction.TheVariants as direction
 use Rattle.item_parser.specs.declared.starts.PortStart.{PortStart}
 use Rattle.item_parser.specs.declared.starts.PortStart.TheVariants as start
-use Rattle.item_parser.specs.Starts.{direction_word, port_of}
-use Rattle.item_parser.specs.Parse.{typed_interface, plain_interface, interface_of, interface, bound_word, all_or_one, bound_rule, some_port_size, port_size, port_item, export_item}
+use Rattle.item_parser.specs.Starts.{port_ahead}
+use Rattle.item_parser.specs.Parse.{typed_interface, plain_interface, started_interface, interface, bound_word, all_bound_or_one, bound_rule, some_port_size, port_size, port_item, export_item}
 use Rattle.item_parser.proofs.PlainItemLaws.{Within}
 
 -- what a port or an export leads to, its first token on the line
@@ -56,15 +55,15 @@ plain_ok v i ts rest x is h =
     let (line, a, one, h1) = and_then_ok (word v ts) _ (x, rest) h in
     made (λ (x : ℕ × Interface) b. DerivesInterface (At x.0) x.1 ts b) h1 (is line a (this_word_at v ts a line one))
 
-started_ok : (p : PortStart) (ts rest : Tokens) (x : ℕ × Interface) → interface_of p ts ≡ Some (x, rest) → DerivesInterface (At x.0) x.1 ts rest
-started_ok (start.Typed d) ts rest x h = typed_ok d ts rest x h
-started_ok start.Mutex ts rest x h = plain_ok w.MutexPort interface_form.Mutex ts rest x (λ line mid at. at) h
-started_ok start.Semaphore ts rest x h = plain_ok w.SemaphorePort interface_form.Semaphore ts rest x (λ line mid at. at) h
-started_ok start.Nothing ts rest x h = cc
+started_interface_ok : (p : PortStart) (ts rest : Tokens) (x : ℕ × Interface) → started_interface p ts ≡ Some (x, rest) → DerivesInterface (At x.0) x.1 ts rest
+started_interface_ok (start.Typed d) ts rest x h = typed_ok d ts rest x h
+started_interface_ok start.Mutex ts rest x h = plain_ok w.MutexPort interface_form.Mutex ts rest x (λ line mid at. at) h
+started_interface_ok start.Semaphore ts rest x h = plain_ok w.SemaphorePort interface_form.Semaphore ts rest x (λ line mid at. at) h
+started_interface_ok start.Nothing ts rest x h = cc
 
 interface_ok : (ts rest : Tokens) (x : ℕ × Interface) → interface ts ≡ Some (x, rest) → DerivesInterface (At x.0) x.1 ts rest
 unfolding interface
-interface_ok ts rest x h = started_ok (port_of ts) ts rest x h
+interface_ok ts rest x h = started_interface_ok (port_ahead ts) ts rest x h
 
 interface_reads : (line : ℕ) (i : Interface) (ts rest : Tokens) → DerivesInterface (At line) i ts rest → interface ts ≡ Some ((line, i), rest)
 unfolding interface typed_interface plain_interface word
@@ -104,7 +103,7 @@ bound_word_ok v r ts rest x is h =
 bound_rule_ok : (ts rest : Tokens) (x : BoundRule) → bound_rule ts ≡ Some (x, rest) → DerivesBound x ts rest
 unfolding bound_rule
 bound_rule_ok ts rest x h =
-    choose_cases (sees (is_the_word w.Zero)) (bound_word w.Zero bound.Zero) all_or_one ts (x, rest) h
+    choose_cases (sees (is_the_word w.Zero)) (bound_word w.Zero bound.Zero) all_bound_or_one ts (x, rest) h
     (λ is h. bound_word_ok w.Zero bound.Zero ts rest x (λ mid at. at) h)
     (λ is h. choose_cases (sees (is_the_word w.AllBound)) (bound_word w.AllBound bound.All) (pure bound.One) ts (x, rest) h
     (λ is h. bound_word_ok w.AllBound bound.All ts rest x (λ mid at. at) h)

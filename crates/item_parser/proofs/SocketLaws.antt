@@ -1,5 +1,5 @@
 -- The laws of sockets, instances and bindings, both ways.
-use Rattle.std.proofs.Common.{◌≡◌, ℕ, ◌≤◌, false, List, Option, Some, None, refl, arith}
+use Rattle.std.proofs.Common.{◌≡◌, ℕ, false, List, Option, Some, None, refl, arith}
 use Rattle.model_tree.specs.declared.vocabulary.Word.{Word}
 use Rattle.model_tree.specs.declared.vocabulary.Word.TheVariants as w
 use Rattle.model_tree.specs.declared.vocabulary.Symbol.TheVariants as s
@@ -14,11 +14,10 @@ use Rattle.model_grammar.specs.Tokens.{Tokens}
 use Rattle.model_grammar.specs.Rules.{Takes, Maybe}
 use Rattle.model_grammar.specs.Expressions.{is_the_symbol, sees}
 use Rattle.model_grammar.specs.Items.{DerivesHandler, DerivesInitiatorRole, DerivesTargetRole, DerivesEnd, DerivesItem}
-use Rattle.expression_parser.specs.Parse.{pure, choose, word, is_the_word, symbol, named, name}
-use Rattle.expression_parser.proofs.Parsers.{and_then_ok, choose_cases, choose_first, choose_other}
+use Rattle.expression_parser.specs.Parse.{pure, word, is_the_word, symbol, named, name}
+use Rattle.expression_parser.proofs.Parsers.{and_then_ok, choose_cases, choose_first, choose_other, made}
 use Rattle.expression_parser.proofs.OneToken.{symbol_ok, symbol_reads, named_ok, named_reads, name_ok, name_reads, this_word_at, word_ok, word_reads, word_sees}
 use Rattle.channel_parser.specs.Parse.{optional_member}
-use Rattle.channel_parser.proofs.Made.{made}
 use Rattle.channel_parser.proofs.ChannelLaws.{optional_member_ok, optional_member_reads}
 use Rattle.item_parser.specs.Parse.{some_handler, optional_handler, passing_initiator, own_initiator, initiator_role, initiator_item, passing_target, own_target, target_role, target_item, instance_item, binding_end, bind_item}
 use Rattle.item_parser.proofs.PlainItemLaws.{Within}

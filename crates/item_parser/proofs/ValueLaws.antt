@@ -1,15 +1,13 @@
 -- The laws of times, constants and first values: what is read is derived, and what is derived is read.
-use Rattle.std.proofs.Common.{◌≡◌, ℕ, ◌≤◌, Bool, true, false, List, [], ◌∷◌, length, Option, Some, None, refl, sym, ap, subst, arith}
-use Rattle.std.specs.Prelude.{◌&&◌, cond, nat_le, is_some}
+use Rattle.std.proofs.Common.{◌≡◌, ℕ, Bool, true, false, length, Option, Some, None, refl, sym, ap, subst, arith}
+use Rattle.std.specs.Prelude.{◌&&◌, nat_le, is_some}
 use Rattle.std.proofs.lemmas.Bool.{le-leb, and_parts}
 use Rattle.std.proofs.lemmas.Option.{cond_some}
-use Rattle.logic_values.specs.declared.kinds.Digit.{Digit}
 use Rattle.logic_values.specs.declared.planes.Lv.{Lv}
 use Rattle.logic_values.specs.Digits.{digits}
 use Rattle.logic_values.specs.Planes.{lv_of}
 use Rattle.logic_values.proofs.VectorLaws.{length-digits, digits-lv_of, lv_of-digits}
 use Rattle.sim_time.specs.declared.moments.Unit.{Unit as TimeUnit}
-use Rattle.model_tree.specs.declared.vocabulary.Word.{Word}
 use Rattle.model_tree.specs.declared.vocabulary.Word.TheVariants as w
 use Rattle.model_tree.specs.declared.vocabulary.Symbol.TheVariants as s
 use Rattle.model_tree.specs.declared.types.Constant.{Constant}
@@ -22,20 +20,19 @@ use Rattle.model_grammar.specs.Rules.{At, Takes, Maybe}
 use Rattle.model_grammar.specs.Expressions.{is_the_symbol, sees, unit_in}
 use Rattle.model_tree.specs.Spelling.{truth_word, unit_name}
 use Rattle.model_grammar.specs.Items.{DerivesConstantForm, DerivesConstant, DerivesFirstValue, DerivesTime}
-use Rattle.expression_parser.specs.Parse.{pure, refuse, choose, word, is_the_word, skip, symbol, number, numbered, logical, sees_number, unit_ahead}
-use Rattle.expression_parser.proofs.Parsers.{and_then_ok, choose_cases, choose_first, choose_other, where_cases}
-use Rattle.expression_parser.proofs.OneToken.{symbol_at, symbol_ok, symbol_reads, symbol_sees, number_ok, number_reads, numbered_ok, numbered_reads, logical_ok, logical_reads, this_word_at, word_reads, word_sees, skip_reads}
+use Rattle.expression_parser.specs.Parse.{pure, refuse, word, is_the_word, skip, symbol, number, numbered, logical, sees_number, unit_ahead}
+use Rattle.expression_parser.proofs.Parsers.{and_then_ok, choose_cases, choose_first, choose_other, where_cases, made}
+use Rattle.expression_parser.proofs.OneToken.{symbol_at, symbol_ok, symbol_reads, symbol_sees, number_ok, number_reads, numbered_ok, numbered_reads, logical_ok, logical_reads, this_word_at, word_reads, skip_reads}
 use Rattle.expression_parser.proofs.Sound.{unit_taken, is_le}
 use Rattle.expression_parser.proofs.Complete.{unit_comes, no_unit}
-use Rattle.item_parser.specs.Parse.{taken_unit, time_unit, time_span, constant_with_unit, constant_or_time, number_constant, negative_constant, truth_constant, vector_constant, logic_constant, false_or_logic, truth_or_logic, negative_or_less, constant, some_value, first_value}
-use Rattle.channel_parser.proofs.Made.{made}
+use Rattle.item_parser.specs.Parse.{unit_behind, time_unit, time_span, constant_with_unit, number_constant, negative_constant, truth_constant, vector_constant, logic_constant, false_or_logic, truth_or_logic, negative_or_less, constant, some_value, first_value}
 
 -- times
 
 time_unit_ok : (ts rest : Tokens) (u : TimeUnit) → time_unit ts ≡ Some (u, rest) → Takes (t.name (unit_name u)) ts rest
 unfolding time_unit
 time_unit_ok ts rest u h =
-    where_cases (unit_ahead ts) refuse taken_unit ts (u, rest) h
+    where_cases (unit_ahead ts) refuse unit_behind ts (u, rest) h
     (λ none h1. cc)
     (λ v some h1.
     let (line, a, one, h2) = and_then_ok (skip ts) _ (u, rest) h1 in

@@ -14,7 +14,7 @@ use Rattle.channel_parser.specs.Parse.{variable_type, sensitive, at_no_comma, at
 use Rattle.statement_parser.specs.Parse.{block, at_right_brace}
 use Rattle.item_parser.specs.declared.starts.ItemStart.{ItemStart}
 use Rattle.item_parser.specs.declared.starts.ItemStart.TheVariants as start
-use Rattle.item_parser.specs.Starts.{item_of}
+use Rattle.item_parser.specs.Starts.{item_ahead}
 use Rattle.item_parser.specs.Parse.{signal_item, resolved_item, clock_item, fifo_item, plain_item, semaphore_item, memory_item, variable_item, port_item, export_item, initiator_item, target_item, instance_item, bind_item}
 
 -- parameters
@@ -92,27 +92,27 @@ process_item k depth = do
 
 -- items
 
-abbrev pub started : ItemStart → ℕ → Parser tree.Item
-started (start.Signal k) depth = signal_item k
-started start.Resolved depth = resolved_item
-started start.Clock depth = clock_item
-started start.Fifo depth = fifo_item
-started (start.Plain k) depth = plain_item k
-started start.Semaphore depth = semaphore_item
-started start.Memory depth = memory_item depth
-started start.Variable depth = variable_item
-started start.Port depth = port_item depth
-started start.Export depth = export_item
-started start.Initiator depth = initiator_item
-started start.Target depth = target_item
-started start.Instance depth = instance_item
-started start.Bind depth = bind_item
-started start.Function depth = function_item depth
-started (start.Process k) depth = process_item k depth
-started start.Nothing depth = refuse
+abbrev pub started_item : ItemStart → ℕ → Parser tree.Item
+started_item (start.Signal k) depth = signal_item k
+started_item start.Resolved depth = resolved_item
+started_item start.Clock depth = clock_item
+started_item start.Fifo depth = fifo_item
+started_item (start.Plain k) depth = plain_item k
+started_item start.Semaphore depth = semaphore_item
+started_item start.Memory depth = memory_item depth
+started_item start.Variable depth = variable_item
+started_item start.Port depth = port_item depth
+started_item start.Export depth = export_item
+started_item start.Initiator depth = initiator_item
+started_item start.Target depth = target_item
+started_item start.Instance depth = instance_item
+started_item start.Bind depth = bind_item
+started_item start.Function depth = function_item depth
+started_item (start.Process k) depth = process_item k depth
+started_item start.Nothing depth = refuse
 
 unfoldable pub item : ℕ → Parser tree.Item
-item depth ts = started (item_of ts) depth ts
+item depth ts = started_item (item_ahead ts) depth ts
 
 unfoldable pub items : ℕ → Parser (List tree.Item)
 items depth = many at_right_brace (item depth) []

@@ -1,6 +1,6 @@
 -- Parser functions on lists of tokens for the items of modules that have no body. They are no definition of the
 -- language: the grammar is.
-use Rattle.std.specs.Prelude.{ℕ, Bool, true, false, ◌&&◌, cond, nat_le, length, List, [], ◌∷◌, Option, Some, None}
+use Rattle.std.specs.Prelude.{ℕ, Bool, true, false, ◌&&◌, cond, nat_le, length, List, Option, Some, None}
 use Rattle.logic_values.specs.declared.kinds.Digit.{Digit}
 use Rattle.logic_values.specs.Planes.{lv_of}
 use Rattle.sim_time.specs.declared.moments.Unit.{Unit as TimeUnit}
@@ -23,7 +23,6 @@ use Rattle.model_tree.specs.declared.items.InitiatorRole.TheVariants as initiato
 use Rattle.model_tree.specs.declared.items.TargetRole.{TargetRole}
 use Rattle.model_tree.specs.declared.items.TargetRole.TheVariants as target
 use Rattle.model_tree.specs.Tree as tree
-use Rattle.model_grammar.specs.Tokens as t
 use Rattle.model_grammar.specs.Expressions.{is_the_symbol, sees}
 use Rattle.model_tree.specs.Spelling.{signal_word, plain_word}
 use Rattle.expression_parser.specs.Parse.{Parser, ◌>>=◌, pure, refuse, choose, where_some, skip, word, is_the_word, flag, symbol, named, name, numbered, number, logical, sees_number, unit_ahead, opened}
@@ -31,17 +30,17 @@ use Rattle.channel_parser.specs.Parse.{signal_type, variable_type, optional_memb
 use Rattle.item_parser.specs.declared.starts.Direction.{Direction}
 use Rattle.item_parser.specs.declared.starts.PortStart.{PortStart}
 use Rattle.item_parser.specs.declared.starts.PortStart.TheVariants as port
-use Rattle.item_parser.specs.Starts.{direction_word, leading, port_of}
+use Rattle.item_parser.specs.Starts.{direction_word, leading, port_ahead}
 
 -- times
 
-abbrev pub taken_unit : TimeUnit → Parser TimeUnit
-taken_unit u = do
+abbrev pub unit_behind : TimeUnit → Parser TimeUnit
+unit_behind u = do
   line ← skip
   pure u
 
 unfoldable pub time_unit : Parser TimeUnit
-time_unit ts = where_some (unit_ahead ts) refuse taken_unit ts
+time_unit ts = where_some (unit_ahead ts) refuse unit_behind ts
 
 unfoldable pub time_span : Parser Span
 time_span = do
@@ -214,25 +213,25 @@ plain_interface v i = do
   line ← word v
   pure (line, i)
 
-abbrev pub interface_of : PortStart → Parser (ℕ × Interface)
-interface_of (port.Typed d) = typed_interface d
-interface_of port.Mutex = plain_interface w.MutexPort interface_form.Mutex
-interface_of port.Semaphore = plain_interface w.SemaphorePort interface_form.Semaphore
-interface_of port.Nothing = refuse
+abbrev pub started_interface : PortStart → Parser (ℕ × Interface)
+started_interface (port.Typed d) = typed_interface d
+started_interface port.Mutex = plain_interface w.MutexPort interface_form.Mutex
+started_interface port.Semaphore = plain_interface w.SemaphorePort interface_form.Semaphore
+started_interface port.Nothing = refuse
 
 unfoldable pub interface : Parser (ℕ × Interface)
-interface ts = interface_of (port_of ts) ts
+interface ts = started_interface (port_ahead ts) ts
 
 unfoldable pub bound_word : Word → BoundRule → Parser BoundRule
 bound_word v r = do
   line ← word v
   pure r
 
-abbrev pub all_or_one : Parser BoundRule
-all_or_one = choose (sees (is_the_word w.AllBound)) (bound_word w.AllBound bound.All) (pure bound.One)
+abbrev pub all_bound_or_one : Parser BoundRule
+all_bound_or_one = choose (sees (is_the_word w.AllBound)) (bound_word w.AllBound bound.All) (pure bound.One)
 
 unfoldable pub bound_rule : Parser BoundRule
-bound_rule = choose (sees (is_the_word w.Zero)) (bound_word w.Zero bound.Zero) all_or_one
+bound_rule = choose (sees (is_the_word w.Zero)) (bound_word w.Zero bound.Zero) all_bound_or_one
 
 abbrev pub some_port_size : ℕ → Parser (Option PortSize)
 some_port_size depth = do

@@ -71,13 +71,13 @@ port_from None = port.Nothing
 port_from (Some v) = port_start v
 
 -- the port that comes
-abbrev pub port_of : t.Tokens → PortStart
-port_of ts = port_from (word_ahead ts)
+abbrev pub port_ahead : t.Tokens → PortStart
+port_ahead ts = port_from (word_ahead ts)
 
 abbrev pub item_from : Option Word → ItemStart
 item_from None = item.Nothing
 item_from (Some v) = item_start v
 
 -- the item that comes
-abbrev pub item_of : t.Tokens → ItemStart
-item_of ts = item_from (word_ahead ts)
+abbrev pub item_ahead : t.Tokens → ItemStart
+item_ahead ts = item_from (word_ahead ts)

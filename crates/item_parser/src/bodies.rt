@@ -6,7 +6,10 @@ ghost use Rattle.item_parser.specs.Bodies as spec;
 
 use channel_parser::{sensitive, variable_type};
 use expression_parser::{Cursor, push};
-use model_tree::{FunctionItem, Item, Parameter, ParseStop, ProcessItem, ProcessKind, Symbol, VarType, Word, process_word};
+use model_tree::{
+    FunctionItem, Item, Parameter, ParseStop, ProcessItem, ProcessKind, Symbol, VarType, Word,
+    process_word,
+};
 use statement_parser::block;
 use std::alloc::Global;
 

@@ -17,8 +17,8 @@ use model_tree::{Item, ParseStop, Symbol};
 use std::alloc::Global;
 
 /// The item that comes.
-fn item_that_comes(tokens: &Cursor<'_>) -> ItemStart
-    ensures { result ≡ start.item_of tokens.now }
+fn item_ahead(tokens: &Cursor<'_>) -> ItemStart
+    ensures { result ≡ start.item_ahead tokens.now }
 {
     match tokens.word_ahead() {
         Some(word) => item_start(word),
@@ -31,7 +31,7 @@ fn item_that_comes(tokens: &Cursor<'_>) -> ItemStart
 fn item(alloc: Global, tokens: &mut Cursor<'_>, depth: u8) -> Result<Item, ParseStop>
     ensures { Parses item_of (spec.item depth) tokens.old result tokens.new }
 {
-    match item_that_comes(tokens) {
+    match item_ahead(tokens) {
         ItemStart::Signal(kind) => signal_item(alloc, tokens, kind),
         ItemStart::Resolved => resolved_item(alloc, tokens),
         ItemStart::Clock => clock_item(alloc, tokens),

@@ -5,7 +5,10 @@ ghost use Rattle.item_parser.specs.Parse as spec;
 use super::values::{constant, first_value, time_span};
 use channel_parser::{signal_type, variable_type};
 use expression_parser::Cursor;
-use model_tree::{ClockItem, Item, ParseStop, PlainKind, SignalItem, SignalKind, Span, Symbol, Word, plain_word, signal_word};
+use model_tree::{
+    ClockItem, Item, ParseStop, PlainKind, SignalItem, SignalKind, Span, Symbol, Word, plain_word,
+    signal_word,
+};
 use std::alloc::Global;
 
 /// A signal or a buffer.

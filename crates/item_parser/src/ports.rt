@@ -1,7 +1,7 @@
 ghost use Rattle.std.specs.Prelude.{◌≡◌};
 ghost use Rattle.model_tree.specs.Views.{item_of};
 ghost use Rattle.expression_parser.specs.Parse.{Parses};
-ghost use Rattle.item_parser.specs.Starts.{port_of};
+ghost use Rattle.item_parser.specs.Starts.{port_ahead};
 ghost use Rattle.item_parser.specs.Parse as spec;
 
 use super::starts::{Direction, PortStart, direction_word, leading, port_start};
@@ -37,8 +37,8 @@ fn plain_interface(
 }
 
 /// The port that comes.
-fn port_that_comes(tokens: &Cursor<'_>) -> PortStart
-    ensures { result ≡ port_of tokens.now }
+fn port_ahead(tokens: &Cursor<'_>) -> PortStart
+    ensures { result ≡ port_ahead tokens.now }
 {
     match tokens.word_ahead() {
         Some(word) => port_start(word),
@@ -51,7 +51,7 @@ fn port_that_comes(tokens: &Cursor<'_>) -> PortStart
 fn interface(tokens: &mut Cursor<'_>) -> Result<(u32, Interface), ParseStop>
     ensures { Parses (λ i. i) spec.interface tokens.old result tokens.new }
 {
-    match port_that_comes(tokens) {
+    match port_ahead(tokens) {
         PortStart::Typed(direction) => typed_interface(tokens, direction),
         PortStart::Mutex => plain_interface(tokens, Word::MutexPort, Interface::Mutex),
         PortStart::Semaphore => plain_interface(tokens, Word::SemaphorePort, Interface::Semaphore),

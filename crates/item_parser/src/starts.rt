@@ -141,4 +141,3 @@ pub fn item_start(word: Word) -> ItemStart
         _ => ItemStart::Nothing,
     }
 }
-
