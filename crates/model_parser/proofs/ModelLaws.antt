@@ -1,28 +1,24 @@
 -- What the parser functions of modules and whole texts read is derived, and what is derived is read.
-use Rattle.std.proofs.Common.{◌≡◌, ℕ, suc, ◌+◌, ◌<◌, ◌≤◌, max, Bool, true, false, List, [], ◌∷◌, ◌++◌, length, Option, Some, None, refl, sym, ◌∙◌, ap, subst, arith}
+use Rattle.std.proofs.Common.{◌≡◌, ℕ, suc, ◌≤◌, true, false, List, [], ◌∷◌, Option, Some, None, refl, sym, ◌∙◌, ap, subst, arith}
 use Rattle.std.proofs.lemmas.Option.{same_Some}
 use Rattle.model_tree.specs.declared.vocabulary.Word.TheVariants as w
 use Rattle.model_tree.specs.declared.vocabulary.Symbol.TheVariants as s
 use Rattle.model_tree.specs.declared.items.Top.{Top}
 use Rattle.model_tree.specs.Limits.{is_sound}
 use Rattle.model_tree.specs.Tree as tree
-use Rattle.model_grammar.specs.Tokens as t
 use Rattle.model_grammar.specs.Tokens.{Tokens}
-use Rattle.model_grammar.specs.Rules.{Takes, Each}
-use Rattle.model_grammar.specs.Expressions.{sees}
+use Rattle.model_grammar.specs.Rules.{Each}
 use Rattle.model_grammar.specs.Items.{DerivesModule, DerivesTop, DerivesModel}
 use Rattle.model_grammar.specs.Brackets.{in_items, in_modules}
 use Rattle.model_grammar.proofs.Shrinks.{module_shortens}
 use Rattle.model_grammar.proofs.SoundItems.{model_sound}
-use Rattle.model_lexer.specs.Cut.{Lexeme, Cut}
 use Rattle.model_lexer.specs.Laws.{with_lines}
 use Rattle.model_lexer.proofs.CutLaws.{cut_limited}
 use Rattle.model_lexer.proofs.Cuts.{one_cut_from}
-use Rattle.expression_parser.specs.Parse.{word, is_the_word, symbol, name}
-use Rattle.expression_parser.proofs.Parsers.{and_then_ok}
-use Rattle.expression_parser.proofs.OneToken.{symbol_ok, symbol_reads, symbol_sees, name_ok, name_reads, this_word_at, word_reads, word_sees}
+use Rattle.expression_parser.specs.Parse.{word, symbol, name}
+use Rattle.expression_parser.proofs.Parsers.{and_then_ok, made}
+use Rattle.expression_parser.proofs.OneToken.{symbol_ok, symbol_reads, symbol_sees, name_ok, name_reads, this_word_at, word_reads}
 use Rattle.expression_parser.proofs.Many.{Every, many_ok, many_reads}
-use Rattle.channel_parser.proofs.Made.{made}
 use Rattle.item_parser.specs.Bodies.{items}
 use Rattle.item_parser.proofs.ItemLaws.{items_ok, items_reads}
 use Rattle.model_lexer.specs.Reads.{Reads}

@@ -1,5 +1,5 @@
 -- What a refusal is.
-use Rattle.std.proofs.Common.{◌≡◌, ℕ, List, Some, None, sym, ◌∙◌, refl}
+use Rattle.std.proofs.Common.{◌≡◌, ℕ, List, Some, None, refl}
 use Rattle.std.specs.Prelude.{◌≢◌}
 use Rattle.model_tree.specs.declared.faults.ParseStop.{ParseStop}
 use Rattle.model_tree.specs.declared.faults.ParseStop.TheVariants as stop
@@ -9,7 +9,7 @@ use Rattle.model_lexer.specs.Reads.{Reads}
 use Rattle.model_parser.specs.Parse.{from_tokens, IsStopped}
 use Rattle.model_parser.proofs.ModelLaws.{derived_found}
 
--- a refusal of what has an answer is want of memory
+-- a refusal of what has an answer is out of memory
 pub stopped_memory : (e : ParseStop) (text : List ℕ) (m : tree.Model) → Reads text m → IsStopped text e → e ≡ stop.NoMemory
 stopped_memory stop.NoMemory text m reads is = refl
 stopped_memory (stop.Syntax line) text m (ts, cut, derived, few) is =

@@ -14,7 +14,7 @@ use Rattle.model_grammar.specs.Tokens as t
 use Rattle.model_grammar.specs.Expressions.{sees}
 use Rattle.model_lexer.specs.Cut.{Lexeme, Cut}
 use Rattle.model_lexer.specs.Laws.{with_lines}
-use Rattle.expression_parser.specs.Parse.{Parser, ◌>>=◌, pure, many, word, is_the_word, symbol, name, opened}
+use Rattle.expression_parser.specs.Parse.{Parser, ◌>>=◌, pure, many, word, is_the_word, symbol, name}
 use Rattle.item_parser.specs.Bodies.{items}
 
 -- a module, in which so many brackets may be opened between its braces

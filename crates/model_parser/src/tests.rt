@@ -1,5 +1,8 @@
 use super::*;
-use model_tree::{Action, Channel, Event, Expression, Item, ParseStop, Place, ProcessKind, Statement, Tree, UnaryOp};
+use model_tree::{
+    Action, Channel, Event, Expression, Item, ParseStop, Place, ProcessKind, Statement, Tree,
+    UnaryOp,
+};
 use std::alloc::Global;
 
 /// What `parse` answers; no text here is too long for it.

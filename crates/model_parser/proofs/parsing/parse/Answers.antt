@@ -4,7 +4,7 @@ use Rattle.model_parser.proofs.ModelLaws.{found_reads, found_one, reads_sound}
 use Rattle.model_parser.proofs.Stops.{stopped_memory}
 use Rattle.model_parser.proofs.parsing.parse.Goals as goal
 
--- a refusal of a text that reads as a tree is want of memory
+-- a refusal of a text that reads as a tree is out of memory
 pub returns-in_err-modules-clause-only : goal.returns-in_err-modules-clause-only
 returns-in_err-modules-clause-only c m reads =
     let p = err_from_is_err_and c.from_residual.result c.from_residual.ensures.1 in
