@@ -26,8 +26,8 @@ use Rattle.statement_parser.proofs.Begins.{Apart, act_apart, operate_apart, Foll
 abbrev Handler : Type 0
 Handler = List ℕ × tree.Block
 
-abbrev DerivesHandler : Handler → Rule
-DerivesHandler h = Takes (t.word w.Catch) ⨾ Takes (t.name h.0) ⨾ Braced (DerivesStatements h.1)
+abbrev DerivesCatch : Handler → Rule
+DerivesCatch h = Takes (t.word w.Catch) ⨾ Takes (t.name h.0) ⨾ Braced (DerivesStatements h.1)
 
 abbrev FewIn : ℕ → Handler → Type 0
 FewIn d h = suc (in_block h.1) ≤ d
@@ -37,7 +37,7 @@ Few d x = in_statement x ≤ d
 
 -- what is read is derived
 
-handlers_listed : (d : ℕ) (hs : List Handler) (ts rest : Tokens) → Each DerivesHandler hs ts rest → Every (FewIn d) hs → DerivesHandlers (handlers_of_list hs) ts rest × (in_handlers (handlers_of_list hs) ≤ d)
+handlers_listed : (d : ℕ) (hs : List Handler) (ts rest : Tokens) → Each DerivesCatch hs ts rest → Every (FewIn d) hs → DerivesHandlers (handlers_of_list hs) ts rest × (in_handlers (handlers_of_list hs) ≤ d)
 handlers_listed d [] ts rest h few = (h, omega arith)
 handlers_listed d (x ∷ hs) ts rest (c, (a, one, (b, two, three)), more) (few, all) =
     let (left, less) = handlers_listed d hs c rest more all in
@@ -99,21 +99,21 @@ module _ (inner : Parser tree.Block) (d : ℕ) (inner_ok : (ts rest : Tokens) (b
       let all : max (suc (in_block body)) (suc (in_block undo)) ≤ d = omega (arith, few, less) in
       made (λ z. Within d z ts) h4 ((a, this_word_at w.Guard ts a line one, (b, body_at, (c, word_ok w.Unwind b c at three, undo_at))), all)
 
-  handler_ok : (ts rest : Tokens) (x : Handler) → handler inner ts ≡ Some (x, rest) → DerivesHandler x ts rest × FewIn d x
+  handler_ok : (ts rest : Tokens) (x : Handler) → handler inner ts ≡ Some (x, rest) → DerivesCatch x ts rest × FewIn d x
   unfolding handler
   handler_ok ts rest x h =
       let (line, a, one, h1) = and_then_ok (word w.Catch ts) _ (x, rest) h in
       let (bytes, b, two, h2) = and_then_ok (name a) _ (x, rest) h1 in
       let (body, c, three, h3) = and_then_ok (inner b) _ (x, rest) h2 in
       let (body_at, few) = inner_ok b c body three in
-      made (λ (z : Handler) r. DerivesHandler z ts r × FewIn d z) h3 ((a, word_ok w.Catch ts a line one, (b, name_ok a b bytes two, body_at)), few)
+      made (λ (z : Handler) r. DerivesCatch z ts r × FewIn d z) h3 ((a, word_ok w.Catch ts a line one, (b, name_ok a b bytes two, body_at)), few)
 
   handlers_ok : (ts rest : Tokens) (hs : List Handler) → handlers inner ts ≡ Some (hs, rest) → HasHandler (handlers_of_list hs) (DerivesHandlers (handlers_of_list hs)) ts rest × (in_handlers (handlers_of_list hs) ≤ d)
   unfolding handlers more_handlers
   handlers_ok ts rest hs h =
       let (x, a, one, h1) = and_then_ok (handler inner ts) _ (hs, rest) h in
       let (one_at, few) = handler_ok ts a x one in
-      let (xs, same, each, every, stop) = many_ok at_no_catch (handler inner) DerivesHandler (FewIn d) handler_ok (x ∷ []) hs a rest h1 in
+      let (xs, same, each, every, stop) = many_ok at_no_catch (handler inner) DerivesCatch (FewIn d) handler_ok (x ∷ []) hs a rest h1 in
       let all = handlers_listed d (x ∷ xs) ts rest (a, one_at, each) (few, every) in
       subst (λ zs. HasHandler (handlers_of_list zs) (DerivesHandlers (handlers_of_list zs)) ts rest × (in_handlers (handlers_of_list zs) ≤ d)) (sym same) all
 
@@ -183,7 +183,7 @@ each_statement d (tree.then x xs) ts rest (a, one, more) few =
     let (each, every) = each_statement d xs a rest more (omega arith) in
     ((a, one, each), (omega arith, every))
 
-each_handler : (d : ℕ) (hs : tree.Handlers) (ts rest : Tokens) → DerivesHandlers hs ts rest → in_handlers hs ≤ d → Each DerivesHandler (handlers_list hs) ts rest × Every (FewIn d) (handlers_list hs)
+each_handler : (d : ℕ) (hs : tree.Handlers) (ts rest : Tokens) → DerivesHandlers hs ts rest → in_handlers hs ≤ d → Each DerivesCatch (handlers_list hs) ts rest × Every (FewIn d) (handlers_list hs)
 each_handler d tree.no_more ts rest h few = (h, tt)
 each_handler d (tree.handler x body more) ts rest (a, one, (b, two, (c, three, left))) few =
     let (each, every) = each_handler d more c rest left (omega arith) in
@@ -201,7 +201,7 @@ module _ (inner : Parser tree.Block) (d : ℕ) (inner_reads : (b : tree.Block) (
       choose_first (sees (is_the_word w.Else)) (some_else inner) (pure tree.no_else) ts _ (word_sees w.Else ts a word_at)
       (rw (word_reads w.Else ts a word_at, inner_reads body a rest body_at few) refl)
 
-  handler_reads : (x : Handler) (ts rest : Tokens) → DerivesHandler x ts rest → FewIn d x → handler inner ts ≡ Some (x, rest)
+  handler_reads : (x : Handler) (ts rest : Tokens) → DerivesCatch x ts rest → FewIn d x → handler inner ts ≡ Some (x, rest)
   unfolding handler
   handler_reads x ts rest (a, one, (b, two, three)) few = rw (word_reads w.Catch ts a one, name_reads x.0 a b two, inner_reads x.1 b rest three few) refl
 
@@ -212,7 +212,7 @@ module _ (inner : Parser tree.Block) (d : ℕ) (inner_reads : (b : tree.Block) (
       let (each, every) = each_handler d more c rest left (omega arith) in
       let body_few : suc (in_block body) ≤ d = omega arith in
       let first = handler_reads (x, body) ts c (a, one, (b, two, three)) body_few in
-      let others = many_reads at_no_catch (handler inner) DerivesHandler (FewIn d) (λ ts. Unit {0}) (λ x ts rest h g f. handler_reads x ts rest h g) (λ x ts rest h. (rw (word_sees w.Catch ts h.0 h.1) refl, tt)) (λ x ts rest h. handler_shortens x.0 x.1 ts rest h) (handlers_list more) ((x, body) ∷ []) c rest each every (rw follow.1 refl) tt in
+      let others = many_reads at_no_catch (handler inner) DerivesCatch (FewIn d) (λ ts. Unit {0}) (λ x ts rest h g f. handler_reads x ts rest h g) (λ x ts rest h. (rw (word_sees w.Catch ts h.0 h.1) refl, tt)) (λ x ts rest h. handler_shortens x.0 x.1 ts rest h) (handlers_list more) ((x, body) ∷ []) c rest each every (rw follow.1 refl) tt in
       rw first others
 
   try_statement_reads : (line : ℕ) (body : tree.Block) (hs : tree.Handlers) (ts rest : Tokens) → DerivesStatement (tree.try_ line body hs) ts rest → max (suc (in_block body)) (in_handlers hs) ≤ d → Follow rest → try_statement inner ts ≡ Some (tree.try_ line body hs, rest)
