@@ -9,9 +9,9 @@ use Rattle.model_tree.specs.declared.statements.Statement.{Statement, If, While,
 use Rattle.model_tree.specs.declared.statements.Statement.TheVariants.{rolls-If, rolls-While, rolls-Guard, rolls-Try}
 use Rattle.model_tree.specs.declared.statements.Statement.TheOpen.{Statement-F}
 use Rattle.model_tree.specs.Views.{expression_of, statement_step, statement_of, block_of, body_of, handlers_of}
-use Rattle.model_print.specs.Layout.{Page, Piece, put, put_all}
-use Rattle.model_print.specs.Leaves.{word, name, braced}
-use Rattle.model_print.specs.Printed.{expression, statement, statements, otherwise, handlers}
+use Rattle.page_layout.specs.Layout.{Page, Piece, put, put_all}
+use Rattle.page_layout.specs.Pieces.{word, name, braced}
+use Rattle.model_print.specs.Printed.{expression, statement, statements, else_, handlers}
 
 -- the parts of a statement that the code goes through, as the tree has them
 abbrev pub other_of : Option (Vec Statement) → tree.Else
@@ -26,13 +26,13 @@ pub put_both : (page : Page) (xs ys : List Piece) → put_all page (xs ++ ys) �
 put_both page xs ys = fold-append put page xs ys
 
 -- what contracts see of the statements that hold others
-pub sees_branch : (line : ℕ) (e : Expression) (body : Vec Statement) (other : Option (Vec Statement))
+pub sees_if : (line : ℕ) (e : Expression) (body : Vec Statement) (other : Option (Vec Statement))
     → statement_of (If line e body other) ≡ tree.if_ line (expression_of e) (body_of body.items) (other_of other)
-sees_branch line e body None = ap statement_of (sym (rolls-If line e body None)) ∙ fold-roll-Statement tree.Statement statement_step (Statement-F.If line e body None)
-sees_branch line e body (Some other) = ap statement_of (sym (rolls-If line e body (Some other))) ∙ fold-roll-Statement tree.Statement statement_step (Statement-F.If line e body (Some other))
+sees_if line e body None = ap statement_of (sym (rolls-If line e body None)) ∙ fold-roll-Statement tree.Statement statement_step (Statement-F.If line e body None)
+sees_if line e body (Some other) = ap statement_of (sym (rolls-If line e body (Some other))) ∙ fold-roll-Statement tree.Statement statement_step (Statement-F.If line e body (Some other))
 
-pub sees_loop : (line : ℕ) (e : Expression) (body : Vec Statement) → statement_of (While line e body) ≡ tree.while_ line (expression_of e) (body_of body.items)
-sees_loop line e body = ap statement_of (sym (rolls-While line e body)) ∙ fold-roll-Statement tree.Statement statement_step (Statement-F.While line e body)
+pub sees_while : (line : ℕ) (e : Expression) (body : Vec Statement) → statement_of (While line e body) ≡ tree.while_ line (expression_of e) (body_of body.items)
+sees_while line e body = ap statement_of (sym (rolls-While line e body)) ∙ fold-roll-Statement tree.Statement statement_step (Statement-F.While line e body)
 
 pub sees_guard : (line : ℕ) (body undo : Vec Statement) → statement_of (Guard line body undo) ≡ tree.guard line (body_of body.items) (body_of undo.items)
 sees_guard line body undo = ap statement_of (sym (rolls-Guard line body undo)) ∙ fold-roll-Statement tree.Statement statement_step (Statement-F.Guard line body undo)
@@ -42,34 +42,34 @@ same_handlers : (F : List ℕ × Vec Statement → List ℕ × Vec tree.Statemen
 same_handlers F names bodies [] = refl
 same_handlers F names bodies (h ∷ hs) = rw (names h, bodies h, same_handlers F names bodies hs) refl
 
-pub sees_attempt : (line : ℕ) (body : Vec Statement) (catches : Vec (List ℕ × Vec Statement))
-    → statement_of (Try line body catches) ≡ tree.try_ line (body_of body.items) (handlers_list catches.items)
-sees_attempt line body catches =
-    ap statement_of (sym (rolls-Try line body catches)) ∙ fold-roll-Statement tree.Statement statement_step (Statement-F.Try line body catches)
-    ∙ ap (tree.try_ line (body_of body.items)) (same_handlers _ (λ h. refl) (λ h. refl) catches.items)
+pub sees_try : (line : ℕ) (body : Vec Statement) (handlers : Vec (List ℕ × Vec Statement))
+    → statement_of (Try line body handlers) ≡ tree.try_ line (body_of body.items) (handlers_list handlers.items)
+sees_try line body handlers =
+    ap statement_of (sym (rolls-Try line body handlers)) ∙ fold-roll-Statement tree.Statement statement_step (Statement-F.Try line body handlers)
+    ∙ ap (tree.try_ line (body_of body.items)) (same_handlers _ (λ h. refl) (λ h. refl) handlers.items)
 
 -- what stands printed once the parts are
 module _ (old : Page) where
-  pub branch_printed : (a b c d : Page) (line : ℕ) (e : tree.Expression) (body : tree.Block) (other : tree.Else)
-      → a ≡ put old (word w.If) → b ≡ put_all a (expression e) → c ≡ put_all b (braced (statements body)) → d ≡ put_all c (otherwise other)
+  pub if_printed : (a b c d : Page) (line : ℕ) (e : tree.Expression) (body : tree.Block) (other : tree.Else)
+      → a ≡ put old (word w.If) → b ≡ put_all a (expression e) → c ≡ put_all b (braced (statements body)) → d ≡ put_all c (else_ other)
       → d ≡ put_all old (statement (tree.if_ line e body other))
-  branch_printed a b c d line e body other p q r h =
+  if_printed a b c d line e body other p q r h =
       rw (
         h,
         r,
         q,
         p,
-        put_both (put old (word w.If)) (expression e ++ braced (statements body)) (otherwise other),
+        put_both (put old (word w.If)) (expression e ++ braced (statements body)) (else_ other),
         put_both (put old (word w.If)) (expression e) (braced (statements body)),
       ) refl
 
-  pub else_printed : (a b : Page) (body : tree.Block) → a ≡ put old (word w.Else) → b ≡ put_all a (braced (statements body)) → b ≡ put_all old (otherwise (tree.else_block body))
+  pub else_printed : (a b : Page) (body : tree.Block) → a ≡ put old (word w.Else) → b ≡ put_all a (braced (statements body)) → b ≡ put_all old (else_ (tree.else_block body))
   else_printed a b body p h = rw (h, p) refl
 
-  pub loop_printed : (a b c : Page) (line : ℕ) (e : tree.Expression) (body : tree.Block)
+  pub while_printed : (a b c : Page) (line : ℕ) (e : tree.Expression) (body : tree.Block)
       → a ≡ put old (word w.While) → b ≡ put_all a (expression e) → c ≡ put_all b (braced (statements body))
       → c ≡ put_all old (statement (tree.while_ line e body))
-  loop_printed a b c line e body p q h = rw (h, q, p, put_both (put old (word w.While)) (expression e) (braced (statements body))) refl
+  while_printed a b c line e body p q h = rw (h, q, p, put_both (put old (word w.While)) (expression e) (braced (statements body))) refl
 
   pub guard_printed : (a b c d : Page) (line : ℕ) (body undo : tree.Block)
       → a ≡ put old (word w.Guard) → b ≡ put_all a (braced (statements body)) → c ≡ put b (word w.Unwind) → d ≡ put_all c (braced (statements undo))
@@ -77,10 +77,10 @@ module _ (old : Page) where
   guard_printed a b c d line body undo p q r h =
       rw (h, r, q, p, put_both (put old (word w.Guard)) (braced (statements body)) (word w.Unwind ∷ braced (statements undo))) refl
 
-  pub attempt_printed : (a b : Page) (line : ℕ) (body : tree.Block) (hs : tree.Handlers)
+  pub try_printed : (a b : Page) (line : ℕ) (body : tree.Block) (hs : tree.Handlers)
       → a ≡ put old (word w.Try) → b ≡ put_all a (braced (statements body))
       → put_all old (statement (tree.try_ line body hs)) ≡ put_all b (handlers hs)
-  attempt_printed a b line body hs p h = rw (h, p, put_both (put old (word w.Try)) (braced (statements body)) (handlers hs)) refl
+  try_printed a b line body hs p h = rw (h, p, put_both (put old (word w.Try)) (braced (statements body)) (handlers hs)) refl
 
   pub handler_printed : (a b c : Page) (x : List ℕ) (body : tree.Block) (hs : tree.Handlers)
       → a ≡ put old (word w.Catch) → b ≡ put a (name x) → c ≡ put_all b (braced (statements body))

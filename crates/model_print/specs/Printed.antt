@@ -8,21 +8,16 @@ use Rattle.model_tree.specs.declared.types.VarType.{VarType}
 use Rattle.model_tree.specs.declared.types.Parameter.{Parameter}
 use Rattle.model_tree.specs.declared.types.Span.{Span}
 use Rattle.model_tree.specs.declared.items.InitiatorRole.{InitiatorRole}
-use Rattle.model_tree.specs.declared.items.InitiatorRole.TheVariants as initiator
+use Rattle.model_tree.specs.declared.items.InitiatorRole.TheVariants as initiates
 use Rattle.model_tree.specs.declared.items.TargetRole.{TargetRole}
-use Rattle.model_tree.specs.declared.items.TargetRole.TheVariants as target
+use Rattle.model_tree.specs.declared.items.TargetRole.TheVariants as receives
 use Rattle.model_tree.specs.declared.items.SignalItem.{SignalItem}
 use Rattle.model_tree.specs.declared.items.ClockItem.{ClockItem}
 use Rattle.model_tree.specs.declared.items.Top.{Top}
-use Rattle.model_tree.specs.Spelling.{unary_symbol, binary_symbol, conversion_word, constant_word}
-use Rattle.model_tree.specs.Spelling.{control_word}
-use Rattle.model_tree.specs.Spelling.{signal_word, plain_word, process_word}
-use Rattle.model_print.specs.Layout.{Piece, layout}
-use Rattle.model_print.specs.Leaves.{word, name, number, logic, quoted, type_word, wide, operator, prefix, joint, opening, closing, comma, semicolon, flag, maybe, each, separated, braced, type_form, variable_type, time, span, truth, constant_form, initial, target_process, member, leads_to, port_size, parameter, binding_end}
-
--- what stands between round brackets
-abbrev pub bracketed : List Piece → List Piece
-bracketed inside = opening s.LeftParen ∷ inside ++ closing s.RightParen ∷ []
+use Rattle.model_tree.specs.Spelling.{unary_symbol, binary_symbol, conversion_word, constant_word, control_word, signal_word, plain_word, process_word}
+use Rattle.page_layout.specs.Layout.{Piece, layout}
+use Rattle.page_layout.specs.Pieces.{word, name, number, logic, quoted, type_word, wide, operator, prefix, joint, opening, closing, comma, semicolon, flag, maybe, each, separated, braced, bracketed}
+use Rattle.model_print.specs.Leaves.{type_form, var_type, time, span, truth, constant_form, initial, who, member, interface, port_size, parameter, binding_end}
 
 abbrev pub expression : tree.Expression → List Piece
 expression (tree.number line n) = number n ∷ []
@@ -89,8 +84,8 @@ notification (tree.after e) = word w.After ∷ expression e
 abbrev pub index : Option tree.Expression → List Piece
 index i = maybe (λ e. opening s.LeftBracket ∷ expression e ++ closing s.RightBracket ∷ []) i
 
-abbrev pub assigned : tree.Target → List Piece
-assigned t = name t.name ∷ member t.member ++ index t.index
+abbrev pub target : tree.Target → List Piece
+target t = name t.name ∷ member t.member ++ index t.index
 
 -- the static sensitivity, none where no event is written
 abbrev pub sensitive : List tree.Event → List Piece
@@ -119,8 +114,8 @@ operation (tree.nb_transport x p phase t) = word w.NbTransport ∷ name x ∷ co
 abbrev pub stored : Option (List ℕ) → List Piece
 stored x = maybe (λ y. name y ∷ operator s.Equal ∷ []) x
 
-abbrev pub spawned : tree.Spawn → List Piece
-spawned x = word w.Spawn ∷ stored x.handle ++ flag w.Method x.method ++ name x.function ∷ arguments x.arguments ++ sensitive x.sensitive ++ flag w.DontInitialize x.dont_initialize
+abbrev pub spawn : tree.Spawn → List Piece
+spawn x = word w.Spawn ∷ stored x.handle ++ flag w.Method x.method ++ name x.function ∷ arguments x.arguments ++ sensitive x.sensitive ++ flag w.DontInitialize x.dont_initialize
 
 -- a word and a name
 abbrev pub with_name : Word → List ℕ → List Piece
@@ -154,9 +149,9 @@ action (tree.qk_inc x e) = word w.QkInc ∷ name x ∷ expression e
 action (tree.qk_set x e) = word w.QkSet ∷ name x ∷ expression e
 action (tree.qk_reset x) = with_name w.QkReset x
 action (tree.qk_sync x) = with_name w.QkSync x
-action (tree.spawn x) = spawned x
-action (tree.control c p) = word (control_word c) ∷ target_process p ∷ []
-action (tree.throw_it p x) = word w.ThrowIt ∷ target_process p ∷ name x ∷ []
+action (tree.spawn x) = spawn x
+action (tree.control c p) = word (control_word c) ∷ who p ∷ []
+action (tree.throw_it p x) = word w.ThrowIt ∷ who p ∷ name x ∷ []
 action (tree.throw x) = with_name w.Throw x
 action (tree.return_ e) = word w.Return ∷ maybe expression e
 action tree.stop = word w.Stop ∷ []
@@ -165,25 +160,25 @@ action tree.stop = word w.Stop ∷ []
 abbrev pub first_value : Option tree.Expression → List Piece
 first_value e = maybe (λ x. operator s.Equal ∷ expression x) e
 
-abbrev pub declaration : VarType → List ℕ → Option tree.Expression → List Piece
-declaration t x e = word w.Var ∷ variable_type t ∷ name x ∷ first_value e ++ semicolon ∷ []
+abbrev pub var : VarType → List ℕ → Option tree.Expression → List Piece
+var t x e = word w.Var ∷ var_type t ∷ name x ∷ first_value e ++ semicolon ∷ []
 
-abbrev pub assignment : tree.Target → tree.Expression → List Piece
-assignment t e = assigned t ++ operator s.Equal ∷ expression e ++ semicolon ∷ []
+abbrev pub assign : tree.Target → tree.Expression → List Piece
+assign t e = target t ++ operator s.Equal ∷ expression e ++ semicolon ∷ []
 
-abbrev pub operated : Option (List ℕ) → tree.Operation → List Piece
-operated x o = stored x ++ operation o ++ semicolon ∷ []
+abbrev pub operate : Option (List ℕ) → tree.Operation → List Piece
+operate x o = stored x ++ operation o ++ semicolon ∷ []
 
-abbrev pub acted : tree.Action → List Piece
-acted a = action a ++ semicolon ∷ []
+abbrev pub act : tree.Action → List Piece
+act a = action a ++ semicolon ∷ []
 
 abbrev mutual
   pub statement : tree.Statement → List Piece
-  statement (tree.var line t x e) = declaration t x e
-  statement (tree.assign line t e) = assignment t e
-  statement (tree.operate line x at o) = operated x o
-  statement (tree.act line a) = acted a
-  statement (tree.if_ line e body other) = word w.If ∷ expression e ++ braced (statements body) ++ otherwise other
+  statement (tree.var line t x e) = var t x e
+  statement (tree.assign line t e) = assign t e
+  statement (tree.operate line x at o) = operate x o
+  statement (tree.act line a) = act a
+  statement (tree.if_ line e body other) = word w.If ∷ expression e ++ braced (statements body) ++ else_ other
   statement (tree.while_ line e body) = word w.While ∷ expression e ++ braced (statements body)
   statement (tree.guard line body undo) = word w.Guard ∷ braced (statements body) ++ word w.Unwind ∷ braced (statements undo)
   statement (tree.try_ line body hs) = word w.Try ∷ braced (statements body) ++ handlers hs
@@ -192,9 +187,9 @@ abbrev mutual
   statements tree.over = []
   statements (tree.then x xs) = statement x ++ statements xs
 
-  pub otherwise : tree.Else → List Piece
-  otherwise tree.no_else = []
-  otherwise (tree.else_block body) = word w.Else ∷ braced (statements body)
+  pub else_ : tree.Else → List Piece
+  else_ tree.no_else = []
+  else_ (tree.else_block body) = word w.Else ∷ braced (statements body)
 
   pub handlers : tree.Handlers → List Piece
   handlers tree.no_more = []
@@ -211,52 +206,52 @@ abbrev pub clock : ClockItem → List Piece
 clock c = word w.Clock ∷ name c.name ∷ word w.Period ∷ span c.period ++ word w.High ∷ span c.high ++ start c.start
 
 -- a word and a name, where one is written
-abbrev pub handled : Word → Option (List ℕ) → List Piece
-handled x y = maybe (with_name x) y
+abbrev pub own_handler : Word → Option (List ℕ) → List Piece
+own_handler x y = maybe (with_name x) y
 
 abbrev pub initiator_role : InitiatorRole → List Piece
-initiator_role initiator.Pass = word w.Pass ∷ []
-initiator_role (initiator.Own bw) = handled w.Bw bw
+initiator_role initiates.Pass = word w.Pass ∷ []
+initiator_role (initiates.Own bw) = own_handler w.Bw bw
 
 abbrev pub target_role : TargetRole → List Piece
-target_role target.Pass = word w.Pass ∷ []
-target_role (target.Own bt fw) = handled w.Bt bt ++ handled w.Fw fw
+target_role receives.Pass = word w.Pass ∷ []
+target_role (receives.Own bt fw) = own_handler w.Bt bt ++ own_handler w.Fw fw
 
 -- the type of a function's answer, where it has one
-abbrev pub answered : Option VarType → List Piece
-answered t = maybe (λ x. operator s.Arrow ∷ variable_type x ∷ []) t
+abbrev pub answer : Option VarType → List Piece
+answer t = maybe (λ x. operator s.Arrow ∷ var_type x ∷ []) t
 
 -- each parameter behind a comma
 abbrev pub more_parameters : List Parameter → List Piece
 more_parameters ps = each (λ p. comma ∷ parameter p) ps
 
 abbrev pub function : tree.FunctionItem → List Piece
-function f = word w.Func ∷ name f.name ∷ bracketed (separated parameter f.parameters) ++ answered f.answer ++ braced (statements f.body)
+function f = word w.Func ∷ name f.name ∷ bracketed (separated parameter f.parameters) ++ answer f.answer ++ braced (statements f.body)
 
-abbrev pub process_item : tree.ProcessItem → List Piece
-process_item p = word (process_word p.kind) ∷ name p.name ∷ sensitive p.sensitive ++ flag w.DontInitialize p.dont_initialize ++ braced (statements p.body)
+abbrev pub process : tree.ProcessItem → List Piece
+process p = word (process_word p.kind) ∷ name p.name ∷ sensitive p.sensitive ++ flag w.DontInitialize p.dont_initialize ++ braced (statements p.body)
 
 -- a number behind a word, where one is written
-abbrev pub sized : Option ℕ → List Piece
-sized n = maybe (λ x. word w.Size ∷ number x ∷ []) n
+abbrev pub fifo_size : Option ℕ → List Piece
+fifo_size n = maybe (λ x. word w.Size ∷ number x ∷ []) n
 
 abbrev pub item : tree.Item → List Piece
 item (tree.signal line x) = signal x ++ semicolon ∷ []
 item (tree.resolved line x) = word w.Resolved ∷ name x ∷ semicolon ∷ []
 item (tree.clock line c) = clock c ++ semicolon ∷ []
-item (tree.fifo line t x size) = word w.Fifo ∷ type_form t.form ∷ name x ∷ sized size ++ semicolon ∷ []
+item (tree.fifo line t x size) = word w.Fifo ∷ type_form t.form ∷ name x ∷ fifo_size size ++ semicolon ∷ []
 item (tree.plain line kind x) = word (plain_word kind) ∷ name x ∷ semicolon ∷ []
 item (tree.semaphore line x c) = word w.Semaphore ∷ name x ∷ constant_form c.form ++ semicolon ∷ []
 item (tree.memory line x size) = word w.Memory ∷ name x ∷ opening s.LeftBracket ∷ number size ∷ closing s.RightBracket ∷ semicolon ∷ []
-item (tree.variable line t x c) = word w.Var ∷ variable_type t ∷ name x ∷ initial c ++ semicolon ∷ []
-item (tree.port line i x size) = leads_to i ++ name x ∷ maybe port_size size ++ semicolon ∷ []
-item (tree.export line i x) = word w.Export ∷ leads_to i ++ name x ∷ semicolon ∷ []
+item (tree.variable line t x c) = word w.Var ∷ var_type t ∷ name x ∷ initial c ++ semicolon ∷ []
+item (tree.port line i x size) = interface i ++ name x ∷ maybe port_size size ++ semicolon ∷ []
+item (tree.export line i x) = word w.Export ∷ interface i ++ name x ∷ semicolon ∷ []
 item (tree.initiator line x role) = word w.Initiator ∷ name x ∷ initiator_role role ++ semicolon ∷ []
 item (tree.target line x role) = word w.Target ∷ name x ∷ target_role role ++ semicolon ∷ []
 item (tree.instance line kind x) = word w.Inst ∷ name kind ∷ name x ∷ semicolon ∷ []
 item (tree.bind line left right) = word w.Bind ∷ binding_end left ++ word w.To ∷ binding_end right ++ semicolon ∷ []
 item (tree.function line f) = function f
-item (tree.process line p) = process_item p
+item (tree.process line p) = process p
 
 abbrev pub module_ : tree.Module → List Piece
 module_ m = word w.Module ∷ name m.name ∷ braced (each item m.items)

@@ -1,12 +1,14 @@
 ghost use Rattle.std.specs.Prelude.{◌≡◌, OnOk, map};
 ghost use Rattle.model_tree.specs.Views.{expression_of, expressions_of};
-ghost use Rattle.model_print.specs.Layout.{put_all};
-ghost use Rattle.model_print.specs.Leaves as leaf;
+ghost use Rattle.page_layout.specs.Layout.{put_all};
+ghost use Rattle.page_layout.specs.Pieces as piece;
 ghost use Rattle.model_print.specs.Printed as spec;
 
 use super::leaves::{time, truth};
-use super::page::Page;
-use model_tree::{Expression, Symbol, Word, binary_symbol, constant_word, conversion_word, unary_symbol};
+use model_tree::{
+    Expression, Symbol, Word, binary_symbol, constant_word, conversion_word, unary_symbol,
+};
+use page_layout::Page;
 use std::alloc::AllocError;
 
 /// Writes an expression.
@@ -103,7 +105,7 @@ fn more_expressions(page: &mut Page, es: &[Expression]) -> Result<(), AllocError
 
 /// Writes expressions with commas between them.
 fn listed(page: &mut Page, es: &[Expression]) -> Result<(), AllocError>
-    ensures { OnOk result (page.new ≡ put_all page.old (leaf.separated spec.expression (expressions_of es.now))) }
+    ensures { OnOk result (page.new ≡ put_all page.old (piece.separated spec.expression (expressions_of es.now))) }
 {
     match es {
         [] => Ok(()),

@@ -1,17 +1,21 @@
 ghost use Rattle.std.specs.Prelude.{◌≡◌, OnOk, map};
 ghost use Rattle.model_tree.specs.Views.{function_of, item_of, module_of, modules_of, process_of};
-ghost use Rattle.model_grammar.specs.Items as grammar;
-ghost use Rattle.model_print.specs.Layout.{put_all};
+ghost use Rattle.page_layout.specs.Layout.{put_all};
+ghost use Rattle.page_layout.specs.Pieces as piece;
 ghost use Rattle.model_print.specs.Leaves as leaf;
 ghost use Rattle.model_print.specs.Printed as spec;
 
 use super::leaves::{
-    binding_end, constant_form, flag, initial, leads_to, parameter, port_size, time, type_form,
-    variable_type,
+    binding_end, constant_form, flag, initial, interface, parameter, port_size, time, type_form,
+    var_type,
 };
-use super::page::Page;
 use super::statements::{block, sensitive, with_name};
-use model_tree::{ClockItem, FunctionItem, InitiatorRole, Item, Module, Name, Parameter, PlainKind, ProcessItem, ProcessKind, SignalItem, SignalKind, Symbol, TargetRole, Top, VarType, Word, plain_word, process_word, signal_word};
+use model_tree::{
+    ClockItem, FunctionItem, InitiatorRole, Item, Module, Name, Parameter, PlainKind, ProcessItem,
+    ProcessKind, SignalItem, SignalKind, Symbol, TargetRole, Top, VarType, Word, plain_word,
+    process_word, signal_word,
+};
+use page_layout::Page;
 use std::alloc::AllocError;
 
 /// Writes a signal or a buffer, without its `;`.
@@ -43,8 +47,8 @@ fn clock(page: &mut Page, clock: &ClockItem) -> Result<(), AllocError>
 }
 
 /// Writes a word and the name of a handler where one is written.
-fn handled(page: &mut Page, word: Word, handler: &Option<Name>) -> Result<(), AllocError>
-    ensures { OnOk result (page.new ≡ put_all page.old (spec.handled word handler.now)) }
+fn own_handler(page: &mut Page, word: Word, handler: &Option<Name>) -> Result<(), AllocError>
+    ensures { OnOk result (page.new ≡ put_all page.old (spec.own_handler word handler.now)) }
 {
     match handler {
         None => Ok(()),
@@ -58,7 +62,7 @@ fn initiator_role(page: &mut Page, role: &InitiatorRole) -> Result<(), AllocErro
 {
     match role {
         InitiatorRole::Pass => page.word(Word::Pass),
-        InitiatorRole::Own(backward) => handled(page, Word::Bw, backward),
+        InitiatorRole::Own(backward) => own_handler(page, Word::Bw, backward),
     }
 }
 
@@ -69,21 +73,21 @@ fn target_role(page: &mut Page, role: &TargetRole) -> Result<(), AllocError>
     match role {
         TargetRole::Pass => page.word(Word::Pass),
         TargetRole::Own(blocking, forward) => {
-            handled(page, Word::Bt, blocking)?;
-            handled(page, Word::Fw, forward)
+            own_handler(page, Word::Bt, blocking)?;
+            own_handler(page, Word::Fw, forward)
         }
     }
 }
 
 /// Writes the type of a function's answer where it has one.
-fn answered(page: &mut Page, answer: Option<VarType>) -> Result<(), AllocError>
-    ensures { OnOk result (page.new ≡ put_all page.old (spec.answered answer)) }
+fn answer(page: &mut Page, answer: Option<VarType>) -> Result<(), AllocError>
+    ensures { OnOk result (page.new ≡ put_all page.old (spec.answer answer)) }
 {
     match answer {
         None => Ok(()),
         Some(answer) => {
             page.operator(Symbol::Arrow)?;
-            variable_type(page, answer)
+            var_type(page, answer)
         }
     }
 }
@@ -101,7 +105,7 @@ fn more_parameters(page: &mut Page, parameters: &[Parameter]) -> Result<(), Allo
 
 /// Writes parameters with commas between them.
 fn listed(page: &mut Page, parameters: &[Parameter]) -> Result<(), AllocError>
-    ensures { OnOk result (page.new ≡ put_all page.old (leaf.separated leaf.parameter parameters.now)) }
+    ensures { OnOk result (page.new ≡ put_all page.old (piece.separated leaf.parameter parameters.now)) }
 {
     match parameters {
         [] => Ok(()),
@@ -121,13 +125,13 @@ fn function(page: &mut Page, function: &FunctionItem) -> Result<(), AllocError>
     page.opening(Symbol::LeftParen)?;
     listed(page, function.parameters.as_slice())?;
     page.closing(Symbol::RightParen)?;
-    answered(page, function.answer)?;
+    answer(page, function.answer)?;
     block(page, &function.body)
 }
 
 /// Writes a process.
 fn process(page: &mut Page, process: &ProcessItem) -> Result<(), AllocError>
-    ensures { OnOk result (page.new ≡ put_all page.old (spec.process_item (process_of process.now))) }
+    ensures { OnOk result (page.new ≡ put_all page.old (spec.process (process_of process.now))) }
 {
     page.word(process_word(process.kind))?;
     page.name(&process.name)?;
@@ -137,8 +141,8 @@ fn process(page: &mut Page, process: &ProcessItem) -> Result<(), AllocError>
 }
 
 /// Writes the size of a fifo where one is written.
-fn sized(page: &mut Page, size: Option<u64>) -> Result<(), AllocError>
-    ensures { OnOk result (page.new ≡ put_all page.old (spec.sized size)) }
+fn fifo_size(page: &mut Page, size: Option<u64>) -> Result<(), AllocError>
+    ensures { OnOk result (page.new ≡ put_all page.old (spec.fifo_size size)) }
 {
     match size {
         None => Ok(()),
@@ -161,7 +165,7 @@ fn item(page: &mut Page, item: &Item) -> Result<(), AllocError>
             page.word(Word::Fifo)?;
             type_form(page, value_type.form)?;
             page.name(name)?;
-            sized(page, *size)?;
+            fifo_size(page, *size)?;
         }
         Item::Plain(_, kind, name) => with_name(page, plain_word(*kind), name)?,
         Item::Semaphore(_, name, value) => {
@@ -174,20 +178,20 @@ fn item(page: &mut Page, item: &Item) -> Result<(), AllocError>
             page.number(*size)?;
             page.closing(Symbol::RightBracket)?;
         }
-        Item::Variable(_, var_type, name, value) => {
+        Item::Variable(_, of, name, value) => {
             page.word(Word::Var)?;
-            variable_type(page, *var_type)?;
+            var_type(page, *of)?;
             page.name(name)?;
             initial(page, *value)?;
         }
-        Item::Port(_, interface, name, size) => {
-            leads_to(page, *interface)?;
+        Item::Port(_, of, name, size) => {
+            interface(page, *of)?;
             page.name(name)?;
             port_size(page, *size)?;
         }
-        Item::Export(_, interface, name) => {
+        Item::Export(_, of, name) => {
             page.word(Word::Export)?;
-            leads_to(page, *interface)?;
+            interface(page, *of)?;
             page.name(name)?;
         }
         Item::Initiator(_, name, role) => {
@@ -216,7 +220,7 @@ fn item(page: &mut Page, item: &Item) -> Result<(), AllocError>
 
 /// Writes items, one behind another.
 fn items(page: &mut Page, items: &[Item]) -> Result<(), AllocError>
-    ensures { OnOk result (page.new ≡ put_all page.old (leaf.each spec.item (map item_of items.now))) }
+    ensures { OnOk result (page.new ≡ put_all page.old (piece.each spec.item (map item_of items.now))) }
 {
     for one in items {
         item(page, one)?;
@@ -225,18 +229,18 @@ fn items(page: &mut Page, items: &[Item]) -> Result<(), AllocError>
 }
 
 /// Writes a module.
-fn module(page: &mut Page, module: &Module) -> Result<(), AllocError>
-    ensures { OnOk result (page.new ≡ put_all page.old (spec.module_ (module_of module.now))) }
+fn module(page: &mut Page, one: &Module) -> Result<(), AllocError>
+    ensures { OnOk result (page.new ≡ put_all page.old (spec.module_ (module_of one.now))) }
 {
-    with_name(page, Word::Module, &module.name)?;
+    with_name(page, Word::Module, &one.name)?;
     page.left_brace()?;
-    items(page, module.items.as_slice())?;
+    items(page, one.items.as_slice())?;
     page.right_brace()
 }
 
 /// Writes modules, one behind another.
 pub fn modules(page: &mut Page, modules: &[Module]) -> Result<(), AllocError>
-    ensures { OnOk result (page.new ≡ put_all page.old (leaf.each spec.module_ (modules_of modules.now))) }
+    ensures { OnOk result (page.new ≡ put_all page.old (piece.each spec.module_ (modules_of modules.now))) }
 {
     for one in modules {
         module(page, one)?;

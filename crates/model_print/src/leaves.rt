@@ -1,18 +1,19 @@
 ghost use Rattle.std.specs.Prelude.{◌≡◌, OnOk, codes};
-ghost use Rattle.model_print.specs.Layout.{put, put_all};
+ghost use Rattle.page_layout.specs.Layout.{put, put_all};
+ghost use Rattle.page_layout.specs.Pieces as piece;
 ghost use Rattle.model_print.specs.Leaves as leaf;
 
-use super::page::Page;
 use model_tree::{
     BoundRule, Constant, ConstantForm, End, Interface, Name, Parameter, PortSize, Symbol, TypeForm,
     VarType, Who, Word, unit_name,
 };
+use page_layout::Page;
 use sim_time::Unit;
 use std::alloc::AllocError;
 
 /// Writes a word where it is written.
 pub fn flag(page: &mut Page, word: Word, is_written: bool) -> Result<(), AllocError>
-    ensures { OnOk result (page.new ≡ put_all page.old (leaf.flag word is_written)) }
+    ensures { OnOk result (page.new ≡ put_all page.old (piece.flag word is_written)) }
 {
     if is_written {
         page.word(word)?;
@@ -34,8 +35,8 @@ pub fn type_form(page: &mut Page, form: TypeForm) -> Result<(), AllocError>
 }
 
 /// Writes a type of variables.
-pub fn variable_type(page: &mut Page, var_type: VarType) -> Result<(), AllocError>
-    ensures { OnOk result (page.new ≡ put page.old (leaf.variable_type var_type)) }
+pub fn var_type(page: &mut Page, var_type: VarType) -> Result<(), AllocError>
+    ensures { OnOk result (page.new ≡ put page.old (leaf.var_type var_type)) }
 {
     match var_type {
         VarType::Plain(plain) => type_form(page, plain.form),
@@ -94,8 +95,8 @@ pub fn initial(page: &mut Page, value: Option<Constant>) -> Result<(), AllocErro
 }
 
 /// Writes the process of a control call.
-pub fn target_process(page: &mut Page, who: &Who) -> Result<(), AllocError>
-    ensures { OnOk result (page.new ≡ put page.old (leaf.target_process who.now)) }
+pub fn who(page: &mut Page, who: &Who) -> Result<(), AllocError>
+    ensures { OnOk result (page.new ≡ put page.old (leaf.who who.now)) }
 {
     match who {
         Who::Named(_, name) => page.name(name),
@@ -117,8 +118,8 @@ pub fn member(page: &mut Page, member: &Option<Name>) -> Result<(), AllocError>
 }
 
 /// Writes what a port or an export leads to.
-pub fn leads_to(page: &mut Page, interface: Interface) -> Result<(), AllocError>
-    ensures { OnOk result (page.new ≡ put_all page.old (leaf.leads_to interface)) }
+pub fn interface(page: &mut Page, interface: Interface) -> Result<(), AllocError>
+    ensures { OnOk result (page.new ≡ put_all page.old (leaf.interface interface)) }
 {
     match interface {
         Interface::In(of) => {
@@ -154,7 +155,7 @@ fn bound_rule(page: &mut Page, rule: BoundRule) -> Result<(), AllocError>
 
 /// Writes the size of a port where one is written.
 pub fn port_size(page: &mut Page, size: Option<PortSize>) -> Result<(), AllocError>
-    ensures { OnOk result (page.new ≡ put_all page.old (leaf.maybe leaf.port_size size)) }
+    ensures { OnOk result (page.new ≡ put_all page.old (piece.maybe leaf.port_size size)) }
 {
     match size {
         None => Ok(()),
@@ -172,7 +173,7 @@ pub fn parameter(page: &mut Page, parameter: &Parameter) -> Result<(), AllocErro
     ensures { OnOk result (page.new ≡ put_all page.old (leaf.parameter parameter.now)) }
 {
     flag(page, Word::Inout, parameter.inout)?;
-    variable_type(page, parameter.var_type)?;
+    var_type(page, parameter.var_type)?;
     page.name(&parameter.name)
 }
 

@@ -4,7 +4,6 @@
 mod expressions;
 mod items;
 mod leaves;
-mod page;
 mod printing;
 mod statements;
 #[cfg(test)]

@@ -1,13 +1,16 @@
 ghost use Rattle.std.specs.Prelude.{◌≡◌, OnOk, option_map};
 ghost use Rattle.model_tree.specs.Views.{action_of, body_of, channel_of, event_of, events_of, expression_of, notification_of, operation_of, place_of, spawn_of, statement_of, target_of, waiting_of};
-ghost use Rattle.model_print.specs.Layout.{put_all};
-ghost use Rattle.model_print.specs.Leaves as leaf;
+ghost use Rattle.page_layout.specs.Layout.{put_all};
+ghost use Rattle.page_layout.specs.Pieces as piece;
 ghost use Rattle.model_print.specs.Printed as spec;
 
 use super::expressions::{arguments, expression};
-use super::leaves::{flag, member, target_process, variable_type};
-use super::page::Page;
-use model_tree::{Action, Channel, Event, Expression, Name, Notification, Operation, Place, Spawn, Statement, Symbol, Target, VarType, Waiting, Word, control_word};
+use super::leaves::{flag, member, var_type, who};
+use model_tree::{
+    Action, Channel, Event, Expression, Name, Notification, Operation, Place, Spawn, Statement,
+    Symbol, Target, VarType, Waiting, Word, control_word,
+};
+use page_layout::Page;
 use std::alloc::AllocError;
 
 /// Writes the place of a channel where one is written.
@@ -58,7 +61,7 @@ fn more_events(page: &mut Page, events: &[Event]) -> Result<(), AllocError>
 
 /// Writes events with commas between them.
 fn listed(page: &mut Page, events: &[Event]) -> Result<(), AllocError>
-    ensures { OnOk result (page.new ≡ put_all page.old (leaf.separated spec.event (events_of events.now))) }
+    ensures { OnOk result (page.new ≡ put_all page.old (piece.separated spec.event (events_of events.now))) }
 {
     match events {
         [] => Ok(()),
@@ -81,7 +84,7 @@ pub fn sensitive(page: &mut Page, events: &[Event]) -> Result<(), AllocError>
 
 /// Writes an expression where one is written.
 fn optional(page: &mut Page, e: &Option<Expression>) -> Result<(), AllocError>
-    ensures { OnOk result (page.new ≡ put_all page.old (leaf.maybe spec.expression (option_map expression_of e.now))) }
+    ensures { OnOk result (page.new ≡ put_all page.old (piece.maybe spec.expression (option_map expression_of e.now))) }
 {
     match e {
         None => Ok(()),
@@ -158,9 +161,9 @@ fn index(page: &mut Page, index: &Option<Expression>) -> Result<(), AllocError>
     }
 }
 
-/// Writes the target of an assignment.
-fn assigned(page: &mut Page, target: &Target) -> Result<(), AllocError>
-    ensures { OnOk result (page.new ≡ put_all page.old (spec.assigned (target_of target.now))) }
+/// Writes the target of an assign.
+fn target(page: &mut Page, target: &Target) -> Result<(), AllocError>
+    ensures { OnOk result (page.new ≡ put_all page.old (spec.target (target_of target.now))) }
 {
     page.name(&target.name)?;
     member(page, &target.member)?;
@@ -233,8 +236,8 @@ fn stored(page: &mut Page, variable: &Option<Name>) -> Result<(), AllocError>
 }
 
 /// Writes a new instance of a function.
-fn spawned(page: &mut Page, spawn: &Spawn) -> Result<(), AllocError>
-    ensures { OnOk result (page.new ≡ put_all page.old (spec.spawned (spawn_of spawn.now))) }
+fn spawn(page: &mut Page, spawn: &Spawn) -> Result<(), AllocError>
+    ensures { OnOk result (page.new ≡ put_all page.old (spec.spawn (spawn_of spawn.now))) }
 {
     page.word(Word::Spawn)?;
     stored(page, &spawn.handle)?;
@@ -335,14 +338,14 @@ fn action(page: &mut Page, action: &Action) -> Result<(), AllocError>
         Action::QkSet(keeper, time) => with_time(page, Word::QkSet, keeper, time),
         Action::QkReset(keeper) => with_name(page, Word::QkReset, keeper),
         Action::QkSync(keeper) => with_name(page, Word::QkSync, keeper),
-        Action::Spawn(spawn) => spawned(page, spawn),
-        Action::Control(control, who) => {
+        Action::Spawn(new) => spawn(page, new),
+        Action::Control(control, process) => {
             page.word(control_word(*control))?;
-            target_process(page, who)
+            who(page, process)
         }
-        Action::ThrowIt(who, exception) => {
+        Action::ThrowIt(process, exception) => {
             page.word(Word::ThrowIt)?;
-            target_process(page, who)?;
+            who(page, process)?;
             page.name(exception)
         }
         Action::Throw(exception) => with_name(page, Word::Throw, exception),
@@ -368,34 +371,34 @@ fn first_value(page: &mut Page, value: &Option<Expression>) -> Result<(), AllocE
 }
 
 /// Writes a local variable.
-fn declaration(
+fn var(
     page: &mut Page,
-    var_type: VarType,
+    of: VarType,
     name: &Name,
     value: &Option<Expression>,
 ) -> Result<(), AllocError>
-    ensures { OnOk result (page.new ≡ put_all page.old (spec.declaration var_type name.now (option_map expression_of value.now))) }
+    ensures { OnOk result (page.new ≡ put_all page.old (spec.var of name.now (option_map expression_of value.now))) }
 {
     page.word(Word::Var)?;
-    variable_type(page, var_type)?;
+    var_type(page, of)?;
     page.name(name)?;
     first_value(page, value)?;
     page.semicolon()
 }
 
 /// Writes an assignment.
-fn assignment(page: &mut Page, target: &Target, value: &Expression) -> Result<(), AllocError>
-    ensures { OnOk result (page.new ≡ put_all page.old (spec.assignment (target_of target.now) (expression_of value.now))) }
+fn assign(page: &mut Page, to: &Target, value: &Expression) -> Result<(), AllocError>
+    ensures { OnOk result (page.new ≡ put_all page.old (spec.assign (target_of to.now) (expression_of value.now))) }
 {
-    assigned(page, target)?;
+    target(page, to)?;
     page.operator(Symbol::Equal)?;
     expression(page, value)?;
     page.semicolon()
 }
 
 /// Writes an operation, with the variable that gets its value.
-fn operated(page: &mut Page, variable: &Option<Name>, what: &Operation) -> Result<(), AllocError>
-    ensures { OnOk result (page.new ≡ put_all page.old (spec.operated variable.now (operation_of what.now))) }
+fn operate(page: &mut Page, variable: &Option<Name>, what: &Operation) -> Result<(), AllocError>
+    ensures { OnOk result (page.new ≡ put_all page.old (spec.operate variable.now (operation_of what.now))) }
 {
     stored(page, variable)?;
     operation(page, what)?;
@@ -403,8 +406,8 @@ fn operated(page: &mut Page, variable: &Option<Name>, what: &Operation) -> Resul
 }
 
 /// Writes a statement that gives no value.
-fn acted(page: &mut Page, what: &Action) -> Result<(), AllocError>
-    ensures { OnOk result (page.new ≡ put_all page.old (spec.acted (action_of what.now))) }
+fn act(page: &mut Page, what: &Action) -> Result<(), AllocError>
+    ensures { OnOk result (page.new ≡ put_all page.old (spec.act (action_of what.now))) }
 {
     action(page, what)?;
     page.semicolon()
@@ -416,10 +419,10 @@ fn statement(page: &mut Page, one: &Statement) -> Result<(), AllocError>
     ensures { OnOk result (page.new ≡ put_all page.old (spec.statement (statement_of one.now))) }
 {
     match one {
-        Statement::Var(_, var_type, name, value) => declaration(page, *var_type, name, value),
-        Statement::Assign(_, target, value) => assignment(page, target, value),
-        Statement::Operate(_, variable, _, what) => operated(page, variable, what),
-        Statement::Act(_, what) => acted(page, what),
+        Statement::Var(_, var_type, name, value) => var(page, *var_type, name, value),
+        Statement::Assign(_, target, value) => assign(page, target, value),
+        Statement::Operate(_, variable, _, what) => operate(page, variable, what),
+        Statement::Act(_, what) => act(page, what),
         Statement::If(_, condition, body, other) => {
             page.word(Word::If)?;
             expression(page, condition)?;
@@ -443,10 +446,10 @@ fn statement(page: &mut Page, one: &Statement) -> Result<(), AllocError>
             page.word(Word::Unwind)?;
             block(page, undo)
         }
-        Statement::Try(_, body, catches) => {
+        Statement::Try(_, body, handlers) => {
             page.word(Word::Try)?;
             block(page, body)?;
-            for (exception, body) in catches {
+            for (exception, body) in handlers {
                 page.word(Word::Catch)?;
                 page.name(exception)?;
                 block(page, body)?;
@@ -470,7 +473,7 @@ fn statements(page: &mut Page, body: &Vec<Statement>) -> Result<(), AllocError>
 /// Writes a block.
 #[cycle(statements)]
 pub fn block(page: &mut Page, body: &Vec<Statement>) -> Result<(), AllocError>
-    ensures { OnOk result (page.new ≡ put_all page.old (leaf.braced (spec.statements (body_of body.now.items)))) }
+    ensures { OnOk result (page.new ≡ put_all page.old (piece.braced (spec.statements (body_of body.now.items)))) }
 {
     page.left_brace()?;
     statements(page, body)?;

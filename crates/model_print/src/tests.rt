@@ -1,6 +1,9 @@
 use super::printing::written;
-use logic_values::{Digit, Lv};
-use model_tree::{Action, BinaryOp, Channel, Expression, FunctionItem, Item, Module, Name, Operation, Parameter, Place, PrintText, SignalType, Statement, Target, Top, TypeForm, UnaryOp, VarType, Waiting};
+use logic_values::{Digit, Lv, Text};
+use model_tree::{
+    Action, BinaryOp, Channel, Expression, FunctionItem, Item, Module, Name, Operation, Parameter,
+    Place, PrintText, SignalType, Statement, Target, Top, TypeForm, UnaryOp, VarType, Waiting,
+};
 use sim_time::Unit;
 use std::alloc::{AllocError, Global};
 use std::test::Fail;
@@ -126,7 +129,7 @@ fn function(
     ))
 }
 
-fn text(alloc: Global) -> Result<Vec<u8>, AllocError> {
+fn text(alloc: Global) -> Result<Text, AllocError> {
     let mut items = Vec::new(alloc);
     items.push(Item::Memory(1, name(alloc, "s")?, 64))?;
     items.push(function(alloc, first_part(alloc)?, Some(VarType::Time))?)?;

@@ -2,65 +2,14 @@ ghost use Rattle.std.specs.Prelude.{◌≡◌, ◌++◌, OnOk, codes};
 ghost use Rattle.std.specs.Fmt.{decimal};
 ghost use Rattle.logic_values.specs.Digits.{digits};
 ghost use Rattle.model_tree.specs.Vocabulary.{word_text};
-ghost use Rattle.model_print.specs.Layout as spec;
-ghost use Rattle.model_print.specs.Leaves as leaf;
+ghost use Rattle.page_layout.specs.Layout as spec;
+ghost use Rattle.page_layout.specs.Pieces as piece;
 
-use logic_values::{Lv, Value, value_text};
+use super::shapes::{Shape, ends_line, is_spaced};
+use logic_values::{Lv, Text, Value, value_text};
 use model_tree::{Name, PrintText, Symbol, Word, symbol_text, word_text};
 use std::alloc::{AllocError, Global};
 use std::marker::Model;
-
-/// What a printed token is to its neighbours on a line.
-#[derive(Clone, Copy)]
-pub enum Shape {
-    /// A name, a number, a literal, a type or the word of a conversion.
-    Plain,
-    /// Any other word of the language.
-    Word,
-    /// A text between double quotes.
-    Quoted,
-    /// An operator between two tokens.
-    Operator,
-    /// An operator before its operand.
-    Prefix,
-    /// `(` or `[`
-    Open,
-    /// `)` or `]`
-    Close,
-    /// `,`
-    Comma,
-    /// `.` or `@`
-    Joint,
-    /// `;`
-    Semicolon,
-    /// `{`
-    LeftBrace,
-    /// `}`
-    RightBrace,
-}
-
-/// Whether a blank stands between two tokens of a line.
-fn is_spaced(before: Shape, after: Shape) -> bool
-    ensures { result ≡ spec.is_spaced before after }
-{
-    match (before, after) {
-        (Shape::Open | Shape::Joint | Shape::Prefix, _) => false,
-        (_, Shape::Semicolon | Shape::Comma | Shape::Joint | Shape::Close) => false,
-        (Shape::Operator | Shape::Word | Shape::Quoted, Shape::Open) => true,
-        (_, Shape::Open) => false,
-        _ => true,
-    }
-}
-
-/// Whether a line ends behind the token.
-fn ends_line(shape: Shape) -> bool
-    ensures { result ≡ spec.ends_line shape }
-{
-    matches!(
-        shape,
-        Shape::LeftBrace | Shape::RightBrace | Shape::Semicolon
-    )
-}
 
 /// A page that is being written.
 #[derive(Drop)]
@@ -75,8 +24,8 @@ pub struct Page {
 }
 
 impl Model for Page {
-    ghost use Rattle.model_print.specs.Layout.{Page as Written, page_code};
-    ghost use Rattle.model_print.specs.contracts.page.Shape.{the_row};
+    ghost use Rattle.page_layout.specs.Layout.{Page as Written, page_code};
+    ghost use Rattle.page_layout.specs.contracts.shapes.Shape.{the_row};
 
     ghost Value = { Written };
 
@@ -99,11 +48,11 @@ impl Page {
     }
 
     /// What is written.
-    pub fn into_bytes(self) -> Vec<u8>
-        ensures { result.items ≡ self.text }
+    pub fn into_text(self) -> Text
+        ensures { result ≡ self.text }
     {
         let Page { text, .. } = self;
-        text
+        Text::from_vec(text)
     }
 
     /// Writes the margin of a line that begins with this token.
@@ -169,28 +118,28 @@ impl Page {
 
     /// Writes a word of the language that is no type and no conversion.
     pub fn word(&mut self, word: Word) -> Result<(), AllocError>
-        ensures { OnOk result (self.new ≡ spec.put self.old (leaf.word word)) }
+        ensures { OnOk result (self.new ≡ spec.put self.old (piece.word word)) }
     {
         self.put(Shape::Word, word_text(word).as_bytes())
     }
 
     /// Writes a name.
     pub fn name(&mut self, name: &Name) -> Result<(), AllocError>
-        ensures { OnOk result (self.new ≡ spec.put self.old (leaf.name name.now)) }
+        ensures { OnOk result (self.new ≡ spec.put self.old (piece.name name.now)) }
     {
         self.put(Shape::Plain, name.bytes())
     }
 
     /// Writes the word of a unit.
     pub fn unit(&mut self, bytes: &[u8]) -> Result<(), AllocError>
-        ensures { OnOk result (self.new ≡ spec.put self.old (leaf.name bytes.now)) }
+        ensures { OnOk result (self.new ≡ spec.put self.old (piece.name bytes.now)) }
     {
         self.put(Shape::Plain, bytes)
     }
 
     /// Writes a number in decimal.
     pub fn number(&mut self, number: u64) -> Result<(), AllocError>
-        ensures { OnOk result (self.new ≡ spec.put self.old (leaf.number number)) }
+        ensures { OnOk result (self.new ≡ spec.put self.old (piece.number number)) }
     {
         let text = format!(in self.alloc; "{number}")?;
         self.put(Shape::Plain, text.as_bytes())
@@ -198,7 +147,7 @@ impl Page {
 
     /// Writes a logic literal.
     pub fn logic(&mut self, value: Lv) -> Result<(), AllocError>
-        ensures { OnOk result (self.new ≡ spec.put self.old (leaf.logic (digits value))) }
+        ensures { OnOk result (self.new ≡ spec.put self.old (piece.logic (digits value))) }
     {
         let digits = value_text(self.alloc, Value::Vector(value))?;
         let mut text = Vec::new(self.alloc);
@@ -210,7 +159,7 @@ impl Page {
 
     /// Writes a text between double quotes.
     pub fn quoted(&mut self, words: &PrintText) -> Result<(), AllocError>
-        ensures { OnOk result (self.new ≡ spec.put self.old (leaf.quoted words.now)) }
+        ensures { OnOk result (self.new ≡ spec.put self.old (piece.quoted words.now)) }
     {
         let mut text = Vec::new(self.alloc);
         text.extend_from_slice(b"\"")?;
@@ -221,14 +170,14 @@ impl Page {
 
     /// Writes the word of a conversion or of a type that has no width.
     pub fn type_word(&mut self, word: Word) -> Result<(), AllocError>
-        ensures { OnOk result (self.new ≡ spec.put self.old (leaf.type_word word)) }
+        ensures { OnOk result (self.new ≡ spec.put self.old (piece.type_word word)) }
     {
         self.put(Shape::Plain, word_text(word).as_bytes())
     }
 
     /// Writes a type that has a width.
     pub fn wide(&mut self, word: Word, width: u64) -> Result<(), AllocError>
-        ensures { OnOk result (self.new ≡ spec.put self.old (leaf.wide word width)) }
+        ensures { OnOk result (self.new ≡ spec.put self.old (piece.wide word width)) }
     {
         let number = format!(in self.alloc; "{width}")?;
         let mut text = Vec::new(self.alloc);
@@ -241,63 +190,63 @@ impl Page {
 
     /// Writes an operator between two tokens.
     pub fn operator(&mut self, symbol: Symbol) -> Result<(), AllocError>
-        ensures { OnOk result (self.new ≡ spec.put self.old (leaf.operator symbol)) }
+        ensures { OnOk result (self.new ≡ spec.put self.old (piece.operator symbol)) }
     {
         self.put(Shape::Operator, symbol_text(symbol).as_bytes())
     }
 
     /// Writes an operator before its operand.
     pub fn prefix(&mut self, symbol: Symbol) -> Result<(), AllocError>
-        ensures { OnOk result (self.new ≡ spec.put self.old (leaf.prefix symbol)) }
+        ensures { OnOk result (self.new ≡ spec.put self.old (piece.prefix symbol)) }
     {
         self.put(Shape::Prefix, symbol_text(symbol).as_bytes())
     }
 
     /// Writes `.` or `@`.
     pub fn joint(&mut self, symbol: Symbol) -> Result<(), AllocError>
-        ensures { OnOk result (self.new ≡ spec.put self.old (leaf.joint symbol)) }
+        ensures { OnOk result (self.new ≡ spec.put self.old (piece.joint symbol)) }
     {
         self.put(Shape::Joint, symbol_text(symbol).as_bytes())
     }
 
     /// Writes an opening round or square bracket.
     pub fn opening(&mut self, symbol: Symbol) -> Result<(), AllocError>
-        ensures { OnOk result (self.new ≡ spec.put self.old (leaf.opening symbol)) }
+        ensures { OnOk result (self.new ≡ spec.put self.old (piece.opening symbol)) }
     {
         self.put(Shape::Open, symbol_text(symbol).as_bytes())
     }
 
     /// Writes a closing one.
     pub fn closing(&mut self, symbol: Symbol) -> Result<(), AllocError>
-        ensures { OnOk result (self.new ≡ spec.put self.old (leaf.closing symbol)) }
+        ensures { OnOk result (self.new ≡ spec.put self.old (piece.closing symbol)) }
     {
         self.put(Shape::Close, symbol_text(symbol).as_bytes())
     }
 
     /// Writes `,`.
     pub fn comma(&mut self) -> Result<(), AllocError>
-        ensures { OnOk result (self.new ≡ spec.put self.old leaf.comma) }
+        ensures { OnOk result (self.new ≡ spec.put self.old piece.comma) }
     {
         self.put(Shape::Comma, symbol_text(Symbol::Comma).as_bytes())
     }
 
     /// Writes `;`.
     pub fn semicolon(&mut self) -> Result<(), AllocError>
-        ensures { OnOk result (self.new ≡ spec.put self.old leaf.semicolon) }
+        ensures { OnOk result (self.new ≡ spec.put self.old piece.semicolon) }
     {
         self.put(Shape::Semicolon, symbol_text(Symbol::Semicolon).as_bytes())
     }
 
     /// Writes `{`.
     pub fn left_brace(&mut self) -> Result<(), AllocError>
-        ensures { OnOk result (self.new ≡ spec.put self.old leaf.left_brace) }
+        ensures { OnOk result (self.new ≡ spec.put self.old piece.left_brace) }
     {
         self.put(Shape::LeftBrace, symbol_text(Symbol::LeftBrace).as_bytes())
     }
 
     /// Writes `}`.
     pub fn right_brace(&mut self) -> Result<(), AllocError>
-        ensures { OnOk result (self.new ≡ spec.put self.old leaf.right_brace) }
+        ensures { OnOk result (self.new ≡ spec.put self.old piece.right_brace) }
     {
         self.put(
             Shape::RightBrace,

@@ -2,8 +2,8 @@
 use Rattle.std.specs.Prelude.{ℕ, Bool, true, false, ◌-◌, List, [], ◌++◌, codes, length, take, refl, if◌then◌else◌}
 use Rattle.std.specs.List.{fold}
 use Rattle.std.specs.Coded.{Coded, code_by, coded×, coded_ℕ, coded_list}
-use Rattle.model_print.specs.declared.page.Shape.{Shape}
-use Rattle.model_print.specs.declared.page.Shape.TheVariants as shape
+use Rattle.page_layout.specs.declared.shapes.Shape.{Shape}
+use Rattle.page_layout.specs.declared.shapes.Shape.TheVariants as shape
 
 -- a printed token: what it is to its neighbours, and its bytes
 pub record Piece : Type 0 where
