@@ -13,7 +13,8 @@ use Rattle.model_grammar.specs.Tokens.{name, quoted, word, symbol}
 use Rattle.model_grammar.specs.Rules.{Rule, ◌⨾◌, At, Takes, Maybe}
 use Rattle.model_grammar.specs.Statements.{NextExpression, DerivesOperation, DerivesHandle, DerivesSpawn, DerivesWho, DerivesAction}
 use Rattle.model_tree.specs.Spelling.{control_word}
-use Rattle.model_print.specs.Layout.{Piece}
+use Rattle.page_layout.specs.Layout.{Piece}
+use Rattle.page_layout.specs.Pieces as piece
 use Rattle.model_print.specs.Leaves as leaf
 use Rattle.model_print.specs.Printed as printed
 use Rattle.print_laws.specs.Unlined as unlined
@@ -24,13 +25,13 @@ use Rattle.print_laws.proofs.Expressions.{whole_spelled}
 use Rattle.print_laws.proofs.Statements.{Fixed, channel_spelled, arguments_spelled, sensitive_spelled, optional_spelled, next_spelled, next_name, waiting_spelled, notification_spelled, option_fits, option_named}
 
 -- a word in front, on the line that is kept
-abbrev pub headed : {A : Type 0} {R : A → Rule} {S : A → Type 0} {xs : List Piece} → (x : Word) → Spelled false R S xs → Spelled true (λ (y : ℕ × A). At y.0 (word x) ⨾ R y.1) (λ (y : ℕ × A). S y.1) (leaf.word x ∷ xs)
-headed x a = led_at true (leaf.word x) (word x) (word_piece x) refl a
+abbrev pub headed : {A : Type 0} {R : A → Rule} {S : A → Type 0} {xs : List Piece} → (x : Word) → Spelled false R S xs → Spelled true (λ (y : ℕ × A). At y.0 (word x) ⨾ R y.1) (λ (y : ℕ × A). S y.1) (piece.word x ∷ xs)
+headed x a = led_at true (piece.word x) (word x) (word_piece x) refl a
 
 -- and a name behind it
 abbrev pub headed_name : {A : Type 0} {R : A → Rule} {S : A → Type 0} {xs : List Piece} → (x : Word) (z : List ℕ) → is_name z ≡ true → Spelled false R S xs
-    → Spelled true (λ (y : ℕ × A). At y.0 (word x) ⨾ Takes (name z) ⨾ R y.1) (λ (y : ℕ × A). S y.1) (leaf.word x ∷ leaf.name z ∷ xs)
-headed_name x z h a = headed x (led false (leaf.name z) (name z) (name_piece z h) refl a)
+    → Spelled true (λ (y : ℕ × A). At y.0 (word x) ⨾ Takes (name z) ⨾ R y.1) (λ (y : ℕ × A). S y.1) (piece.word x ∷ piece.name z ∷ xs)
+headed_name x z h a = headed x (led false (piece.name z) (name z) (name_piece z h) refl a)
 
 -- an operation with the line of its word
 pub operation_spelled : (n : ℕ) (o : tree.Operation) → fits_operation n o ≡ true
@@ -62,14 +63,14 @@ operation_spelled n (tree.nb_transport x p phase t) h =
 -- a new instance of a function
 pub handle_spelled : (x : Option (List ℕ)) → option_name x ≡ true → Fixed false (Maybe DerivesHandle x) (printed.stored x)
 handle_spelled x h =
-    maybe_fixed DerivesHandle (λ y. leaf.name y ∷ leaf.operator s.Equal ∷ []) x
-    (λ y e. led false (leaf.name y) (name y) (name_piece y (option_named x y h e)) refl (one false (leaf.operator s.Equal) (symbol s.Equal) (operator_piece s.Equal) refl refl))
+    maybe_fixed DerivesHandle (λ y. piece.name y ∷ piece.operator s.Equal ∷ []) x
+    (λ y e. led false (piece.name y) (name y) (name_piece y (option_named x y h e)) refl (one false (piece.operator s.Equal) (symbol s.Equal) (operator_piece s.Equal) refl refl))
 
 five : (a b c d e : List Piece) → a ++ (b ++ (c ++ (d ++ e))) ≡ a ++ b ++ c ++ d ++ e
 five a b c d e = sym (append_assoc a b (c ++ (d ++ e))) ∙ sym (append_assoc (a ++ b) c (d ++ e)) ∙ sym (append_assoc (a ++ b ++ c) d e)
 
 pub spawn_spelled : (n : ℕ) (x : tree.Spawn) → fits_spawn n x ≡ true
-    → Spelled true (λ (y : ℕ × tree.Spawn). At y.0 (word w.Spawn) ⨾ DerivesSpawn y.1) (λ (y : ℕ × tree.Spawn). unlined.spawn y.1 ≡ unlined.spawn x) (printed.spawned x)
+    → Spelled true (λ (y : ℕ × tree.Spawn). At y.0 (word w.Spawn) ⨾ DerivesSpawn y.1) (λ (y : ℕ × tree.Spawn). unlined.spawn y.1 ≡ unlined.spawn x) (printed.spawn x)
 spawn_spelled n x h =
     let parts = and_parts (option_name x.handle && is_name x.function) (within n (λ m. fits_all m x.arguments) && fits_events n x.sensitive) h in
     let names = and_parts (option_name x.handle) (is_name x.function) parts.0 in
@@ -77,22 +78,22 @@ spawn_spelled n x h =
     as_one (λ y. (y.0, record { handle = x.handle; method = x.method; function = x.function; arguments = y.1.1.1.0; sensitive = y.1.1.1.1.0; dont_initialize = x.dont_initialize }))
     (λ y s. rw (s.1.1.0, s.1.1.1.0) refl) (λ y ts rest d. d)
     (headed w.Spawn
-    (moved (five (printed.stored x.handle) (leaf.flag w.Method x.method) (leaf.name x.function ∷ printed.arguments x.arguments) (printed.sensitive x.sensitive) (leaf.flag w.DontInitialize x.dont_initialize))
+    (moved (five (printed.stored x.handle) (piece.flag w.Method x.method) (piece.name x.function ∷ printed.arguments x.arguments) (printed.sensitive x.sensitive) (piece.flag w.DontInitialize x.dont_initialize))
     (both (handle_spelled x.handle names.0)
     (both (flag_spelled w.Method x.method)
-    (led false (leaf.name x.function) (name x.function) (name_piece x.function names.1) refl
+    (led false (piece.name x.function) (name x.function) (name_piece x.function names.1) refl
     (both (arguments_spelled n x.arguments lists.0) (both (sensitive_spelled n x.sensitive lists.1) (flag_spelled w.DontInitialize x.dont_initialize))))))))
 
 -- the process of a control call
-pub who_spelled : (x : Who) → fits_who x ≡ true → Spelled true DerivesWho (λ y. unlined.process y ≡ unlined.process x) (leaf.target_process x ∷ [])
-who_spelled (who.Named line x) h = as_one (λ l. who.Named l x) (λ y s. refl) (λ y ts rest d. d) (one_at true (leaf.name x) (name x) (name_piece x h) refl refl)
-who_spelled (who.Myself line) h = as_one (λ l. who.Myself l) (λ y s. refl) (λ y ts rest d. d) (one_at true (leaf.word w.SelfProcess) (word w.SelfProcess) (word_piece w.SelfProcess) refl refl)
+pub who_spelled : (x : Who) → fits_who x ≡ true → Spelled true DerivesWho (λ y. unlined.process y ≡ unlined.process x) (leaf.who x ∷ [])
+who_spelled (who.Named line x) h = as_one (λ l. who.Named l x) (λ y s. refl) (λ y ts rest d. d) (one_at true (piece.name x) (name x) (name_piece x h) refl refl)
+who_spelled (who.Myself line) h = as_one (λ l. who.Myself l) (λ y s. refl) (λ y ts rest d. d) (one_at true (piece.word w.SelfProcess) (word w.SelfProcess) (word_piece w.SelfProcess) refl refl)
 
 -- an action with the line of its word
 abbrev pub SpelledAction : tree.Action → Type 0
 SpelledAction x = Spelled true (λ (y : ℕ × tree.Action). DerivesAction y.0 y.1) (λ (y : ℕ × tree.Action). unlined.action y.1 ≡ unlined.action x) (printed.action x)
 
-only_name : (v : Word) (x : List ℕ) → is_name x ≡ true → Spelled true (λ (line : ℕ). At line (word v) ⨾ Takes (name x)) (λ (line : ℕ). Unit {0}) (leaf.word v ∷ leaf.name x ∷ [])
+only_name : (v : Word) (x : List ℕ) → is_name x ≡ true → Spelled true (λ (line : ℕ). At line (word v) ⨾ Takes (name x)) (λ (line : ℕ). Unit {0}) (piece.word v ∷ piece.name x ∷ [])
 only_name v x h = as_one (λ y. y.0) (λ y s. tt) (λ y ts rest d. d) (headed v (name_spelled false x h))
 
 pub action_spelled : (n : ℕ) (a : tree.Action) → fits_action n a ≡ true → SpelledAction a
@@ -102,7 +103,7 @@ action_spelled n (tree.write c e) h =
 action_spelled n (tree.print text e) h =
     let parts = and_parts (is_print_text text) (fits_option n e) h in
     as_one (λ y. (y.0, tree.print text y.1)) (λ y s. ap (tree.print text) s) (λ y ts rest d. d)
-    (headed w.Print (led false (leaf.quoted text) (quoted text) (quoted_piece text parts.0) refl (optional_spelled n e parts.1)))
+    (headed w.Print (led false (piece.quoted text) (quoted text) (quoted_piece text parts.0) refl (optional_spelled n e parts.1)))
 action_spelled n (tree.notify x t) h =
     let parts = and_parts (is_name x) (fits_notification n t) h in
     as_one (λ y. (y.0, tree.notify x y.1)) (λ y s. ap (tree.notify x) s) (λ y ts rest d. d) (headed_name w.Notify x parts.0 (notification_spelled n t parts.1))
@@ -118,7 +119,7 @@ action_spelled n (tree.make x len enables) h =
     as_one (λ y. (y.0, tree.make x y.1.0 y.1.1)) (λ y s. rw (s.0, s.1) refl) (λ y ts rest d. d)
     (headed_name w.Make x parts.0
     (both (next_spelled n len more.0)
-    (maybe_spelled unlined.expression NextExpression (λ e. leaf.comma ∷ printed.expression e) enables (λ e is. next_spelled n e (option_fits n enables e more.1 is)))))
+    (maybe_spelled unlined.expression NextExpression (λ e. piece.comma ∷ printed.expression e) enables (λ e is. next_spelled n e (option_fits n enables e more.1 is)))))
 action_spelled n (tree.acquire x) h = as_one (λ l. (l, tree.acquire x)) (λ y s. refl) (λ y ts rest d. d) (only_name w.Acquire x h)
 action_spelled n (tree.release x) h = as_one (λ l. (l, tree.release x)) (λ y s. refl) (λ y ts rest d. d) (only_name w.Release x h)
 action_spelled n (tree.carry p m) h =
@@ -145,4 +146,4 @@ action_spelled n (tree.throw_it p x) h =
     as_one (λ y. (y.0, tree.throw_it y.1.0 x)) (λ y s. ap (λ z. tree.throw_it z x) s.0) (λ y ts rest d. d) (headed w.ThrowIt (both (loose (who_spelled p parts.0)) (name_spelled false x parts.1)))
 action_spelled n (tree.throw x) h = as_one (λ l. (l, tree.throw x)) (λ y s. refl) (λ y ts rest d. d) (only_name w.Throw x h)
 action_spelled n (tree.return_ e) h = as_one (λ y. (y.0, tree.return_ y.1)) (λ y s. ap tree.return_ s) (λ y ts rest d. d) (headed w.Return (optional_spelled n e h))
-action_spelled n tree.stop h = as_one (λ l. (l, tree.stop)) (λ y s. refl) (λ y ts rest d. d) (one_at true (leaf.word w.Stop) (word w.Stop) (word_piece w.Stop) refl refl)
+action_spelled n tree.stop h = as_one (λ l. (l, tree.stop)) (λ y s. refl) (λ y ts rest d. d) (one_at true (piece.word w.Stop) (word w.Stop) (word_piece w.Stop) refl refl)

@@ -9,8 +9,8 @@ use Rattle.model_tree.specs.Tree as tree
 use Rattle.model_grammar.specs.Tokens.{Tokens, name, word, symbol}
 use Rattle.model_grammar.specs.Rules.{Rule, ◌⨾◌, Takes, Maybe}
 use Rattle.model_grammar.specs.Statements.{DerivesInitial, Braced, HasHandler, DerivesStatement, DerivesStatements, DerivesElse, DerivesHandlers}
-use Rattle.model_print.specs.Layout.{Piece}
-use Rattle.model_print.specs.Leaves as leaf
+use Rattle.page_layout.specs.Layout.{Piece}
+use Rattle.page_layout.specs.Pieces as piece
 use Rattle.model_print.specs.Printed as printed
 use Rattle.print_laws.specs.Unlined as unlined
 use Rattle.print_laws.proofs.Pieces.{word_piece, name_piece, operator_piece, semicolon_piece, left_brace_piece, right_brace_piece}
@@ -21,19 +21,19 @@ use Rattle.print_laws.proofs.Statements.{opened, typed, option_fits, LikeOption,
 use Rattle.print_laws.proofs.Actions.{headed, operation_spelled, action_spelled}
 
 -- a `;` behind
-abbrev pub closed : {A : Type 0} {firm : Bool} {R : A → Rule} {S : A → Type 0} {xs : List Piece} → Spelled firm R S xs → Spelled firm (λ y. R y ⨾ Takes (symbol s.Semicolon)) S (xs ++ leaf.semicolon ∷ [])
-closed a = ended_by leaf.semicolon (symbol s.Semicolon) semicolon_piece refl a
+abbrev pub closed : {A : Type 0} {firm : Bool} {R : A → Rule} {S : A → Type 0} {xs : List Piece} → Spelled firm R S xs → Spelled firm (λ y. R y ⨾ Takes (symbol s.Semicolon)) S (xs ++ piece.semicolon ∷ [])
+closed a = ended_by piece.semicolon (symbol s.Semicolon) semicolon_piece refl a
 
 -- braces around
-abbrev pub braced : {A : Type 0} {R : A → Rule} {S : A → Type 0} {xs : List Piece} → Spelled false R S xs → Spelled false (λ y. Braced (R y)) S (leaf.braced xs)
-braced a = led false leaf.left_brace (symbol s.LeftBrace) left_brace_piece refl (ended_by leaf.right_brace (symbol s.RightBrace) right_brace_piece refl a)
+abbrev pub braced : {A : Type 0} {R : A → Rule} {S : A → Type 0} {xs : List Piece} → Spelled false R S xs → Spelled false (λ y. Braced (R y)) S (piece.braced xs)
+braced a = led false piece.left_brace (symbol s.LeftBrace) left_brace_piece refl (ended_by piece.right_brace (symbol s.RightBrace) right_brace_piece refl a)
 
 -- `=` in front
-abbrev pub given : {A : Type 0} {R : A → Rule} {S : A → Type 0} {xs : List Piece} → Spelled false R S xs → Spelled false (λ y. Takes (symbol s.Equal) ⨾ R y) S (leaf.operator s.Equal ∷ xs)
-given a = led false (leaf.operator s.Equal) (symbol s.Equal) (operator_piece s.Equal) refl a
+abbrev pub given : {A : Type 0} {R : A → Rule} {S : A → Type 0} {xs : List Piece} → Spelled false R S xs → Spelled false (λ y. Takes (symbol s.Equal) ⨾ R y) S (piece.operator s.Equal ∷ xs)
+given a = led false (piece.operator s.Equal) (symbol s.Equal) (operator_piece s.Equal) refl a
 
 initial_spelled : (n : ℕ) (o : Option tree.Expression) → fits_option n o ≡ true → Spelled false (λ (y : Option tree.Expression). Maybe DerivesInitial y) (LikeOption o) (printed.first_value o)
-initial_spelled n o h = maybe_spelled unlined.expression DerivesInitial (λ e. leaf.operator s.Equal ∷ printed.expression e) o (λ e is. given (loose (whole_spelled n e (option_fits n o e h is))))
+initial_spelled n o h = maybe_spelled unlined.expression DerivesInitial (λ e. piece.operator s.Equal ∷ printed.expression e) o (λ e is. given (loose (whole_spelled n e (option_fits n o e h is))))
 
 abbrev SameStatement : tree.Statement → tree.Statement → Type 0
 SameStatement x y = unlined.statement y ≡ unlined.statement x
@@ -45,7 +45,7 @@ operate_spelled n line at None o k h =
 operate_spelled n line at (Some x) o k h =
     as_one (λ y. tree.operate y.0 (Some x) y.1.0 y.1.1) (λ y s. ap (tree.operate 0 (Some x) 0) s)
     (λ y ts rest (m, a, (m1, b, c)). (m1, (m, a, b), c))
-    (led_at true (leaf.name x) (name x) (name_piece x k) refl (given (loose (closed (operation_spelled n o h)))))
+    (led_at true (piece.name x) (name x) (name_piece x k) refl (given (loose (closed (operation_spelled n o h)))))
 
 has_one : (y hs : tree.Handlers) → unlined.handlers y ≡ unlined.handlers hs → has_handler hs ≡ true → (ts rest : Tokens) → DerivesHandlers y ts rest → HasHandler y (DerivesHandlers y) ts rest
 has_one y tree.no_more e h ts rest d = cc
@@ -58,11 +58,11 @@ mutual
       let parts = and_parts (fits_var_type t) (is_name x && fits_option n e) h in
       let more = and_parts (is_name x) (fits_option n e) parts.1 in
       as_one (λ y. tree.var y.0 y.1.0 x y.1.1) (λ y s. rw (s.0, s.1) refl) (λ y ts rest d. d)
-      (headed w.Var (both (loose (typed t parts.0)) (led false (leaf.name x) (name x) (name_piece x more.0) refl (closed (initial_spelled n e more.1)))))
+      (headed w.Var (both (loose (typed t parts.0)) (led false (piece.name x) (name x) (name_piece x more.0) refl (closed (initial_spelled n e more.1)))))
   statement_spelled n (tree.assign line t e) h =
       let parts = and_parts (fits_target n t) (fits n e) h in
       as_one (λ y. tree.assign y.0.0 y.0.1 y.1) (λ y s. rw (s.0, s.1) refl) (λ y ts rest d. d)
-      (moved (sym (append_assoc (printed.assigned t) (leaf.operator s.Equal ∷ printed.expression e) (leaf.semicolon ∷ [])))
+      (moved (sym (append_assoc (printed.target t) (piece.operator s.Equal ∷ printed.expression e) (piece.semicolon ∷ [])))
       (both (target_spelled n t parts.0) (given (closed (loose (whole_spelled n e parts.1))))))
   statement_spelled n (tree.operate line x at o) h =
       let parts = and_parts (option_name x) (fits_operation n o) h in
@@ -75,7 +75,7 @@ mutual
       let (m, inner) = opened n (fits_block body) more.0 in
       as_one (λ y. tree.if_ y.0 y.1.0 y.1.1.0 y.1.1.1) (λ y s. rw (s.0, s.1.0, s.1.1) refl) (λ y ts rest d. d)
       (headed w.If
-      (moved (sym (append_assoc (printed.expression e) (leaf.braced (printed.statements body)) (printed.otherwise other)))
+      (moved (sym (append_assoc (printed.expression e) (piece.braced (printed.statements body)) (printed.else_ other)))
       (both (loose (whole_spelled n e parts.0)) (both (braced (block_spelled m body inner)) (else_spelled n other more.1)))))
   statement_spelled n (tree.while_ line e body) h =
       let parts = and_parts (fits n e) (within n (fits_block body)) h in
@@ -87,7 +87,7 @@ mutual
       let (m, inner) = opened n (fits_block body) parts.0 in
       let (k, last) = opened n (fits_block undo) parts.1 in
       as_one (λ y. tree.guard y.0 y.1.0 y.1.1) (λ y s. rw (s.0, s.1) refl) (λ y ts rest d. d)
-      (headed w.Guard (both (braced (block_spelled m body inner)) (led false (leaf.word w.Unwind) (word w.Unwind) (word_piece w.Unwind) refl (braced (block_spelled k undo last)))))
+      (headed w.Guard (both (braced (block_spelled m body inner)) (led false (piece.word w.Unwind) (word w.Unwind) (word_piece w.Unwind) refl (braced (block_spelled k undo last)))))
   statement_spelled n (tree.try_ line body hs) h =
       let parts = and_parts (within n (fits_block body)) (has_handler hs && fits_handlers hs n) h in
       let more = and_parts (has_handler hs) (fits_handlers hs n) parts.1 in
@@ -102,12 +102,12 @@ mutual
       let parts = and_parts (fits_statement x n) (fits_block xs n) h in
       as_one (λ y. tree.then y.0 y.1) (λ y s. rw (s.0, s.1) refl) (λ y ts rest d. d) (both (loose (statement_spelled n x parts.0)) (block_spelled n xs parts.1))
 
-  pub else_spelled : (n : ℕ) (x : tree.Else) → fits_else x n ≡ true → Spelled false DerivesElse (λ y. unlined.otherwise y ≡ unlined.otherwise x) (printed.otherwise x)
+  pub else_spelled : (n : ℕ) (x : tree.Else) → fits_else x n ≡ true → Spelled false DerivesElse (λ y. unlined.otherwise y ≡ unlined.otherwise x) (printed.else_ x)
   else_spelled n tree.no_else h = as_one (λ y. tree.no_else) (λ y s. refl) (λ y ts rest d. d) of_nothing
   else_spelled n (tree.else_block body) h =
       let (m, inner) = opened n (fits_block body) h in
       as_one (λ y. tree.else_block y) (λ y s. ap tree.else_block s) (λ y ts rest d. d)
-      (led false (leaf.word w.Else) (word w.Else) (word_piece w.Else) refl (braced (block_spelled m body inner)))
+      (led false (piece.word w.Else) (word w.Else) (word_piece w.Else) refl (braced (block_spelled m body inner)))
 
   pub handlers_spelled : (n : ℕ) (x : tree.Handlers) → fits_handlers x n ≡ true → Spelled false DerivesHandlers (λ y. unlined.handlers y ≡ unlined.handlers x) (printed.handlers x)
   handlers_spelled n tree.no_more h = as_one (λ y. tree.no_more) (λ y s. refl) (λ y ts rest d. d) of_nothing
@@ -116,6 +116,6 @@ mutual
       let more = and_parts (within n (fits_block body)) (fits_handlers hs n) parts.1 in
       let (m, inner) = opened n (fits_block body) more.0 in
       as_one (λ y. tree.handler x y.0 y.1) (λ y s. rw (s.0, s.1) refl) (λ y ts rest d. d)
-      (led false (leaf.word w.Catch) (word w.Catch) (word_piece w.Catch) refl
-      (led false (leaf.name x) (name x) (name_piece x parts.0) refl
+      (led false (piece.word w.Catch) (word w.Catch) (word_piece w.Catch) refl
+      (led false (piece.name x) (name x) (name_piece x parts.0) refl
       (both (braced (block_spelled m body inner)) (handlers_spelled n hs more.1))))

@@ -14,8 +14,8 @@ use Rattle.model_grammar.specs.Tokens.{name, number, logic, word, symbol}
 use Rattle.model_grammar.specs.Rules.{Rule}
 use Rattle.model_grammar.specs.Expressions.{Parenthesized, DerivesAt, DerivesExpression}
 use Rattle.model_tree.specs.Spelling.{unit_name, unary_symbol, binary_symbol, truth_word, conversion_word, constant_word}
-use Rattle.model_print.specs.Layout.{Piece}
-use Rattle.model_print.specs.Leaves as leaf
+use Rattle.page_layout.specs.Layout.{Piece}
+use Rattle.page_layout.specs.Pieces as piece
 use Rattle.model_print.specs.Printed as printed
 use Rattle.print_laws.specs.Unlined as unlined
 use Rattle.print_laws.proofs.Pieces.{word_piece, type_word_piece, name_piece, number_piece, logic_piece, operator_piece, prefix_piece, dot_piece, at_piece, left_paren_piece, left_bracket_piece, right_paren_piece, right_bracket_piece, comma_piece}
@@ -38,36 +38,36 @@ level_of : (n m : ℕ) → nat_le n m ≡ true → n ≤ m
 level_of n m h = leb-true n m h
 
 -- what stands in round brackets
-abbrev pub in_brackets : {A : Type 0} {R : A → Rule} {S : A → Type 0} {xs : List Piece} → (firm : Bool) → (a : Spelled true R S xs) → length a.tokens ≤ token_limit → Spelled firm (λ y. Parenthesized (R y)) S (printed.bracketed xs)
-in_brackets firm a few = led firm (leaf.opening s.LeftParen) (symbol s.LeftParen) left_paren_piece (never firm) (ended_by (leaf.closing s.RightParen) (symbol s.RightParen) right_paren_piece refl (short a few))
+abbrev pub in_brackets : {A : Type 0} {R : A → Rule} {S : A → Type 0} {xs : List Piece} → (firm : Bool) → (a : Spelled true R S xs) → length a.tokens ≤ token_limit → Spelled firm (λ y. Parenthesized (R y)) S (piece.bracketed xs)
+in_brackets firm a few = led firm (piece.opening s.LeftParen) (symbol s.LeftParen) left_paren_piece (never firm) (ended_by (piece.closing s.RightParen) (symbol s.RightParen) right_paren_piece refl (short a few))
 
 pub expression_spelled : (e : tree.Expression) (n : ℕ) → is_formed e n ≡ true → token_count e ≤ token_limit → SpelledAt n e
 expression_spelled (tree.number line v) n h few =
     let both = and_parts (nat_le n primary_level) (is_number v) h in
-    (as_one (λ l. tree.number l v) (λ y s. refl) (λ y ts rest d. (level_of n primary_level both.0, d)) (one_at true (leaf.number v) (number v) (number_piece v both.1) refl refl), refl)
+    (as_one (λ l. tree.number l v) (λ y s. refl) (λ y ts rest d. (level_of n primary_level both.0, d)) (one_at true (piece.number v) (number v) (number_piece v both.1) refl refl), refl)
 expression_spelled (tree.time line v u) n h few =
     let both = and_parts (nat_le n primary_level) (is_number v) h in (
       as_one (λ y. tree.time y.0 v u) (λ y s. refl) (λ y ts rest d. (level_of n primary_level both.0, d))
-          (led_at true (leaf.number v) (number v) (number_piece v both.1) refl (one false (leaf.name (unit_name u)) (name (unit_name u)) (name_piece (unit_name u) (unit_named u)) refl refl)),
+          (led_at true (piece.number v) (number v) (number_piece v both.1) refl (one false (piece.name (unit_name u)) (name (unit_name u)) (name_piece (unit_name u) (unit_named u)) refl refl)),
       refl,
     )
 expression_spelled (tree.logic line ds) n h few =
     let both = and_parts (nat_le n primary_level) (nat_lt 0 (length ds) && nat_le (length ds) 64) h in
-    (as_one (λ l. tree.logic l ds) (λ y s. refl) (λ y ts rest d. (level_of n primary_level both.0, d)) (one_at true (leaf.logic ds) (logic ds) (logic_piece ds both.1) refl refl), refl)
+    (as_one (λ l. tree.logic l ds) (λ y s. refl) (λ y ts rest d. (level_of n primary_level both.0, d)) (one_at true (piece.logic ds) (logic ds) (logic_piece ds both.1) refl refl), refl)
 expression_spelled (tree.truth line b) n h few =
-    (as_one (λ l. tree.truth l b) (λ y s. refl) (λ y ts rest d. (level_of n primary_level h, d)) (one_at true (leaf.word (truth_word b)) (word (truth_word b)) (word_piece (truth_word b)) refl refl), refl)
+    (as_one (λ l. tree.truth l b) (λ y s. refl) (λ y ts rest d. (level_of n primary_level h, d)) (one_at true (piece.word (truth_word b)) (word (truth_word b)) (word_piece (truth_word b)) refl refl), refl)
 expression_spelled (tree.now line) n h few =
-    (as_one (λ l. tree.now l) (λ y s. refl) (λ y ts rest d. (level_of n primary_level h, d)) (one_at true (leaf.word w.Now) (word w.Now) (word_piece w.Now) refl refl), refl)
+    (as_one (λ l. tree.now l) (λ y s. refl) (λ y ts rest d. (level_of n primary_level h, d)) (one_at true (piece.word w.Now) (word w.Now) (word_piece w.Now) refl refl), refl)
 expression_spelled (tree.myself line) n h few =
-    (as_one (λ l. tree.myself l) (λ y s. refl) (λ y ts rest d. (level_of n primary_level h, d)) (one_at true (leaf.word w.SelfProcess) (word w.SelfProcess) (word_piece w.SelfProcess) refl refl), refl)
+    (as_one (λ l. tree.myself l) (λ y s. refl) (λ y ts rest d. (level_of n primary_level h, d)) (one_at true (piece.word w.SelfProcess) (word w.SelfProcess) (word_piece w.SelfProcess) refl refl), refl)
 expression_spelled (tree.constant line c) n h few =
-    (as_one (λ l. tree.constant l c) (λ y s. refl) (λ y ts rest d. (level_of n primary_level h, d)) (one_at true (leaf.word (constant_word c)) (word (constant_word c)) (word_piece (constant_word c)) refl refl), refl)
+    (as_one (λ l. tree.constant l c) (λ y s. refl) (λ y ts rest d. (level_of n primary_level h, d)) (one_at true (piece.word (constant_word c)) (word (constant_word c)) (word_piece (constant_word c)) refl refl), refl)
 expression_spelled (tree.paren line e) n h few =
     let both = and_parts (nat_le n primary_level) (is_formed e 0) h in
     let sum : token_count e + 2 ≤ token_limit = few in
     let a = expression_spelled e 0 both.1 (omega arith) in (
       as_one (λ y. tree.paren y.0 y.1) (λ y s. rw s refl) (λ y ts rest d. (level_of n primary_level both.0, d))
-          (led_at true (leaf.opening s.LeftParen) (symbol s.LeftParen) left_paren_piece refl (ended_by (leaf.closing s.RightParen) (symbol s.RightParen) right_paren_piece refl (short a.0 (omega (arith, a.1))))),
+          (led_at true (piece.opening s.LeftParen) (symbol s.LeftParen) left_paren_piece refl (ended_by (piece.closing s.RightParen) (symbol s.RightParen) right_paren_piece refl (short a.0 (omega (arith, a.1))))),
       omega (arith, length-append a.0.tokens (symbol s.RightParen ∷ []), a.1),
     )
 expression_spelled (tree.convert line c e) n h few =
@@ -75,7 +75,7 @@ expression_spelled (tree.convert line c e) n h few =
     let sum : token_count e + 3 ≤ token_limit = few in
     let a = expression_spelled e 0 both.1 (omega arith) in (
       as_one (λ y. tree.convert y.0 c y.1) (λ y s. rw s refl) (λ y ts rest d. (level_of n primary_level both.0, d))
-          (led_at true (leaf.type_word (conversion_word c)) (word (conversion_word c)) (type_word_piece (conversion_word c)) refl (in_brackets false a.0 (omega (arith, a.1)))),
+          (led_at true (piece.type_word (conversion_word c)) (word (conversion_word c)) (type_word_piece (conversion_word c)) refl (in_brackets false a.0 (omega (arith, a.1)))),
       omega (arith, length-append a.0.tokens (symbol s.RightParen ∷ []), a.1),
     )
 expression_spelled (tree.to_vector line width e) n h few =
@@ -94,20 +94,20 @@ expression_spelled (tree.concat line upper lower) n h few =
     let a = expression_spelled upper 0 more.0 (omega arith) in
     let b = expression_spelled lower 0 more.1 (omega arith) in (
       as_one (λ y. tree.concat y.0 y.1.0 y.1.1) (λ y s. rw (s.0, s.1) refl) (λ y ts rest d. (level_of n primary_level both_parts.0, d))
-          (led_at true (leaf.type_word w.Concat) (word w.Concat) (type_word_piece w.Concat) refl
-          (led false (leaf.opening s.LeftParen) (symbol s.LeftParen) left_paren_piece refl
-          (moved (sym (append_assoc (printed.expression upper) (leaf.comma ∷ printed.expression lower) (leaf.closing s.RightParen ∷ [])))
+          (led_at true (piece.type_word w.Concat) (word w.Concat) (type_word_piece w.Concat) refl
+          (led false (piece.opening s.LeftParen) (symbol s.LeftParen) left_paren_piece refl
+          (moved (sym (append_assoc (printed.expression upper) (piece.comma ∷ printed.expression lower) (piece.closing s.RightParen ∷ [])))
           (both (short a.0 (omega (arith, a.1)))
-          (led false leaf.comma (symbol s.Comma) comma_piece refl
-          (ended_by (leaf.closing s.RightParen) (symbol s.RightParen) right_paren_piece refl (short (loose b.0) (omega (arith, b.1))))))))),
+          (led false piece.comma (symbol s.Comma) comma_piece refl
+          (ended_by (piece.closing s.RightParen) (symbol s.RightParen) right_paren_piece refl (short (loose b.0) (omega (arith, b.1))))))))),
       omega (arith, length-append a.0.tokens (symbol s.Comma ∷ b.0.tokens ++ symbol s.RightParen ∷ []), length-append b.0.tokens (symbol s.RightParen ∷ []), a.1, b.1),
     )
 expression_spelled (tree.named line x) n h few =
-    (as_one (λ l. tree.named l x) (λ y s. refl) (λ y ts rest d. d) (one_at true (leaf.name x) (name x) (name_piece x h) refl refl), refl)
+    (as_one (λ l. tree.named l x) (λ y s. refl) (λ y ts rest d. d) (one_at true (piece.name x) (name x) (name_piece x h) refl refl), refl)
 expression_spelled (tree.placed line x at) n h few =
     let both = and_parts (is_name x) (is_number at) h in (
       as_one (λ y. tree.placed y.0 x at) (λ y s. refl) (λ y ts rest d. d)
-          (led_at true (leaf.name x) (name x) (name_piece x both.0) refl (led false (leaf.joint s.At) (symbol s.At) at_piece refl (one true (leaf.number at) (number at) (number_piece at both.1) refl refl))),
+          (led_at true (piece.name x) (name x) (name_piece x both.0) refl (led false (piece.joint s.At) (symbol s.At) at_piece refl (one true (piece.number at) (number at) (number_piece at both.1) refl refl))),
       refl,
     )
 expression_spelled (tree.placed_by line x e) n h few =
@@ -115,7 +115,7 @@ expression_spelled (tree.placed_by line x e) n h few =
     let sum : token_count e + 4 ≤ token_limit = few in
     let a = expression_spelled e 0 both.1 (omega arith) in (
       as_one (λ y. tree.placed_by y.0 x y.1) (λ y s. rw s refl) (λ y ts rest d. d)
-          (led_at true (leaf.name x) (name x) (name_piece x both.0) refl (led false (leaf.joint s.At) (symbol s.At) at_piece refl (in_brackets true a.0 (omega (arith, a.1))))),
+          (led_at true (piece.name x) (name x) (name_piece x both.0) refl (led false (piece.joint s.At) (symbol s.At) at_piece refl (in_brackets true a.0 (omega (arith, a.1))))),
       omega (arith, length-append a.0.tokens (symbol s.RightParen ∷ []), a.1),
     )
 expression_spelled (tree.member e x) n h few =
@@ -123,7 +123,7 @@ expression_spelled (tree.member e x) n h few =
     let sum : token_count e + 2 ≤ token_limit = few in
     let a = expression_spelled e chain_level parts.0 (omega arith) in (
       as_one (λ y. tree.member y.0 x) (λ y s. rw s.0 refl) (λ y ts rest d. d)
-          (both a.0 (led false (leaf.joint s.Dot) (symbol s.Dot) dot_piece refl (one true (leaf.name x) (name x) (name_piece x parts.1) refl refl))),
+          (both a.0 (led false (piece.joint s.Dot) (symbol s.Dot) dot_piece refl (one true (piece.name x) (name x) (name_piece x parts.1) refl refl))),
       omega (arith, length-append a.0.tokens (symbol s.Dot ∷ name x ∷ []), a.1),
     )
 expression_spelled (tree.element e index) n h few =
@@ -132,10 +132,10 @@ expression_spelled (tree.element e index) n h few =
     let a = expression_spelled e chain_level parts.0 (omega arith) in
     let b = expression_spelled index 0 parts.1 (omega arith) in (
       as_one (λ y. tree.element y.0 y.1) (λ y s. rw (s.0, s.1) refl) (λ y ts rest d. d)
-          (moved (sym (append_assoc (printed.expression e) (leaf.opening s.LeftBracket ∷ printed.expression index) (leaf.closing s.RightBracket ∷ [])))
+          (moved (sym (append_assoc (printed.expression e) (piece.opening s.LeftBracket ∷ printed.expression index) (piece.closing s.RightBracket ∷ [])))
           (both a.0
-          (led false (leaf.opening s.LeftBracket) (symbol s.LeftBracket) left_bracket_piece refl
-          (ended_by (leaf.closing s.RightBracket) (symbol s.RightBracket) right_bracket_piece refl (short b.0 (omega (arith, b.1))))))),
+          (led false (piece.opening s.LeftBracket) (symbol s.LeftBracket) left_bracket_piece refl
+          (ended_by (piece.closing s.RightBracket) (symbol s.RightBracket) right_bracket_piece refl (short b.0 (omega (arith, b.1))))))),
       omega (arith, length-append a.0.tokens (symbol s.LeftBracket ∷ b.0.tokens ++ symbol s.RightBracket ∷ []), length-append b.0.tokens (symbol s.RightBracket ∷ []), a.1, b.1),
     )
 expression_spelled (tree.slice e high low) n h few =
@@ -145,11 +145,11 @@ expression_spelled (tree.slice e high low) n h few =
     let a = expression_spelled e chain_level parts.0 (omega arith) in (
       as_one (λ y. tree.slice y.0 high low) (λ y s. rw s.0 refl) (λ y ts rest d. d)
           (both a.0
-          (led false (leaf.opening s.LeftBracket) (symbol s.LeftBracket) left_bracket_piece refl
-          (led true (leaf.number high) (number high) (number_piece high more.0) refl
-          (led false (leaf.operator s.Colon) (symbol s.Colon) (operator_piece s.Colon) refl
-          (led false (leaf.number low) (number low) (number_piece low more.1) refl
-          (one false (leaf.closing s.RightBracket) (symbol s.RightBracket) right_bracket_piece refl refl)))))),
+          (led false (piece.opening s.LeftBracket) (symbol s.LeftBracket) left_bracket_piece refl
+          (led true (piece.number high) (number high) (number_piece high more.0) refl
+          (led false (piece.operator s.Colon) (symbol s.Colon) (operator_piece s.Colon) refl
+          (led false (piece.number low) (number low) (number_piece low more.1) refl
+          (one false (piece.closing s.RightBracket) (symbol s.RightBracket) right_bracket_piece refl refl)))))),
       omega (arith, length-append a.0.tokens (symbol s.LeftBracket ∷ number high ∷ symbol s.Colon ∷ number low ∷ symbol s.RightBracket ∷ []), a.1),
     )
 expression_spelled (tree.unary line o e) n h few =
@@ -157,7 +157,7 @@ expression_spelled (tree.unary line o e) n h few =
     let sum : token_count e + 1 ≤ token_limit = few in
     let a = expression_spelled e primary_level both.1 (omega arith) in (
       as_one (λ y. tree.unary y.0 o y.1) (λ y s. rw s refl) (λ y ts rest d. (level_of n operand_level both.0, d))
-          (led_at true (leaf.prefix (unary_symbol o)) (symbol (unary_symbol o)) (prefix_piece o) refl a.0),
+          (led_at true (piece.prefix (unary_symbol o)) (symbol (unary_symbol o)) (prefix_piece o) refl a.0),
       omega (arith, a.1),
     )
 expression_spelled (tree.binary o left right) n h few =
@@ -167,7 +167,7 @@ expression_spelled (tree.binary o left right) n h few =
     let a = expression_spelled left (level o) more.0 (omega arith) in
     let b = expression_spelled right (suc (level o)) more.1 (omega arith) in (
       as_one (λ y. tree.binary o y.0 y.1) (λ y s. rw (s.0, s.1) refl) (λ y ts rest d. (level_of n (level o) both_parts.0, d))
-          (both a.0 (led false (leaf.operator (binary_symbol o)) (symbol (binary_symbol o)) (operator_piece (binary_symbol o)) refl (loose b.0))),
+          (both a.0 (led false (piece.operator (binary_symbol o)) (symbol (binary_symbol o)) (operator_piece (binary_symbol o)) refl (loose b.0))),
       omega (arith, length-append a.0.tokens (symbol (binary_symbol o) ∷ b.0.tokens), a.1, b.1),
     )
 

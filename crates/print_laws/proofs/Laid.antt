@@ -6,9 +6,9 @@ use Rattle.std.proofs.lemmas.Bool.{and_parts, cases_Bool, eqb-true}
 use Rattle.model_tree.specs.Leaves.{is_word_byte}
 use Rattle.model_grammar.specs.Tokens.{Token}
 use Rattle.model_lexer.specs.Cut.{Lexeme, Cut}
-use Rattle.model_print.specs.declared.page.Shape.{Shape}
-use Rattle.model_print.specs.declared.page.Shape.TheVariants as shape
-use Rattle.model_print.specs.Layout.{Page, Piece, is_spaced, ends_line, margin_after, margin_before, gap, line_end, put, put_all, blank, layout}
+use Rattle.page_layout.specs.declared.shapes.Shape.{Shape}
+use Rattle.page_layout.specs.declared.shapes.Shape.TheVariants as shape
+use Rattle.page_layout.specs.Layout.{Page, Piece, is_spaced, ends_line, margin_after, margin_before, gap, line_end, put, put_all, blank, layout}
 use Rattle.print_laws.proofs.Reading.{ReadsAs, reads_nothing, reads_blank}
 use Rattle.print_laws.proofs.Fronts.{is_second}
 use Rattle.print_laws.proofs.Pieces.{is_open, is_stop, is_operator, is_tight, Stops, Opens, Reads}

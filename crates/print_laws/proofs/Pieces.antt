@@ -18,10 +18,10 @@ use Rattle.model_tree.specs.Limits.{is_number}
 use Rattle.model_grammar.specs.Tokens.{Token, name, number, logic, quoted, word, symbol}
 use Rattle.model_tree.specs.Spelling.{unary_symbol}
 use Rattle.model_lexer.specs.Forms.{is_digit, is_decimal}
-use Rattle.model_print.specs.declared.page.Shape.{Shape}
-use Rattle.model_print.specs.declared.page.Shape.TheVariants as shape
-use Rattle.model_print.specs.Layout.{Piece}
-use Rattle.model_print.specs.Leaves as leaf
+use Rattle.page_layout.specs.declared.shapes.Shape.{Shape}
+use Rattle.page_layout.specs.declared.shapes.Shape.TheVariants as shape
+use Rattle.page_layout.specs.Layout.{Piece}
+use Rattle.page_layout.specs.Pieces as piece
 use Rattle.print_laws.proofs.Reading.{ReadsAs}
 use Rattle.print_laws.proofs.Fronts.{begins, is_second, word_formed, name_parts, decimal_formed, number_small, reads_word, reads_name, reads_number, reads_logic, reads_quoted, reads_symbol}
 
@@ -91,43 +91,43 @@ other_opens a bytes e h = record { mark = λ _. h; word = λ (k : is_stop a ≡ 
 stop_opens : (a : Shape) (bytes : List ℕ) → begins is_second bytes ≡ false → begins is_word_byte bytes ≡ false → Opens a bytes
 stop_opens a bytes h k = record { mark = λ _. h; word = λ _. k }
 
-pub word_piece : (x : Word) → Reads (leaf.word x) (word x ∷ [])
+pub word_piece : (x : Word) → Reads (piece.word x) (word x ∷ [])
 word_piece x = record {
   opens = λ r. other_opens shape.Word (word_text x ++ r) refl (word_begins (word_text x) r (word_formed x));
   reads = λ r us stop h. reads_word x r us (stop.word refl) h;
 }
 
-pub type_word_piece : (x : Word) → Reads (leaf.type_word x) (word x ∷ [])
+pub type_word_piece : (x : Word) → Reads (piece.type_word x) (word x ∷ [])
 type_word_piece x = record {
   opens = λ r. other_opens shape.Plain (word_text x ++ r) refl (word_begins (word_text x) r (word_formed x));
   reads = λ r us stop h. reads_word x r us (stop.word refl) h;
 }
 
-pub name_piece : (x : List ℕ) → is_name x ≡ true → Reads (leaf.name x) (name x ∷ [])
+pub name_piece : (x : List ℕ) → is_name x ≡ true → Reads (piece.name x) (name x ∷ [])
 name_piece x k = record {
   opens = λ r. other_opens shape.Plain (x ++ r) refl (word_begins x r (name_parts x k).0);
   reads = λ r us stop h. reads_name x r us k (stop.word refl) h;
 }
 
-pub number_piece : (n : ℕ) → is_number n ≡ true → Reads (leaf.number n) (number n ∷ [])
+pub number_piece : (n : ℕ) → is_number n ≡ true → Reads (piece.number n) (number n ∷ [])
 number_piece n k = record {
   opens = λ r. other_opens shape.Plain (decimal n ++ r) refl (digits_begin (decimal n) r (decimal_formed n (number_small n k)));
   reads = λ r us stop h. reads_number n r us k (stop.word refl) h;
 }
 
-pub logic_piece : (ds : List Digit) → (nat_lt 0 (length ds) && nat_le (length ds) 64) ≡ true → Reads (leaf.logic ds) (logic ds ∷ [])
+pub logic_piece : (ds : List Digit) → (nat_lt 0 (length ds) && nat_le (length ds) 64) ≡ true → Reads (piece.logic ds) (logic ds ∷ [])
 logic_piece ds k = record {
   opens = λ r. other_opens shape.Plain ((codes "'" ++ map letter_of (reverse ds) ++ codes "'") ++ r) refl refl;
   reads = λ r us stop h. reads_logic ds r us k h;
 }
 
-pub quoted_piece : (x : List ℕ) → is_print_text x ≡ true → Reads (leaf.quoted x) (quoted x ∷ [])
+pub quoted_piece : (x : List ℕ) → is_print_text x ≡ true → Reads (piece.quoted x) (quoted x ∷ [])
 quoted_piece x k = record {
   opens = λ r. other_opens shape.Quoted ((codes "\"" ++ x ++ codes "\"") ++ r) refl refl;
   reads = λ r us stop h. reads_quoted x r us k h;
 }
 
-pub wide_piece : (x : Word) (n : ℕ) → is_number n ≡ true → Reads (leaf.wide x n) (word x ∷ symbol s.Less ∷ number n ∷ symbol s.Greater ∷ [])
+pub wide_piece : (x : Word) (n : ℕ) → is_number n ≡ true → Reads (piece.wide x n) (word x ∷ symbol s.Less ∷ number n ∷ symbol s.Greater ∷ [])
 wide_piece x n k = record {
   opens = λ r. rw (split r) (other_opens shape.Plain (word_text x ++ (60 ∷ decimal n ++ (62 ∷ r))) refl (word_begins (word_text x) (60 ∷ decimal n ++ (62 ∷ r)) (word_formed x)));
   reads = λ r us stop h.
@@ -150,43 +150,43 @@ symbol_piece a x f = record {
   reads = λ r us stop h. reads_symbol x r us stop.mark h;
 }
 
-pub operator_piece : (x : Symbol) → Reads (leaf.operator x) (symbol x ∷ [])
+pub operator_piece : (x : Symbol) → Reads (piece.operator x) (symbol x ∷ [])
 operator_piece x = symbol_piece shape.Operator x (λ r. record { mark = λ (e : true ≡ false). cc; word = λ (e : false ≡ true). cc })
 
-pub prefix_piece : (o : UnaryOp) → Reads (leaf.prefix (unary_symbol o)) (symbol (unary_symbol o) ∷ [])
+pub prefix_piece : (o : UnaryOp) → Reads (piece.prefix (unary_symbol o)) (symbol (unary_symbol o) ∷ [])
 prefix_piece sign.Negate = symbol_piece shape.Prefix s.Minus (λ r. stop_opens shape.Prefix (symbol_text s.Minus ++ r) refl refl)
 prefix_piece sign.Not = symbol_piece shape.Prefix s.Bang (λ r. stop_opens shape.Prefix (symbol_text s.Bang ++ r) refl refl)
 prefix_piece sign.Complement = symbol_piece shape.Prefix s.Tilde (λ r. stop_opens shape.Prefix (symbol_text s.Tilde ++ r) refl refl)
 
-pub minus_piece : Reads (leaf.prefix s.Minus) (symbol s.Minus ∷ [])
+pub minus_piece : Reads (piece.prefix s.Minus) (symbol s.Minus ∷ [])
 minus_piece = symbol_piece shape.Prefix s.Minus (λ r. stop_opens shape.Prefix (symbol_text s.Minus ++ r) refl refl)
 
-pub dot_piece : Reads (leaf.joint s.Dot) (symbol s.Dot ∷ [])
+pub dot_piece : Reads (piece.joint s.Dot) (symbol s.Dot ∷ [])
 dot_piece = symbol_piece shape.Joint s.Dot (λ r. stop_opens shape.Joint (symbol_text s.Dot ++ r) refl refl)
 
-pub at_piece : Reads (leaf.joint s.At) (symbol s.At ∷ [])
+pub at_piece : Reads (piece.joint s.At) (symbol s.At ∷ [])
 at_piece = symbol_piece shape.Joint s.At (λ r. stop_opens shape.Joint (symbol_text s.At ++ r) refl refl)
 
-pub left_paren_piece : Reads (leaf.opening s.LeftParen) (symbol s.LeftParen ∷ [])
+pub left_paren_piece : Reads (piece.opening s.LeftParen) (symbol s.LeftParen ∷ [])
 left_paren_piece = symbol_piece shape.Open s.LeftParen (λ r. stop_opens shape.Open (symbol_text s.LeftParen ++ r) refl refl)
 
-pub left_bracket_piece : Reads (leaf.opening s.LeftBracket) (symbol s.LeftBracket ∷ [])
+pub left_bracket_piece : Reads (piece.opening s.LeftBracket) (symbol s.LeftBracket ∷ [])
 left_bracket_piece = symbol_piece shape.Open s.LeftBracket (λ r. stop_opens shape.Open (symbol_text s.LeftBracket ++ r) refl refl)
 
-pub right_paren_piece : Reads (leaf.closing s.RightParen) (symbol s.RightParen ∷ [])
+pub right_paren_piece : Reads (piece.closing s.RightParen) (symbol s.RightParen ∷ [])
 right_paren_piece = symbol_piece shape.Close s.RightParen (λ r. stop_opens shape.Close (symbol_text s.RightParen ++ r) refl refl)
 
-pub right_bracket_piece : Reads (leaf.closing s.RightBracket) (symbol s.RightBracket ∷ [])
+pub right_bracket_piece : Reads (piece.closing s.RightBracket) (symbol s.RightBracket ∷ [])
 right_bracket_piece = symbol_piece shape.Close s.RightBracket (λ r. stop_opens shape.Close (symbol_text s.RightBracket ++ r) refl refl)
 
-pub comma_piece : Reads leaf.comma (symbol s.Comma ∷ [])
+pub comma_piece : Reads piece.comma (symbol s.Comma ∷ [])
 comma_piece = symbol_piece shape.Comma s.Comma (λ r. stop_opens shape.Comma (symbol_text s.Comma ++ r) refl refl)
 
-pub semicolon_piece : Reads leaf.semicolon (symbol s.Semicolon ∷ [])
+pub semicolon_piece : Reads piece.semicolon (symbol s.Semicolon ∷ [])
 semicolon_piece = symbol_piece shape.Semicolon s.Semicolon (λ r. stop_opens shape.Semicolon (symbol_text s.Semicolon ++ r) refl refl)
 
-pub left_brace_piece : Reads leaf.left_brace (symbol s.LeftBrace ∷ [])
+pub left_brace_piece : Reads piece.left_brace (symbol s.LeftBrace ∷ [])
 left_brace_piece = symbol_piece shape.LeftBrace s.LeftBrace (λ r. stop_opens shape.LeftBrace (symbol_text s.LeftBrace ++ r) refl refl)
 
-pub right_brace_piece : Reads leaf.right_brace (symbol s.RightBrace ∷ [])
+pub right_brace_piece : Reads piece.right_brace (symbol s.RightBrace ∷ [])
 right_brace_piece = symbol_piece shape.RightBrace s.RightBrace (λ r. stop_opens shape.RightBrace (symbol_text s.RightBrace ++ r) refl refl)

@@ -9,8 +9,8 @@ use Rattle.model_tree.specs.Limits.{token_limit, is_number}
 use Rattle.model_grammar.specs.Tokens.{Token, Tokens, number, word, symbol}
 use Rattle.model_grammar.specs.Rules.{Rule, ◌⨾◌, At, Takes, Nothing}
 use Rattle.model_grammar.specs.Expressions.{Short}
-use Rattle.model_print.specs.Layout.{Piece}
-use Rattle.model_print.specs.Leaves.{wide}
+use Rattle.page_layout.specs.Layout.{Piece}
+use Rattle.page_layout.specs.Pieces.{wide}
 use Rattle.print_laws.proofs.Pieces.{is_operator, is_tight, Reads, wide_piece}
 use Rattle.print_laws.proofs.Laid.{Mean, apart}
 

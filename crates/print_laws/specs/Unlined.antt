@@ -3,7 +3,7 @@ use Rattle.std.specs.Prelude.{◌≡◌, map, option_map}
 use Rattle.model_tree.specs.Tree as tree
 use Rattle.model_tree.specs.declared.types.SignalType.{SignalType}
 use Rattle.model_tree.specs.declared.types.VarType.{VarType}
-use Rattle.model_tree.specs.declared.types.VarType.TheVariants as var_type
+use Rattle.model_tree.specs.declared.types.VarType.TheVariants as variable
 use Rattle.model_tree.specs.declared.types.Interface.{Interface}
 use Rattle.model_tree.specs.declared.types.Interface.TheVariants as interface
 use Rattle.model_tree.specs.declared.types.Constant.{Constant}
@@ -109,15 +109,15 @@ action tree.stop = tree.stop
 abbrev pub signal_type : SignalType → SignalType
 signal_type t = record { line = 0; form = t.form }
 
-abbrev pub variable_type : VarType → VarType
-variable_type (var_type.Plain t) = var_type.Plain (signal_type t)
-variable_type var_type.Time = var_type.Time
-variable_type var_type.Process = var_type.Process
-variable_type var_type.Payload = var_type.Payload
+abbrev pub var_type : VarType → VarType
+var_type (variable.Plain t) = variable.Plain (signal_type t)
+var_type variable.Time = variable.Time
+var_type variable.Process = variable.Process
+var_type variable.Payload = variable.Payload
 
 abbrev mutual
   pub statement : tree.Statement → tree.Statement
-  statement (tree.var line t x e) = tree.var 0 (variable_type t) x (option_map expression e)
+  statement (tree.var line t x e) = tree.var 0 (var_type t) x (option_map expression e)
   statement (tree.assign line t e) = tree.assign 0 (target t) (expression e)
   statement (tree.operate line x at o) = tree.operate 0 x 0 (operation o)
   statement (tree.act line a) = tree.act 0 (action a)
@@ -150,7 +150,7 @@ abbrev pub constant : Constant → Constant
 constant c = record { line = 0; form = c.form }
 
 abbrev pub parameter : Parameter → Parameter
-parameter p = record { line = 0; inout = p.inout; var_type = variable_type p.var_type; name = p.name }
+parameter p = record { line = 0; inout = p.inout; var_type = var_type p.var_type; name = p.name }
 
 abbrev pub binding_end : End → End
 binding_end e = record { line = 0; name = e.name; member = e.member }
@@ -159,7 +159,7 @@ abbrev pub signal : SignalItem → SignalItem
 signal x = record { kind = x.kind; many = x.many; value_type = signal_type x.value_type; name = x.name; initial = option_map constant x.initial }
 
 abbrev pub function : tree.FunctionItem → tree.FunctionItem
-function f = record { name = f.name; parameters = map parameter f.parameters; answer = option_map variable_type f.answer; body = block f.body }
+function f = record { name = f.name; parameters = map parameter f.parameters; answer = option_map var_type f.answer; body = block f.body }
 
 abbrev pub process_item : tree.ProcessItem → tree.ProcessItem
 process_item p = record { kind = p.kind; name = p.name; sensitive = map event p.sensitive; dont_initialize = p.dont_initialize; body = block p.body }
@@ -172,7 +172,7 @@ item (tree.fifo line t x size) = tree.fifo 0 (signal_type t) x size
 item (tree.plain line kind x) = tree.plain 0 kind x
 item (tree.semaphore line x c) = tree.semaphore 0 x (constant c)
 item (tree.memory line x size) = tree.memory 0 x size
-item (tree.variable line t x c) = tree.variable 0 (variable_type t) x (option_map constant c)
+item (tree.variable line t x c) = tree.variable 0 (var_type t) x (option_map constant c)
 item (tree.port line i x size) = tree.port 0 (interface_ i) x size
 item (tree.export line i x) = tree.export 0 (interface_ i) x
 item (tree.initiator line x role) = tree.initiator 0 x role
