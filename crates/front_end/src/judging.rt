@@ -1,6 +1,7 @@
 //! What came of a case.
 
 use super::cases::{Case, Wanted};
+use logic_values::Text;
 use model_lexer::{Token, TokenKind, tokens};
 use model_parser::parse;
 use model_print::print;
@@ -20,13 +21,13 @@ pub enum Wrong {
     /// The text reads, but is to be refused.
     Reads,
     /// The tree prints as this, which is not what is wanted.
-    Prints(Vec<u8>),
+    Prints(Text),
     /// The printed text has other tokens than the text.
     OtherTokens,
     /// The printed text is refused with this line.
     PrintedRefusedAt(u32),
     /// The tree of the printed text prints as this, which is not the printed text.
-    PrintsAgain(Vec<u8>),
+    PrintsAgain(Text),
     /// The first so many bytes of the text read.
     PrefixReads(u64),
 }
