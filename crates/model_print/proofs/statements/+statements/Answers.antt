@@ -6,7 +6,8 @@ use Rattle.model_tree.specs.declared.statements.Statement.{Statement, If}
 use Rattle.model_tree.specs.Views.{statement_of, body_of, expression_of}
 use Rattle.page_layout.specs.Layout.{put_all}
 use Rattle.model_print.specs.Printed.{handlers}
-use Rattle.model_print.proofs.Trees.{handlers_list, sees_if, sees_while, sees_guard, sees_try, if_printed, else_printed, while_printed, guard_printed, try_printed, handler_printed, shown, next_handler}
+use Rattle.model_tree.proofs.Trees.{handlers_list, sees_if, sees_while, sees_guard, sees_try, next_handler}
+use Rattle.model_print.proofs.Trees.{if_printed, else_printed, while_printed, guard_printed, try_printed, handler_printed, shown}
 use Rattle.model_print.proofs.statements.+statements.Goals as goal
 
 pub statement-loop-exception-init : goal.statement-loop-exception-init
