@@ -1,8 +1,7 @@
 -- What a contract sees of a `Table`.
-use Rattle.std.specs.Prelude.{ℕ, ◌+◌, Bool, false, refl}
-use Rattle.std.specs.Ordering.{nat_cmp}
-use Rattle.std.specs.Coded.{Coded, code_by, coded×, coded_ℕ, coded_bool}
-use Rattle.std.specs.FinMap as map
+use Rattle.std.specs.Prelude.{Bool, false, refl}
+use Rattle.std.specs.Coded.{Coded, code_by, coded×, coded_bool}
+use Rattle.numbered_slots.specs.Numbered.{Numbered, numbered_code, with_inserted}
 use Rattle.instance_table.specs.declared.instances.Instance.{Instance}
 use Rattle.instance_table.specs.declared.instances.ProcessKind.{ProcessKind}
 use Rattle.instance_table.specs.declared.instances.Waiting.{Waiting}
@@ -14,9 +13,8 @@ use Rattle.instance_table.specs.contracts.instances.Waiting as waiting
 use Rattle.instance_table.specs.contracts.instances.Deadline as deadline
 
 -- the live instances by serial, and the serial that the next one gets
-pub record Instances (B : Type 0) : Type 0 where
-  pub live : map.FinMap nat_cmp (Instance B)
-  pub next : ℕ
+abbrev pub Instances : Type 0 → Type 0
+Instances B = Numbered (Instance B)
 
 -- an instance is stored as the tuple of its fields
 abbrev pub instance_code : {B : Type 0} → Coded B → Coded (Instance B)
@@ -39,15 +37,9 @@ instance_code {B} body =
     })
     (λ _. refl)
 
--- a table is stored as the pair of its fields
+-- a table is stored as what it shows
 abbrev pub instances_code : {B : Type 0} → Coded B → Coded (Instances B)
-instances_code {B} body =
-    code_by
-    (map.FinMap nat_cmp (Instance B) × ℕ)
-    (coded× (map.code coded_ℕ (instance_code body)) coded_ℕ)
-    (λ t. (t.live, t.next))
-    (λ p. record { live = p.0; next = p.1 })
-    (λ _. refl)
+instances_code body = numbered_code (instance_code body)
 
 module _ {B : Type 0} where
   -- an instance that waits for nothing, has not begun, and has no mark
@@ -66,15 +58,4 @@ module _ {B : Type 0} where
 
   -- the table with a new instance under the next serial
   abbrev pub with_spawned : Instances B → ProcessKind → B → Instances B
-  with_spawned t kind body = record {
-    live = map.insert t.live t.next (new_instance kind body);
-    next = t.next + 1;
-  }
-
-  -- the table without the instance of this serial
-  abbrev pub without : Instances B → ℕ → Instances B
-  without t serial = record t { live = map.remove t.live serial }
-
-  -- the table with this instance under a serial
-  abbrev pub with_instance : Instances B → ℕ → Instance B → Instances B
-  with_instance t serial i = record t { live = map.insert t.live serial i }
+  with_spawned t kind body = with_inserted t (new_instance kind body)

@@ -14,9 +14,8 @@ mod instances;
 mod tests;
 
 pub use instances::{Deadline, Instance, ProcessKind, Waiting};
-use slab::Slab;
+use numbered_slots::Slots;
 use std::alloc::Global;
-use std::collections::BTreeMap;
 use std::marker::Model;
 
 /// How many instances may be live at once.
@@ -36,11 +35,7 @@ pub enum SpawnStop {
 /// Serials are given from 0 and rise by one. What has ended is found no more under its serial, and a later instance may take its place in memory.
 #[derive(Drop)]
 pub struct Table<B> {
-    // The instances, each in a slot that is used again once the instance has ended.
-    slots: Slab<Instance<B>>,
-    // The slot of each live serial.
-    keys: BTreeMap<u32, usize>,
-    next: u32,
+    instances: Slots<Instance<B>>,
 }
 
 impl<B> Model for Table<B> {
@@ -50,11 +45,7 @@ impl<B> Model for Table<B> {
 
     ghost coded = { instances_code B.code };
 
-    ghost use Rattle.instance_table.specs.Slots.{live_of, IsSound};
-
-    ghost view = { λ t. record { live = live_of t.slots.slots t.keys.entries; next = t.next } };
-
-    ghost invariant = { λ t. IsSound t.slots t.keys t.next };
+    ghost view = { λ t. t.instances };
 }
 
 impl<B> Table<B> {
@@ -66,10 +57,16 @@ impl<B> Table<B> {
         ensures first { result.next ≡ 0 }
     {
         Table {
-            slots: Slab::new(alloc),
-            keys: BTreeMap::new(alloc),
-            next: 0,
+            instances: Slots::new(alloc),
         }
+    }
+
+    /// The serial that the next instance gets. No live instance has it, or a later one.
+    pub fn next_serial(&self) -> u32
+        ensures value { result ≡ self.now.next }
+        ensures fresh { (serial : ℕ) → self.now.next ≤ serial → map.get self.now.live serial ≡ None }
+    {
+        self.instances.next_number()
     }
 
     /// The live instance of this serial, if there is one. It was given before: each serial from the next one on finds nothing.
@@ -77,10 +74,7 @@ impl<B> Table<B> {
         ensures value { option_copied result ≡ map.get self.now.live serial }
         ensures given { IsSome result → serial < self.now.next }
     {
-        match self.keys.get(&serial) {
-            Some(key) => self.slots.get(*key),
-            None => None,
-        }
+        self.instances.get(serial)
     }
 
     /// The live instance of this serial for writing, if there is one.
@@ -88,15 +82,15 @@ impl<B> Table<B> {
         ensures* writes_back { sem 𝓛 (lends_instance B.row self.entry serial result) }
         ensures value { option_copied_mut result ≡ map.get self.old.live serial }
     {
-        let key = *self.keys.get(&serial)?;
-        self.slots.get_mut(key)
+        self.instances.get_mut(serial)
     }
 }
 
 impl<B: Drop> Table<B> {
-    ghost use Rattle.instance_table.specs.Instances.{with_spawned, without};
+    ghost use Rattle.numbered_slots.specs.Numbered.{without};
+    ghost use Rattle.instance_table.specs.Instances.{with_spawned};
 
-    /// Adds an instance of this kind and body, and answers its serial, which no instance had before.
+    /// Adds an instance of this kind and body, and answers its serial, which is the one that `next_serial` told and no instance had before.
     ///
     /// The new instance has not started, waits for nothing and has no mark. Where the answer is an error the body is dropped.
     pub fn spawn(&mut self, kind: ProcessKind, body: B) -> Result<u32, SpawnStop>
@@ -110,22 +104,14 @@ impl<B: Drop> Table<B> {
         ensures too_many { (result ≡ Err SpawnStop.TooMany) ↔ (map.len self.old.live ≡ MAX_LIVE) }
         ensures refused { OnErr result (self.new ≡ self.old) }
     {
-        let is_full = self.keys.len() >= MAX_LIVE;
-        if is_full {
+        let serial = self.next_serial();
+        if self.instances.len() == MAX_LIVE {
             return Err(SpawnStop::TooMany);
         }
-        match self.slots.reserve(1) {
-            Ok(()) => {}
-            Err(_) => return Err(SpawnStop::NoMemory),
+        match self.instances.insert(Instance::new(kind, body)) {
+            Ok(_) => Ok(serial),
+            Err(_) => Err(SpawnStop::NoMemory),
         }
-        let serial = self.next;
-        match self.keys.insert(serial, self.slots.vacant_key()) {
-            Ok(_) => {}
-            Err(_) => return Err(SpawnStop::NoMemory),
-        }
-        self.slots.insert_reserved(Instance::new(kind, body));
-        self.next = serial + 1;
-        Ok(serial)
     }
 
     /// Drops the instance of this serial, and answers whether there was a live one.
@@ -134,12 +120,6 @@ impl<B: Drop> Table<B> {
         ensures ended { self.new ≡ without self.old serial }
         ensures absent { OnFalse result (self.new ≡ self.old) }
     {
-        match self.keys.remove(&serial) {
-            Some(key) => {
-                drop(self.slots.remove(key));
-                true
-            }
-            None => false,
-        }
+        self.instances.remove(serial).is_some()
     }
 }

@@ -5,6 +5,7 @@ use std::test::Fail;
 #[test]
 fn serials_rise_and_ended_ones_are_not_found(rt: HostRuntime) -> Result<(), Fail> {
     let mut table: Table<u64> = Table::new(rt.alloc());
+    assert_eq!(rt; table.next_serial(), 0);
     assert_eq!(rt; table.spawn(ProcessKind::Thread, 10), Ok(0));
     assert_eq!(rt; table.spawn(ProcessKind::Method, 20), Ok(1));
     let fresh = table.get(0).ok_or("serial 0 is live")?;
@@ -17,6 +18,7 @@ fn serials_rise_and_ended_ones_are_not_found(rt: HostRuntime) -> Result<(), Fail
     assert!(rt; table.end(0));
     assert!(rt; !table.end(0));
     assert!(rt; table.get(0).is_none());
+    assert_eq!(rt; table.next_serial(), 2);
     assert_eq!(rt; table.spawn(ProcessKind::Thread, 30), Ok(2));
     assert!(rt; table.get(0).is_none());
     let third = table.get_mut(2).ok_or("serial 2 is live")?;

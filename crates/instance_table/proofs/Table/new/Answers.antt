@@ -1,5 +1,0 @@
-use Rattle.instance_table.proofs.SlotLemmas.{is_sound-empty}
-use Rattle.instance_table.proofs.Table.new.Goals as goal
-
-pub invariant_of-result : goal.invariant_of-result
-invariant_of-result g c = is_sound-empty _ _ c.new.ensures.empty c.new-2.ensures.empty
