@@ -1,17 +1,11 @@
 -- What a `Pool` ends as, where a `&mut` to one of its payloads is returned.
-use Rattle.std.specs.Prelude.{ℕ, Option, Result, Some}
-use Rattle.std.specs.Borrow.{LendsIf, LendsIfOk, Fml, MutBor}
-use Rattle.payload_pool.specs.Payloads.{Payloads, with_counted, with_payload}
+use Rattle.std.specs.Prelude.{ℕ, Result}
+use Rattle.std.specs.Borrow.{LendsIfOk, Fml, MutBor}
+use Rattle.payload_pool.specs.Payloads.{Payloads, with_payload}
 use Rattle.payload_pool.specs.declared.payload.Payload.{Payload}
-use Rattle.payload_pool.specs.declared.pool.Counted.{Counted}
 use Rattle.payload_pool.specs.declared.pool.Freed.{Freed}
 use Rattle.payload_pool.specs.contracts.payload.Payload as payload
-use Rattle.payload_pool.specs.contracts.pool.Counted as counted
 use Rattle.payload_pool.specs.contracts.pool.Pool as pool
-
--- the number has what was last written through the borrow, and at `None` the pool stays as it is
-abbrev pub lends_counted : MutBor Payloads → ℕ → Option (MutBor Counted) → Fml
-lends_counted p t r = LendsIf pool.the_row counted.the_row p r (λ c. with_counted p.now t (Some c)) p.now
 
 -- the number has the last payload written through the borrow, and at `Err` the pool stays as it is
 abbrev pub lends_payload : MutBor Payloads → ℕ → Result (MutBor Payload) Freed → Fml

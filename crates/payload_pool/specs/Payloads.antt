@@ -1,16 +1,15 @@
 -- What a contract sees of a `Pool`.
 use Rattle.std.specs.Prelude.{ℕ, ◌+◌, ◌-◌, ◌==◌, ℤ, List, Option, None, Some, replicate, if◌then◌else◌, refl}
-use Rattle.std.specs.Ordering.{nat_cmp}
 use Rattle.std.specs.Coded.{Coded, code_by, coded×, coded_ℕ, coded_ℤ, coded_list}
 use Rattle.std.specs.FinMap as map
+use Rattle.numbered_slots.specs.Numbered.{Numbered, numbered_code, with_inserted, with_value, without}
 use Rattle.payload_pool.specs.declared.payload.Payload.{Payload}
 use Rattle.payload_pool.specs.declared.payload.TheConstants.{IGNORE, INCOMPLETE}
 use Rattle.payload_pool.specs.declared.pool.Counted.{Counted}
 
 -- the live payloads by number, each with the count of those that hold it, and the number that the next one gets
-pub record Payloads : Type 0 where
-  pub live : map.FinMap nat_cmp Counted
-  pub next : ℕ
+abbrev pub Payloads : Type 0
+Payloads = Numbered Counted
 
 -- a payload with its count is stored as the tuple of its fields
 abbrev pub counted_code : Coded Counted
@@ -25,15 +24,9 @@ counted_code =
     })
     (λ _. refl)
 
--- a pool is stored as the pair of its fields
+-- a pool is stored as what it shows
 abbrev pub payloads_code : Coded Payloads
-payloads_code =
-    code_by
-    (map.FinMap nat_cmp Counted × ℕ)
-    (coded× (map.code coded_ℕ counted_code) coded_ℕ)
-    (λ p. (p.live, p.next))
-    (λ p. record { live = p.0; next = p.1 })
-    (λ _. refl)
+payloads_code = numbered_code counted_code
 
 -- a payload with so many bytes and enable bytes that nobody has written
 abbrev pub new_payload : ℕ → ℕ → Payload
@@ -48,10 +41,7 @@ new_payload len enables = record {
 
 -- the pool with a new payload under the next number, held once
 abbrev pub with_made : Payloads → ℕ → ℕ → Payloads
-with_made p len enables = record {
-  live = map.insert p.live p.next (record { payload = new_payload len enables; count = 1 });
-  next = p.next + 1;
-}
+with_made p len enables = with_inserted p (record { payload = new_payload len enables; count = 1 })
 
 -- the payload itself
 abbrev pub payload_in : Option Counted → Option Payload
@@ -72,14 +62,10 @@ abbrev pub one_less : Option Counted → Option Counted
 one_less None = None
 one_less (Some c) = if c.count - 1 == 0 then None else Some (record c { count = c.count - 1 })
 
--- the pool without the payload of the number
-abbrev pub without : Payloads → ℕ → Payloads
-without p t = record p { live = map.remove p.live t }
-
 -- the pool with this under the number, or with nothing
 abbrev pub with_counted : Payloads → ℕ → Option Counted → Payloads
 with_counted p t None = without p t
-with_counted p t (Some c) = record p { live = map.insert p.live t c }
+with_counted p t (Some c) = with_value p t c
 
 abbrev pub with_acquired : Payloads → ℕ → Payloads
 with_acquired p t = with_counted p t (one_more (map.get p.live t))

@@ -1,7 +1,5 @@
 //! What a transaction carries.
-ghost use Rattle.std.specs.Prelude.{◌≡◌, ◌<◌, length, slice_set};
-
-use std::marker::Model;
+pub use plain_lists::Bytes;
 
 /// The command to bring bytes from the memory into the payload.
 pub const READ: i32 = 0;
@@ -22,51 +20,6 @@ pub const COMMAND: i32 = -3;
 pub const BURST: i32 = -4;
 /// The status where an enable byte is neither `0x00` nor `0xff`.
 pub const BYTE_ENABLE: i32 = -5;
-
-/// Bytes of a payload, which contracts see as a list.
-#[derive(Drop)]
-pub struct Bytes {
-    held: Vec<u8>,
-}
-
-impl Model for Bytes {
-    ghost use Rattle.std.specs.Prelude.{List, ℕ};
-
-    ghost Value = { List ℕ };
-
-    ghost view = { λ b. b.held.items };
-}
-
-impl Bytes {
-    /// The bytes of a vector, which is kept as it is.
-    pub fn from_vec(held: Vec<u8>) -> Bytes
-        ensures { result ≡ held.items }
-    {
-        Bytes { held }
-    }
-
-    /// The vector that holds the bytes.
-    pub fn into_vec(self) -> Vec<u8>
-        ensures { result.items ≡ self }
-    {
-        self.held
-    }
-
-    /// The bytes in order.
-    pub fn as_slice(&self) -> &[u8]
-        ensures { result.now ≡ self.now }
-    {
-        self.held.as_slice()
-    }
-
-    /// Writes the byte at place `i`, counted from 0.
-    pub fn set(&mut self, i: usize, byte: u8)
-        requires { i < length self.old }
-        ensures { self.new ≡ slice_set self.old i byte }
-    {
-        self.held[i] = byte;
-    }
-}
 
 /// A payload (IEEE 1666-2011, clause 14).
 #[derive(Drop)]

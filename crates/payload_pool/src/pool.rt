@@ -6,9 +6,8 @@ ghost use Rattle.std.specs.FinMap as map;
 ghost use Rattle.payload_pool.specs.Payloads as spec;
 
 use crate::payload::{Bytes, IGNORE, INCOMPLETE, Payload};
-use slab::Slab;
+use numbered_slots::Slots;
 use std::alloc::{AllocError, Global};
-use std::collections::BTreeMap;
 use std::marker::Model;
 
 /// How many payloads may be live at once.
@@ -43,11 +42,7 @@ pub(crate) struct Counted {
 #[derive(Drop)]
 pub struct Pool {
     alloc: Global,
-    // The payloads, each in a slot that is used again once the payload is freed.
-    slots: Slab<Counted>,
-    // The slot of each live number.
-    keys: BTreeMap<u32, usize>,
-    next: u32,
+    payloads: Slots<Counted>,
 }
 
 impl Model for Pool {
@@ -57,11 +52,7 @@ impl Model for Pool {
 
     ghost coded = { payloads_code };
 
-    ghost use Rattle.payload_pool.specs.Slots.{live_of, IsSound};
-
-    ghost view = { λ p. record { live = live_of p.slots.slots p.keys.entries; next = p.next } };
-
-    ghost invariant = { λ p. IsSound p.slots p.keys p.next };
+    ghost view = { λ p. p.payloads };
 }
 
 // So many bytes, each of them this one.
@@ -89,7 +80,7 @@ fn new_payload(alloc: Global, len: u16, enables: u16) -> Result<Payload, AllocEr
 }
 
 impl Pool {
-    ghost use Rattle.payload_pool.specs.Lends.{lends_counted, lends_payload};
+    ghost use Rattle.payload_pool.specs.Lends.{lends_payload};
 
     /// A pool with no payload, whose first number will be 0. It takes no memory.
     pub fn new(alloc: Global) -> Pool
@@ -98,9 +89,7 @@ impl Pool {
     {
         Pool {
             alloc,
-            slots: Slab::new(alloc),
-            keys: BTreeMap::new(alloc),
-            next: 0,
+            payloads: Slots::new(alloc),
         }
     }
 
@@ -121,53 +110,17 @@ impl Pool {
         ensures too_many { (result ≡ Err MakeStop.TooMany) ↔ (map.len self.old.live ≡ MAX_LIVE) }
         ensures refused { OnErr result (self.new ≡ self.old) }
     {
-        let is_full = self.keys.len() >= MAX_LIVE;
-        if is_full {
+        let t = self.payloads.next_number();
+        if self.payloads.len() == MAX_LIVE {
             return Err(MakeStop::TooMany);
         }
         let payload = match new_payload(self.alloc, len, enables) {
             Ok(payload) => payload,
             Err(_) => return Err(MakeStop::NoMemory),
         };
-        match self.slots.reserve(1) {
-            Ok(()) => {}
-            Err(_) => return Err(MakeStop::NoMemory),
-        }
-        let t = self.next;
-        match self.keys.insert(t, self.slots.vacant_key()) {
-            Ok(_) => {}
-            Err(_) => return Err(MakeStop::NoMemory),
-        }
-        self.slots.insert_reserved(Counted { payload, count: 1 });
-        self.next = t + 1;
-        Ok(t)
-    }
-
-    // The live payload of this number with its count.
-    fn counted(&self, t: u32) -> Option<&Counted>
-        ensures { option_copied result ≡ map.get self.now.live t }
-    {
-        match self.keys.get(&t) {
-            Some(key) => self.slots.get(*key),
-            None => None,
-        }
-    }
-
-    // The live payload of this number with its count, for writing.
-    fn counted_mut(&mut self, t: u32) -> Option<&mut Counted>
-        ensures* writes_back { sem 𝓛 (lends_counted self.entry t result) }
-        ensures value { option_copied_mut result ≡ map.get self.old.live t }
-    {
-        let key = *self.keys.get(&t)?;
-        self.slots.get_mut(key)
-    }
-
-    // Drops the payload of this number, if it is live.
-    fn free(&mut self, t: u32)
-        ensures { self.new ≡ spec.without self.old t }
-    {
-        if let Some(key) = self.keys.remove(&t) {
-            drop(self.slots.remove(key));
+        match self.payloads.insert(Counted { payload, count: 1 }) {
+            Ok(_) => Ok(t),
+            Err(_) => Err(MakeStop::NoMemory),
         }
     }
 
@@ -178,13 +131,11 @@ impl Pool {
         ensures counted { self.new ≡ spec.with_acquired self.old t }
         ensures refused { OnErr result (self.new ≡ self.old) }
     {
-        match self.counted_mut(t) {
-            Some(counted) => {
-                counted.count += 1;
-                Ok(())
-            }
-            None => Err(Freed),
-        }
+        let Some(counted) = self.payloads.get_mut(t) else {
+            return Err(Freed);
+        };
+        counted.count += 1;
+        Ok(())
     }
 
     /// The live payload of this number.
@@ -192,7 +143,7 @@ impl Pool {
         ensures freed { IsErr result ↔ (map.get self.now.live t ≡ None) }
         ensures value { IfOk result (λ p. spec.payload_of self.now t ≡ Some p.now) }
     {
-        match self.counted(t) {
+        match self.payloads.get(t) {
             Some(counted) => Ok(&counted.payload),
             None => Err(Freed),
         }
@@ -204,7 +155,7 @@ impl Pool {
         ensures freed { IsErr result ↔ (map.get self.old.live t ≡ None) }
         ensures value { IfOk result (λ p. spec.payload_of self.old t ≡ Some p.now) }
     {
-        match self.counted_mut(t) {
+        match self.payloads.get_mut(t) {
             Some(counted) => Ok(&mut counted.payload),
             None => Err(Freed),
         }
@@ -216,7 +167,7 @@ impl Pool {
         ensures counted { self.new ≡ spec.with_released self.old t }
         ensures refused { OnErr result (self.new ≡ self.old) }
     {
-        let left = match self.counted_mut(t) {
+        let left = match self.payloads.get_mut(t) {
             Some(counted) => {
                 counted.count = counted.count.saturating_sub(1);
                 counted.count
@@ -224,7 +175,7 @@ impl Pool {
             None => return Err(Freed),
         };
         if left == 0 {
-            self.free(t);
+            drop(self.payloads.remove(t));
         }
         Ok(())
     }
