@@ -13,7 +13,8 @@ pub use laws::{
     refused_moves_nothing, write_leaves_the_last_byte,
 };
 pub use payload::{
-    ADDRESS, BURST, BYTE_ENABLE, Bytes, COMMAND, IGNORE, INCOMPLETE, OK, Payload, READ, WRITE,
+    ADDRESS, BURST, BYTE_ENABLE, COMMAND, IGNORE, INCOMPLETE, OK, Payload, READ, WRITE,
 };
+pub use plain_lists::Bytes;
 pub use pool::{Freed, MAX_BYTES, MAX_LIVE, MakeStop, Pool};
 pub use transfer::carry;

@@ -5,8 +5,9 @@ ghost use Rattle.std.specs.Borrow.{sem};
 ghost use Rattle.std.specs.FinMap as map;
 ghost use Rattle.payload_pool.specs.Payloads as spec;
 
-use crate::payload::{Bytes, IGNORE, INCOMPLETE, Payload};
+use crate::payload::{IGNORE, INCOMPLETE, Payload};
 use numbered_slots::Slots;
+use plain_lists::Bytes;
 use std::alloc::{AllocError, Global};
 use std::marker::Model;
 

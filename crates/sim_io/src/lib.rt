@@ -12,7 +12,8 @@ pub use host::{HostShelf, HostSink};
 pub use memory_shelf::MemoryShelf;
 pub use memory_sink::MemorySink;
 pub use outside::{Shelf, Sink, Trouble};
-pub use transfer::{Bytes, ReadStop, read_all, write_all, write_file};
+pub use plain_lists::Bytes;
+pub use transfer::{ReadStop, read_all, write_all, write_file};
 
 #[cfg(test)]
 mod tests;

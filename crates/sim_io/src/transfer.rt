@@ -7,46 +7,9 @@ ghost use Rattle.sim_io.specs.Keeps.{ReadKeeps, WriteKeeps};
 ghost use Rattle.sim_io.specs.Taken.{TookOf, FileTook};
 
 use super::outside::{Shelf, Sink, Trouble};
+use plain_lists::Bytes;
 use std::alloc::Global;
-use std::marker::Model;
 use thiserror::Error;
-
-/// The bytes of a file, which contracts see as a list.
-#[derive(Drop)]
-pub struct Bytes {
-    held: Vec<u8>,
-}
-
-impl Model for Bytes {
-    ghost use Rattle.std.specs.Prelude.{List, ℕ};
-
-    ghost Value = { List ℕ };
-
-    ghost view = { λ b. b.held.items };
-}
-
-impl Bytes {
-    /// The bytes of a vector, which is kept as it is.
-    pub fn from_vec(held: Vec<u8>) -> Bytes
-        ensures { result ≡ held.items }
-    {
-        Bytes { held }
-    }
-
-    /// The vector that holds the bytes.
-    pub fn into_vec(self) -> Vec<u8>
-        ensures { result.items ≡ self }
-    {
-        self.held
-    }
-
-    /// The bytes in order.
-    pub fn as_slice(&self) -> &[u8]
-        ensures { result.now ≡ self.now }
-    {
-        self.held.as_slice()
-    }
-}
 
 /// Why a file could not be read to its end.
 #[derive(Clone, Copy, Debug, PartialEq, Eq, Error)]
@@ -92,7 +55,7 @@ pub fn read_all<S: Shelf>(
 {
     match shelf.open_read(name) {
         Ok(id) => match read_rest(alloc, shelf, id, limit) {
-            Ok(held) => Ok(Bytes { held }),
+            Ok(held) => Ok(Bytes::from_vec(held)),
             Err(stop) => Err(stop),
         },
         Err(Trouble::Failed) => Err(ReadStop::Failed),
