@@ -1,5 +1,5 @@
 -- Finite maps from numbers, told key by key.
-use Rattle.std.proofs.Common.{◌≡◌, ℕ, ◌+◌, ◌-◌, ◌≤◌, ◌≢◌, Bool, true, false, cond, Option, Some, None, refl, sym, ap, ◌∙◌, subst, ⊎_elim, eq-eqb, ne_eqb, arith}
+use Rattle.std.proofs.Common.{◌≡◌, ℕ, ◌+◌, ◌-◌, ◌≢◌, true, false, cond, Option, Some, None, refl, sym, ap, ◌∙◌, ⊎_elim, eq-eqb, ne_eqb, arith}
 use Rattle.std.specs.Prelude.{is_some}
 use Rattle.std.proofs.lemmas.Bool.{cases_eq}
 use Rattle.std.specs.Ordering.{nat_cmp, eq_by_cmp}
@@ -77,13 +77,6 @@ module _ {X : Type 0} where
 
   pub len-remove_there : (m : map.FinMap nat_cmp X) (k : ℕ) → is_some (map.get m k) ≡ true → map.len (map.remove m k) ≡ map.len m - 1
   len-remove_there m k there = map.len-remove nat_cmp_total m k ∙ ap (λ b. cond b (map.len m - 1) (map.len m)) there
-
-  pub len-remove_le : (m : map.FinMap nat_cmp X) (k : ℕ) → map.len (map.remove m k) ≤ map.len m
-  len-remove_le m k = let P : ℕ → Type 0 = λ n. n ≤ map.len m in subst P (sym (map.len-remove nat_cmp_total m k)) (less (is_some (map.get m k)))
-    where
-      less : (b : Bool) → cond b (map.len m - 1) (map.len m) ≤ map.len m
-      less true = omega arith
-      less false = omega arith
 
   -- what is not there cannot be taken out
   pub remove_absent : (m : map.FinMap nat_cmp X) (k : ℕ) → map.get m k ≡ None → m ≡ map.remove m k

@@ -59,14 +59,11 @@ module _ {X : Type 0} where
   pub is_sound-empty : (s : Slab X) (keys : tree.BTreeMap ℕ ℕ) → s.slots ≡ [] → keys.entries ≡ [] → IsSound s keys 0
   is_sound-empty s keys no_slot no_key = record {
     below = λ q _. ap (lookup (tree.is_at (nat_cmp q))) no_key;
-    occupied = λ q k at. absurd (none (ap (lookup (tree.is_at (nat_cmp q))) no_key) at);
-    apart = λ p q k at _. absurd (none (ap (lookup (tree.is_at (nat_cmp p))) no_key) at);
+    occupied = λ q k at. absurd (none_some (ap (lookup (tree.is_at (nat_cmp q))) no_key) at);
+    apart = λ p q k at _. absurd (none_some (ap (lookup (tree.is_at (nat_cmp p))) no_key) at);
     counted = ap (λ es. map.len (live_of s.slots es)) no_key ∙ map.len-empty nat_cmp X ∙ sym (ap length no_key);
     full = ap (count_by is_some) no_slot ∙ sym (ap length no_key);
   }
-    where
-      none : {o : Option ℕ} {k : ℕ} → o ≡ None → o ≡ Some k → ⊥
-      none e f = cc
 
   -- slots that differ at k alone show the same, where k is not told
   found_other : (s new : Slab X) (k : ℕ) (o : Option X) → slab.Updates s new k o → (at : Option ℕ) → at ≢ Some k → found new.slots at ≡ found s.slots at
@@ -88,12 +85,12 @@ module _ {X : Type 0} where
   slab_len-with_value s k w occupied =
       same_sum _ _ _ (sum_by-set (λ o. cond (is_some o) 1 0) s.slots k (Some w) None (within_occupied s k occupied)) (ap (λ b. cond b 1 0) occupied)
 
-  -- the number's slot k, which is no other's, now holds i
-  module _ (s new : Slab X) (m keys : tree.BTreeMap ℕ ℕ) (next number k : ℕ) (i : X) (sound : IsSound s m next)
+  -- the number's slot k, which is no other's, now holds x
+  module _ (s new : Slab X) (m keys : tree.BTreeMap ℕ ℕ) (next number k : ℕ) (x : X) (sound : IsSound s m next)
       (here : tree.get nat_cmp keys number ≡ Some k) (there : (q : ℕ) → q ≢ number → tree.get nat_cmp keys q ≡ tree.get nat_cmp m q)
-      (own : (q : ℕ) → q ≢ number → tree.get nat_cmp m q ≢ Some k) (slots : slab.Updates s new k (Some i)) where
-    pub live-put : live_of new.slots keys.entries ≡ map.insert (live_of s.slots m.entries) number i
-    live-put = is_insert (live_of s.slots m.entries) _ number i
+      (own : (q : ℕ) → q ≢ number → tree.get nat_cmp m q ≢ Some k) (slots : slab.Updates s new k (Some x)) where
+    pub live-put : live_of new.slots keys.entries ≡ map.insert (live_of s.slots m.entries) number x
+    live-put = is_insert (live_of s.slots m.entries) _ number x
         (get_found new keys number k here ∙ slots.changed)
         (λ q apart. get-live new keys q ∙ ap (found new.slots) (there q apart) ∙ found_other s new k _ slots _ (own q apart) ∙ sym (get-live s m q))
 
@@ -115,40 +112,40 @@ module _ {X : Type 0} where
         (λ q_apart. sound.apart p q j (sym (there p p_apart) ∙ at_p) (sym (there q q_apart) ∙ at_q)) (cases_eq q number))
         (cases_eq p number)
 
-  -- a new number's slot k, which was vacant, now holds i
-  module _ (s new : Slab X) (m keys : tree.BTreeMap ℕ ℕ) (next k : ℕ) (i : X) (sound : IsSound s m next) (vacant : slab.get s k ≡ None)
-      (put : tree.Updates nat_cmp m keys next (Some k)) (slots : slab.Updates s new k (Some i)) where
+  -- a new number's slot k, which was vacant, now holds x
+  module _ (s new : Slab X) (m keys : tree.BTreeMap ℕ ℕ) (next k : ℕ) (x : X) (sound : IsSound s m next) (vacant : slab.get s k ≡ None)
+      (put : tree.Updates nat_cmp m keys next (Some k)) (slots : slab.Updates s new k (Some x)) where
     own_vacant : (q : ℕ) → q ≢ next → tree.get nat_cmp m q ≢ Some k
     own_vacant q _ at = true≢false (sym (sound.occupied q k at) ∙ ap is_some vacant)
 
-    pub live-inserted : live_of new.slots keys.entries ≡ map.insert (live_of s.slots m.entries) next i
-    live-inserted = live-put s new m keys next next k i sound put.1 (other_key m keys next _ put) own_vacant slots
+    pub live-inserted : live_of new.slots keys.entries ≡ map.insert (live_of s.slots m.entries) next x
+    live-inserted = live-put s new m keys next next k x sound put.1 (other_key m keys next _ put) own_vacant slots
 
     pub is_sound-inserted : tree.btree_map_len keys ≡ tree.btree_map_len m + 1 → slab.slab_len new ≡ slab.slab_len s + 1 → IsSound new keys (next + 1)
     is_sound-inserted more used = record {
       below = λ q later. other_key m keys next _ put q (λ e. omega arith) ∙ sound.below q (omega arith);
-      occupied = occupied-put s new m keys next next k i sound put.1 (other_key m keys next _ put) own_vacant slots;
-      apart = apart-put s new m keys next next k i sound put.1 (other_key m keys next _ put) own_vacant slots;
-      counted = ap map.len live-inserted ∙ len-insert_new _ next i (get_absent s m next (sound.below next (le_refl next)))
+      occupied = occupied-put s new m keys next next k x sound put.1 (other_key m keys next _ put) own_vacant slots;
+      apart = apart-put s new m keys next next k x sound put.1 (other_key m keys next _ put) own_vacant slots;
+      counted = ap map.len live-inserted ∙ len-insert_new _ next x (get_absent s m next (sound.below next (le_refl next)))
           ∙ ap (λ n. n + 1) sound.counted ∙ sym more;
       full = used ∙ ap (λ n. n + 1) sound.full ∙ sym more;
     }
 
   -- a number's slot is written
-  module _ (s new : Slab X) (m : tree.BTreeMap ℕ ℕ) (next number k : ℕ) (i : X) (sound : IsSound s m next)
-      (at : tree.get nat_cmp m number ≡ Some k) (slots : slab.Updates s new k (Some i)) where
+  module _ (s new : Slab X) (m : tree.BTreeMap ℕ ℕ) (next number k : ℕ) (x : X) (sound : IsSound s m next)
+      (at : tree.get nat_cmp m number ≡ Some k) (slots : slab.Updates s new k (Some x)) where
     own_slot : (q : ℕ) → q ≢ number → tree.get nat_cmp m q ≢ Some k
     own_slot q apart at_q = apart (sound.apart q number k at_q at)
 
-    pub live-written : live_of new.slots m.entries ≡ map.insert (live_of s.slots m.entries) number i
-    live-written = live-put s new m m next number k i sound at (λ _ _. refl) own_slot slots
+    pub live-written : live_of new.slots m.entries ≡ map.insert (live_of s.slots m.entries) number x
+    live-written = live-put s new m m next number k x sound at (λ _ _. refl) own_slot slots
 
     pub is_sound-written : slab.slab_len new ≡ slab.slab_len s → IsSound new m next
     is_sound-written as_many = record {
       below = sound.below;
-      occupied = occupied-put s new m m next number k i sound at (λ _ _. refl) own_slot slots;
+      occupied = occupied-put s new m m next number k x sound at (λ _ _. refl) own_slot slots;
       apart = sound.apart;
-      counted = ap map.len live-written ∙ len-insert_there _ number i (ap is_some (get_found s m number k at) ∙ sound.occupied number k at)
+      counted = ap map.len live-written ∙ len-insert_there _ number x (ap is_some (get_found s m number k at) ∙ sound.occupied number k at)
           ∙ sound.counted;
       full = as_many ∙ sound.full;
     }
