@@ -5,3 +5,4 @@ mod TextLemmas
 pub mod VectorLaws
 mod ConversionLemmas
 pub mod IntegerLaws
+pub mod SameValueLaws

@@ -42,4 +42,3 @@ pub fn is_same(a: Value, b: Value) -> bool
         _ => false,
     }
 }
-

@@ -6,6 +6,7 @@ mod conversions;
 mod equality;
 mod integers;
 mod kinds;
+mod laws;
 mod planes;
 mod tables;
 #[cfg(test)]
@@ -17,6 +18,7 @@ pub use byte_text::Text;
 pub use equality::is_same;
 pub use integers::{add, cut, div, lt, mul, rem, shl, shr, sub};
 pub use kinds::{Digit, Sign, Value};
+pub use laws::same_values_are_equal;
 pub use planes::Lv;
 pub use tables::resolve;
 pub use texts::value_text;

@@ -24,7 +24,7 @@ impl Digit {
 }
 
 /// The text of a value: a truth value is `0` or `1`, numbers and times are in decimal, with `-` before a
-/// negative one, and digits are `0`, `1`, `Z` and `X`, the highest first. The only error is want of memory.
+/// negative one, and digits are `0`, `1`, `Z` and `X`, the highest first. The only error is being out of memory.
 pub fn value_text(alloc: Global, v: Value) -> Result<Text, AllocError>
     requires { HasText v }
     ensures { IfOk result (λ text. text ≡ text_of v) }

@@ -12,7 +12,7 @@ use Rattle.method_design.specs.declared.designs.ObjectForm.{ObjectForm}
 use Rattle.method_design.specs.declared.designs.ObjectForm.TheVariants as form
 use Rattle.event_core.specs.declared.notifications.Pending.{Pending}
 use Rattle.event_core.specs.declared.notifications.Pending.TheVariants as pending
-use Rattle.signal_channel.specs.Signals.{begun}
+use Rattle.signal_channel.specs.Signals.{unwritten}
 use Rattle.signal_channel.specs.declared.signal.Policy.{Policy}
 use Rattle.signal_channel.specs.declared.signal.Policy.TheVariants as policy
 use Rattle.signal_channel.specs.declared.signal.Signal.{Signal}
@@ -92,13 +92,13 @@ policy_of (form.Signal kind many initial) = policy_by kind many
 policy_of other = policy.One
 
 abbrev pub first_signal : Object → Signal
-first_signal o = begun (policy_of o.form) (unwrap_or (initial_of o.form) (value.Bool false))
+first_signal o = unwritten (policy_of o.form) (unwrap_or (initial_of o.form) (value.Bool false))
 
 -- a process of the design before it was ever taken: it waits for its static sensitivity
-abbrev pub process_of : Object → ObjectForm → List Instance
-process_of o (form.Process kind code dont_initialize) =
+abbrev pub instances_of : Object → ObjectForm → List Instance
+instances_of o (form.Process kind code dont_initialize) =
     (record { home = o.instance; path = o.path; static = []; code = code; dont_initialize = dont_initialize; residual = skip; waits = wait.Static }) ∷ []
-process_of o other = []
+instances_of o other = []
 
 -- the static sensitivities of processes, in the order of their serials
 abbrev pub with_statics : List (List ℕ) → List Instance → List Instance
@@ -108,7 +108,7 @@ with_statics (s ∷ ss) (i ∷ is) = record i { static = s } ∷ with_statics ss
 
 -- serials are given from 0 to the processes of the design in object order
 abbrev pub first_instances : Design → List Instance
-first_instances design = with_statics design.sensitive (flat_map (λ o. process_of o o.form) design.objects.list)
+first_instances design = with_statics design.sensitive (flat_map (λ o. instances_of o o.form) design.objects.list)
 
 -- the configuration before the first command: Idle at 0, with first values, nothing runnable and nothing pending
 abbrev pub start : Design → List Command → Config

@@ -24,8 +24,8 @@ is_many Buffer = false
 is_many BufferMany = true
 
 -- a signal that nobody has written
-abbrev pub begun : Policy → Value → Signal
-begun policy v = record { policy = policy; value = v; next = v; asked = false; writer = None }
+abbrev pub unwritten : Policy → Value → Signal
+unwritten policy v = record { policy = policy; value = v; next = v; asked = false; writer = None }
 
 -- the conflict of a write by p with the writer that stands; a write with no process conflicts with none
 abbrev pub conflict_of : Option ℕ → Option ℕ → Option WriterConflict

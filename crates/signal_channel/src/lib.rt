@@ -1,11 +1,13 @@
 //! The predefined channels with a value: signals, buffers and resolved signals (IEEE 1666-2011, 6.4, 6.6 and 6.13).
 #![tactic(auto)]
 
+mod laws;
 mod resolved;
 mod signal;
 #[cfg(test)]
 mod tests;
 mod values;
 
+pub use laws::what_differs_is_not_equal;
 pub use resolved::Resolved;
 pub use signal::{Changed, Policy, Signal, WriterConflict};

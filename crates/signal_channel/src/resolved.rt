@@ -3,8 +3,8 @@ ghost use Rattle.std.specs.Prelude.{◌≡◌, ◌==◌, position, OnOk, OnErr};
 ghost use Rattle.signal_channel.specs.Drivers as spec;
 
 use crate::signal::Changed;
-use crate::values::{is_one, is_same, is_zero};
-use logic_values::{Digit, Value, resolve};
+use crate::values::{is_one, is_zero};
+use logic_values::{Digit, Value, is_same, resolve};
 use std::alloc::{AllocError, Global};
 use std::marker::Model;
 

@@ -2,8 +2,8 @@
 ghost use Rattle.std.specs.Prelude.{◌≡◌, None, Some, OnOk, IfErr};
 ghost use Rattle.signal_channel.specs.Signals as spec;
 
-use crate::values::{is_one, is_same, is_zero};
-use logic_values::Value;
+use crate::values::{is_one, is_zero};
+use logic_values::{Value, is_same};
 
 /// Who may write a signal, and when an update announces that the value changed.
 #[derive(Clone, Copy, Debug, PartialEq, Eq)]
@@ -100,7 +100,7 @@ impl Policy {
 impl Signal {
     /// A signal with this value that nobody has written.
     pub fn new(policy: Policy, v: Value) -> Signal
-        ensures { result ≡ spec.begun policy v }
+        ensures { result ≡ spec.unwritten policy v }
     {
         Signal {
             policy,
