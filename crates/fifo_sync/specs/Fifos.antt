@@ -47,5 +47,5 @@ abbrev pub after_write : Queued → Value → Queued
 after_write q v = if free q == 0 then q else record q { unread = q.unread ++ v ∷ []; written = q.written + 1 }
 
 -- the next evaluation phase: nothing is written or read in it yet
-abbrev pub updated : Queued → Queued
-updated q = record q { written = 0; read = 0 }
+abbrev pub after_update : Queued → Queued
+after_update q = record q { written = 0; read = 0 }

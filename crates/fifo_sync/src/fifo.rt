@@ -47,7 +47,7 @@ impl Model for Fifo {
 }
 
 impl Fifo {
-    ghost use Rattle.fifo_sync.specs.Fifos.{nothing_in, available, free, readable, after_read, after_write, updated};
+    ghost use Rattle.fifo_sync.specs.Fifos.{nothing_in, available, free, readable, after_read, after_write, after_update};
 
     /// A fifo with no value and room for `size`.
     pub fn new(alloc: Global, size: u32) -> Result<Fifo, AllocError>
@@ -105,7 +105,7 @@ impl Fifo {
     pub fn update(&mut self) -> FifoChange
         ensures written { result.written ≡ not (self.old.written == 0) }
         ensures taken { result.taken ≡ not (self.old.read == 0) }
-        ensures left { self.new ≡ updated self.old }
+        ensures left { self.new ≡ after_update self.old }
     {
         let change = FifoChange {
             written: self.written != 0,

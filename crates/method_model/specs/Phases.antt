@@ -3,7 +3,7 @@ use Rattle.std.specs.Prelude.{ℕ, List, [], ◌∷◌, map, unwrap_or}
 use Rattle.event_core.specs.declared.notifications.Pending.{Pending}
 use Rattle.event_core.specs.declared.notifications.Pending.TheVariants as pending
 use Rattle.method_model.specs.Configuration.{Config}
-use Rattle.method_model.specs.Signals.{updated, announced_from}
+use Rattle.method_model.specs.Signals.{settled_if_asked, announced_from}
 use Rattle.method_model.specs.Wakes.{with_runnable, is_initialized, fire_all, due_from}
 use Rattle.method_model.specs.declared.plain.Phase.{Phase}
 use Rattle.method_model.specs.declared.plain.Phase.TheVariants as phase
@@ -12,7 +12,7 @@ use Rattle.method_model.specs.declared.plain.Phase.TheVariants as phase
 abbrev pub update_phase : Config → Config
 update_phase c = record c {
   events = announced_from 0 c.channels.signals c.events;
-  channels = record { signals = map updated c.channels.signals };
+  channels = record { signals = map settled_if_asked c.channels.signals };
 }
 
 -- the delta notification phase takes the pending delta notifications away, and these events fire

@@ -11,17 +11,17 @@ use Rattle.signal_channel.specs.declared.signal.Signal.{Signal}
 use Rattle.signal_channel.specs.declared.signal.Changed.{Changed}
 
 -- an update, which is called exactly once for each signal that asked for it
-abbrev pub updated : Signal → Signal
-updated s = if s.asked then settled s else s
+abbrev pub settled_if_asked : Signal → Signal
+settled_if_asked s = if s.asked then settled s else s
 
 -- a delta notification of an event, where one is made
-abbrev pub notified : Bool → ℕ → List Pending → List Pending
-notified false e events = events
-notified true e events = slice_set events e (event.notified when.Delta (event.pending_at events e))
+abbrev pub notified_if : Bool → ℕ → List Pending → List Pending
+notified_if false e events = events
+notified_if true e events = slice_set events e (event.notified when.Delta (event.pending_at events e))
 
 -- the notifications of an update of signal i
 abbrev pub announced : ℕ → Changed → List Pending → List Pending
-announced i c events = notified c.neg (negedge_event i) (notified c.pos (posedge_event i) (notified c.changed (changed_event i) events))
+announced i c events = notified_if c.neg (negedge_event i) (notified_if c.pos (posedge_event i) (notified_if c.changed (changed_event i) events))
 
 -- those of the updates of the signals from number i on
 abbrev pub announced_from : ℕ → List Signal → List Pending → List Pending

@@ -32,13 +32,13 @@ pub data Outcome : Type 0 where
 abbrev pub show_line : ℕ → List ℕ → Value → List ℕ
 show_line now path v = decimal now ++ codes " script " ++ path ++ codes " " ++ text_of v ++ 10 ∷ []
 
-abbrev pub shown : Config → Option Object → Option Signal → Config
-shown c (Some o) (Some s) = with_line c (show_line c.cycle.now o.path s.value)
-shown c o s = c
+abbrev pub with_show_line : Config → Option Object → Option Signal → Config
+with_show_line c (Some o) (Some s) = with_line c (show_line c.cycle.now o.path s.value)
+with_show_line c o s = c
 
 -- show: one report line
 abbrev pub show : Config → ℕ → Config
-show c i = shown c (slice_get (visible c.design) i) (slice_get c.channels.signals i)
+show c i = with_show_line c (slice_get (visible c.design) i) (slice_get c.channels.signals i)
 
 -- set: the signal asks for an update with the value
 abbrev pub set_signal : Config → ℕ → Value → Config
@@ -49,16 +49,16 @@ abbrev pub first_phase : Bool → Phase
 first_phase false = phase.Start
 first_phase true = phase.Evaluate
 
-abbrev pub begun : Config → Option ℕ → Config
-begun c end = record c { cycle = record c.cycle { phase = first_phase c.cycle.begun; begun = true; end = end } }
+abbrev pub run_begun : Config → Option ℕ → Config
+run_begun c end = record c { cycle = record c.cycle { phase = first_phase c.cycle.begun; begun = true; end = end } }
 
 -- a run for a time ends then; a sum past 2^64 - 1 ps is a fault
 abbrev pub begin_until : Config → ℕ → Bool → Outcome
-begin_until c end true = went (begun c (Some end))
+begin_until c end true = went (run_begun c (Some end))
 begin_until c end false = faulted run_fault.TimeOverflow
 
 abbrev pub begin_run : Config → Option Time → Outcome
-begin_run c None = went (begun c None)
+begin_run c None = went (run_begun c None)
 begin_run c (Some d) = begin_until c (c.cycle.now + d.0) (nat_lt (c.cycle.now + d.0) (2 ^ 64))
 
 abbrev pub carry_out : Config → Command → Outcome
@@ -100,8 +100,8 @@ abbrev pub begins : Config → Option Instance → ℕ → List Instance
 begins c None p = c.processes.instances
 begins c (Some i) p = slice_set c.processes.instances p (record i { residual = body_begun (arena_of c.design.code) i.code })
 
-abbrev pub taken : Config → ℕ → Config
-taken c p = record c {
+abbrev pub process_taken : Config → ℕ → Config
+process_taken c p = record c {
   processes = record {
     runnable = filter (λ q. not (q == p)) c.processes.runnable;
     stack = p ∷ c.processes.stack;
@@ -111,7 +111,7 @@ taken c p = record c {
 
 -- the taking of p, which has to be runnable
 abbrev pub taken_if : Config → ℕ → Bool → Option Config
-taken_if c p true = Some (taken c p)
+taken_if c p true = Some (process_taken c p)
 taken_if c p false = None
 
 abbrev pub taking : Config → ℕ → Option Config

@@ -12,13 +12,13 @@ abbrev pub signal_at : Design → ℕ → ℕ → Option ℕ
 signal_at d home n = slice_get (unwrap_or (slice_get d.scopes home) []) n
 
 -- the value of a signal; one that there is not is false
-abbrev pub value_of : Option Signal → Value
-value_of None = value.Bool false
-value_of (Some s) = s.value
+abbrev pub signal_value : Option Signal → Value
+signal_value None = value.Bool false
+signal_value (Some s) = s.value
 
 abbrev pub read : List Signal → Option ℕ → Value
 read signals None = value.Bool false
-read signals (Some i) = value_of (slice_get signals i)
+read signals (Some i) = signal_value (slice_get signals i)
 
 abbrev pub is_true : Value → Bool
 is_true (value.Bool b) = b
