@@ -6,7 +6,7 @@ use Rattle.std.proofs.lemmas.Option.{none-some, slice_get-map}
 use Rattle.method_model.specs.Configuration.{Config, Instance, Processes}
 use Rattle.method_model.specs.Residual.{Residual}
 use Rattle.method_model.specs.Statements.{goes_on, returned}
-use Rattle.method_model.specs.Steps.{begins, taken}
+use Rattle.method_model.specs.Steps.{begins, process_taken}
 use Rattle.method_model.specs.Wakes.{is_static, is_sensitive, woken, serials_from, with_runnable, fire, fire_all}
 use Rattle.method_model.specs.declared.plain.Wait.{Wait}
 use Rattle.method_model.specs.declared.plain.Wait.TheVariants as wait
@@ -68,10 +68,10 @@ begins_due : (c : Config) (p q : ℕ) (o : Option Instance) → slice_get c.proc
 begins_due c p q None at = refl
 begins_due c p q (Some i) at = due-kept c.processes.instances p q i _ at refl
 
-taken_places : (c : Config) (p q : ℕ) → Fits c.processes → 0 < times p c.processes.runnable → places (taken c p).processes q ≡ places c.processes q
+taken_places : (c : Config) (p q : ℕ) → Fits c.processes → 0 < times p c.processes.runnable → places (process_taken c p).processes q ≡ places c.processes q
 taken_places c p q fits stands = ⊎_elim here other (cases_eq q p)
   where
-    at_p : places (taken c p).processes p ≡ places c.processes p
+    at_p : places (process_taken c p).processes p ≡ places c.processes p
     at_p =
         let a = fits p in
         let b = at_most_once (slice_get c.processes.instances p) in
@@ -79,16 +79,16 @@ taken_places c p q fits stands = ⊎_elim here other (cases_eq q p)
         let push = times-here p c.processes.stack in
         omega (arith, a, b, stands, cut, push)
 
-    here : q ≡ p → places (taken c p).processes q ≡ places c.processes q
-    here same = subst (λ n. places (taken c p).processes n ≡ places c.processes n) (sym same) at_p
+    here : q ≡ p → places (process_taken c p).processes q ≡ places c.processes q
+    here same = subst (λ n. places (process_taken c p).processes n ≡ places c.processes n) (sym same) at_p
 
-    other : q ≢ p → places (taken c p).processes q ≡ places c.processes q
+    other : q ≢ p → places (process_taken c p).processes q ≡ places c.processes q
     other apart =
         let cut = times-cut_other p q c.processes.runnable apart in
         let push = times-other q p c.processes.stack (λ same. apart (sym same)) in
         omega (arith, cut, push)
 
-pub taken_fits : (c : Config) (p : ℕ) → 0 < times p c.processes.runnable → Fits c.processes → Fits (taken c p).processes
+pub taken_fits : (c : Config) (p : ℕ) → 0 < times p c.processes.runnable → Fits c.processes → Fits (process_taken c p).processes
 taken_fits c p stands fits q = taken_places c p q fits stands ∙ fits q ∙ sym (begins_due c p q (slice_get c.processes.instances p) refl)
 
 -- ---- processes that are made runnable

@@ -7,7 +7,7 @@ use Rattle.method_design.specs.declared.designs.Object.{Object}
 use Rattle.signal_channel.specs.declared.signal.Signal.{Signal}
 use Rattle.method_model.specs.Configuration.{Config, Processes, visible}
 use Rattle.method_model.specs.Statements.{Did, did, refused, statement_step}
-use Rattle.method_model.specs.Steps.{Outcome, went, faulted, takes, ended, shown, first_phase, begun, begin_until, begin_run, carry_out, next_command, as_outcome, evaluate, step_in, step, taken, taken_if, taking}
+use Rattle.method_model.specs.Steps.{Outcome, went, faulted, takes, ended, with_show_line, first_phase, run_begun, begin_until, begin_run, carry_out, next_command, as_outcome, evaluate, step_in, step, process_taken, taken_if, taking}
 use Rattle.method_model.specs.declared.plain.Phase.{Phase}
 use Rattle.method_model.specs.declared.plain.Phase.TheVariants as phase
 use Rattle.method_model.specs.declared.plain.Command.{Command}
@@ -31,18 +31,18 @@ first_phase_fits : (b : Bool) (ps : Processes) → IsIdle ps → FitsPhase (firs
 first_phase_fits false ps idle = idle
 first_phase_fits true ps idle = tt
 
-begun_sound : (c : Config) (end : Option ℕ) → Fits c.processes → IsIdle c.processes → Sound (begun c end)
-begun_sound c end fits idle = (fits, first_phase_fits c.cycle.begun c.processes idle)
+run_begun_sound : (c : Config) (end : Option ℕ) → Fits c.processes → IsIdle c.processes → Sound (run_begun c end)
+run_begun_sound c end fits idle = (fits, first_phase_fits c.cycle.begun c.processes idle)
 
 until_sound : (c : Config) (end : ℕ) (b : Bool) → Fits c.processes → IsIdle c.processes → IfWent (begin_until c end b) Sound
-until_sound c end true fits idle = begun_sound c (Some end) fits idle
+until_sound c end true fits idle = run_begun_sound c (Some end) fits idle
 until_sound c end false fits idle = tt
 
 run_sound : (c : Config) (d : Option Time) → Fits c.processes → IsIdle c.processes → IfWent (begin_run c d) Sound
-run_sound c None fits idle = begun_sound c None fits idle
+run_sound c None fits idle = run_begun_sound c None fits idle
 run_sound c (Some d) fits idle = until_sound c (c.cycle.now + d.0) (nat_lt (c.cycle.now + d.0) (2 ^ 64)) fits idle
 
-show_sound : (c : Config) (o : Option Object) (s : Option Signal) → Sound c → Sound (shown c o s)
+show_sound : (c : Config) (o : Option Object) (s : Option Signal) → Sound c → Sound (with_show_line c o s)
 show_sound c None s h = h
 show_sound c (Some o) None h = h
 show_sound c (Some o) (Some s) h = h
@@ -96,11 +96,11 @@ only_evaluation phase.Evaluate ps new p stands any = tt
 only_evaluation phase.Notify ps new p stands idle = absurd (not_idle ps p stands idle)
 only_evaluation phase.Timed ps new p stands idle = absurd (not_idle ps p stands idle)
 
-taken_sound : (c : Config) (p : ℕ) → 0 < times p c.processes.runnable → Sound c → Sound (taken c p)
-taken_sound c p stands h = (taken_fits c p stands h.0, only_evaluation c.cycle.phase c.processes (taken c p).processes p stands h.1)
+taken_sound : (c : Config) (p : ℕ) → 0 < times p c.processes.runnable → Sound c → Sound (process_taken c p)
+taken_sound c p stands h = (taken_fits c p stands h.0, only_evaluation c.cycle.phase c.processes (process_taken c p).processes p stands h.1)
 
 taken_if_sound : (c d : Config) (p : ℕ) (b : Bool) → list_any (λ q. q == p) c.processes.runnable ≡ b → Sound c → taken_if c p b ≡ Some d → Sound d
-taken_if_sound c d p true is h to = subst Sound (same_Some (taken c p) d to) (taken_sound c p (times-any p c.processes.runnable is) h)
+taken_if_sound c d p true is h to = subst Sound (same_Some (process_taken c p) d to) (taken_sound c p (times-any p c.processes.runnable is) h)
 taken_if_sound c d p false is h to = absurd (none-some d to)
 
 pub taking_sound : (c : Config) (p : ℕ) (d : Config) → Sound c → taking c p ≡ Some d → Sound d

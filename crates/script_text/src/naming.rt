@@ -6,7 +6,7 @@ ghost use Rattle.method_model.specs.Configuration.{visible};
 ghost use Rattle.script_text.specs.NamedScript as spec;
 ghost use Rattle.script_text.specs.NamedScript.{name_script};
 ghost use Rattle.script_text.specs.Fits.{Fits};
-ghost use Rattle.script_text.specs.Naming.{Names};
+ghost use Rattle.script_text.specs.Naming.{IsNamedAs};
 
 use super::forms::{CommandForm, TextCommand};
 use super::reading::Commands;
@@ -107,7 +107,7 @@ fn show_named(
     line: u32,
     path: &[u8],
 ) -> Result<Command, CheckStop>
-    ensures { Names result (spec.named_form (filter configuration.is_visible objects.now) line (CommandForm.Show path.now)) }
+    ensures { IsNamedAs result (spec.named_form (filter configuration.is_visible objects.now) line (CommandForm.Show path.now)) }
 {
     let Some(place) = place_to_show(objects, path) else {
         return Err(refused(alloc, Kind::UnknownName, line, path));
@@ -125,7 +125,7 @@ fn set_named(
     path: &[u8],
     text: &[u8],
 ) -> Result<Command, CheckStop>
-    ensures { Names result (spec.named_form (filter configuration.is_visible objects.now) line (CommandForm.Set path.now text.now)) }
+    ensures { IsNamedAs result (spec.named_form (filter configuration.is_visible objects.now) line (CommandForm.Set path.now text.now)) }
 {
     let Some(place) = place_to_set(objects, path) else {
         return Err(refused(alloc, Kind::UnknownName, line, path));
@@ -140,7 +140,7 @@ fn set_named(
 }
 
 fn named(alloc: Global, objects: &[Object], command: &TextCommand) -> Result<Command, CheckStop>
-    ensures { Names result (spec.named (filter configuration.is_visible objects.now) command.now) }
+    ensures { IsNamedAs result (spec.named (filter configuration.is_visible objects.now) command.now) }
 {
     match &command.form {
         CommandForm::Run => Ok(Command::Run(None)),
@@ -156,7 +156,7 @@ fn named(alloc: Global, objects: &[Object], command: &TextCommand) -> Result<Com
 ///
 /// Refused has the line and the path of the first command that is not accepted: UnknownName where no
 /// object is to be shown, or set, under the path, and else BadValue where the value has not the form
-/// of its type. `set` needs a signal or a buffer. Want of memory is also answered where the place of an
+/// of its type. `set` needs a signal or a buffer. NoMemory is also answered where the place of an
 /// object does not fit 32 bits.
 pub fn name_all(alloc: Global, commands: Commands, design: &Design) -> Result<Script, CheckStop>
     ensures named { IfOk result (λ script. name_script (visible design.now) commands ≡ Ok script) }
