@@ -5,7 +5,6 @@ use Rattle.std.specs.FinSet as set
 use Rattle.std.proofs.lemmas.Option.{slice_get-map}
 use Rattle.std.proofs.lemmas.List.{map-set}
 use Rattle.ready_set.specs.Ready.{Ready}
-use Rattle.signal_channel.specs.declared.signal.Signal.{Signal}
 use Rattle.method_design.specs.Code.{arena_of}
 use Rattle.method_model.specs.Configuration as config
 use Rattle.method_model.specs.Configuration.{Config}
@@ -13,27 +12,10 @@ use Rattle.method_model.specs.Residual.{Residual, skip, put, settle, run_block}
 use Rattle.method_model.specs.Statements.{goes_on, returned, entered}
 use Rattle.method_model.specs.declared.plain.Wait.TheVariants as wait
 use Rattle.method_kernel.specs.Bodies.{residual_of}
-use Rattle.method_model.specs.Phases.{in_phase}
-use Rattle.method_model.specs.declared.plain.Phase.{Phase}
 use Rattle.method_kernel.specs.declared.kernel.Kernel.{Kernel}
 use Rattle.method_kernel.specs.declared.kernel.Instance.{Instance}
 use Rattle.method_kernel.specs.Kernel.{StandsFor, shown, stack_of}
 use Rattle.method_kernel.proofs.Lists.{some_same, same_set}
-
-pub phase_moves : (k : Kernel) (c : Config) (p : Phase) → StandsFor k c → StandsFor (record k { phase = p }) (in_phase c p)
-phase_moves k c p h = record {
-  design = h.design;
-  phase = refl;
-  begun = h.begun;
-  time = h.time;
-  end = h.end;
-  stopped = h.stopped;
-  ready = h.ready;
-  stack = h.stack;
-  instances = h.instances;
-  events = h.events;
-  signals = h.signals;
-}
 
 -- the processes, the runnable set and the stack
 pub processes_move : (k : Kernel) (c : Config) (v : Vec Instance) (ready : Ready) (active : Option ℕ) (ps : config.Processes) → StandsFor k c
@@ -51,21 +33,6 @@ processes_move k c v ready active ps h r s i = record {
   instances = i;
   events = h.events;
   signals = h.signals;
-}
-
-pub signals_move : (k : Kernel) (c : Config) (v : Vec Signal) (ss : List Signal) → StandsFor k c → v.items ≡ ss → StandsFor (record k { signals = v }) (record c { channels = record { signals = ss } })
-signals_move k c v ss h same = record {
-  design = h.design;
-  phase = h.phase;
-  begun = h.begun;
-  time = h.time;
-  end = h.end;
-  stopped = h.stopped;
-  ready = h.ready;
-  stack = h.stack;
-  instances = h.instances;
-  events = h.events;
-  signals = same;
 }
 
 -- process i at its serial, in the kernel's words

@@ -9,7 +9,7 @@ use Rattle.method_design.specs.Code.{Arena}
 use Rattle.method_model.specs.Configuration as config
 use Rattle.method_model.specs.Wakes.{serials_from, woken}
 use Rattle.method_kernel.specs.Kernel.{shown}
-use Rattle.method_kernel.specs.Woken.{joined, woken_if, member_if}
+use Rattle.method_kernel.specs.Woken.{woken_instances, woken_if, member_if}
 use Rattle.method_kernel.specs.declared.kernel.Instance.{Instance}
 use Rattle.method_kernel.proofs.Ready.{set_of, insert_from}
 
@@ -57,6 +57,6 @@ shown_one : (a : Arena) (b : Bool) (i : Instance) → shown a (woken_if b i) ≡
 shown_one a true i = refl
 shown_one a false i = refl
 
-pub shown_joined : (test : config.Instance → Bool) (a : Arena) (is : List Instance) → map (shown a) (joined test a is) ≡ map (λ i. if test i then woken i else i) (map (shown a) is)
-shown_joined test a [] = refl
-shown_joined test a (i ∷ is) = λ k. shown_one a (test (shown a i)) i k ∷ shown_joined test a is k
+pub shown_woken_instances : (test : config.Instance → Bool) (a : Arena) (is : List Instance) → map (shown a) (woken_instances test a is) ≡ map (λ i. if test i then woken i else i) (map (shown a) is)
+shown_woken_instances test a [] = refl
+shown_woken_instances test a (i ∷ is) = λ k. shown_one a (test (shown a i)) i k ∷ shown_woken_instances test a is k

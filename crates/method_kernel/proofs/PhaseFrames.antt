@@ -15,11 +15,11 @@ use Rattle.method_model.specs.Phases.{in_phase, delta_phase, without_delta, phas
 use Rattle.method_model.specs.declared.plain.Phase.{Phase}
 use Rattle.method_model.specs.declared.plain.Phase.TheVariants as phase
 use Rattle.method_kernel.specs.Kernel.{StandsFor, shown}
-use Rattle.method_kernel.specs.Woken.{is_due, joined, JoinsReady}
+use Rattle.method_kernel.specs.Woken.{is_due, woken_instances, JoinsReady}
 use Rattle.method_kernel.specs.declared.kernel.Instance.{Instance}
 use Rattle.method_kernel.specs.declared.kernel.Kernel.{Kernel}
 use Rattle.method_kernel.proofs.Ready.{set_of, none_left}
-use Rattle.method_kernel.proofs.Joined.{shown_joined}
+use Rattle.method_kernel.proofs.Joined.{shown_woken_instances}
 use Rattle.method_kernel.proofs.Fired.{woken_by, fired_stack, due_instances, due_ready}
 
 -- processes written over by as many
@@ -28,7 +28,7 @@ written v before after at long = with_items_is v after (long ∙ ap (λ (is : Li
 
 -- processes that joined the runnable ones
 pub joined_moves : (k : Kernel) (c : Config) (ready : Ready) (before after : List Instance) (test : config.Instance → Bool) → StandsFor k c
-    → before ≡ k.instances.items → length after ≡ length before → after ≡ joined test (arena_of k.design.code) before
+    → before ≡ k.instances.items → length after ≡ length before → after ≡ woken_instances test (arena_of k.design.code) before
     → JoinsReady k.ready.members ready.members test (map (shown (arena_of k.design.code)) before)
     → StandsFor (record k { ready = ready; instances = with_items k.instances after }) (record c { processes = with_runnable test c.processes })
 joined_moves k c ready before after test h at long waiting joins =
@@ -45,7 +45,7 @@ joined_moves k c ready before after test h at long waiting joins =
       ready = joins ps.runnable h.ready ∙ ap (λ (is : List config.Instance). set_of (ps.runnable ++ serials_from test 0 is)) was;
       stack = h.stack;
       instances = ap (λ (is : List Instance). map (shown a) is) (written k.instances before after at long ∙ waiting)
-          ∙ shown_joined test a before
+          ∙ shown_woken_instances test a before
           ∙ ap (λ (is : List config.Instance). map (woken_by test) is) was;
       events = h.events;
       signals = h.signals;
@@ -53,7 +53,7 @@ joined_moves k c ready before after test h at long waiting joins =
 
 -- the processes that were due, and the delta notifications taken away
 pub delta_moves : (k : Kernel) (c : Config) (ready : Ready) (before after : List Instance) (events : List Pending) → StandsFor k c
-    → before ≡ k.instances.items → length after ≡ length before → after ≡ joined (is_due k.events) (arena_of k.design.code) before
+    → before ≡ k.instances.items → length after ≡ length before → after ≡ woken_instances (is_due k.events) (arena_of k.design.code) before
     → JoinsReady k.ready.members ready.members (is_due k.events) (map (shown (arena_of k.design.code)) before)
     → events ≡ map without_delta k.events → StandsFor (record k { ready = ready; instances = with_items k.instances after; events = events }) (delta_phase c)
 delta_moves k c ready before after events h at long waiting joins cleared =

@@ -9,7 +9,7 @@ use Rattle.std.proofs.lemmas.List.{map-set}
 use Rattle.ready_set.specs.Ready.{Ready, without_member}
 use Rattle.method_design.specs.Code.{arena_of}
 use Rattle.method_model.specs.Residual.{body_begun}
-use Rattle.method_model.specs.Steps.{taking, taken, taken_if, begins}
+use Rattle.method_model.specs.Steps.{taking, process_taken, taken_if, begins}
 use Rattle.method_model.specs.Configuration as config
 use Rattle.method_model.specs.Configuration.{Config}
 use Rattle.method_kernel.specs.declared.kernel.Kernel.{Kernel}
@@ -19,7 +19,7 @@ use Rattle.method_kernel.proofs.Frames.{processes_move}
 use Rattle.method_kernel.proofs.Ready.{contains_has, remove_from}
 
 -- a member of the set is in the list, so it can be taken
-may_take : (k : Kernel) (c : Config) (p : ℕ) → StandsFor k c → set.contains k.ready.members p ≡ true → taking c p ≡ Some (taken c p)
+may_take : (k : Kernel) (c : Config) (p : ℕ) → StandsFor k c → set.contains k.ready.members p ≡ true → taking c p ≡ Some (process_taken c p)
 may_take k c p h member =
     let is : list_any (λ q. q == p) c.processes.runnable ≡ true = sym (contains_has c.processes.runnable p) ∙ ap (λ s. set.contains s p) (sym h.ready) ∙ member in
     ap (taken_if c p) is
@@ -36,9 +36,9 @@ pub takes_past : (k : Kernel) (c : Config) (p : ℕ) (ready : Ready) → StandsF
 takes_past k c p ready h free member is past =
     let view = shown (arena_of k.design.code) in
     let none : slice_get c.processes.instances p ≡ None = ap (λ xs. slice_get xs p) (sym h.instances) ∙ slice_get-map view k.instances.items p ∙ ap (option_map view) (slice_get_past k.instances.items p past) in (
-      taken c p,
+      process_taken c p,
       may_take k c p h member,
-      processes_move k c k.instances ready (Some p) (taken c p).processes h (cut k c p ready h is) (pushed k c p h free) (h.instances ∙ ap (λ o. begins c o p) (sym none)),
+      processes_move k c k.instances ready (Some p) (process_taken c p).processes h (cut k c p ready h is) (pushed k c p h free) (h.instances ∙ ap (λ o. begins c o p) (sym none)),
       refl,
       refl,
     )
@@ -55,9 +55,9 @@ takes_within k c p v old new ready h free member is old_is set shows =
     let instances : map view v.items ≡ begins c (slice_get c.processes.instances p) p =
     ap (λ xs. map view xs) set ∙ map-set view k.instances.items p new ∙ ap (λ xs. slice_set xs p (view new)) h.instances
     ∙ ap (λ x. slice_set c.processes.instances p x) begun ∙ ap (λ o. begins c o p) (sym at) in (
-      taken c p,
+      process_taken c p,
       may_take k c p h member,
-      processes_move k c v ready (Some p) (taken c p).processes h (cut k c p ready h is) (pushed k c p h free) instances,
+      processes_move k c v ready (Some p) (process_taken c p).processes h (cut k c p ready h is) (pushed k c p h free) instances,
       refl,
       refl,
     )

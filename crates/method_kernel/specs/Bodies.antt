@@ -9,13 +9,13 @@ use Rattle.method_kernel.specs.declared.body.Next.{Next}
 use Rattle.method_kernel.specs.declared.body.Next.TheVariants as next
 
 -- the statements of a block from a place on
-abbrev pub left_of : Arena → Cursor → List ℕ
-left_of a c = drop c.place (statements_of a c.block)
+abbrev pub statements_left : Arena → Cursor → List ℕ
+statements_left a c = drop c.place (statements_of a c.block)
 
 -- what is left in these blocks once r is done in the innermost
 abbrev pub inner_on : Arena → Residual → List Cursor → Residual
 inner_on a r [] = r
-inner_on a r (c ∷ cs) = then (inner_on a r cs) (left_of a c)
+inner_on a r (c ∷ cs) = then (inner_on a r cs) (statements_left a c)
 
 abbrev pub residual_in : Arena → Bool → List Cursor → Residual
 residual_in a false cs = residual.skip
@@ -26,7 +26,7 @@ residual_of a b = residual_in a b.begun b.open.items
 
 -- nothing is open, or a statement is left in the innermost block
 abbrev pub IsTidy : Arena → List Cursor → Type 0
-IsTidy a cs = (cs ≡ []) ⊎ ((front : List Cursor) × (c : Cursor) × (s : ℕ) × (rest : List ℕ) × (cs ≡ front ++ c ∷ []) × (left_of a c ≡ s ∷ rest) × (c.place < 2 ^ 63))
+IsTidy a cs = (cs ≡ []) ⊎ ((front : List Cursor) × (c : Cursor) × (s : ℕ) × (rest : List ℕ) × (cs ≡ front ++ c ∷ []) × (statements_left a c ≡ s ∷ rest) × (c.place < 2 ^ 63))
 
 -- what shows
 abbrev pub next_view : Next → residual.Next

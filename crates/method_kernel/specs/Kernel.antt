@@ -74,14 +74,14 @@ abbrev pub Begins : Kernel → Kernel → ℕ → Type 0
 Begins old new p = (c : Config) → StandsFor old c → (d : Config) × (taking c p ≡ Some d) × StandsFor new d × (d.script ≡ c.script) × (d.trace.lines ≡ c.trace.lines)
 
 -- the lines with one more, where a step has one
-abbrev pub with_line : List (List ℕ) → Option (List ℕ) → List (List ℕ)
-with_line lines None = lines
-with_line lines (Some line) = lines ++ line ∷ []
+abbrev pub lines_with : List (List ℕ) → Option (List ℕ) → List (List ℕ)
+lines_with lines None = lines
+lines_with lines (Some line) = lines ++ line ∷ []
 
 -- a step went to a configuration that the kernel stands for now, with the same rest of the script, and
 -- this line more where there is one
 abbrev pub GoesTo : Kernel → Option (List ℕ) → Config → Outcome → Type 0
-GoesTo new line c (went d) = StandsFor new d × (d.script ≡ c.script) × (d.trace.lines ≡ with_line c.trace.lines line)
+GoesTo new line c (went d) = StandsFor new d × (d.script ≡ c.script) × (d.trace.lines ≡ lines_with c.trace.lines line)
 GoesTo new line c (faulted f) = ⊥
 GoesTo new line c takes = ⊥
 GoesTo new line c ended = ⊥
@@ -104,7 +104,7 @@ FollowsAt new (Err f) c outcome = IsFault new f c outcome
 abbrev pub Follows : Kernel → Kernel → Result Unit RunFault → (Config → Outcome) → Type 0
 Follows old new result f = (c : Config) → StandsFor old c → FollowsAt new result c (f c)
 
--- a statement: what it prints is the line that the step adds; after want of memory the kernel stands for what it stood for
+-- a statement: what it prints is the line that the step adds; after NoMemory the kernel stands for what it stood for
 abbrev pub printed : Did → Option (List ℕ)
 printed did.Plain = None
 printed (did.Printed line) = Some line

@@ -38,11 +38,11 @@ member_if false s p = s
 member_if true s p = set.insert s p
 
 -- the processes that pass the test join the runnable ones, and wait no more
-abbrev pub joined_one : (config.Instance → Bool) → Arena → Instance → Instance
-joined_one test a i = woken_if (test (shown a i)) i
+abbrev pub woken_instance : (config.Instance → Bool) → Arena → Instance → Instance
+woken_instance test a i = woken_if (test (shown a i)) i
 
-abbrev pub joined : (config.Instance → Bool) → Arena → List Instance → List Instance
-joined test a is = map (joined_one test a) is
+abbrev pub woken_instances : (config.Instance → Bool) → Arena → List Instance → List Instance
+woken_instances test a is = map (woken_instance test a) is
 
 abbrev pub JoinsReady : set.FinSet nat_cmp → set.FinSet nat_cmp → (config.Instance → Bool) → List config.Instance → Type 0
 JoinsReady old new test is = (xs : List ℕ) → old ≡ set.from_list xs → new ≡ set.from_list (xs ++ serials_from test 0 is)

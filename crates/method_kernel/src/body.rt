@@ -1,7 +1,7 @@
 ghost use Rattle.std.specs.Prelude.{◌≡◌, ◌++◌, ◌∷◌, [], ℕ, List, slice_get, OnOk, OnErr, drop, option_map, Some, None, true, IfSome, ◌<◌, ◌^◌};
 ghost use Rattle.method_design.specs.Code.{Arena, arena_of, statements_of};
 ghost use Rattle.method_model.specs.Residual as spec;
-ghost use Rattle.method_kernel.specs.Bodies.{left_of, inner_on, residual_of, IsTidy, next_view};
+ghost use Rattle.method_kernel.specs.Bodies.{statements_left, inner_on, residual_of, IsTidy, next_view};
 
 use method_design::{BlockId, Code, CodeId, StmtId};
 use std::alloc::{AllocError, Global};

@@ -133,7 +133,7 @@ fn add_process(
     instances: &mut Vec<Instance>,
     object: &Object,
 ) -> Result<(), AllocError>
-    ensures { OnOk result ((a : Arena) (rest : List spec.Instance) → added (shown a) design.now.sensitive instances.new.items rest ≡ added (shown a) design.now.sensitive instances.old.items (spec.process_of object.now object.now.form ++ rest)) }
+    ensures { OnOk result ((a : Arena) (rest : List spec.Instance) → added (shown a) design.now.sensitive instances.new.items rest ≡ added (shown a) design.now.sensitive instances.old.items (spec.instances_of object.now object.now.form ++ rest)) }
 {
     match object.form {
         ObjectForm::Process {
@@ -183,7 +183,7 @@ fn first_events(alloc: Global, signals: usize) -> Result<Events, AllocError>
 
 impl Kernel {
     /// The kernel before the first command: Idle at time 0, with first values, nothing runnable and nothing
-    /// pending. It also answers want of memory where the design has 2^31 processes, or signals with 2^32 events.
+    /// pending. AllocError is answered too where the design has 2^31 processes, or signals with 2^32 events.
     pub fn new(alloc: Global, design: Design) -> Result<Kernel, AllocError>
         ensures stands { IfOk result (λ k. (script : List Command) → StandsFor k (spec.start design script)) }
         ensures sound { IfOk result (λ k. IsSound k) }
@@ -211,7 +211,7 @@ impl Kernel {
 
     /// The value of a signal, counted from 0 in object order; one that there is not is false.
     pub fn read_signal(&self, number: u32) -> Value
-        ensures { result ≡ values.value_of (slice_get self.now.signals.items number) }
+        ensures { result ≡ values.signal_value (slice_get self.now.signals.items number) }
     {
         match self.signals.as_slice().get(number as usize) {
             Some(signal) => signal.read(),

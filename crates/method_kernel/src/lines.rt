@@ -1,4 +1,4 @@
-ghost use Rattle.std.specs.Prelude.{◌≡◌, ◌++◌, OnOk, IfOk};
+ghost use Rattle.std.specs.Prelude.{◌≡◌, ◌++◌, OnErr, OnOk, IfOk};
 ghost use Rattle.std.specs.Fmt.{decimal};
 ghost use Rattle.logic_values.specs.ValueText.{text_of};
 ghost use Rattle.method_model.specs.Statements as spec;
@@ -7,18 +7,20 @@ use logic_values::{Value, value_text};
 use flat_design::Line;
 use std::alloc::{AllocError, Global};
 
-/// Adds a number in decimal.
+/// Adds a number in decimal. Where memory is refused the text is as before.
 pub fn push_number(alloc: Global, text: &mut Vec<u8>, number: u64) -> Result<(), AllocError>
-    ensures { OnOk result (text.new.items ≡ text.old.items ++ decimal number) }
+    ensures ok { OnOk result (text.new.items ≡ text.old.items ++ decimal number) }
+    ensures refused { OnErr result (text.new.items ≡ text.old.items) }
 {
     let digits = format!(in alloc; "{number}")?;
     text.extend_from_slice(digits.as_bytes())?;
     Ok(())
 }
 
-/// Adds the text of a value; a handle has none.
+/// Adds the text of a value; a handle has none. Where memory is refused the text is as before.
 pub fn push_value(alloc: Global, text: &mut Vec<u8>, value: Value) -> Result<(), AllocError>
-    ensures { OnOk result (text.new.items ≡ text.old.items ++ text_of value) }
+    ensures ok { OnOk result (text.new.items ≡ text.old.items ++ text_of value) }
+    ensures refused { OnErr result (text.new.items ≡ text.old.items) }
 {
     match value {
         Value::Handle(_) | Value::Pay(_) => Ok(()),

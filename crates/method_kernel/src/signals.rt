@@ -5,8 +5,8 @@ ghost use Rattle.signal_channel.specs.Signals.{change_of};
 use event_core::{Events, When};
 use signal_channel::{Changed, Signal};
 
-fn updated(signal: Signal) -> Signal
-    ensures { result ≡ spec.updated signal }
+fn settled_if_asked(signal: Signal) -> Signal
+    ensures { result ≡ spec.settled_if_asked signal }
 {
     let mut after = signal;
     if after.asked {
@@ -17,11 +17,11 @@ fn updated(signal: Signal) -> Signal
 
 /// Calls update once for each signal that asked for it.
 pub fn update(signals: &mut [Signal])
-    ensures updated { signals.new ≡ map spec.updated signals.old }
+    ensures updated { signals.new ≡ map spec.settled_if_asked signals.old }
     ensures count { length signals.new ≡ length signals.old }
 {
     for signal in signals.iter_mut() {
-        *signal = updated(*signal);
+        *signal = settled_if_asked(*signal);
     }
 }
 
@@ -35,7 +35,7 @@ fn change(signal: Signal) -> Changed
 
 fn notify(made: bool, event: u32, events: &mut Events)
     requires { event < length events.old }
-    ensures notified { events.new ≡ spec.notified made event events.old }
+    ensures notified { events.new ≡ spec.notified_if made event events.old }
     ensures count { length events.new ≡ length events.old }
 {
     if made {

@@ -239,7 +239,7 @@ fn next_statement(k: &mut Kernel, p: u32) -> Next
 /// One step of the process that is active (IEEE 1666-2011, 4.2.1.2): the next statement of its body, or its end.
 ///
 /// A write to a signal that another process has written is the run fault WriterConflict, with the serials of the
-/// two. After a fault or want of memory the kernel stands for what it stood for.
+/// two. After a fault or NoMemory the kernel stands for what it stood for.
 pub fn statement(alloc: Global, k: &mut Kernel) -> Result<Did, StmtStop>
     requires top { k.old.active ≢ None }
     ensures does { DoesAs k.old k.new result (λ c. evaluate c.processes.stack c.processes.runnable c) }

@@ -119,7 +119,7 @@ fn evaluate<C: Chooser>(alloc: Global, k: &mut Kernel, chooser: &mut C) -> Resul
 /// runnable one, which the chooser is asked for, or the next phase.
 ///
 /// NotReady comes exactly where the step is a taking and the chooser gave no runnable process. After a fault,
-/// NotReady and want of memory the kernel stands for what it stood for.
+/// NotReady and NoMemory the kernel stands for what it stood for.
 pub fn step<C: Chooser>(alloc: Global, k: &mut Kernel, chooser: &mut C) -> Result<Stepped, StepStop>
     requires sound { IsSound k.old }
     requires running { k.old.phase ≢ phase.Idle }

@@ -5,7 +5,7 @@ ghost use Rattle.method_design.specs.Code.{Arena};
 ghost use Rattle.method_model.specs.Phases as spec;
 ghost use Rattle.method_model.specs.Wakes.{is_static};
 ghost use Rattle.method_kernel.specs.Kernel.{shown};
-ghost use Rattle.method_kernel.specs.Woken.{is_delta, is_which, joined, woken_if, member_if, JoinsReady};
+ghost use Rattle.method_kernel.specs.Woken.{is_delta, is_which, woken_instances, woken_if, member_if, JoinsReady};
 
 use super::kernel::Instance;
 use event_core::{Events, When};
@@ -99,7 +99,7 @@ pub fn make_runnable(
     requires count { length events.now ≡ count }
     requires room { length instances.old ≤ ready.old.spare }
     requires serials { length instances.old < 2 ^ 31 }
-    ensures waiting { (a : Arena) → instances.new ≡ joined (is_which which events.now) a instances.old }
+    ensures waiting { (a : Arena) → instances.new ≡ woken_instances (is_which which events.now) a instances.old }
     ensures ready { (a : Arena) → JoinsReady ready.old.members ready.new.members (is_which which events.now) (map (shown a) instances.old) }
     ensures room { ready.old.spare ≤ ready.new.spare + length instances.old }
 {

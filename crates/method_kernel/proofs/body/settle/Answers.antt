@@ -2,7 +2,7 @@ use Rattle.std.proofs.Common.{◌≡◌, ◌-◌, ◌+◌, ◌<◌, ℕ, suc, tr
 use Rattle.std.specs.Prelude.{[], ◌∷◌, ◌++◌, ◌⊎◌, ◌^◌, drop, IfSome}
 use Rattle.std.specs.Option.{is_some}
 use Rattle.method_design.specs.Code.{arena_of, statements_of}
-use Rattle.method_kernel.specs.Bodies.{left_of, inner_on}
+use Rattle.method_kernel.specs.Bodies.{statements_left, inner_on}
 use Rattle.method_model.specs.Residual.{skip}
 use Rattle.method_kernel.specs.declared.body.Cursor.{Cursor}
 use Rattle.method_kernel.proofs.Lists.{split_last, get_drop, none_drop}
@@ -37,6 +37,6 @@ loop-open-preserved c =
     let n = c.len-in-loop-open.result - 1 in
     let many : length c.loop-open.open.items ≡ suc n = omega (arith, c.loop-open.open.ok, c.len-in-loop-open.ensures, c.len.ensures, c.loop-open-test.true) in
     let last : cursor ≡ get_or c.loop-open.open.items n cursor = c.index-cursor.ensures in
-    let done : left_of a cursor ≡ [] = none_drop (statements_of a cursor.block) cursor.place (sym c.statement_at.ensures.found ∙ missing c.statement_at.result (sym c.if-is_some.false ∙ c.is_some.ensures)) in
+    let done : statements_left a cursor ≡ [] = none_drop (statements_of a cursor.block) cursor.place (sym c.statement_at.ensures.found ∙ missing c.statement_at.result (sym c.if-is_some.false ∙ c.is_some.ensures)) in
     let split : c.loop-open.open.items ≡ take n c.loop-open.open.items ++ cursor ∷ [] = split_last c.loop-open.open.items n cursor many ∙ ap (λ d. take n c.loop-open.open.items ++ d ∷ []) (sym last) in
     ap (λ xs. inner_on a skip xs) (c.pop.ensures.rest ∙ ap (λ k. take (k - 1) c.loop-open.open.items) (sym c.len-in-loop-open.ensures)) ∙ sym (done_falls a (take n c.loop-open.open.items) cursor done) ∙ ap (λ xs. inner_on a skip xs) (sym split) ∙ c.loop-open.invariant

@@ -24,4 +24,4 @@ returns-in_ok-push-in-Process c = λ a rest.
     (ap (λ x. make x list (residual_of a c.idle.result)) (c.in_ok-path-in-Process.ensures)
     ∙ ap (λ x. make o.path x (residual_of a c.idle.result)) (c.in_ok-sensitive-in-Process.ensures ∙ ap (λ n. unwrap_or (slice_get statics n) []) at)
     ∙ ap (λ x. make o.path static x) (c.idle.ensures a))
-    ∙ ap (λ f. added (shown a) statics is (spec.process_of o f ++ rest)) (sym c.in-Process.is)
+    ∙ ap (λ f. added (shown a) statics is (spec.instances_of o f ++ rest)) (sym c.in-Process.is)

@@ -8,5 +8,5 @@ use Rattle.method_kernel.proofs.kernel.first_instances.Given as goal
 -- the processes so far and those of the objects that are left are those of all
 abbrev pub invariant-loop-object : goal.invariant-loop-object
 invariant-loop-object l = (a : Arena) →
-    added (shown a) l.design.sensitive l.instances.items (flat_map (λ o. spec.process_of o o.form) (drop l.object-index l.design.objects.list))
+    added (shown a) l.design.sensitive l.instances.items (flat_map (λ o. spec.instances_of o o.form) (drop l.object-index l.design.objects.list))
     ≡ spec.first_instances l.design

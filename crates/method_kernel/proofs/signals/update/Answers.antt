@@ -5,6 +5,6 @@ use Rattle.method_kernel.proofs.signals.update.Goals as goal
 
 pub loop-signal-preserved : goal.loop-signal-preserved
 loop-signal-preserved c =
-    rw c.updated.ensures
-    (map_over_more spec.updated c.args.signals.now c.loop-signal.signals c.loop-signal.signal-index _ (omega arith) c.loop-signal.invariant
+    rw c.settled_if_asked.ensures
+    (map_over_more spec.settled_if_asked c.args.signals.now c.loop-signal.signals c.loop-signal.signal-index _ (omega arith) c.loop-signal.invariant
     (ap (λ d. get_or c.loop-signal.signals c.loop-signal.signal-index d) c.signal-item.is))

@@ -3,7 +3,7 @@ use Rattle.std.proofs.lemmas.List.Edits.{map_over_more}
 use Rattle.method_design.specs.Code.{Arena}
 use Rattle.method_model.specs.Wakes.{serials_from}
 use Rattle.method_kernel.specs.Kernel.{shown}
-use Rattle.method_kernel.specs.Woken.{is_which, joined_one, woken_if}
+use Rattle.method_kernel.specs.Woken.{is_which, woken_instance, woken_if}
 use Rattle.method_kernel.specs.declared.kernel.Instance.{Instance}
 use Rattle.method_kernel.proofs.Joined.{read_over, joining_more, joined_all}
 use Rattle.method_kernel.proofs.wakes.make_runnable.Goals as goal
@@ -20,10 +20,10 @@ loop-serial-preserved c =
     let lt : serial < length before = omega arith in
     let is : x ≡ get_or now serial x = c.index-instances-serial.is in
     let one : (a : Arena) → b ≡ test (shown a x) = λ a. c.is_one_of-is_one.ensures a ∙ ap (λ (j : Instance). test (shown a j)) (sym is) in
-    let woke : (a : Arena) → c.wake.new.instance ≡ joined_one test a x = λ a. c.wake.ensures ∙ ap (λ (j : Instance). woken_if b j) (sym is) ∙ ap (λ (t : Bool). woken_if t x) (one a) in (
-      λ a. ap (λ (j : Instance). set now serial j) (woke a) ∙ map_over_more (joined_one test a) before now serial x lt (so.0 a) is,
+    let woke : (a : Arena) → c.wake.new.instance ≡ woken_instance test a x = λ a. c.wake.ensures ∙ ap (λ (j : Instance). woken_if b j) (sym is) ∙ ap (λ (t : Bool). woken_if t x) (one a) in (
+      λ a. ap (λ (j : Instance). set now serial j) (woke a) ∙ map_over_more (woken_instance test a) before now serial x lt (so.0 a) is,
       λ a xs m. joining_more test a before serial x b c.loop-serial.ready.members c.join.new.ready.members (xs ++ serials_from test 0 (map (shown a) before))
-          (read_over (joined_one test a) before now serial x lt (so.0 a) is) (one a) c.join.ensures.members (so.1 a xs m),
+          (read_over (woken_instance test a) before now serial x lt (so.0 a) is) (one a) c.join.ensures.members (so.1 a xs m),
       omega arith,
     )
 
