@@ -1,5 +1,5 @@
 -- One lemma for each part of the kernel that moves alone.
-use Rattle.std.proofs.Common.{◌≡◌, ℕ, option_map, List, Option, Some, None, map, slice_get, slice_set, drop, refl, sym, ap, subst, ◌∙◌}
+use Rattle.std.proofs.Common.{◌≡◌, ℕ, option_map, Option, Some, None, map, slice_get, slice_set, drop, sym, ap, subst, ◌∙◌}
 use Rattle.std.specs.Global.{Vec}
 use Rattle.std.specs.FinSet as set
 use Rattle.std.proofs.lemmas.Option.{slice_get-map}

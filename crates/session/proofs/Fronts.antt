@@ -5,7 +5,7 @@ use Rattle.std.proofs.lemmas.List.{take-append-le}
 use Rattle.sim_io.specs.Told.{Grew}
 use Rattle.sim_io.proofs.Chains.{grew_on}
 use Rattle.method_model.specs.Texts.{joined}
-use Rattle.method_kernel.specs.Kernel.{with_line}
+use Rattle.method_kernel.specs.Kernel.{lines_with}
 use Rattle.session.specs.Course.{WroteFront, WroteShort, WroteFirst, all_but_last, line_bytes}
 
 -- one text more at the end
@@ -14,9 +14,9 @@ joined-push [] x = append-nil x
 joined-push (y ∷ ys) x = ap (λ rest. y ++ rest) (joined-push ys x) ∙ sym (append_assoc y (joined ys) x)
 
 -- one line more, where there is one
-pub joined-with_line : (lines : List (List ℕ)) (line : Option (List ℕ)) → joined (with_line lines line) ≡ joined lines ++ line_bytes line
-joined-with_line lines None = sym (append-nil _)
-joined-with_line lines (Some line) = joined-push lines line
+pub joined-lines_with : (lines : List (List ℕ)) (line : Option (List ℕ)) → joined (lines_with lines line) ≡ joined lines ++ line_bytes line
+joined-lines_with lines None = sym (append-nil _)
+joined-lines_with lines (Some line) = joined-push lines line
 
 -- the lines but the last, and the last
 split : (lines : List (List ℕ)) → (last : List ℕ) × (joined lines ≡ joined (all_but_last lines) ++ last)
@@ -30,16 +30,16 @@ all_but_pushed (x ∷ []) line = refl
 all_but_pushed (x ∷ y ∷ ys) line = ap (λ rest. x ∷ rest) (all_but_pushed (y ∷ ys) line)
 
 -- the lines before a step have all lines after it but the last
-before_last : (lines : List (List ℕ)) (line : Option (List ℕ)) → (last : List ℕ) × (joined lines ≡ joined (all_but_last (with_line lines line)) ++ last)
+before_last : (lines : List (List ℕ)) (line : Option (List ℕ)) → (last : List ℕ) × (joined lines ≡ joined (all_but_last (lines_with lines line)) ++ last)
 before_last lines None = split lines
 before_last lines (Some line) = ([], ap joined (sym (all_but_pushed lines line)) ∙ sym (append-nil _))
 
 -- the lines before a step were written, and then other bytes
-pub first_lines : (old mid now : Option (List ℕ)) (lines : List (List ℕ)) (line : Option (List ℕ)) (bytes : List ℕ) → Grew old mid (joined lines) → Grew mid now bytes → WroteFirst old now (joined (all_but_last (with_line lines line)))
+pub first_lines : (old mid now : Option (List ℕ)) (lines : List (List ℕ)) (line : Option (List ℕ)) (bytes : List ℕ) → Grew old mid (joined lines) → Grew mid now bytes → WroteFirst old now (joined (all_but_last (lines_with lines line)))
 first_lines old mid now lines line bytes first more =
     let last = before_last lines line in
     let P : List ℕ → Type 0 = λ text. Grew old now text in
-    let same : joined lines ++ bytes ≡ joined (all_but_last (with_line lines line)) ++ (last.0 ++ bytes) = ap (λ text. text ++ bytes) last.1 ∙ append_assoc (joined (all_but_last (with_line lines line))) last.0 bytes in
+    let same : joined lines ++ bytes ≡ joined (all_but_last (lines_with lines line)) ++ (last.0 ++ bytes) = ap (λ text. text ++ bytes) last.1 ∙ append_assoc (joined (all_but_last (lines_with lines line))) last.0 bytes in
     (last.0 ++ bytes, subst P same (grew_on old mid now (joined lines) bytes first more))
 
 -- after the front a of a text, the first bytes of its next part b

@@ -14,14 +14,14 @@ use Rattle.method_model.specs.declared.plain.Stop.{Stop}
 use Rattle.method_model.specs.declared.plain.Stop.TheVariants as stop
 use Rattle.flat_design.specs.declared.faults.RunFault.{RunFault}
 use Rattle.method_kernel.specs.declared.kernel.Kernel.{Kernel}
-use Rattle.method_kernel.specs.Kernel.{StandsFor, GoesTo, TookTo, IsFault, with_line}
+use Rattle.method_kernel.specs.Kernel.{StandsFor, GoesTo, TookTo, IsFault, lines_with}
 use Rattle.session.specs.Show.{closing_of}
 use Rattle.session.specs.Made.{StepsOn, MadeBy, IsOver}
 use Rattle.session.specs.declared.run.Rule.{Rule}
 use Rattle.session.specs.declared.steps.Made.TheVariants as made
 use Rattle.session.specs.Course.{Ran, picks_of, Wrote, Closes, WroteFront, WroteShort, WroteFirst, IsEndedAs, all_but_last, text_at, line_bytes}
 use Rattle.session.proofs.Reached.{Reached, starts, by_step, by_taking, run_of, ruled_of}
-use Rattle.session.proofs.Fronts.{joined-with_line, first_lines, short_after, front_after, front_of}
+use Rattle.session.proofs.Fronts.{joined-lines_with, first_lines, short_after, front_after, front_of}
 
 pub record Going (rule : Rule) (first : Config) (choices : List ℕ) (steps : ℕ) (k : Kernel) (script : List Command) (old now : Option (List ℕ)) : Type 0 where
   pub at : Config
@@ -47,7 +47,7 @@ pub record Advanced (rule : Rule) (first : Config) (choices : List ℕ) (steps :
   pub stands : StandsFor k to
   pub left : to.script ≡ script
   pub reached : Reached (picks_of rule) first choices (steps + 1) to
-  pub pushed : to.trace.lines ≡ with_line at.trace.lines line
+  pub pushed : to.trace.lines ≡ lines_with at.trace.lines line
   pub lines : joined to.trace.lines ≡ joined at.trace.lines ++ line_bytes line
 
 advanced : (rule : Rule) (first : Config) (choices : List ℕ) (steps : ℕ) (k k' : Kernel) (script script' : List Command) (old now : Option (List ℕ)) (line : Option (List ℕ)) (g : Going rule first choices steps k script old now) → StepsOn k k' script script' (made.Went line) step → Advanced rule first choices steps g.at k' script' line
@@ -60,7 +60,7 @@ advanced rule first choices steps k k' script script' old now line g goes = from
       left = h.1;
       reached = by_step (picks_of rule) first choices steps g.at d g.reached e;
       pushed = h.2;
-      lines = ap joined h.2 ∙ joined-with_line g.at.trace.lines line;
+      lines = ap joined h.2 ∙ joined-lines_with g.at.trace.lines line;
     }
     from (faulted f) e h = absurd h
     from takes e h = absurd h
@@ -132,7 +132,7 @@ closing_bytes text mid now s (stop.Replay place) h = (text, h.1)
 closing_bytes text mid now s (stop.Fault f) h = (text, h.1)
 
 -- the lines before a step, in terms of the configuration that it went to
-lines_before : (at to : Config) (old mid now : Option (List ℕ)) (line : Option (List ℕ)) (bytes : List ℕ) → to.trace.lines ≡ with_line at.trace.lines line → Grew old mid (joined at.trace.lines) → Grew mid now bytes → WroteFirst old now (joined (all_but_last to.trace.lines))
+lines_before : (at to : Config) (old mid now : Option (List ℕ)) (line : Option (List ℕ)) (bytes : List ℕ) → to.trace.lines ≡ lines_with at.trace.lines line → Grew old mid (joined at.trace.lines) → Grew mid now bytes → WroteFirst old now (joined (all_but_last to.trace.lines))
 lines_before at to old mid now line bytes pushed first more =
     let P : List (List ℕ) → Type 0 = λ lines. WroteFirst old now (joined (all_but_last lines)) in
     subst P (sym pushed) (first_lines old mid now at.trace.lines line bytes first more)
@@ -156,7 +156,7 @@ text_begins : (c : Config) (e : Option Stop) → (rest : List ℕ) × (text_at c
 text_begins c None = ([], sym (append-nil _))
 text_begins c (Some s) = (closing c s, refl)
 
--- want of memory between two steps
+-- out of memory between two steps
 pub cut_before_step : (rule : Rule) (first : Config) (budget : ℕ) (choices : List ℕ) (steps : ℕ) (k : Kernel) (script : List Command) (old now : Option (List ℕ)) → Going rule first choices steps k script old now → steps ≤ budget → Ran first rule budget choices steps stop.NoMemory old now
 cut_before_step rule first budget choices steps k script old now g within =
     let begins = text_begins g.at (stop_of g.at steps budget) in
@@ -191,7 +191,7 @@ cut_in_line rule first budget choices steps k k' script script' old mid now line
       earlier = lines_before g.at a.to old mid now line took.0 a.pushed g.written took.1;
     }
 
--- the same by want of memory
+-- the same, out of memory
 pub refused_in_line : (rule : Rule) (first : Config) (budget : ℕ) (choices : List ℕ) (steps : ℕ) (k k' : Kernel) (script script' : List Command) (old mid now : Option (List ℕ)) (line : Option (List ℕ)) → Going rule first choices steps k script old mid → StepsOn k k' script script' (made.Went line) step → steps + 1 ≤ budget → TookOf mid now (line_bytes line) (Err trouble.NoMemory) → Ran first rule budget choices (steps + 1) stop.NoMemory old now
 refused_in_line rule first budget choices steps k k' script script' old mid now line g goes within took =
     let a = advanced rule first choices steps k k' script script' old mid line g goes in
@@ -250,7 +250,7 @@ faulted_run rule first budget choices steps k k' script script' old mid now f s'
     from takes e h = absurd h.0
     from ended e h = absurd h.0
 
--- want of memory, with the kernel as before
+-- out of memory, with the kernel as before
 pub refused_run : (rule : Rule) (first : Config) (budget : ℕ) (choices : List ℕ) (steps : ℕ) (k k' : Kernel) (script script' : List Command) (old now : Option (List ℕ)) → Going rule first choices steps k script old now → StepsOn k k' script script' made.NoMemory step → steps ≤ budget → Ran first rule budget choices steps stop.NoMemory old now
 refused_run rule first budget choices steps k k' script script' old now g refused within =
     cut_before_step rule first budget choices steps k script old now g within
@@ -260,7 +260,7 @@ pub spent_run : (rule : Rule) (first : Config) (budget : ℕ) (choices : List �
 spent_run rule first budget choices steps k script old mid now s s' g within spent ending closes =
     finished rule first budget choices steps k script old mid now s s' g within (rw (used_up steps budget spent) ending) closes
 
--- want of memory before the first step
+-- out of memory before the first step
 pub never_began : (rule : Rule) (first : Config) (budget : ℕ) (sink : Option (List ℕ)) → first.trace.lines ≡ [] → Ran first rule budget [] 0 stop.NoMemory sink sink
 never_began rule first budget sink empty =
     let P : List (List ℕ) → Type 0 = λ lines. WroteFirst sink sink (joined (all_but_last lines)) in

@@ -61,7 +61,7 @@ fn write_line<O: Sink>(out: &mut O, line: &Option<Line>) -> Result<(), Trouble>
 {
     match line {
         None => write_all(out, b""),
-        Some(line) => write_all(out, line.bytes()),
+        Some(line) => write_all(out, line.as_slice()),
     }
 }
 
