@@ -1,0 +1,7 @@
+-- What a contract sees of a `RoomMap`.
+use Rattle.std.specs.Prelude.{ℕ, List}
+
+-- the entries in rising order of their keys, and for how many more there is room
+pub record Room (K V : Type 0) : Type 0 where
+  pub entries : List (K × V)
+  pub spare : ℕ
