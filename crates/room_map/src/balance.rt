@@ -1,5 +1,5 @@
 //! Turns of a tree, which keep its entries and make its sides about equally high.
-ghost use Rattle.std.specs.Prelude.{◌≡◌, ◌∷◌, ◌++◌, ◌+◌, ◌^◌, ◌<◌, length};
+ghost use Rattle.std.specs.Prelude.{◌≡◌, [], ◌∷◌, ◌++◌, ◌+◌, ◌^◌, ◌<◌, length};
 ghost use Rattle.room_map.specs.Nodes.{entries_of};
 
 use crate::tree::{Link, Node, Tree};
@@ -76,7 +76,7 @@ pub(crate) fn with_left<K: Copy, V: Copy>(
     mut node: Box<Node<K, V>>,
     left: Tree<K, V>,
 ) -> Box<Node<K, V>>
-    ensures { entries_of result.value ≡ left ++ (node.value.key, node.value.value) ∷ node.value.right }
+    ensures { result.value ≡ record node.value { left = left } }
 {
     node.left = left;
     node
@@ -87,10 +87,32 @@ pub(crate) fn with_right<K: Copy, V: Copy>(
     mut node: Box<Node<K, V>>,
     right: Tree<K, V>,
 ) -> Box<Node<K, V>>
-    ensures { entries_of result.value ≡ node.value.left ++ (node.value.key, node.value.value) ∷ right }
+    ensures { result.value ≡ record node.value { right = right } }
 {
     node.right = right;
     node
+}
+
+// The left side of the node, and the node without it.
+pub(crate) fn part_left<K: Copy, V: Copy>(
+    mut node: Box<Node<K, V>>,
+) -> (Tree<K, V>, Box<Node<K, V>>)
+    ensures side { result.0 ≡ node.value.left }
+    ensures rest { result.1.value ≡ record node.value { left = [] } }
+{
+    let left = mem::replace(&mut node.left, Tree::new());
+    (left, node)
+}
+
+// The right side of the node, and the node without it.
+pub(crate) fn part_right<K: Copy, V: Copy>(
+    mut node: Box<Node<K, V>>,
+) -> (Tree<K, V>, Box<Node<K, V>>)
+    ensures side { result.0 ≡ node.value.right }
+    ensures rest { result.1.value ≡ record node.value { right = [] } }
+{
+    let right = mem::replace(&mut node.right, Tree::new());
+    (right, node)
 }
 
 // The tree under a node whose sides differ by at most two in height.

@@ -1,9 +1,10 @@
 //! Changing a tree.
-ghost use Rattle.std.specs.Prelude.{◌≡◌, None, IsSome, [], ◌∷◌, ◌+◌, ◌^◌, ◌<◌, length};
+ghost use Rattle.std.specs.Prelude.{◌≡◌, None, IsSome, [], ◌∷◌, ◌++◌, ◌+◌, ◌^◌, ◌<◌, length};
 ghost use Rattle.std.specs.FinMap as map;
 ghost use Rattle.room_map.specs.Entries.{IsRising, without};
+ghost use Rattle.room_map.specs.Nodes.{entries_of};
 
-use crate::balance::{balance, join, with_left, with_right};
+use crate::balance::{balance, join, part_left, part_right, with_left, with_right};
 use crate::tree::{Link, Node, Tree};
 use std::cmp::Ordering;
 use std::mem;
@@ -19,6 +20,14 @@ fn bud<K: Copy, V: Copy>(mut node: Box<Node<K, V>>, key: K, value: V) -> Tree<K,
     Tree::close(node)
 }
 
+// The node with this value in place of its own.
+fn holding<K: Copy, V: Copy>(mut node: Box<Node<K, V>>, value: V) -> Box<Node<K, V>>
+    ensures { entries_of result.value ≡ node.value.left ++ (node.value.key, value) ∷ node.value.right }
+{
+    node.value = value;
+    node
+}
+
 impl<K: Ord + Copy, V: Copy> Tree<K, V> {
     // The tree with an entry more, in a node that is spare.
     pub(crate) fn with_entry(self, key: K, value: V, spare: Box<Node<K, V>>) -> Tree<K, V>
@@ -29,13 +38,13 @@ impl<K: Ord + Copy, V: Copy> Tree<K, V> {
     {
         match self.link {
             Link::Leaf => bud(spare, key, value),
-            Link::Fork(mut node) => match key.cmp(&node.key) {
+            Link::Fork(node) => match key.cmp(&node.key) {
                 Ordering::Less => {
-                    let left = mem::replace(&mut node.left, Tree::new());
+                    let (left, node) = part_left(node);
                     balance(with_left(node, left.with_entry(key, value, spare)))
                 }
                 _ => {
-                    let right = mem::replace(&mut node.right, Tree::new());
+                    let (right, node) = part_right(node);
                     balance(with_right(node, right.with_entry(key, value, spare)))
                 }
             },
@@ -51,17 +60,14 @@ impl<K: Ord + Copy, V: Copy> Tree<K, V> {
     {
         match self.link {
             Link::Leaf => unreachable!(),
-            Link::Fork(mut node) => match key.cmp(&node.key) {
+            Link::Fork(node) => match key.cmp(&node.key) {
                 Ordering::Less => {
-                    let left = mem::replace(&mut node.left, Tree::new());
+                    let (left, node) = part_left(node);
                     Tree::close(with_left(node, left.with_value(key, value)))
                 }
-                Ordering::Equal => {
-                    node.value = value;
-                    Tree::close(node)
-                }
+                Ordering::Equal => Tree::close(holding(node, value)),
                 Ordering::Greater => {
-                    let right = mem::replace(&mut node.right, Tree::new());
+                    let (right, node) = part_right(node);
                     Tree::close(with_right(node, right.with_value(key, value)))
                 }
             },
@@ -77,23 +83,58 @@ impl<K: Ord + Copy, V: Copy> Tree<K, V> {
     {
         match self.link {
             Link::Leaf => unreachable!(),
-            Link::Fork(mut node) => match key.cmp(&node.key) {
+            Link::Fork(node) => match key.cmp(&node.key) {
                 Ordering::Less => {
-                    let side = mem::replace(&mut node.left, Tree::new());
+                    let (side, node) = part_left(node);
                     let (left, freed) = side.unlink(key);
                     (balance(with_left(node, left)), freed)
                 }
                 Ordering::Equal => {
-                    let left = mem::replace(&mut node.left, Tree::new());
-                    let right = mem::replace(&mut node.right, Tree::new());
+                    let (left, node) = part_left(node);
+                    let (right, node) = part_right(node);
                     (join(left, right), node)
                 }
                 Ordering::Greater => {
-                    let side = mem::replace(&mut node.right, Tree::new());
+                    let (side, node) = part_right(node);
                     let (right, freed) = side.unlink(key);
                     (balance(with_right(node, right)), freed)
                 }
             },
         }
+    }
+
+    // Puts an entry in, in a node that is spare.
+    pub(crate) fn insert(&mut self, key: K, value: V, spare: Box<Node<K, V>>)
+        requires rising { IsRising K.cmp self.old }
+        requires absent { map.find K.cmp key self.old ≡ None }
+        requires fits { length self.old + 1 < 2 ^ 32 }
+        ensures { self.new ≡ map.put K.cmp key value self.old }
+    {
+        let tree = mem::replace(self, Tree::new());
+        *self = tree.with_entry(key, value, spare);
+    }
+
+    // Puts this value at a key that is there.
+    pub(crate) fn replace(&mut self, key: K, value: V)
+        requires rising { IsRising K.cmp self.old }
+        requires present { IsSome (map.find K.cmp key self.old) }
+        requires fits { length self.old < 2 ^ 32 }
+        ensures { self.new ≡ map.put K.cmp key value self.old }
+    {
+        let tree = mem::replace(self, Tree::new());
+        *self = tree.with_value(key, value);
+    }
+
+    // Takes the entry of a key that is there out, and gives the node that held it.
+    pub(crate) fn remove(&mut self, key: K) -> Box<Node<K, V>>
+        requires rising { IsRising K.cmp self.old }
+        requires present { IsSome (map.find K.cmp key self.old) }
+        requires fits { length self.old < 2 ^ 32 }
+        ensures { self.new ≡ without K.cmp key self.old }
+    {
+        let tree = mem::replace(self, Tree::new());
+        let (left, freed) = tree.unlink(key);
+        *self = left;
+        freed
     }
 }

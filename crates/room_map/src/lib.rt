@@ -4,7 +4,7 @@
 //! number of entries, but for `reserve`, which takes time in the room that it makes.
 #![tactic(auto)]
 
-ghost use Rattle.std.specs.Prelude.{◌≡◌, ◌+◌, ◌-◌, ◌^◌, ◌<◌, ◌≤◌, [], None, is_some, IsSome, OnOk, OnErr, if◌then◌else◌, length, slice_get, ◌==◌};
+ghost use Rattle.std.specs.Prelude.{◌≡◌, ◌+◌, ◌-◌, ◌^◌, ◌<◌, ◌≤◌, [], None, is_some, IsSome, OnOk, OnErr, if◌then◌else◌, length, max, slice_get, ◌==◌};
 ghost use Rattle.std.specs.FinMap as map;
 
 mod balance;
@@ -18,7 +18,6 @@ mod tree;
 use spares::Spares;
 use std::alloc::{AllocError, Global};
 use std::marker::Model;
-use std::mem;
 use tree::Tree;
 
 /// A map from keys to values, with room for some entries more.
@@ -140,10 +139,7 @@ impl<K: Ord + Copy, V: Copy> RoomMap<K, V> {
         ensures rising { IsRising K.cmp self.new.entries }
     {
         match self.spares.take() {
-            Some(spare) => {
-                let root = mem::replace(&mut self.root, Tree::new());
-                self.root = root.with_entry(key, value, spare);
-            }
+            Some(spare) => self.root.insert(key, value, spare),
             None => unreachable!(),
         }
     }
@@ -157,8 +153,7 @@ impl<K: Ord + Copy, V: Copy> RoomMap<K, V> {
         ensures as_many { length self.new.entries ≡ length self.old.entries }
         ensures rising { IsRising K.cmp self.new.entries }
     {
-        let root = mem::replace(&mut self.root, Tree::new());
-        self.root = root.with_value(key, value);
+        self.root.replace(key, value);
     }
 
     /// Takes the entry of the key out, if there is one: its place is spare again. The result is its value.
@@ -172,10 +167,7 @@ impl<K: Ord + Copy, V: Copy> RoomMap<K, V> {
     {
         let found = self.root.get(key);
         if found.is_some() {
-            let root = mem::replace(&mut self.root, Tree::new());
-            let (left, freed) = root.unlink(key);
-            self.root = left;
-            self.spares.give(freed);
+            self.spares.give(self.root.remove(key));
         }
         found
     }
@@ -185,6 +177,7 @@ impl<K: Ord + Copy + Default, V: Copy + Default> RoomMap<K, V> {
     /// Makes room for at least `n` entries more, or runs out of memory, as it also does where there would be 2^32 places or more.
     pub fn reserve(&mut self, n: u32) -> Result<(), AllocError>
         ensures ok { OnOk result (n ≤ self.new.spare) }
+        ensures exact { OnOk result (self.new.spare ≡ max self.old.spare n) }
         ensures grows { self.old.spare ≤ self.new.spare }
         ensures kept { self.new.entries ≡ self.old.entries }
         ensures err { OnErr result (self.new ≡ self.old) }

@@ -79,7 +79,7 @@ impl<K: Copy, V: Copy> Spares<K, V> {
         requires { len ≤ self.old }
         ensures { self.new ≡ len }
     {
-        for _ in len..self.len() {
+        'cutting: while len < self.len() {
             drop(self.take());
         }
     }
@@ -93,7 +93,7 @@ impl<K: Copy + Default, V: Copy + Default> Spares<K, V> {
         ensures err { OnErr result (self.new ≡ self.old) }
     {
         let had = self.len();
-        for _ in 0..more {
+        'making: for _made in 0..more {
             match Box::new(alloc, Node::empty()) {
                 Ok(node) => self.give(node),
                 Err(_) => {
