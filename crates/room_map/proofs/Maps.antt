@@ -1,15 +1,15 @@
 -- The words on entries against those on finite maps.
-use Rattle.std.proofs.Common.{◌≡◌, ℕ, ◌+◌, Bool, true, false, cond, not, List, [], ◌∷◌, ◌++◌, length, Some, None, Option, refl, sym, ap, ◌∙◌, subst, arith}
+use Rattle.std.proofs.Common.{◌≡◌, ◌+◌, Bool, true, false, cond, List, [], ◌∷◌, length, Some, None, Option, refl, sym, ap, ◌∙◌, subst, arith}
 use Rattle.std.specs.Prelude.{T, ◌&&◌, is_some}
 use Rattle.std.specs.declared.cmp.Ordering.{Ordering}
 use Rattle.std.specs.declared.cmp.Ordering.TheVariants.{Less, Equal, Greater}
-use Rattle.std.specs.Ordering.{is_lt, is_eq, eq_by_cmp, ordering_reverse}
-use Rattle.std.specs.Cmp.{IsTotalOrder, alike_right, eq_by_cmp_equiv}
+use Rattle.std.specs.Ordering.{is_lt, is_eq, eq_by_cmp}
+use Rattle.std.specs.Cmp.{IsTotalOrder, alike_right}
 use Rattle.std.specs.FinMap as map
-use Rattle.std.specs.FinMap.{FinMap, find, put, is_sorted}
-use Rattle.std.specs.FinMap.Entries.{by_order, below_all, length-put, is_sorted-put}
-use Rattle.room_map.specs.Entries.{AllAbove, IsRising, without, first_not_below, as_map}
-use Rattle.room_map.proofs.Rising.{above_at, without-above, find-above, rising-put}
+use Rattle.std.specs.FinMap.{find, put, is_sorted}
+use Rattle.std.specs.FinMap.Entries.{by_order, below_all, length-put}
+use Rattle.room_map.specs.Entries.{AllAbove, IsRising, without, as_map}
+use Rattle.room_map.proofs.Rising.{above_at, without-above, rising-put}
 
 both : (a b : Bool) → T a → T b → T (a && b)
 both true b p q = q

@@ -1,5 +1,5 @@
 -- What a walk over rising entries finds: the first entry from a key on, and the first of all.
-use Rattle.std.proofs.Common.{◌≡◌, ℕ, Bool, true, false, cond, List, [], ◌∷◌, Some, None, Option, ◌⊎◌, inl, inr, ⊎_elim, refl, sym, ap, ◌∙◌, subst, true≢false}
+use Rattle.std.proofs.Common.{◌≡◌, Bool, true, false, cond, List, [], ◌∷◌, Some, None, Option, ◌⊎◌, inl, inr, ⊎_elim, refl, sym, ap, ◌∙◌, subst, true≢false}
 use Rattle.std.specs.Prelude.{is_some, slice_get}
 use Rattle.std.specs.declared.cmp.Ordering.{Ordering}
 use Rattle.std.specs.declared.cmp.Ordering.TheVariants.{Less, Equal, Greater}
@@ -64,6 +64,7 @@ module _ {K V : Type 0} {R : K → K → Ordering} (o : IsTotalOrder R) where
     where
       here : (R q x.0 ≡ Equal) → is_gt (R x.0 q) ≡ false
       here tied = ap is_gt (tied_back o q x.0 tied)
+
       by_test : (b : Bool) → is_lt (R x.0 k) ≡ b → cond b (first_not_below R k xs) (Some x) ≡ Some e
           → (first_not_below R k xs ≡ Some e → is_some (find R q xs) ≡ true → is_gt (R e.0 q) ≡ false) → is_gt (R e.0 q) ≡ false
       by_test true t is rest = ⊎_elim

@@ -1,5 +1,5 @@
 -- How the entries are kept: in a tree of nodes, each with how many it holds. No public clause cites this module.
-use Rattle.std.specs.Prelude.{◌≡◌, ⊤, ℕ, List, [], ◌∷◌, ◌++◌, length}
+use Rattle.std.specs.Prelude.{◌≡◌, ⊤, List, [], ◌∷◌, ◌++◌, length}
 use Rattle.room_map.specs.declared.tree.Node.{Node}
 use Rattle.room_map.specs.declared.tree.Link.{Link}
 use Rattle.room_map.specs.declared.tree.Link.TheVariants.{Leaf, Fork}

@@ -1,4 +1,4 @@
-use Rattle.std.proofs.Common.{◌≡◌, ◌+◌, None, length, sym, ap, ◌∙◌, arith}
+use Rattle.std.proofs.Common.{◌≡◌, ◌+◌, None, length, ap, ◌∙◌, arith}
 use Rattle.std.specs.FinMap as map
 use Rattle.room_map.specs.Entries.{as_map}
 use Rattle.room_map.proofs.Rising.{rising-put}
@@ -8,9 +8,10 @@ use Rattle.room_map.proofs.RoomMap.insert.Goals as goal
 pub invariant_of-self : goal.invariant_of-self
 invariant_of-self g c =
     let o = g.met.K.Ord.total in
-    let absent : map.find g.K.Ord.cmp c.args.key c.self.inside.root ≡ None = ap (λ w. map.find g.K.Ord.cmp c.args.key w.entries) c.self.view_is ∙ c.requires.absent in
-    (rw c.insert.ensures (rising-put o c.args.key c.args.value c.self.inside.root c.self.invariant.0),
-      omega (arith, ap length c.insert.ensures, length-put_new o c.args.key c.args.value c.self.inside.root c.self.invariant.0 absent, c.self.invariant.1, c.take.ensures.left, ap (λ w. w.spare) c.self.view_is, c.requires.room))
+    let absent : map.find g.K.Ord.cmp c.args.key c.self.inside.root ≡ None = ap (λ w. map.find g.K.Ord.cmp c.args.key w.entries) c.self.view_is ∙ c.requires.absent in (
+      rw c.insert.ensures (rising-put o c.args.key c.args.value c.self.inside.root c.self.invariant.0),
+      omega (arith, ap length c.insert.ensures, length-put_new o c.args.key c.args.value c.self.inside.root c.self.invariant.0 absent, c.self.invariant.1, c.take.ensures.left, ap (λ w. w.spare) c.self.view_is, c.requires.room),
+    )
 
 pub returns-clause-in_map : goal.returns-clause-in_map
 returns-clause-in_map g c =

@@ -1,9 +1,9 @@
-use Rattle.std.proofs.Common.{◌≡◌, rules, ◌<◌, ◌+◌, ◌^◌, true, length, sym, ap, ◌∙◌, arith, length-append}
+use Rattle.std.proofs.Common.{◌≡◌, rules, ◌<◌, ◌^◌, true, length, sym, ap, ◌∙◌, arith}
 use Rattle.std.specs.Prelude.{is_some}
 use Rattle.std.specs.FinMap as map
 use Rattle.room_map.specs.declared.tree.Link.TheVariants.{Fork}
 use Rattle.room_map.specs.Entries.{IsRising, without}
-use Rattle.room_map.proofs.Maps.{length-put_there, length-without}
+use Rattle.room_map.proofs.Maps.{length-without}
 use Rattle.room_map.proofs.Cuts.{cut_at, left_shorter, right_shorter, left_rises, right_rises, left_again, right_again, find_left, find_right, sides_joined, without_left, without_right, without_here}
 use Rattle.room_map.proofs.tree.Tree.+unlink.Goals as goal
 
