@@ -1,1 +1,6 @@
 pub mod Values
+pub mod Residual
+pub mod Unwinding
+pub mod Configuration
+pub mod Waits
+pub mod Reading
