@@ -4,3 +4,7 @@ pub mod Unwinding
 pub mod Configuration
 pub mod Waits
 pub mod Reading
+pub mod Storing
+pub mod Waiting
+pub mod Channels
+pub mod Calls
