@@ -2,10 +2,10 @@ ghost use Rattle.std.specs.Prelude.{◌≡◌, IsTrue, IfOk, IfErr, IfSome, is_n
 ghost use Rattle.model_rules.specs.FirstFault.{broken_if, first_fault, is_module_name};
 ghost use Rattle.model_rules.specs.FlatDesign.{IsCodeOf, is_module, items_of, top_items, top_place};
 ghost use Rattle.std.specs.List.{position_or_len};
-ghost use Rattle.model_rules.specs.Built.{is_built};
 ghost use Rattle.model_tree.specs.Views.{item_of, module_of, modules_of};
 ghost use Rattle.model_tree.specs.Seen.{model_of};
 ghost use Rattle.model_tree.specs.Stops.{IfRefused};
+ghost use Rattle.not_built.specs.Missing.{first_not_built};
 ghost use Rattle.model_check.specs.Findings.{faults_of, fault_of};
 
 use super::doubles::{double_module, is_module_name};
@@ -123,12 +123,12 @@ fn refused(alloc: Global, finding: Finding<'_>) -> CheckStop
 /// not declare, or WrongKind, where that name is no signal's; and else UnknownName, where the top
 /// instance has a module that is not declared.
 ///
-/// Only the forms of a built tree have code yet. Want of memory is also answered where a number of the
-/// code does not fit 32 bits.
+/// Only the forms that are run have code yet: a tree in which `not_built` finds something may have other code. Out of
+/// memory is also answered where a number of the code does not fit 32 bits.
 pub fn check(alloc: Global, tree: Tree) -> Result<Checked, CheckStop>
     ensures same_tree { IfOk result (λ checked. checked.tree ≡ tree) }
     ensures accepted { IfOk result (λ _. first_fault (model_of tree) ≡ None) }
-    ensures code { IfOk result (λ checked. is_built (model_of tree) ≡ true → IsCodeOf (model_of tree) checked.code) }
+    ensures code { IfOk result (λ checked. first_not_built (model_of tree) ≡ None → IsCodeOf (model_of tree) checked.code) }
     ensures refused { IfErr result (λ stop. IfRefused stop (λ fault. first_fault (model_of tree) ≡ Some fault)) }
 {
     if let Some(finding) = first_fault(&tree) {

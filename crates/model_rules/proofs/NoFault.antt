@@ -1,5 +1,5 @@
 -- What is so where no fault is found.
-use Rattle.std.proofs.Common.{◌≡◌, ℕ, Bool, true, false, cond, ◌||◌, ◌&&◌, List, [], ◌∷◌, ◌++◌, Option, Some, None, refl}
+use Rattle.std.proofs.Common.{◌≡◌, ℕ, Bool, true, false, cond, ◌||◌, List, [], ◌∷◌, ◌++◌, Option, Some, None, refl}
 use Rattle.std.specs.Prelude.{bytes_eq, find}
 use Rattle.std.specs.List.{list_any}
 use Rattle.model_tree.specs.Tree as tree
@@ -11,10 +11,6 @@ use Rattle.model_rules.specs.FlatDesign.{items_of, name_list, names_of}
 pub or_else_none : (a b : Option Fault) → or_else a b ≡ None → (a ≡ None) × (b ≡ None)
 or_else_none None b h = (refl, h)
 or_else_none (Some f) b h = cc
-
-pub both_true : (a b : Bool) → (a && b) ≡ true → (a ≡ true) × (b ≡ true)
-both_true true b h = (refl, h)
-both_true false b h = cc
 
 module _ (line : ℕ) (name : List ℕ) where
   -- with the test of an item's name, and with its name

@@ -1,5 +1,4 @@
 pub mod FirstFault
 pub mod ReadBack
 pub mod FlatDesign
-pub mod Built
 pub mod SoundNames

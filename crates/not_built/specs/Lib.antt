@@ -1,3 +1,4 @@
+pub mod Constructs
+pub mod Found
 pub mod Missing
 pub mod OnlyBuilt
-pub mod Found

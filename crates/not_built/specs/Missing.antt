@@ -1,169 +1,91 @@
--- What the language has and the simulator does not run yet. Each construct that is not built stands here by the line of
--- its first token, in text order, an outer one before those in it. Nothing is looked for in a construct that is not built
--- itself. A clause that answers with the line of its own construct is a form that is not built.
-use Rattle.std.specs.Prelude.{ℕ, Bool, true, false, not, ◌&&◌, is_none, List, [], ◌∷◌, ◌++◌, map, Option, Some, None}
-use Rattle.model_tree.specs.declared.types.TypeForm.{TypeForm}
-use Rattle.model_tree.specs.declared.types.TypeForm.TheVariants as form
-use Rattle.model_tree.specs.declared.items.SignalKind.{SignalKind}
-use Rattle.model_tree.specs.declared.items.SignalKind.TheVariants as kind
-use Rattle.model_tree.specs.declared.items.ProcessKind.{ProcessKind}
-use Rattle.model_tree.specs.declared.items.ProcessKind.TheVariants as process
-use Rattle.model_tree.specs.declared.items.SignalItem.{SignalItem}
-use Rattle.model_tree.specs.declared.expressions.UnaryOp.TheVariants as sign
+-- What a model has and the simulator does not run yet. Each missing construct stands here by the line of its first token, in
+-- text order, an outer one before those in it. Nothing is looked for in a construct that is missing itself.
+use Rattle.std.specs.Prelude.{ℕ, Bool, true, false, List, [], ◌∷◌, ◌++◌, map, Option, Some, None}
+use Rattle.std.specs.List.{list_any}
+use Rattle.model_tree.specs.declared.constructs.Construct.{Construct}
+use Rattle.model_tree.specs.declared.constructs.Construct.TheVariants as construct
 use Rattle.model_tree.specs.Tree as tree
-use Rattle.model_tree.specs.Lines.{first_line}
-use Rattle.model_rules.specs.Built.{is_first_place}
+use Rattle.not_run.specs.Table.{is_missing}
+use Rattle.not_built.specs.Constructs.{of_expression, of_option, of_expressions, place_parts, of_channel, of_event, of_events, waiting_parts, notification_parts, operation_parts, action_parts, statement_parts, of_statement, of_block, of_handlers, item_parts, of_item, of_items}
 
--- the line, where something is not built
-abbrev pub unless : Bool → ℕ → List ℕ
-unless true line = []
-unless false line = line ∷ []
+-- a construct itself where it is missing, and else what is missing in its parts
+abbrev pub outermost : {A : Type 0} → Bool → A → List A → List A
+outermost true at inside = at ∷ []
+outermost false at inside = inside
 
--- expressions
+-- whether a construct of these words is missing
+abbrev pub is_any_missing : List Construct → Bool
+is_any_missing cs = list_any is_missing cs
+
+abbrev pub missing_here : {A : Type 0} → List Construct → A → List A → List A
+missing_here cs at inside = outermost (is_any_missing cs) at inside
+
 abbrev pub missing_in_expression : tree.Expression → List ℕ
-missing_in_expression (tree.truth line b) = []
-missing_in_expression (tree.named line x) = []
-missing_in_expression (tree.paren line e) = missing_in_expression e
-missing_in_expression (tree.unary line sign.Not e) = missing_in_expression e
-missing_in_expression (tree.unary line sign.Negate e) = line ∷ []
-missing_in_expression (tree.unary line sign.Complement e) = line ∷ []
-missing_in_expression (tree.number line n) = line ∷ []
-missing_in_expression (tree.time line n unit) = line ∷ []
-missing_in_expression (tree.logic line digits) = line ∷ []
-missing_in_expression (tree.now line) = line ∷ []
-missing_in_expression (tree.myself line) = line ∷ []
-missing_in_expression (tree.constant line c) = line ∷ []
-missing_in_expression (tree.convert line c e) = line ∷ []
-missing_in_expression (tree.to_vector line width e) = line ∷ []
-missing_in_expression (tree.concat line upper lower) = line ∷ []
-missing_in_expression (tree.placed line x at) = line ∷ []
-missing_in_expression (tree.placed_by line x e) = line ∷ []
-missing_in_expression (tree.member e x) = first_line e ∷ []
-missing_in_expression (tree.element e index) = first_line e ∷ []
-missing_in_expression (tree.slice e high low) = first_line e ∷ []
-missing_in_expression (tree.binary op left right) = first_line left ∷ []
+missing_in_expression e = of_expression missing_here e
 
 abbrev pub missing_in_option : Option tree.Expression → List ℕ
-missing_in_option None = []
-missing_in_option (Some e) = missing_in_expression e
+missing_in_option e = of_option missing_here e
 
--- a channel at a place that is written
+abbrev pub missing_in_expressions : List tree.Expression → List ℕ
+missing_in_expressions es = of_expressions missing_here es
+
+abbrev pub missing_inside_place : tree.Place → List ℕ
+missing_inside_place p = place_parts missing_here p
+
 abbrev pub missing_in_channel : tree.Channel → List ℕ
-missing_in_channel c = unless (is_first_place c.place) c.line
-
--- an event of such a channel, or of a member
-abbrev pub is_plain_event : tree.Event → Bool
-is_plain_event e = is_first_place e.channel.place && is_none e.member
+missing_in_channel c = of_channel missing_here c
 
 abbrev pub missing_in_event : tree.Event → List ℕ
-missing_in_event e = unless (is_plain_event e) e.channel.line
+missing_in_event e = of_event missing_here e
 
 abbrev pub missing_in_events : List tree.Event → List ℕ
-missing_in_events [] = []
-missing_in_events (e ∷ es) = missing_in_event e ++ missing_in_events es
+missing_in_events es = of_events missing_here es
 
--- statements without blocks, of which this is the line
-abbrev pub missing_in_action : ℕ → tree.Action → List ℕ
-missing_in_action line (tree.write c e) = missing_in_channel c ++ missing_in_expression e
-missing_in_action line (tree.print text e) = missing_in_option e
-missing_in_action line (tree.notify x t) = line ∷ []
-missing_in_action line (tree.cancel x) = line ∷ []
-missing_in_action line (tree.wait t) = line ∷ []
-missing_in_action line (tree.next_trigger t) = line ∷ []
-missing_in_action line (tree.lock c) = line ∷ []
-missing_in_action line (tree.sem_wait c) = line ∷ []
-missing_in_action line (tree.post c) = line ∷ []
-missing_in_action line (tree.make x len enables) = line ∷ []
-missing_in_action line (tree.acquire x) = line ∷ []
-missing_in_action line (tree.release x) = line ∷ []
-missing_in_action line (tree.carry p m) = line ∷ []
-missing_in_action line (tree.b_transport a b c) = line ∷ []
-missing_in_action line (tree.qk_global e) = line ∷ []
-missing_in_action line (tree.qk_inc x e) = line ∷ []
-missing_in_action line (tree.qk_set x e) = line ∷ []
-missing_in_action line (tree.qk_reset x) = line ∷ []
-missing_in_action line (tree.qk_sync x) = line ∷ []
-missing_in_action line (tree.spawn x) = line ∷ []
-missing_in_action line (tree.control c who) = line ∷ []
-missing_in_action line (tree.throw_it who x) = line ∷ []
-missing_in_action line (tree.throw x) = line ∷ []
-missing_in_action line (tree.return_ e) = line ∷ []
-missing_in_action line tree.stop = line ∷ []
+abbrev pub missing_in_waiting : tree.Waiting → List ℕ
+missing_in_waiting w = waiting_parts missing_here w
 
--- statements
-abbrev mutual
-  pub missing_in_statement : tree.Statement → List ℕ
-  missing_in_statement (tree.act line a) = missing_in_action line a
-  missing_in_statement (tree.if_ line e body other) = missing_in_expression e ++ (missing_in_block body ++ missing_in_else other)
-  missing_in_statement (tree.var line t x e) = line ∷ []
-  missing_in_statement (tree.assign line t e) = line ∷ []
-  missing_in_statement (tree.operate line x at o) = line ∷ []
-  missing_in_statement (tree.while_ line e body) = line ∷ []
-  missing_in_statement (tree.guard line body undo) = line ∷ []
-  missing_in_statement (tree.try_ line body handlers) = line ∷ []
+abbrev pub missing_in_notification : tree.Notification → List ℕ
+missing_in_notification n = notification_parts missing_here n
 
-  pub missing_in_block : tree.Block → List ℕ
-  missing_in_block tree.over = []
-  missing_in_block (tree.then s ss) = missing_in_statement s ++ missing_in_block ss
+abbrev pub missing_inside_operation : tree.Operation → List ℕ
+missing_inside_operation o = operation_parts missing_here o
 
-  pub missing_in_else : tree.Else → List ℕ
-  missing_in_else tree.no_else = []
-  missing_in_else (tree.else_block body) = missing_in_block body
+abbrev pub missing_inside_action : tree.Action → List ℕ
+missing_inside_action a = action_parts missing_here a
 
--- a signal, and no buffer, that one process writes, of type bool, and with no first value
-abbrev pub is_signal_kind : SignalKind → Bool
-is_signal_kind kind.Signal = true
-is_signal_kind kind.Buffer = false
+abbrev pub missing_in_statement : tree.Statement → List ℕ
+missing_in_statement s = of_statement missing_here s
 
-abbrev pub is_bool : TypeForm → Bool
-is_bool form.Bool = true
-is_bool form.Logic = false
-is_bool (form.Int width) = false
-is_bool (form.Uint width) = false
-is_bool (form.Vector width) = false
+abbrev pub missing_in_block : tree.Block → List ℕ
+missing_in_block b = of_block missing_here b
 
-abbrev pub is_plain_signal : SignalItem → Bool
-is_plain_signal s = (is_signal_kind s.kind && not s.many) && (is_bool s.value_type.form && is_none s.initial)
+abbrev pub missing_in_handlers : tree.Handlers → List ℕ
+missing_in_handlers hs = of_handlers missing_here hs
 
--- a method: its events, and then its statements
-abbrev pub missing_in_process : ℕ → ProcessKind → tree.ProcessItem → List ℕ
-missing_in_process line process.Method p = missing_in_events p.sensitive ++ missing_in_block p.body
-missing_in_process line process.Thread p = line ∷ []
+abbrev pub missing_inside_item : tree.Item → List ℕ
+missing_inside_item i = item_parts missing_here i
 
--- items
 abbrev pub missing_in_item : tree.Item → List ℕ
-missing_in_item (tree.signal line s) = unless (is_plain_signal s) line
-missing_in_item (tree.process line p) = missing_in_process line p.kind p
-missing_in_item (tree.resolved line x) = line ∷ []
-missing_in_item (tree.clock line c) = line ∷ []
-missing_in_item (tree.fifo line t x size) = line ∷ []
-missing_in_item (tree.plain line k x) = line ∷ []
-missing_in_item (tree.semaphore line x c) = line ∷ []
-missing_in_item (tree.memory line x size) = line ∷ []
-missing_in_item (tree.variable line t x c) = line ∷ []
-missing_in_item (tree.port line i x size) = line ∷ []
-missing_in_item (tree.export line i x) = line ∷ []
-missing_in_item (tree.initiator line x role) = line ∷ []
-missing_in_item (tree.target line x role) = line ∷ []
-missing_in_item (tree.instance line k x) = line ∷ []
-missing_in_item (tree.bind line left right) = line ∷ []
-missing_in_item (tree.function line f) = line ∷ []
+missing_in_item i = of_item missing_here i
 
 abbrev pub missing_in_items : List tree.Item → List ℕ
-missing_in_items [] = []
-missing_in_items (i ∷ is) = missing_in_item i ++ missing_in_items is
+missing_in_items is = of_items missing_here is
 
--- what is not built in a text, each construct with the name of its module: in the first module its items,
--- and each further module as a whole
+-- what is missing in a module, each construct with the module's name
 abbrev pub missing_in_module : tree.Module → List (ℕ × List ℕ)
 missing_in_module m = map (λ line. (line, m.name)) (missing_in_items m.items)
 
-abbrev pub further : List tree.Module → List (ℕ × List ℕ)
-further ms = map (λ n. (n.line, n.name)) ms
+-- a module beside the first one is a construct, with its own name
+abbrev pub missing_in_further : tree.Module → List (ℕ × List ℕ)
+missing_in_further m = missing_here (construct.FurtherModule ∷ []) (m.line, m.name) (missing_in_module m)
+
+abbrev pub missing_in_all_further : List tree.Module → List (ℕ × List ℕ)
+missing_in_all_further [] = []
+missing_in_all_further (m ∷ ms) = missing_in_further m ++ missing_in_all_further ms
 
 abbrev pub missing_in_modules : List tree.Module → List (ℕ × List ℕ)
 missing_in_modules [] = []
-missing_in_modules (m ∷ ms) = missing_in_module m ++ further ms
+missing_in_modules (m ∷ ms) = missing_in_module m ++ missing_in_all_further ms
 
 abbrev pub missing : tree.Model → List (ℕ × List ℕ)
 missing m = missing_in_modules m.modules

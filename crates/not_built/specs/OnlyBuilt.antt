@@ -1,27 +1,33 @@
--- Trees of built forms alone: those that the rules, the design and the code of a tree speak of as they should.
-use Rattle.std.specs.Prelude.{Bool, true, false, ◌&&◌, List, [], ◌∷◌}
+-- All constructs of a tree, and the trees that have no missing one among them.
+use Rattle.std.specs.Prelude.{ℕ, Bool, not, List, [], ◌∷◌, ◌++◌}
 use Rattle.std.specs.List.{list_all}
-use Rattle.model_tree.specs.declared.items.ProcessKind.{ProcessKind}
-use Rattle.model_tree.specs.declared.items.ProcessKind.TheVariants as process
+use Rattle.model_tree.specs.declared.constructs.Construct.{Construct}
+use Rattle.model_tree.specs.declared.constructs.Construct.TheVariants as construct
 use Rattle.model_tree.specs.Tree as tree
-use Rattle.model_rules.specs.Built.{is_built_block}
-use Rattle.not_built.specs.Missing.{is_plain_signal, is_plain_event}
+use Rattle.not_run.specs.Table.{is_missing}
+use Rattle.not_built.specs.Constructs.{of_items}
 
-abbrev pub is_method : ProcessKind → Bool
-is_method process.Method = true
-is_method process.Thread = false
+-- the words of a construct, and then those of its parts
+abbrev pub words_here : List Construct → ℕ → List Construct → List Construct
+words_here cs line inside = cs ++ inside
 
--- a plain signal, or a method that is sensitive to channels' own events and whose body has code
-abbrev pub is_built_item : tree.Item → Bool
-is_built_item (tree.signal line s) = is_plain_signal s
-is_built_item (tree.process line p) = is_method p.kind && (list_all is_plain_event p.sensitive && is_built_block p.body)
-is_built_item other = false
+abbrev pub constructs_in_module : tree.Module → List Construct
+constructs_in_module m = of_items words_here m.items
 
-abbrev pub at_most_one : List tree.Module → Bool
-at_most_one [] = true
-at_most_one (m ∷ []) = true
-at_most_one (m ∷ n ∷ ms) = false
+abbrev pub constructs_in_further : List tree.Module → List Construct
+constructs_in_further [] = []
+constructs_in_further (m ∷ ms) = construct.FurtherModule ∷ constructs_in_module m ++ constructs_in_further ms
 
--- one module at most, and built items alone
+abbrev pub constructs_in_modules : List tree.Module → List Construct
+constructs_in_modules [] = []
+constructs_in_modules (m ∷ ms) = constructs_in_module m ++ constructs_in_further ms
+
+-- in text order, an outer one before those in it
+abbrev pub constructs_of : tree.Model → List Construct
+constructs_of m = constructs_in_modules m.modules
+
+abbrev pub is_run : Construct → Bool
+is_run c = not (is_missing c)
+
 abbrev pub has_only_built : tree.Model → Bool
-has_only_built m = at_most_one m.modules && list_all (λ (d : tree.Module). list_all is_built_item d.items) m.modules
+has_only_built m = list_all is_run (constructs_of m)

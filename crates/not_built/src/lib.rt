@@ -1,6 +1,8 @@
-//! Which construct of a tree is not built yet: the simulator reads the whole language, and runs a part of it.
+//! Which construct of a tree is not run yet: the simulator reads the whole language, and runs a part of it.
 #![tactic(auto)]
 
+mod actions;
+mod events;
 mod expressions;
 mod found;
 mod items;
@@ -9,5 +11,5 @@ mod statements;
 mod whole;
 
 pub use found::NotBuilt;
-pub use laws::{nothing_missing, only_built};
+pub use laws::only_built;
 pub use whole::not_built;

@@ -1,73 +1,70 @@
-ghost use Rattle.std.specs.Prelude.{◌≡◌, ◌++◌};
-ghost use Rattle.model_tree.specs.Views.{action_of, body_of, channel_of, event_of, events_of, expression_of, statement_of};
+ghost use Rattle.std.specs.Prelude.{◌≡◌, ◌++◌, option_map};
+ghost use Rattle.model_tree.specs.Views.{body_of, expression_of, statement_of, target_of};
+ghost use Rattle.not_built.specs.Constructs.{statement_construct, statement_line};
 ghost use Rattle.not_built.specs.Missing as spec;
 
-use super::expressions::in_expression;
-use model_tree::{Action, Channel, Event, Expression, Place, Statement};
+use super::actions::{action_construct, inside_action, inside_operation, operation_construct};
+use super::expressions::{in_expression, in_option};
+use model_tree::{Construct, Expression, Statement, Target};
+use not_run::is_missing;
 
-/// The line of a channel that has a place.
-fn in_channel(channel: &Channel) -> Option<u32>
-    ensures { result ≡ spec.first_of (spec.missing_in_channel (channel_of channel.now)) }
+/// Which construct a statement is.
+fn statement_construct(statement: &Statement) -> Construct
+    ensures { result ≡ statement_construct (statement_of statement.now) }
 {
-    match channel.place {
-        Place::First => None,
-        _ => Some(channel.line),
+    match statement {
+        Statement::Var(_, _, _, _) => Construct::Var,
+        Statement::Assign(_, _, _) => Construct::Assign,
+        Statement::Operate(_, _, _, operation) => operation_construct(operation),
+        Statement::Act(_, action) => action_construct(action),
+        Statement::If(_, _, _, _) => Construct::If,
+        Statement::While(_, _, _) => Construct::While,
+        Statement::Guard(_, _, _) => Construct::Guard,
+        Statement::Try(_, _, _) => Construct::Try,
     }
 }
 
-/// The line of an event whose channel has a place, or that is a member's.
-fn in_event(event: &Event) -> Option<u32>
-    ensures { result ≡ spec.first_of (spec.missing_in_event (event_of event.now)) }
+/// The line of a statement's first token.
+fn statement_line(statement: &Statement) -> u32
+    ensures { result ≡ statement_line (statement_of statement.now) }
 {
-    match (&event.channel.place, &event.member) {
-        (Place::First, None) => None,
-        _ => Some(event.channel.line),
+    match statement {
+        Statement::Var(line, _, _, _)
+        | Statement::Assign(line, _, _)
+        | Statement::Operate(line, _, _, _)
+        | Statement::Act(line, _)
+        | Statement::If(line, _, _, _)
+        | Statement::While(line, _, _)
+        | Statement::Guard(line, _, _)
+        | Statement::Try(line, _, _) => *line,
     }
 }
 
-/// The line of the first event of a static sensitivity that is not built.
+/// The line of the first missing construct inside an assignment: in the index of its target, and then in its value.
 #[tactic(auto, using(crate::proofs::First::first_steps))]
-pub(crate) fn in_events(events: &[Event]) -> Option<u32>
-    ensures { result ≡ spec.first_of (spec.missing_in_events (events_of events.now)) }
+fn inside_assign(target: &Target, value: &Expression) -> Option<u32>
+    ensures { result ≡ spec.first_of (spec.missing_in_option (option_map expression_of target.now.index) ++ spec.missing_in_expression (expression_of value.now)) }
 {
-    for event in events {
-        if let Some(line) = in_event(event) {
-            return Some(line);
-        }
+    if let Some(line) = in_option(&target.index) {
+        return Some(line);
     }
-    None
+    in_expression(value)
 }
 
-#[tactic(auto, using(crate::proofs::First::first_steps))]
-fn in_write(channel: &Channel, value: &Expression) -> Option<u32>
-    ensures { result ≡ spec.first_of (spec.missing_in_channel (channel_of channel.now) ++ spec.missing_in_expression (expression_of value.now)) }
-{
-    match in_channel(channel) {
-        Some(line) => Some(line),
-        None => in_expression(value),
-    }
-}
-
-/// The line of the first construct that is not built, in a statement without blocks and on this line.
-fn in_action(line: u32, action: &Action) -> Option<u32>
-    ensures { result ≡ spec.first_of (spec.missing_in_action line (action_of action.now)) }
-{
-    match action {
-        Action::Write(channel, value) => in_write(channel, value),
-        Action::Print(_, Some(value)) => in_expression(value),
-        Action::Print(_, None) => None,
-        _ => Some(line),
-    }
-}
-
-/// The line of the first construct in a statement that is not built: its expression comes before its blocks.
+/// The line of the first missing construct of a statement: of itself, and else of its expressions and then its blocks.
 #[cycle(statements)]
 #[tactic(auto, using(crate::proofs::First::first_steps))]
 fn in_statement(statement: &Statement) -> Option<u32>
     ensures { result ≡ spec.first_of (spec.missing_in_statement (statement_of statement.now)) }
 {
+    if is_missing(statement_construct(statement)) {
+        return Some(statement_line(statement));
+    }
     match statement {
-        Statement::Act(line, action) => in_action(*line, action),
+        Statement::Var(_, _, _, value) => in_option(value),
+        Statement::Assign(_, target, value) => inside_assign(target, value),
+        Statement::Operate(_, _, _, operation) => inside_operation(operation),
+        Statement::Act(_, action) => inside_action(action),
         Statement::If(_, condition, body, other) => {
             if let Some(line) = in_expression(condition) {
                 return Some(line);
@@ -80,16 +77,33 @@ fn in_statement(statement: &Statement) -> Option<u32>
                 Some(other) => in_block(other),
             }
         }
-        Statement::Var(line, _, _, _)
-        | Statement::Assign(line, _, _)
-        | Statement::Operate(line, _, _, _)
-        | Statement::While(line, _, _)
-        | Statement::Guard(line, _, _)
-        | Statement::Try(line, _, _) => Some(*line),
+        Statement::While(_, condition, body) => {
+            if let Some(line) = in_expression(condition) {
+                return Some(line);
+            }
+            in_block(body)
+        }
+        Statement::Guard(_, body, undo) => {
+            if let Some(line) = in_block(body) {
+                return Some(line);
+            }
+            in_block(undo)
+        }
+        Statement::Try(_, body, handlers) => {
+            if let Some(line) = in_block(body) {
+                return Some(line);
+            }
+            for (_, body) in handlers {
+                if let Some(line) = in_block(body) {
+                    return Some(line);
+                }
+            }
+            None
+        }
     }
 }
 
-/// The line of the first construct in the statements of a block that is not built.
+/// The line of the first missing construct in the statements of a block.
 #[cycle(statements)]
 #[tactic(auto, using(crate::proofs::First::first_steps))]
 pub(crate) fn in_block(body: &Vec<Statement>) -> Option<u32>

@@ -15,7 +15,6 @@ use model_parser::parse;
 use method_design::Design;
 use model_tree::{CheckStop, ParseStop, Tree};
 use plain_lists::Items;
-use not_built::nothing_missing;
 use script_text::{commands, name_all};
 use method_model::Command;
 use std::alloc::Global;
@@ -68,7 +67,6 @@ fn judge_model(alloc: Global, text: &[u8]) -> Result<Checked, JudgeStop>
     ensures broken { IsErrOf result JudgeStop.Model → IsBrokenModel text.now }
     ensures only { IsErrOf result JudgeStop.Script → ⊥ }
 {
-    nothing_missing();
     let tree = match read_model(alloc, text) {
         Ok(tree) => tree,
         Err(stop) => return Err(stop),

@@ -9,7 +9,7 @@ pub returns-in-Ok-check-clause-code : goal.returns-in-Ok-check-clause-code
 returns-in-Ok-check-clause-code c =
     let checked = c.in-Ok-check.checked in
     let P : Tree → Type 0 = λ t. IsCodeOf (model_of t) checked.names checked.code in
-    subst P (sym c.in-Ok-check.ensures.same_tree) (c.in-Ok-check.ensures.code (c.nothing_missing.ensures (model_of c.in-Ok.tree) c.in-Ok.ensures.built))
+    subst P (sym c.in-Ok-check.ensures.same_tree) (c.in-Ok-check.ensures.code c.in-Ok.ensures.built)
 
 pub returns-in-Err-Refused-clause-broken : goal.returns-in-Err-Refused-clause-broken
 returns-in-Err-Refused-clause-broken c = λ _.
