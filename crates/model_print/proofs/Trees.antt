@@ -1,14 +1,8 @@
 -- What is printed of the statements that hold others, once their parts are.
-use Rattle.std.proofs.Common.{◌≡◌, ℕ, List, [], ◌∷◌, ◌++◌, Option, Some, None, map, get_or, drop, drop-cons, add-one, length, ◌<◌, ◌+◌, refl, sym, ap, ◌∙◌}
-use Rattle.std.specs.Global.{Vec}
+use Rattle.std.proofs.Common.{◌≡◌, ℕ, List, ◌∷◌, ◌++◌, refl}
 use Rattle.std.proofs.lemmas.List.Sums.{fold-append}
 use Rattle.model_tree.specs.Tree as tree
 use Rattle.model_tree.specs.declared.vocabulary.Word.TheVariants as w
-use Rattle.model_tree.specs.declared.expressions.Expression.{Expression}
-use Rattle.model_tree.specs.declared.statements.Statement.{Statement, If, While, Guard, Try, fold-roll-Statement}
-use Rattle.model_tree.specs.declared.statements.Statement.TheVariants.{rolls-If, rolls-While, rolls-Guard, rolls-Try}
-use Rattle.model_tree.specs.declared.statements.Statement.TheOpen.{Statement-F}
-use Rattle.model_tree.specs.Views.{expression_of, statement_step, statement_of, block_of, body_of, handlers_of}
 use Rattle.page_layout.specs.Layout.{Page, Piece, put, put_all}
 use Rattle.page_layout.specs.Pieces.{word, name, braced}
 use Rattle.model_print.specs.Printed.{expression, statement, statements, else_, handlers}

@@ -59,8 +59,8 @@ constant_form (constant.Logic v) = logic (digits v) ∷ []
 constant_form (constant.Truth b) = truth b ∷ []
 
 -- a first value where it is written
-abbrev pub initial : Option Constant → List Piece
-initial c = maybe (λ x. operator s.Equal ∷ constant_form x.form) c
+abbrev pub first_value : Option Constant → List Piece
+first_value c = maybe (λ x. operator s.Equal ∷ constant_form x.form) c
 
 -- the process of a control call
 abbrev pub who : Who → Piece

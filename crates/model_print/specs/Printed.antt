@@ -17,7 +17,7 @@ use Rattle.model_tree.specs.declared.items.Top.{Top}
 use Rattle.model_tree.specs.Spelling.{unary_symbol, binary_symbol, conversion_word, constant_word, control_word, signal_word, plain_word, process_word}
 use Rattle.page_layout.specs.Layout.{Piece, layout}
 use Rattle.page_layout.specs.Pieces.{word, name, number, logic, quoted, type_word, wide, operator, prefix, joint, opening, closing, comma, semicolon, flag, maybe, each, separated, braced, bracketed}
-use Rattle.model_print.specs.Leaves.{type_form, var_type, time, span, truth, constant_form, initial, who, member, interface, port_size, parameter, binding_end}
+use Rattle.model_print.specs.Leaves.{type_form, var_type, time, span, truth, constant_form, first_value, who, member, interface, port_size, parameter, binding_end}
 
 abbrev pub expression : tree.Expression → List Piece
 expression (tree.number line n) = number n ∷ []
@@ -157,11 +157,11 @@ action (tree.return_ e) = word w.Return ∷ maybe expression e
 action tree.stop = word w.Stop ∷ []
 
 -- an expression as a first value, where one is written
-abbrev pub first_value : Option tree.Expression → List Piece
-first_value e = maybe (λ x. operator s.Equal ∷ expression x) e
+abbrev pub initial : Option tree.Expression → List Piece
+initial e = maybe (λ x. operator s.Equal ∷ expression x) e
 
 abbrev pub var : VarType → List ℕ → Option tree.Expression → List Piece
-var t x e = word w.Var ∷ var_type t ∷ name x ∷ first_value e ++ semicolon ∷ []
+var t x e = word w.Var ∷ var_type t ∷ name x ∷ initial e ++ semicolon ∷ []
 
 abbrev pub assign : tree.Target → tree.Expression → List Piece
 assign t e = target t ++ operator s.Equal ∷ expression e ++ semicolon ∷ []
@@ -196,7 +196,7 @@ abbrev mutual
   handlers (tree.handler x body more) = word w.Catch ∷ name x ∷ braced (statements body) ++ handlers more
 
 abbrev pub signal : SignalItem → List Piece
-signal x = word (signal_word x.kind) ∷ flag w.Many x.many ++ type_form x.value_type.form ∷ name x.name ∷ initial x.initial
+signal x = word (signal_word x.kind) ∷ flag w.Many x.many ++ type_form x.value_type.form ∷ name x.name ∷ first_value x.initial
 
 -- when a clock starts, where that is written
 abbrev pub start : Option Span → List Piece
@@ -243,7 +243,7 @@ item (tree.fifo line t x size) = word w.Fifo ∷ type_form t.form ∷ name x ∷
 item (tree.plain line kind x) = word (plain_word kind) ∷ name x ∷ semicolon ∷ []
 item (tree.semaphore line x c) = word w.Semaphore ∷ name x ∷ constant_form c.form ++ semicolon ∷ []
 item (tree.memory line x size) = word w.Memory ∷ name x ∷ opening s.LeftBracket ∷ number size ∷ closing s.RightBracket ∷ semicolon ∷ []
-item (tree.variable line t x c) = word w.Var ∷ var_type t ∷ name x ∷ initial c ++ semicolon ∷ []
+item (tree.variable line t x c) = word w.Var ∷ var_type t ∷ name x ∷ first_value c ++ semicolon ∷ []
 item (tree.port line i x size) = interface i ++ name x ∷ maybe port_size size ++ semicolon ∷ []
 item (tree.export line i x) = word w.Export ∷ interface i ++ name x ∷ semicolon ∷ []
 item (tree.initiator line x role) = word w.Initiator ∷ name x ∷ initiator_role role ++ semicolon ∷ []

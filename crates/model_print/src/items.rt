@@ -6,8 +6,8 @@ ghost use Rattle.model_print.specs.Leaves as leaf;
 ghost use Rattle.model_print.specs.Printed as spec;
 
 use super::leaves::{
-    binding_end, constant_form, flag, initial, interface, parameter, port_size, time, type_form,
-    var_type,
+    binding_end, constant_form, first_value, flag, interface, parameter, port_size, time,
+    type_form, var_type,
 };
 use super::statements::{block, sensitive, with_name};
 use model_tree::{
@@ -26,7 +26,7 @@ fn signal(page: &mut Page, signal: &SignalItem) -> Result<(), AllocError>
     flag(page, Word::Many, signal.many)?;
     type_form(page, signal.value_type.form)?;
     page.name(&signal.name)?;
-    initial(page, signal.initial)
+    first_value(page, signal.initial)
 }
 
 /// Writes a clock, without its `;`.
@@ -182,7 +182,7 @@ fn item(page: &mut Page, item: &Item) -> Result<(), AllocError>
             page.word(Word::Var)?;
             var_type(page, *of)?;
             page.name(name)?;
-            initial(page, *value)?;
+            first_value(page, *value)?;
         }
         Item::Port(_, of, name, size) => {
             interface(page, *of)?;

@@ -82,8 +82,8 @@ pub fn constant_form(page: &mut Page, form: ConstantForm) -> Result<(), AllocErr
 }
 
 /// Writes a first value where there is one.
-pub fn initial(page: &mut Page, value: Option<Constant>) -> Result<(), AllocError>
-    ensures { OnOk result (page.new ≡ put_all page.old (leaf.initial value)) }
+pub fn first_value(page: &mut Page, value: Option<Constant>) -> Result<(), AllocError>
+    ensures { OnOk result (page.new ≡ put_all page.old (leaf.first_value value)) }
 {
     match value {
         None => Ok(()),

@@ -358,8 +358,8 @@ fn action(page: &mut Page, action: &Action) -> Result<(), AllocError>
 }
 
 /// Writes a first value where one is written.
-fn first_value(page: &mut Page, value: &Option<Expression>) -> Result<(), AllocError>
-    ensures { OnOk result (page.new ≡ put_all page.old (spec.first_value (option_map expression_of value.now))) }
+fn initial(page: &mut Page, value: &Option<Expression>) -> Result<(), AllocError>
+    ensures { OnOk result (page.new ≡ put_all page.old (spec.initial (option_map expression_of value.now))) }
 {
     match value {
         None => Ok(()),
@@ -382,7 +382,7 @@ fn var(
     page.word(Word::Var)?;
     var_type(page, of)?;
     page.name(name)?;
-    first_value(page, value)?;
+    initial(page, value)?;
     page.semicolon()
 }
 

@@ -1,15 +1,15 @@
 -- That nothing is found exactly where no construct of a tree is missing.
-use Rattle.std.proofs.Common.{◌≡◌, ℕ, Bool, true, false, ◌&&◌, ◌||◌, List, [], ◌∷◌, ◌++◌, map, Option, Some, None, refl, ap, sym, ◌∙◌}
+use Rattle.std.proofs.Common.{◌≡◌, Bool, true, false, ◌&&◌, ◌||◌, List, [], ◌∷◌, ◌++◌, map, Option, Some, None, refl, ap, sym, ◌∙◌}
 use Rattle.std.specs.Prelude.{is_none, not}
-use Rattle.std.specs.List.{list_all, list_any}
+use Rattle.std.specs.List.{list_all}
 use Rattle.std.proofs.lemmas.List.Folds.{list_all-append}
 use Rattle.model_tree.specs.declared.constructs.Construct.{Construct}
 use Rattle.model_tree.specs.declared.constructs.Construct.TheVariants as construct
 use Rattle.model_tree.specs.Tree as tree
 use Rattle.model_tree.specs.Lines.{first_line, item_line}
 use Rattle.not_run.specs.Table.{is_missing}
-use Rattle.not_built.specs.Constructs.{expression_constructs, expression_parts, of_expression, of_option, of_expressions, place_constructs, place_parts, of_channel, event_constructs, of_event, of_events, waiting_parts, notification_parts, operation_parts, action_parts, statement_construct, statement_line, statement_parts, of_statement, of_block, of_else, of_handlers, item_constructs, item_parts, of_item, of_items}
-use Rattle.not_built.specs.Missing.{outermost, is_any_missing, missing_here, missing_in_module, missing_in_further, missing_in_all_further, missing_in_modules, first_of, first_not_built}
+use Rattle.not_built.specs.Constructs.{expression_constructs, expression_parts, of_expression, of_option, of_expressions, place_constructs, place_parts, of_channel, event_constructs, of_event, of_events, waiting_parts, notification_parts, operation_parts, action_parts, statement_construct, statement_line, statement_parts, of_block, of_else, of_handlers, item_constructs, item_parts, of_items}
+use Rattle.not_built.specs.Missing.{outermost, is_any_missing, missing_here, missing_in_module, missing_in_all_further, missing_in_modules, first_of, first_not_built}
 use Rattle.not_built.specs.OnlyBuilt.{words_here, constructs_in_module, constructs_in_further, constructs_in_modules, is_run, has_only_built}
 
 -- whether nothing is there

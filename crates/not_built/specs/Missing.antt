@@ -6,7 +6,7 @@ use Rattle.model_tree.specs.declared.constructs.Construct.{Construct}
 use Rattle.model_tree.specs.declared.constructs.Construct.TheVariants as construct
 use Rattle.model_tree.specs.Tree as tree
 use Rattle.not_run.specs.Table.{is_missing}
-use Rattle.not_built.specs.Constructs.{of_expression, of_option, of_expressions, place_parts, of_channel, of_event, of_events, waiting_parts, notification_parts, operation_parts, action_parts, statement_parts, of_statement, of_block, of_handlers, item_parts, of_item, of_items}
+use Rattle.not_built.specs.Constructs.{of_expression, of_option, of_expressions, place_parts, of_channel, of_event, of_events, waiting_parts, notification_parts, operation_parts, action_parts, of_statement, of_block, of_handlers, item_parts, of_item, of_items}
 
 -- a construct itself where it is missing, and else what is missing in its parts
 abbrev pub outermost : {A : Type 0} → Bool → A → List A → List A

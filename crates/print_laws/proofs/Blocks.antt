@@ -32,7 +32,7 @@ braced a = led false piece.left_brace (symbol s.LeftBrace) left_brace_piece refl
 abbrev pub given : {A : Type 0} {R : A → Rule} {S : A → Type 0} {xs : List Piece} → Spelled false R S xs → Spelled false (λ y. Takes (symbol s.Equal) ⨾ R y) S (piece.operator s.Equal ∷ xs)
 given a = led false (piece.operator s.Equal) (symbol s.Equal) (operator_piece s.Equal) refl a
 
-initial_spelled : (n : ℕ) (o : Option tree.Expression) → fits_option n o ≡ true → Spelled false (λ (y : Option tree.Expression). Maybe DerivesInitial y) (LikeOption o) (printed.first_value o)
+initial_spelled : (n : ℕ) (o : Option tree.Expression) → fits_option n o ≡ true → Spelled false (λ (y : Option tree.Expression). Maybe DerivesInitial y) (LikeOption o) (printed.initial o)
 initial_spelled n o h = maybe_spelled unlined.expression DerivesInitial (λ e. piece.operator s.Equal ∷ printed.expression e) o (λ e is. given (loose (whole_spelled n e (option_fits n o e h is))))
 
 abbrev SameStatement : tree.Statement → tree.Statement → Type 0

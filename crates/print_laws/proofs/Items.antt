@@ -70,8 +70,8 @@ constant_spelled c h = as_one (λ line. record { line = line; form = c.form }) (
 constant_fits : (o : Option Constant) (c : Constant) → fits_constant o ≡ true → o ≡ Some c → fits_constant_form c.form ≡ true
 constant_fits o c h e = subst (λ (z : Option Constant). fits_constant z ≡ true) e h
 
-pub initial_spelled : (o : Option Constant) → fits_constant o ≡ true → Spelled false (λ (y : Option Constant). Maybe DerivesFirstValue y) (λ (y : Option Constant). option_map unlined.constant y ≡ option_map unlined.constant o) (leaf.initial o)
-initial_spelled o h = maybe_spelled unlined.constant DerivesFirstValue (λ x. piece.operator s.Equal ∷ leaf.constant_form x.form) o (λ c e. given (loose (constant_spelled c (constant_fits o c h e))))
+pub first_value_spelled : (o : Option Constant) → fits_constant o ≡ true → Spelled false (λ (y : Option Constant). Maybe DerivesFirstValue y) (λ (y : Option Constant). option_map unlined.constant y ≡ option_map unlined.constant o) (leaf.first_value o)
+first_value_spelled o h = maybe_spelled unlined.constant DerivesFirstValue (λ x. piece.operator s.Equal ∷ leaf.constant_form x.form) o (λ c e. given (loose (constant_spelled c (constant_fits o c h e))))
 
 -- times
 pub time_spelled : (t : Span) → is_number t.count ≡ true → Fixed false (DerivesTime t) (leaf.span t)
@@ -197,9 +197,9 @@ signal_spelled n line x h =
     let more = and_parts (fits_type x.value_type) (fits_constant x.initial) parts.1 in
     as_one (λ y. tree.signal y.0 (record { kind = x.kind; many = x.many; value_type = y.1.1.0; name = x.name; initial = y.1.1.1 })) (λ y s. rw (s.1.0, s.1.1) refl) (λ y ts rest d. d)
     (headed (signal_word x.kind)
-    (moved (sym (append_assoc (piece.flag w.Many x.many) (leaf.type_form x.value_type.form ∷ piece.name x.name ∷ leaf.initial x.initial) (piece.semicolon ∷ [])))
+    (moved (sym (append_assoc (piece.flag w.Many x.many) (leaf.type_form x.value_type.form ∷ piece.name x.name ∷ leaf.first_value x.initial) (piece.semicolon ∷ [])))
     (both (flag_spelled w.Many x.many)
-    (both (loose (type_spelled x.value_type more.0)) (led false (piece.name x.name) (name x.name) (name_piece x.name parts.0) refl (closed (initial_spelled x.initial more.1)))))))
+    (both (loose (type_spelled x.value_type more.0)) (led false (piece.name x.name) (name x.name) (name_piece x.name parts.0) refl (closed (first_value_spelled x.initial more.1)))))))
 
 clock_spelled : (n line : ℕ) (c : ClockItem) → fits_item (tree.clock line c) n ≡ true → SpelledItem (tree.clock line c)
 clock_spelled n line c h =
@@ -260,7 +260,7 @@ item_spelled n (tree.variable line t x c) h =
     let parts = and_parts (is_name x) (fits_var_type t && fits_constant c) h in
     let more = and_parts (fits_var_type t) (fits_constant c) parts.1 in
     as_one (λ y. tree.variable y.0 y.1.0 x y.1.1) (λ y s. rw (s.0, s.1) refl) (λ y ts rest d. d)
-    (headed w.Var (both (loose (typed t more.0)) (led false (piece.name x) (name x) (name_piece x parts.0) refl (closed (initial_spelled c more.1)))))
+    (headed w.Var (both (loose (typed t more.0)) (led false (piece.name x) (name x) (name_piece x parts.0) refl (closed (first_value_spelled c more.1)))))
 item_spelled n (tree.port line i x size) h =
     let parts = and_parts (is_name x) (fits_interface i && fits_size size) h in
     let more = and_parts (fits_interface i) (fits_size size) parts.1 in

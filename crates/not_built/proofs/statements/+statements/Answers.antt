@@ -1,6 +1,5 @@
 use Rattle.std.proofs.Common.{◌≡◌, ℕ, false, List, ◌++◌, Option, Some, None, refl, sym, ap, ◌∙◌}
 use Rattle.std.specs.Global.{Vec}
-use Rattle.model_tree.specs.Tree as tree
 use Rattle.model_tree.specs.declared.statements.Statement.{Statement}
 use Rattle.model_tree.specs.Views.{body_of, expression_of, statement_of}
 use Rattle.model_tree.proofs.Trees.{other_of, handlers_list, sees_if, sees_while, sees_guard, sees_try}
