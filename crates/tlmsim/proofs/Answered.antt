@@ -13,12 +13,15 @@ use Rattle.method_model.specs.declared.plain.Command.{Command}
 use Rattle.method_model.specs.declared.plain.Stop.{Stop}
 use Rattle.method_model.specs.declared.plain.Stop.TheVariants as stop
 use Rattle.tlmsim.specs.Line.{line_of}
-use Rattle.tlmsim.specs.Call.{Call, Texts, model_limit, script_limit}
-use Rattle.tlmsim.specs.Judged.{IsBrokenModel, AcceptsModel, IsBrokenScript, Accepts}
+use Rattle.tlmsim.specs.Call.{Call, Keeps, Texts, model_limit, script_limit}
+use Rattle.tlmsim.specs.Judged.{IsBrokenModel, AcceptsModel, IsBrokenScript, Accepts, shown_objects}
 use Rattle.tlmsim.specs.Headline.{ReadFailed, TooLarge, ModelRefused, ScriptRefused, Session, Finished, Untouched, Given, ModelGiven, Answers, IsRefusal, IsRunStatus, stop_status, default_budget}
-use Rattle.tlmsim.specs.Simulated.{Causes, refusal_status}
+use Rattle.tlmsim.specs.Simulated.{ModelRefusedFor, ScriptRefusedFor, Causes, refusal_status}
+use Rattle.tlmsim.specs.declared.faults.ModelFault.{ModelFault}
+use Rattle.tlmsim.specs.declared.faults.ScriptFault.{ScriptFault}
 use Rattle.tlmsim.specs.declared.simulate.Refusal.{Refusal}
 use Rattle.tlmsim.specs.declared.simulate.Refusal.TheVariants as refusal
+use Rattle.tlmsim.proofs.Refusals.{model_broken_by, script_broken_by}
 use Rattle.tlmsim.proofs.Apart.{OneTree, same_model, same_script, not_usage, not_read, not_large, not_broken, not_both, long_texts, long_usage, long_read}
 
 -- a session's status is none of a refusal
@@ -46,8 +49,8 @@ never_run : (r : Refusal) → is_run (refusal_status r) ≡ false
 unfolding is_run
 never_run refusal.Usage = refl
 never_run refusal.Read = refl
-never_run refusal.Model = refl
-never_run refusal.Script = refl
+never_run (refusal.Model f) = refl
+never_run (refusal.Script f) = refl
 never_run refusal.NoMemory = refl
 never_run refusal.TooLarge = refl
 
@@ -184,9 +187,9 @@ script_broken c old new model script g r =
     subst P (same_script c old new model script r.model r.script g r.texts) r.broken
 
 -- the answers of a session
-pub of_session : OneTree → (c : Call) (choices : List ℕ) (steps : ℕ) (s : Stop) → Session c choices steps s → (s ≡ stop.WriteFault → Rose c.before.out_faults c.after.out_faults) → Answers c (stop_status s) choices steps
+pub of_session : OneTree → (c : Call) (choices : List ℕ) (steps : ℕ) (s : Stop) → Session c choices steps s → (s ≡ stop.WriteFault → Rose c.before.out_faults c.after.out_faults) → Keeps c → Answers c (stop_status s) choices steps
 unfolding is_refusal
-of_session one c choices steps s x cause =
+of_session one c choices steps s x cause kept =
     let P : Stop → Type 0 = λ t. Session c choices steps t in
     record {
       done = done_of c choices steps s x;
@@ -202,6 +205,7 @@ of_session one c choices steps s x cause =
       large = λ e. absurd (not_refusal s 10 refl e);
       refused = λ h. absurd (no_refusal s h);
       bound = bound_of s;
+      kept = kept;
       usage_comes = λ none. let line = x.texts.line in cc;
       large_comes = λ old new model script g past. absurd (large_refusal c old new model script g past x.model x.script x.texts);
       large_model_comes = λ old new model g past. absurd (long_texts c old new model g past x.model x.script x.texts);
@@ -306,26 +310,40 @@ memory_comes c = record {
   never = λ old new model script g m_within s_within m commands accepts. refl;
 }
 
+-- a refusal for what is wrong with a text is a refusal of it
+model_refused : (c : Call) (f : ModelFault) → ModelRefusedFor c f → ModelRefused c
+model_refused c f r = record { model = r.model; script = r.script; texts = r.texts; broken = model_broken_by r.model f r.fault }
+
+script_refused : (c : Call) (f : ScriptFault) → ScriptRefusedFor c f → ScriptRefused c
+script_refused c f r = record {
+  model = r.model;
+  script = r.script;
+  texts = r.texts;
+  m = r.m;
+  accepted = r.accepted;
+  broken = script_broken_by (shown_objects r.m) r.script f r.fault;
+}
+
 cause_of : (c : Call) (r : Refusal) → Causes c (Err r) → Refused c (refusal_status r)
 cause_of c refusal.Usage h = usage_cause c h
 cause_of c refusal.Read h = read_cause c h
-cause_of c refusal.Model h = model_cause c h
-cause_of c refusal.Script h = script_cause c h
+cause_of c (refusal.Model f) h = model_cause c (model_refused c f h)
+cause_of c (refusal.Script f) h = script_cause c (script_refused c f h)
 cause_of c refusal.NoMemory h = memory_cause c
 cause_of c refusal.TooLarge h = large_cause c h
 
 comes_of : OneTree → (c : Call) (r : Refusal) → Causes c (Err r) → Comes c (refusal_status r)
 comes_of one c refusal.Usage h = usage_comes c h
 comes_of one c refusal.Read h = read_comes c h
-comes_of one c refusal.Model h = model_comes one c h
-comes_of one c refusal.Script h = script_comes one c h
+comes_of one c (refusal.Model f) h = model_comes one c (model_refused c f h)
+comes_of one c (refusal.Script f) h = script_comes one c (script_refused c f h)
 comes_of one c refusal.NoMemory h = memory_comes c
 comes_of one c refusal.TooLarge h = large_comes c h
 
 -- the answers of a refusal
-pub of_refusal : OneTree → (c : Call) (choices : List ℕ) (steps : ℕ) (r : Refusal) → Causes c (Err r) → Untouched c choices steps → Answers c (refusal_status r) choices steps
+pub of_refusal : OneTree → (c : Call) (choices : List ℕ) (steps : ℕ) (r : Refusal) → Causes c (Err r) → Untouched c choices steps → Keeps c → Answers c (refusal_status r) choices steps
 unfolding is_run
-of_refusal one c choices steps r h untouched =
+of_refusal one c choices steps r h untouched kept =
     let cause = cause_of c r h in
     let comes = comes_of one c r h in
     record {
@@ -342,6 +360,7 @@ of_refusal one c choices steps r h untouched =
       large = cause.large;
       refused = λ e. untouched;
       bound = cause.bound;
+      kept = kept;
       usage_comes = comes.usage;
       large_comes = comes.large;
       large_model_comes = comes.long;

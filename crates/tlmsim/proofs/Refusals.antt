@@ -1,66 +1,95 @@
 -- How the refusals of one stage are those of the next.
-use Rattle.std.proofs.Common.{◌≡◌, ◌⊎◌, inl, inr, Option, Some, None, IsSome, refl, subst, sym, ap, filter, List, ℕ}
+use Rattle.std.proofs.Common.{◌≡◌, ◌⊎◌, inl, inr, Option, Some, None, IsSome, refl, subst, sym, ap, ◌∙◌, filter, List, ℕ}
 use Rattle.model_tree.specs.Tree as tree
 use Rattle.model_tree.specs.declared.faults.Fault.{Fault}
 use Rattle.model_tree.specs.declared.faults.CheckStop.{CheckStop}
 use Rattle.model_tree.specs.declared.faults.CheckStop.TheVariants.{Refused}
+use Rattle.flat_design.specs.declared.design.Design.{Design as FlatDesign}
+use Rattle.method_design.specs.Made.{IsMethodsOf, method_objects}
 use Rattle.method_design.specs.declared.designs.Design.{Design}
 use Rattle.model_lexer.specs.Reads.{Reads}
 use Rattle.not_built.specs.Missing.{first_not_built}
 use Rattle.model_rules.specs.FirstFault.{first_fault}
 use Rattle.model_tree.specs.Stops.{IfRefused}
-use Rattle.method_design.specs.declared.code.Code.{Code}
+use Rattle.flat_design.specs.declared.code.Code.{Code}
 use Rattle.method_design.specs.declared.designs.Object.{Object}
 use Rattle.model_rules.specs.FlatDesign.{IsDesign, IsCodeOf}
 use Rattle.method_model.specs.Configuration.{visible, is_visible}
 use Rattle.method_model.specs.declared.plain.Command.{Command}
-use Rattle.tlmsim.specs.Judged.{HasUnbuilt, BreaksRule, AcceptsModel, Accepts, BreaksScript, IsBrokenScript, NamesScript, IsDesignOf, shown_objects}
-use Rattle.tlmsim.specs.Forms.{IfNotBuilt}
-use Rattle.tlmsim.specs.declared.forms.FormStop.{FormStop}
-use Rattle.tlmsim.specs.declared.forms.FormStop.TheVariants as form
-use Rattle.tlmsim.specs.declared.forms.NotBuilt.{NotBuilt}
+use Rattle.tlmsim.specs.Line.{Names, line_of}
+use Rattle.tlmsim.specs.Call.{Call, Texts}
+use Rattle.tlmsim.specs.Loaded.{AreTexts}
+use Rattle.tlmsim.specs.Judged.{HasUnbuilt, BreaksRule, IsBrokenModel, HasModelFault, AcceptsModel, Accepts, BreaksScript, HasScriptFault, NamesScript, IsRunOf, shown_objects}
+use Rattle.tlmsim.specs.Unbuilt.{IfNotBuilt}
+use Rattle.tlmsim.specs.declared.faults.ModelFault.{ModelFault}
+use Rattle.tlmsim.specs.declared.faults.ModelFault.TheVariants as model_fault
+use Rattle.tlmsim.specs.declared.faults.ScriptFault.{ScriptFault}
+use Rattle.tlmsim.specs.declared.faults.ScriptFault.TheVariants as script_fault
+use Rattle.tlmsim.specs.declared.unbuilt.NotBuilt.{NotBuilt}
+use Rattle.tlmsim.specs.declared.unbuilt.UnbuiltStop.{UnbuiltStop}
+use Rattle.tlmsim.specs.declared.unbuilt.UnbuiltStop.TheVariants as unbuilt
 
 is_some : {T : Type 0} (found : Option T) (x : T) → found ≡ Some x → IsSome found
 is_some None x e = cc
 is_some (Some y) x e = refl
 
--- a refusal has a fault
-pub refused_some : (stop : CheckStop) (fault : Fault) (o : Option Fault) → stop ≡ Refused fault → IfRefused stop (λ f. o ≡ Some f) → IsSome o
-refused_some stop fault o e h =
-    let P : CheckStop → Type 0 = λ s. IfRefused s (λ f. o ≡ Some f) in
-    is_some o fault (subst P e h)
+-- the texts of a call, from what was read of the files that its words name
+pub texts_read : (c : Call) (names : Names) (model script : List ℕ) → line_of c.words ≡ Some names → AreTexts c.before.files c.after.files names.model names.script model script → Texts c model script
+texts_read c names model script line found = record {
+  names = names;
+  line = line;
+  model_is = found.model_is;
+  script_is = found.script_is;
+  model_within = found.model_within;
+  script_within = found.script_within;
+}
 
--- or a construct that is not built
-pub unbuilt_some : (stop : FormStop) (n : NotBuilt) (o : Option (ℕ × List ℕ)) → stop ≡ form.NotBuilt n → IfNotBuilt stop (λ line name. o ≡ Some (line, name)) → IsSome o
-unbuilt_some stop n o e h =
-    let P : FormStop → Type 0 = λ s. IfNotBuilt s (λ line name. o ≡ Some (line, name)) in
-    is_some o (n.line, n.name) (subst P e h)
+-- the fault of a refusal
+pub refused_fault : (stop : CheckStop) (fault : Fault) (o : Option Fault) → stop ≡ Refused fault → IfRefused stop (λ f. o ≡ Some f) → o ≡ Some fault
+refused_fault stop fault o e h =
+    let P : CheckStop → Type 0 = λ s. IfRefused s (λ f. o ≡ Some f) in
+    subst P e h
+
+-- or its construct that is not built
+pub unbuilt_construct : (stop : UnbuiltStop) (n : NotBuilt) (o : Option (ℕ × List ℕ)) → stop ≡ unbuilt.NotBuilt n → IfNotBuilt stop (λ line name. o ≡ Some (line, name)) → o ≡ Some (n.line, n.name)
+unbuilt_construct stop n o e h =
+    let P : UnbuiltStop → Type 0 = λ s. IfNotBuilt s (λ line name. o ≡ Some (line, name)) in
+    subst P e h
+
+-- what is wrong with a model breaks it
+pub model_broken_by : (model : List ℕ) (f : ModelFault) → HasModelFault model f → IsBrokenModel model
+model_broken_by model (model_fault.Syntax line) h = inl h
+model_broken_by model (model_fault.NotBuilt n) h = inr (inl (record { m = h.0; reads = h.1; unbuilt = is_some (first_not_built h.0) (n.line, n.name) h.2 }))
+model_broken_by model (model_fault.Rule fault) h = inr (inr (record { m = h.0; reads = h.1; built = h.2; fault = is_some (first_fault h.0) fault h.3 }))
+
+-- and what is wrong with a script
+pub script_broken_by : (objects : List Object) (script : List ℕ) (f : ScriptFault) → HasScriptFault objects script f → BreaksScript objects script
+script_broken_by objects script (script_fault.Syntax line) h = inl (line, h)
+script_broken_by objects script (script_fault.Command fault) h = inr (h.0, fault, h.1, h.2)
 
 -- what a script may name is the same in the design and in its model
-same_objects : (design : Design) (m : tree.Model) → IsDesign m design → visible design ≡ shown_objects m
-same_objects design m is = ap (λ os. filter is_visible os) is.objects
+same_objects : (design : Design) (m : tree.Model) → IsRunOf m design → visible design ≡ shown_objects m
+same_objects design m is = ap (λ os. filter is_visible os) (is.is_methods.objects ∙ ap method_objects is.is_design.parts.objects)
 
--- a broken script, over the design of the model
-pub broken_over : (design : Design) (m : tree.Model) (script text : List ℕ) → IsDesign m design → text ≡ script → BreaksScript (visible design) text → IsBrokenScript m script
-broken_over design m script text is same h =
-    let P : List Object → Type 0 = λ os. BreaksScript os script in
-    let Q : List ℕ → Type 0 = λ t. BreaksScript (visible design) t in
+-- what is wrong with a script, over the design of the model
+pub fault_over : (design : Design) (m : tree.Model) (script text : List ℕ) (f : ScriptFault) → IsRunOf m design → text ≡ script → HasScriptFault (visible design) text f → HasScriptFault (shown_objects m) script f
+fault_over design m script text f is same h =
+    let P : List Object → Type 0 = λ os. HasScriptFault os script f in
+    let Q : List ℕ → Type 0 = λ t. HasScriptFault (visible design) t f in
     subst P (same_objects design m is) (subst Q same h)
 
 -- a script over the design of the model
-pub accepts_over : (design : Design) (m : tree.Model) (model script text text' : List ℕ) (commands : List Command) → IsDesign m design → text ≡ model → text' ≡ script → AcceptsModel text m → NamesScript (visible design) text' commands → Accepts model script m commands
+pub accepts_over : (design : Design) (m : tree.Model) (model script text text' : List ℕ) (commands : List Command) → IsRunOf m design → text ≡ model → text' ≡ script → AcceptsModel text m → NamesScript (visible design) text' commands → Accepts model script m commands
 accepts_over design m model script text text' commands is same same' accepted named =
     let P : List Object → Type 0 = λ os. NamesScript os script commands in
     let Q : List ℕ → Type 0 = λ t. NamesScript (visible design) t commands in
     let R : List ℕ → Type 0 = λ t. AcceptsModel t m in
     record { accepted = subst R same accepted; named = subst P (same_objects design m is) (subst Q same' named) }
 
--- the design of an accepted model, with its code
-pub design_over : (design : Design) (m : tree.Model) (names : List (List ℕ)) (code : Code) → IsDesign m design → (design.names ≡ names) × (design.code ≡ code) → IsCodeOf m names code → IsDesignOf m design
-design_over design m names code is same reads =
-    let P : List (List ℕ) → Type 0 = λ ns. IsCodeOf m ns design.code in
-    let Q : Code → Type 0 = λ c. IsCodeOf m names c in
-    record { parts = is; code = subst P (sym same.0) (subst Q (sym same.1) reads) }
+-- the design of methods of an accepted model, by its flat design with its code
+pub run_over : (m : tree.Model) (code : Code) (design : FlatDesign) (run : Design) → IsDesign m design → design.code ≡ code → IsMethodsOf design run → IsCodeOf m code → IsRunOf m run
+run_over m code design run is same methods reads =
+    record { design = design; is_design = record { parts = is; code = subst (IsCodeOf m) (sym same) reads }; is_methods = methods }
 
 by_findings : (text : List ℕ) (m : tree.Model) → Reads text m → (found : Option (ℕ × List ℕ)) (fault : Option Fault) → first_not_built m ≡ found → first_fault m ≡ fault → AcceptsModel text m ⊎ (HasUnbuilt text ⊎ BreaksRule text)
 by_findings text m reads (Some found) fault u f = inr (inl (record { m = m; reads = reads; unbuilt = is_some (first_not_built m) found u }))

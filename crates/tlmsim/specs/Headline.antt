@@ -4,7 +4,7 @@ use Rattle.sim_io.specs.Told.{Files, Lacks}
 use Rattle.sim_io.specs.Cause.{Rose}
 use Rattle.flat_design.specs.declared.faults.RunFault.{RunFault}
 use Rattle.model_tree.specs.Tree as tree
-use Rattle.method_design.specs.declared.designs.Design.{Design}
+use Rattle.method_design.specs.declared.designs.Design.{Design as MethodDesign}
 use Rattle.method_model.specs.Configuration.{start}
 use Rattle.method_model.specs.declared.plain.Command.{Command}
 use Rattle.method_model.specs.declared.plain.Stop.{Stop}
@@ -12,9 +12,9 @@ use Rattle.method_model.specs.declared.plain.Stop.TheVariants as stop
 use Rattle.session.specs.Course.{Ran}
 use Rattle.session.specs.declared.run.Rule.TheVariants as rule
 use Rattle.tlmsim.specs.Line.{Names, line_of}
-use Rattle.tlmsim.specs.Call.{Call, Texts, model_limit, script_limit}
+use Rattle.tlmsim.specs.Call.{Call, Keeps, Texts, model_limit, script_limit}
 use Rattle.tlmsim.specs.Loaded.{LacksScript, IsTooLarge}
-use Rattle.tlmsim.specs.Judged.{IsBrokenModel, AcceptsModel, IsBrokenScript, Accepts, IsDesignOf}
+use Rattle.tlmsim.specs.Judged.{IsBrokenModel, AcceptsModel, IsBrokenScript, Accepts, IsRunOf}
 
 -- the most steps of a session
 abbrev pub default_budget : ℕ
@@ -49,8 +49,9 @@ pub record ScriptRefused (c : Call) : Type 0 where
   pub accepted : AcceptsModel model m
   pub broken : IsBrokenScript m script
 
--- both texts are accepted, and this is their session: the run of a design of the source tree under the script, with
--- these choices and steps, which ended so, and whose text `out` took; each choice is one of the rule
+-- both texts are accepted, and this is their session: the run of the design of methods that a design of the source tree
+-- gives, under the script, with these choices and steps, which ended so, and whose text `out` took; each choice is one of
+-- the rule
 pub record Session (c : Call) (choices : List ℕ) (steps : ℕ) (s : Stop) : Type 0 where
   pub model : List ℕ
   pub script : List ℕ
@@ -58,9 +59,9 @@ pub record Session (c : Call) (choices : List ℕ) (steps : ℕ) (s : Stop) : Ty
   pub m : tree.Model
   pub commands : List Command
   pub accepts : Accepts model script m commands
-  pub design : Design
-  pub is_design : IsDesignOf m design
-  pub ran : Ran (start design commands) rule.First default_budget choices steps s c.before.out c.after.out
+  pub run : MethodDesign
+  pub is_run : IsRunOf m run
+  pub ran : Ran (start run commands) rule.First default_budget choices steps s c.before.out c.after.out
 
 -- the session had not begun: no choices, no steps, and `out` is as it was
 pub record Untouched (c : Call) (choices : List ℕ) (steps : ℕ) : Type 0 where
@@ -109,7 +110,7 @@ IsRefusal status = (status ≡ 1) ⊎ ((status ≡ 2) ⊎ ((status ≡ 3) ⊎ ((
 abbrev pub IsRunStatus : ℕ → Type 0
 IsRunStatus status = (status ≡ 0) ⊎ ((status ≡ 5) ⊎ ((status ≡ 6) ⊎ (status ≡ 9)))
 
--- each status and its cause, and each cause and its status
+-- each status and its cause, what is kept at every status, and each cause and its status
 pub record Answers (c : Call) (status : ℕ) (choices : List ℕ) (steps : ℕ) : Type 0 where
   pub done : status ≡ 0 → Finished c choices steps
   pub usage : status ≡ 1 → line_of c.words ≡ None
@@ -124,6 +125,7 @@ pub record Answers (c : Call) (status : ℕ) (choices : List ℕ) (steps : ℕ) 
   pub large : status ≡ 10 → TooLarge c
   pub refused : IsRefusal status → Untouched c choices steps
   pub bound : status ≤ 10
+  pub kept : Keeps c
   pub usage_comes : line_of c.words ≡ None → (status ≡ 1) ⊎ (status ≡ 8)
   pub large_comes : (old new : Files) (model script : List ℕ) → Given c old new model script
       → (model_limit < length model) ⊎ (script_limit < length script) → (status ≡ 10) ⊎ (status ≡ 8)

@@ -1,18 +1,24 @@
 -- Which texts are accepted, and which are refused.
-use Rattle.std.specs.Prelude.{◌≡◌, ◌⊎◌, ℕ, List, filter, None, IsSome, Ok, Err}
+use Rattle.std.specs.Prelude.{◌≡◌, ◌⊎◌, ℕ, List, filter, Some, None, IsSome, Ok, Err}
 use Rattle.model_tree.specs.Tree as tree
 use Rattle.model_tree.specs.declared.faults.Fault.{Fault}
 use Rattle.method_design.specs.declared.designs.Object.{Object}
 use Rattle.model_lexer.specs.Reads.{Reads}
 use Rattle.not_built.specs.Missing.{first_not_built}
 use Rattle.model_rules.specs.FirstFault.{first_fault}
-use Rattle.method_design.specs.declared.designs.Design.{Design}
+use Rattle.flat_design.specs.declared.design.Design.{Design}
+use Rattle.method_design.specs.Made.{IsMethodsOf, method_objects}
+use Rattle.method_design.specs.declared.designs.Design.{Design as MethodDesign}
 use Rattle.model_rules.specs.FlatDesign.{objects_of, IsDesign, IsCodeOf}
 use Rattle.method_model.specs.Configuration.{is_visible}
 use Rattle.method_model.specs.declared.plain.Command.{Command}
 use Rattle.script_text.specs.ScriptText.{read_script}
 use Rattle.script_text.specs.NamedScript.{name_script}
 use Rattle.script_text.specs.declared.forms.TextCommand.{TextCommand}
+use Rattle.tlmsim.specs.declared.faults.ModelFault.{ModelFault}
+use Rattle.tlmsim.specs.declared.faults.ModelFault.TheVariants as model_fault
+use Rattle.tlmsim.specs.declared.faults.ScriptFault.{ScriptFault}
+use Rattle.tlmsim.specs.declared.faults.ScriptFault.TheVariants as script_fault
 
 -- the model reads as no tree
 abbrev pub HasNoTree : List ℕ → Type 0
@@ -35,6 +41,14 @@ pub record BreaksRule (model : List ℕ) : Type 0 where
 abbrev pub IsBrokenModel : List ℕ → Type 0
 IsBrokenModel model = HasNoTree model ⊎ (HasUnbuilt model ⊎ BreaksRule model)
 
+-- what is said of a model that is refused is so: it reads as no tree; or as one in which the first construct that is
+-- not built has this line and stands in the module of this name; or as one of built constructs alone, of which this
+-- is the first fault
+abbrev pub HasModelFault : List ℕ → ModelFault → Type 0
+HasModelFault model (model_fault.Syntax line) = HasNoTree model
+HasModelFault model (model_fault.NotBuilt n) = (m : tree.Model) × Reads model m × (first_not_built m ≡ Some (n.line, n.name))
+HasModelFault model (model_fault.Rule fault) = (m : tree.Model) × Reads model m × (first_not_built m ≡ None) × (first_fault m ≡ Some fault)
+
 -- the model reads as this tree, in which each construct is built, and which breaks no rule
 pub record AcceptsModel (model : List ℕ) (m : tree.Model) : Type 0 where
   pub reads : Reads model m
@@ -43,18 +57,30 @@ pub record AcceptsModel (model : List ℕ) (m : tree.Model) : Type 0 where
 
 -- the objects of a model that a script may name, in object order
 abbrev pub shown_objects : tree.Model → List Object
-shown_objects m = filter is_visible (objects_of m)
+shown_objects m = filter is_visible (method_objects (objects_of m))
 
 -- the design is that of the tree: its objects, what its names stand for, and code that reads back as the bodies of
 -- its processes
 pub record IsDesignOf (m : tree.Model) (d : Design) : Type 0 where
   pub parts : IsDesign m d
-  pub code : IsCodeOf m d.names d.code
+  pub code : IsCodeOf m d.code
+
+-- the design of methods is given by a design of the tree
+pub record IsRunOf (m : tree.Model) (run : MethodDesign) : Type 0 where
+  pub design : Design
+  pub is_design : IsDesignOf m design
+  pub is_methods : IsMethodsOf design run
 
 -- the script has no command list, or a command that names what the objects lack or has a bad value
 abbrev pub BreaksScript : List Object → List ℕ → Type 0
 BreaksScript objects script =
     ((line : ℕ) × (read_script script ≡ Err line)) ⊎ ((text : List TextCommand) × (fault : Fault) × (read_script script ≡ Ok text) × (name_script objects text ≡ Err fault))
+
+-- what is said of a script that is refused is so: it reads as no command list, and this line says so; or as commands
+-- of which this is the first fault over the objects
+abbrev pub HasScriptFault : List Object → List ℕ → ScriptFault → Type 0
+HasScriptFault objects script (script_fault.Syntax line) = read_script script ≡ Err line
+HasScriptFault objects script (script_fault.Command fault) = (text : List TextCommand) × (read_script script ≡ Ok text) × (name_script objects text ≡ Err fault)
 
 abbrev pub IsBrokenScript : tree.Model → List ℕ → Type 0
 IsBrokenScript m script = BreaksScript (shown_objects m) script

@@ -2,7 +2,8 @@ pub mod Line
 pub mod Seen
 pub mod Call
 pub mod Loaded
-pub mod Forms
+pub mod Unbuilt
 pub mod Judged
+pub mod Refused
 pub mod Headline
 pub mod Simulated

@@ -1,15 +1,17 @@
 //! The simulator: the words of a command line, and the one call that runs a model under a script.
 #![tactic(auto)]
 
-mod forms;
+mod faults;
 mod judge;
 mod laws;
 mod load;
+mod main_call;
 mod simulate;
-mod top;
+mod statuses;
+mod unbuilt;
 mod words;
 
 pub use laws::one_cause;
 pub use load::{MODEL_LIMIT, SCRIPT_LIMIT};
-pub use top::{Ended, sim_main};
+pub use main_call::{Ended, sim_main};
 pub use words::Words;

@@ -1,12 +1,13 @@
-ghost use Rattle.std.specs.Prelude.{◌≡◌, ◌≤◌, OnErr};
+ghost use Rattle.std.specs.Prelude.{◌≡◌, ◌≤◌, ℕ, List, Option, OnErr};
 ghost use Rattle.sim_io.specs.Told.{AfterTold, Same};
 ghost use Rattle.sim_io.specs.Cause.{RoseIf};
 ghost use Rattle.method_model.specs.Configuration.{start};
 ghost use Rattle.method_model.specs.declared.plain.Stop.{Stop};
 ghost use Rattle.session.specs.Course.{Ran};
-ghost use Rattle.tlmsim.specs.Call.{called};
+ghost use Rattle.tlmsim.specs.Call.{outside_of};
 ghost use Rattle.tlmsim.specs.Simulated.{Causes};
 
+use super::faults::{ModelFault, ScriptFault};
 use super::judge::{JudgeStop, Judged, judge};
 use super::load::{Texts, load};
 use super::words::{Words, line_of};
@@ -18,16 +19,16 @@ use std::alloc::Global;
 pub const DEFAULT_BUDGET: u64 = 10_000_000;
 
 /// Why no session began.
-#[derive(Clone, Copy)]
+#[derive(Drop)]
 pub enum Refusal {
     /// The words are refused.
     Usage,
     /// A file could not be read.
     Read,
-    /// The model is refused.
-    Model,
-    /// The script is refused.
-    Script,
+    /// The model is refused for what is wrong with it.
+    Model(ModelFault),
+    /// The script is refused for what is wrong with it.
+    Script(ScriptFault),
     /// Memory was refused.
     NoMemory,
     /// A file has more bytes than its limit.
@@ -48,17 +49,24 @@ fn run<O: Sink>(alloc: Global, judged: Judged, out: &mut O) -> Outcome
     run_session(alloc, design, script.as_slice(), plan, out)
 }
 
-/// The work in its order: the words, the files, the model, the script, the session.
+/// The work in its order: the words, the files, the model, the script, the session. What `err` holds has no part
+/// in it; a refusal of a text has what is wrong with the text, to be said there.
 pub fn simulate<S: Shelf, O: Sink>(
     alloc: Global,
     words: &Words,
     shelf: &mut S,
     out: &mut O,
 ) -> Result<Outcome, Refusal>
-    ensures causes { Causes (called S.files S.reads S.writes O.holds O.faults words.now shelf.old shelf.new out.old out.new) result }
+    ensures causes { (err err' : Option (List ℕ)) (faults faults' : ℕ) → Causes (record {
+      words = words.now;
+      before = outside_of S.files S.reads S.writes O.holds O.faults shelf.old out.old err faults;
+      after = outside_of S.files S.reads S.writes O.holds O.faults shelf.new out.new err' faults';
+    }) result }
     ensures untouched { OnErr result (O.holds out.new ≡ O.holds out.old) }
     ensures files { AfterTold (S.files shelf.old) (S.files shelf.new) Same }
     ensures writes { S.writes shelf.new ≡ S.writes shelf.old }
+    ensures reads { S.reads shelf.old ≤ S.reads shelf.new }
+    ensures out_faults { O.faults out.old ≤ O.faults out.new }
 {
     let Some((model, script)) = line_of(words) else {
         return Err(Refusal::Usage);
@@ -71,8 +79,8 @@ pub fn simulate<S: Shelf, O: Sink>(
     };
     match judge(alloc, &texts) {
         Ok(judged) => Ok(run(alloc, judged, out)),
-        Err(JudgeStop::Model) => Err(Refusal::Model),
-        Err(JudgeStop::Script) => Err(Refusal::Script),
+        Err(JudgeStop::Model(fault)) => Err(Refusal::Model(fault)),
+        Err(JudgeStop::Script(fault)) => Err(Refusal::Script(fault)),
         Err(JudgeStop::NoMemory) => Err(Refusal::NoMemory),
     }
 }

@@ -1,7 +1,7 @@
 ghost use Rattle.std.specs.Prelude.{◌≡◌, IfErr, None, OnOk, Some};
 ghost use Rattle.model_tree.specs.Seen.{model_of};
 ghost use Rattle.not_built.specs.Missing.{first_not_built};
-ghost use Rattle.tlmsim.specs.Forms.{IfNotBuilt};
+ghost use Rattle.tlmsim.specs.Unbuilt.{IfNotBuilt};
 
 use logic_values::Text;
 use model_tree::Tree;
@@ -19,16 +19,16 @@ pub struct NotBuilt {
 
 /// Why a tree is not run.
 #[derive(Drop)]
-pub enum FormStop {
+pub enum UnbuiltStop {
     /// A construct is not built: the first in text order, an outer one before those in it.
     NotBuilt(NotBuilt),
     /// Memory was refused.
     NoMemory,
 }
 
-/// Ok where a tree has only built forms. NotBuilt has the first construct that is not, and its name stands in memory
-/// of its own.
-pub fn judge_forms(alloc: Global, tree: &Tree) -> Result<(), FormStop>
+/// Ok where a tree has only built constructs. NotBuilt has the first that is not built, and its name stands in
+/// memory of its own.
+pub fn refuse_unbuilt(alloc: Global, tree: &Tree) -> Result<(), UnbuiltStop>
     ensures built { OnOk result (first_not_built (model_of tree.now) ≡ None) }
     ensures refused { IfErr result (λ stop. IfNotBuilt stop (λ line name. first_not_built (model_of tree.now) ≡ Some (line, name))) }
 {
@@ -36,10 +36,10 @@ pub fn judge_forms(alloc: Global, tree: &Tree) -> Result<(), FormStop>
         return Ok(());
     };
     match Vec::from_slice(alloc, found.name.bytes()) {
-        Ok(bytes) => Err(FormStop::NotBuilt(NotBuilt {
+        Ok(bytes) => Err(UnbuiltStop::NotBuilt(NotBuilt {
             line: found.line,
             name: Text::from_vec(bytes),
         })),
-        Err(_) => Err(FormStop::NoMemory),
+        Err(_) => Err(UnbuiltStop::NoMemory),
     }
 }

@@ -1,28 +1,26 @@
-use Rattle.std.proofs.Common.{◌≡◌, ap, Err, subst, List, ℕ}
+use Rattle.std.proofs.Common.{subst, List, ℕ}
 use Rattle.model_tree.specs.Seen.{model_of}
-use Rattle.tlmsim.specs.Judged.{IsBrokenModel, AcceptsModel}
-use Rattle.tlmsim.specs.declared.judge.JudgeStop.TheVariants.{Model, Script}
-use Rattle.tlmsim.proofs.Refusals.{broken_over, accepts_over, design_over}
+use Rattle.tlmsim.specs.Judged.{HasModelFault, AcceptsModel}
+use Rattle.tlmsim.proofs.Refusals.{fault_over, accepts_over}
 use Rattle.tlmsim.proofs.judge.judge.Goals as goal
 
-pub returns-in-Err-clause-model : goal.returns-in-Err-clause-model
-returns-in-Err-clause-model c = λ h.
-    let same : c.in-Err.stop ≡ Model = cc in
-    subst IsBrokenModel c.as_slice.ensures (c.in-Err.ensures.broken (ap (λ e. Err e) same))
+pub returns-in-Err-Fault-clause-fault : goal.returns-in-Err-Fault-clause-fault
+returns-in-Err-Fault-clause-fault c =
+    let P : List ℕ → Type 0 = λ text. HasModelFault text c.in-Err-Fault.fault in
+    rw c.in-Err-Fault.field-0-is (subst P c.as_slice.ensures (rw c.in-Err-Fault.field-0-is at c.in-Err-Fault.ensures.fault))
 
-pub returns-in-Err-judge_script-clause-script : goal.returns-in-Err-judge_script-clause-script
-returns-in-Err-judge_script-clause-script c = λ h.
-    let same : c.in-Err-judge_script.stop ≡ Script = cc in
+pub returns-in-Err-Fault-judge_script-clause-fault : goal.returns-in-Err-Fault-judge_script-clause-fault
+returns-in-Err-Fault-judge_script-clause-fault c =
     let m = model_of c.in-Ok.checked.tree in
     let P : List ℕ → Type 0 = λ text. AcceptsModel text m in
-    (m, subst P c.as_slice.ensures c.in-Ok.ensures.accepted, broken_over c.in-Ok-design_of_model.design m c.args.texts.now.script _ c.in-Ok-design_of_model.ensures.design c.as_slice-2.ensures (c.in-Err-judge_script.ensures.broken (ap (λ e. Err e) same)))
+    (m, subst P c.as_slice.ensures c.in-Ok.ensures.accepted, fault_over c.in-Ok-methods_of_model.design m c.args.texts.now.script _ c.in-Err-Fault-judge_script.fault (c.in-Ok-methods_of_model.ensures c.in-Ok.ensures.code) c.as_slice-2.ensures (rw c.in-Err-Fault-judge_script.field-0-is at c.in-Err-Fault-judge_script.ensures.fault))
 
 pub returns-in-Ok-judge_script-clause-accepted : goal.returns-in-Ok-judge_script-clause-accepted
 returns-in-Ok-judge_script-clause-accepted c =
     let m = model_of c.in-Ok.checked.tree in
-    let design = c.in-Ok-design_of_model.design in
-    let parts = c.in-Ok-design_of_model.ensures.design in (
+    let run = c.in-Ok-methods_of_model.design in
+    let is_run = c.in-Ok-methods_of_model.ensures c.in-Ok.ensures.code in (
       m,
-      design_over design m c.in-Ok.checked.names c.in-Ok.checked.code parts c.in-Ok-design_of_model.ensures.code c.in-Ok.ensures.code,
-      accepts_over design m c.args.texts.now.model c.args.texts.now.script c.as_slice.result.now c.as_slice-2.result.now c.in-Ok-judge_script.script parts c.as_slice.ensures c.as_slice-2.ensures c.in-Ok.ensures.accepted c.in-Ok-judge_script.ensures.accepted,
+      is_run,
+      accepts_over run m c.args.texts.now.model c.args.texts.now.script c.as_slice.result.now c.as_slice-2.result.now c.in-Ok-judge_script.script is_run c.as_slice.ensures c.as_slice-2.ensures c.in-Ok.ensures.accepted c.in-Ok-judge_script.ensures.accepted,
     )

@@ -1,23 +1,16 @@
-use Rattle.std.proofs.Common.{inr, sym, subst}
+use Rattle.std.proofs.Common.{sym, subst}
 use Rattle.model_tree.specs.Seen.{model_of}
 use Rattle.model_tree.specs.declared.whole.Tree.{Tree}
 use Rattle.model_rules.specs.FlatDesign.{IsCodeOf}
-use Rattle.tlmsim.proofs.Refusals.{refused_some}
+use Rattle.tlmsim.proofs.Refusals.{refused_fault}
 use Rattle.tlmsim.proofs.judge.judge_model.Goals as goal
 
 pub returns-in-Ok-check-clause-code : goal.returns-in-Ok-check-clause-code
 returns-in-Ok-check-clause-code c =
     let checked = c.in-Ok-check.checked in
-    let P : Tree → Type 0 = λ t. IsCodeOf (model_of t) checked.names checked.code in
+    let P : Tree → Type 0 = λ t. IsCodeOf (model_of t) checked.code in
     subst P (sym c.in-Ok-check.ensures.same_tree) (c.in-Ok-check.ensures.code c.in-Ok.ensures.built)
 
-pub returns-in-Err-Refused-clause-broken : goal.returns-in-Err-Refused-clause-broken
-returns-in-Err-Refused-clause-broken c = λ _.
-    inr
-    (inr
-    (record {
-      m = _;
-      reads = c.in-Ok.ensures.reads;
-      built = c.in-Ok.ensures.built;
-      fault = refused_some c.in-Err-Refused.field-0 _ _ c.in-Err-Refused.field-0-is c.in-Err-Refused.ensures.refused;
-    }))
+pub returns-in-Err-Refused-clause-fault : goal.returns-in-Err-Refused-clause-fault
+returns-in-Err-Refused-clause-fault c =
+    (_, c.in-Ok.ensures.reads, c.in-Ok.ensures.built, refused_fault c.in-Err-Refused.field-0 _ _ c.in-Err-Refused.field-0-is c.in-Err-Refused.ensures.refused)

@@ -1,0 +1,34 @@
+ghost use Rattle.std.specs.Prelude.{◌≡◌};
+ghost use Rattle.tlmsim.specs.Headline as headline;
+ghost use Rattle.tlmsim.specs.Simulated as spec;
+
+use super::simulate::Refusal;
+use method_model::Stop;
+
+/// The status of a session that ended so.
+pub fn stop_status(stop: Stop) -> u8
+    ensures { result ≡ headline.stop_status stop }
+{
+    match stop {
+        Stop::Done | Stop::Stopped => 0,
+        Stop::Fault(_) => 5,
+        Stop::Budget => 6,
+        Stop::WriteFault => 7,
+        Stop::NoMemory => 8,
+        Stop::Replay { place: _ } => 9,
+    }
+}
+
+/// The status of a refusal.
+pub fn refusal_status(refusal: &Refusal) -> u8
+    ensures { result ≡ spec.refusal_status refusal.now }
+{
+    match refusal {
+        Refusal::Usage => 1,
+        Refusal::Read => 2,
+        Refusal::Model(_) => 3,
+        Refusal::Script(_) => 4,
+        Refusal::NoMemory => 8,
+        Refusal::TooLarge => 10,
+    }
+}
