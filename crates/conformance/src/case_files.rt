@@ -4,8 +4,14 @@
 //! `case NAME` begins a case; `words WORD..`, `model TEXT`, `script TEXT`, `file NAME TEXT`,
 //! `shelf fails NUMBER..`, `out room NUMBER`, `out fails NUMBER..`, the same two for `err`, and
 //! `budget NUMBER` say what the case has. `quoting` has the form of a TEXT.
+//!
+//! Behind a line `gives` stands what is wanted, each as the program tells it: `status NUMBER`, or `stop WORD` of a session
+//! that is run alone, `steps NUMBER`, `choices none` or `choices SERIAL..`, `out TEXT`, `err TEXT`, and `file NAME STATE`
+//! for each file that is given and each word that names none. A line that begins with a double quote goes on with the
+//! TEXT before it. A case is right where just these facts come: one that is left out is told as wrong.
 
 use super::cases::{Case, File, MODEL, SCRIPT, SinkForm};
+use super::facts::{Fact, Value};
 use super::quoting::text_bytes;
 use std::alloc::{AllocError, Global};
 use thiserror::Error;
@@ -101,8 +107,8 @@ fn add_to_sink(alloc: Global, sink: &mut SinkForm, rest: &str) -> Result<(), Lin
     }
 }
 
-/// Adds what a line says to the case that it stands in.
-fn add(alloc: Global, case: &mut Case, word: &str, rest: &str) -> Result<(), LineError> {
+/// Adds what a line says of what the case has.
+fn add_given(alloc: Global, case: &mut Case, word: &str, rest: &str) -> Result<(), LineError> {
     match word {
         "words" => {
             case.words = words(alloc, rest)?;
@@ -118,8 +124,51 @@ fn add(alloc: Global, case: &mut Case, word: &str, rest: &str) -> Result<(), Lin
             case.budget = Some(number(rest)?);
             Ok(())
         }
+        "gives" => {
+            case.is_given = true;
+            Ok(())
+        }
         _ => Err(LineError::Form),
     }
+}
+
+/// Adds what a line says of what is wanted.
+fn add_wanted(alloc: Global, case: &mut Case, word: &str, rest: &str) -> Result<(), LineError> {
+    let fact = match word {
+        "out" | "err" => Fact::in_bytes(alloc, word, text_bytes(alloc, rest)?)?,
+        _ => Fact::in_words(alloc, word, String::from_str(alloc, rest)?)?,
+    };
+    case.wanted.push(fact)?;
+    Ok(())
+}
+
+/// Goes on with the text of the last fact that is wanted.
+fn add_to_text(alloc: Global, case: &mut Case, source: &str) -> Result<(), LineError> {
+    let more = text_bytes(alloc, source)?;
+    match case.wanted.last_mut() {
+        Some(
+            Fact {
+                value: Value::Bytes(bytes),
+                ..
+            },
+        ) => {
+            bytes.extend_from_slice(more.as_slice())?;
+            Ok(())
+        }
+        _ => Err(LineError::Form),
+    }
+}
+
+/// Adds what a line says to the case that it stands in.
+fn add(alloc: Global, case: &mut Case, line: &str) -> Result<(), LineError> {
+    if line.starts_with('"') {
+        return add_to_text(alloc, case, line);
+    }
+    let (word, rest) = first_word(line);
+    if case.is_given {
+        return add_wanted(alloc, case, word, rest);
+    }
+    add_given(alloc, case, word, rest)
 }
 
 /// Begins a case, or adds to the last one.
@@ -133,7 +182,7 @@ fn read_line(alloc: Global, cases: &mut Vec<Case>, line: &str) -> Result<(), Lin
         return Ok(());
     }
     match cases.last_mut() {
-        Some(case) => add(alloc, case, word, rest),
+        Some(case) => add(alloc, case, line),
         None => Err(LineError::Form),
     }
 }

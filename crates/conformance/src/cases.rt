@@ -1,5 +1,6 @@
 //! What a case has.
 
+use super::facts::Fact;
 use std::alloc::{AllocError, Global};
 
 /// A file that lies on the shelf before the run.
@@ -47,6 +48,10 @@ pub struct Case {
     pub err: SinkForm,
     /// The step budget of a session that is run alone.
     pub budget: Option<u64>,
+    /// Whether its further lines say what is wanted.
+    pub is_given: bool,
+    /// What is wanted to come of it.
+    pub wanted: Vec<Fact>,
 }
 
 /// The name of the model's file, where a case does not say otherwise.
@@ -74,6 +79,8 @@ impl Case {
             out: SinkForm::new(alloc),
             err: SinkForm::new(alloc),
             budget: None,
+            is_given: false,
+            wanted: Vec::new(alloc),
         })
     }
 }

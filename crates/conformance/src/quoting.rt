@@ -162,7 +162,7 @@ pub fn push_quoted(shown: &mut String, bytes: &[u8]) -> Result<(), AllocError> {
     for (place, byte) in bytes.iter().enumerate() {
         push_byte(shown, *byte)?;
         if *byte == b'\n' && place + 1 < bytes.len() {
-            shown.push_str("\"\n      \"")?;
+            shown.push_str("\"\n        \"")?;
         }
     }
     shown.push('"')

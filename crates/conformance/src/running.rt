@@ -2,15 +2,15 @@
 
 use super::cases::{Case, File, SinkForm, bytes_of};
 use elaborate::elaborate;
+use method_design::Design;
+use method_model::Command;
 use model_check::check;
 use model_parser::parse;
-use method_design::Design;
-use plain_lists::Items;
 use not_built::not_built;
+use plain_lists::Items;
 use script_text::{commands, name_all};
 use session::{Log, Outcome, Plan, Rule, run_session};
 use sim_io::{MemoryShelf, MemorySink};
-use method_model::Command;
 use std::alloc::{AllocError, Global};
 use tlmsim::{Ended, MODEL_LIMIT, Words, sim_main};
 

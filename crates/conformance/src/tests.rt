@@ -1,3 +1,5 @@
+use super::case_files::read_cases;
+use super::judging::difference;
 use flat_design::Choices;
 use model_tree::Name;
 use std::test::Fail;
@@ -15,5 +17,55 @@ fn names_are_copied_and_choices_listed(rt: HostRuntime) -> Result<(), Fail> {
     choices.push(3)?;
     choices.push(1)?;
     assert_eq!(rt; choices.as_slice(), [3, 1].as_slice());
+    Ok(())
+}
+
+/// Two cases of one run: the first says what comes of it, the second another line, and no number of steps.
+const TWO_CASES: &str = r#"
+case it says what comes
+  model "module M { } top M m;"
+  script "run"
+  gives
+    status 0
+    steps 5
+    choices none
+    out "end done "
+        "0\n"
+    err ""
+    file m.tlm as before
+    file s.txt as before
+
+case it says something else
+  model "module M { } top M m;"
+  script "run"
+  gives
+    status 0
+    choices none
+    out "final m.a 0\n"
+        "end done 0\n"
+    err ""
+    file m.tlm as before
+    file s.txt as before
+"#;
+
+/// What is told of the second.
+const DIFFERENCE: &str = r#"WRONG it says something else
+  wanted
+    out "final m.a 0\n"
+        "end done 0\n"
+  came
+    steps 5
+    out "end done 0\n"
+"#;
+
+// A case that says something else than what comes is told.
+#[test]
+fn wrong_cases_are_told(rt: HostRuntime) -> Result<(), Fail> {
+    let cases = read_cases(rt.alloc(), TWO_CASES)?;
+    assert_eq!(rt; cases.len(), 2);
+    let first = difference(rt.alloc(), &cases[0])?;
+    assert!(rt; first.is_none());
+    let second = difference(rt.alloc(), &cases[1])?;
+    assert_eq!(rt; second.as_ref().map(String::as_str), Some(DIFFERENCE));
     Ok(())
 }
