@@ -1,4 +1,4 @@
--- What a contract sees of a `Mutex` (IEEE 1666-2011, 6.27) and of a `Semaphore` (6.28): its owner, if there is one, and its value.
+-- What a contract sees of a `Mutex` (IEEE 1666-2011, 6.27) and of a `Semaphore` (6.29): its owner, if there is one, and its value.
 use Rattle.std.specs.Prelude.{ℕ, ◌==◌, ℤ, pos, neg_ℤ, Bool, true, false, Option, None, Some, if◌then◌else◌}
 
 -- what a call answers that can fail: 0 where it was done, and -1 where not

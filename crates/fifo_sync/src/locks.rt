@@ -55,7 +55,7 @@ impl Mutex {
     }
 }
 
-/// A semaphore (IEEE 1666-2011, 6.28), seen as its value.
+/// A semaphore (IEEE 1666-2011, 6.29), seen as its value.
 #[derive(Drop)]
 pub struct Semaphore {
     count: u64,

@@ -1,4 +1,4 @@
--- The quantum keeper (IEEE 1666-2011, 16.2 and 16.3), in picoseconds.
+-- The quantum keeper (IEEE 1666-2011, 16.2) and the global quantum (clause 12), in picoseconds.
 use Rattle.std.specs.Prelude.{ℕ, ◌+◌, ◌-◌, ◌%◌, ◌^◌, Bool, ◌==◌, nat_lt, nat_le, Option, Some, None, if◌then◌else◌}
 use Rattle.sim_time.specs.declared.moments.Time.{Time}
 use Rattle.quantum_keeper.specs.declared.keeper.Keeper.{Keeper}

@@ -6,7 +6,7 @@ use sim_time::{Time, add};
 /// How far simulated time is from the next multiple of the global quantum, in picoseconds.
 ///
 /// It is the whole global quantum where `now` is such a multiple, and 0 where the global quantum is 0
-/// (IEEE 1666-2011, 16.2, `compute_local_quantum`).
+/// (IEEE 1666-2011, clause 12, `compute_local_quantum` of `tlm_global_quantum`).
 pub fn local_quantum(global: Time, now: Time) -> Time
     ensures { result.0 ≡ quantum_left global.0 now.0 }
 {
@@ -17,7 +17,7 @@ pub fn local_quantum(global: Time, now: Time) -> Time
 }
 
 /// A quantum keeper: how far its process is ahead of simulated time, and when it has to wait for the others
-/// (IEEE 1666-2011, 16.3, `tlm_quantumkeeper`).
+/// (IEEE 1666-2011, 16.2, `tlm_quantumkeeper`).
 #[derive(Clone, Copy, Debug, PartialEq, Eq)]
 pub struct Keeper {
     local: Time,
