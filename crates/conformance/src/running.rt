@@ -2,7 +2,7 @@
 
 use super::cases::{Case, File, SinkForm, bytes_of};
 use elaborate::elaborate;
-use method_design::Design;
+use method_design::{Design, method_design};
 use method_model::Command;
 use model_check::check;
 use model_parser::parse;
@@ -90,7 +90,8 @@ fn design_of(alloc: Global, model: &[u8]) -> Option<Design> {
         return None;
     }
     let checked = check(alloc, tree).ok()?;
-    elaborate(alloc, checked).ok()
+    let flat = elaborate(alloc, checked).ok()?;
+    method_design(alloc, flat).ok()
 }
 
 /// The commands of a script that is accepted.
