@@ -1,19 +1,33 @@
 -- The words on entries against those on finite maps.
-use Rattle.std.proofs.Common.{◌≡◌, ◌+◌, Bool, true, false, cond, List, [], ◌∷◌, length, Some, None, Option, refl, sym, ap, ◌∙◌, subst, arith}
+use Rattle.std.proofs.Common.{◌≡◌, ◌+◌, ◌≤◌, Bool, true, false, cond, not, List, [], ◌∷◌, length, Some, None, Option, refl, sym, ap, ◌∙◌, subst, arith}
 use Rattle.std.specs.Prelude.{T, ◌&&◌, is_some}
 use Rattle.std.specs.declared.cmp.Ordering.{Ordering}
 use Rattle.std.specs.declared.cmp.Ordering.TheVariants.{Less, Equal, Greater}
 use Rattle.std.specs.Ordering.{is_lt, is_eq, eq_by_cmp}
 use Rattle.std.specs.Cmp.{IsTotalOrder, alike_right}
 use Rattle.std.specs.FinMap as map
-use Rattle.std.specs.FinMap.{find, put, is_sorted}
-use Rattle.std.specs.FinMap.Entries.{by_order, below_all, length-put}
+use Rattle.std.specs.FinMap.{FinMap, find, put, is_sorted}
+use Rattle.std.specs.FinMap.Entries.{by_order, below_all, length-put, where_key, find-where_key, is_sorted-where_key}
+use Rattle.std.proofs.lemmas.List.Filters.{length-filter_both}
 use Rattle.room_map.specs.Entries.{AllAbove, IsRising, without, as_map}
-use Rattle.room_map.proofs.Rising.{above_at, without-above, rising-put}
+use Rattle.room_map.proofs.Rising.{above_at, without-above, rising-put, rising-without}
 
 both : (a b : Bool) → T a → T b → T (a && b)
 both true b p q = q
 both false b p q = p
+
+first_of : (a b : Bool) → T (a && b) → T a
+first_of true b h = tt
+first_of false b h = absurd h
+
+second_of : (a b : Bool) → T (a && b) → T b
+second_of true b h = h
+second_of false b h = absurd h
+
+less_of : (w : Ordering) → T (is_lt w) → w ≡ Less
+less_of Less h = refl
+less_of Equal h = absurd h
+less_of Greater h = absurd h
 
 no_items : {A : Type 0} (es : List A) → length es ≡ 0 → es ≡ []
 no_items [] none = refl
@@ -61,7 +75,7 @@ module _ {K V : Type 0} {R : K → K → Ordering} (o : IsTotalOrder R) where
       by_case Equal h rest = omega (arith, ap length (without-above o k es (above_at o k e es h rises.0)))
       by_case Greater h rest = omega (arith, rest)
 
-  find-without : (k q : K) (es : List (K × V)) → find R q (without R k es) ≡ cond (eq_by_cmp R q k) None (find R q es)
+  pub find-without : (k q : K) (es : List (K × V)) → find R q (without R k es) ≡ cond (eq_by_cmp R q k) None (find R q es)
   find-without k q [] = by_test (eq_by_cmp R q k)
     where
       by_test : (b : Bool) → ◌≡◌ {A = Option V} None (cond b None None)
@@ -104,3 +118,41 @@ module _ {K V : Type 0} {R : K → K → Ordering} (o : IsTotalOrder R) where
   pub as_map-without : map.IsAntisymmetric R → (k : K) (es : List (K × V)) → as_map R (without R k es) ≡ map.remove (as_map R es) k
   as_map-without exact k es = map.same_map o exact (as_map R (without R k es)) (map.remove (as_map R es) k) (λ q.
       get-as_map (without R k es) q ∙ find-without k q es ∙ ap (cond (eq_by_cmp R q k) None) (sym (get-as_map es q)) ∙ sym (map.get-remove o (as_map R es) k q))
+
+  -- ---- any map, by its entries
+
+  above_from_below : (k : K) (es : List (K × V)) → T (below_all R k es) → AllAbove R k es
+  above_from_below k [] h = tt
+  above_from_below k (e ∷ es) h = (less_of (R k e.0) (first_of (is_lt (R k e.0)) (below_all R k es) h), above_from_below k es (second_of (is_lt (R k e.0)) (below_all R k es) h))
+
+  pub rising_from_sorted : (es : List (K × V)) → T (is_sorted R es) → IsRising R es
+  rising_from_sorted [] h = tt
+  rising_from_sorted (e ∷ es) h = (above_from_below e.0 es (first_of (below_all R e.0 es) (is_sorted R es) h), rising_from_sorted es (second_of (below_all R e.0 es) (is_sorted R es) h))
+
+  pub rising-entries : (m : FinMap R V) → IsRising R (map.entries m)
+  rising-entries m = rising_from_sorted (map.entries m) (map.entries_sorted m)
+
+  pub as_map-entries : (m : FinMap R V) → as_map R (map.entries m) ≡ m
+  as_map-entries m = map.same_entries_map (as_map R (map.entries m)) m (entries-as_map (map.entries m) (rising-entries m))
+
+  pub entries-remove : map.IsAntisymmetric R → (m : FinMap R V) (k : K) → map.entries (map.remove m k) ≡ without R k (map.entries m)
+  entries-remove exact m k =
+      ap map.entries (ap (λ n. map.remove n k) (sym (as_map-entries m)) ∙ sym (as_map-without exact k (map.entries m)))
+      ∙ entries-as_map (without R k (map.entries m)) (rising-without o k (map.entries m) (rising-entries m))
+
+  pub entries-retain_keys : map.IsAntisymmetric R → (m : FinMap R V) (p : K → Bool) → map.entries (map.retain_keys m p) ≡ where_key R p (map.entries m)
+  entries-retain_keys exact m p =
+      let es = map.entries m in
+      let h = is_sorted-where_key R p es (map.entries_sorted m) in
+      ap map.entries (map.same_map o exact (map.retain_keys m p) (map.from_sorted {R = R} (where_key R p es)) (λ q.
+      let alike : (x : K) → R q x ≡ Equal → p x ≡ p q = λ x tied. ap p (sym (exact q x tied)) in
+      map.get-retain_keys m p q alike ∙ ap (λ w. cond (p q) w None) (map.get-entries m q) ∙ sym (find-where_key R p q alike es) ∙ sym (map.get-from_sorted R (where_key R p es) q h)))
+      ∙ map.entries-from_sorted R (where_key R p es) h
+
+  pub len-retain_keys-le : map.IsAntisymmetric R → (m : FinMap R V) (p : K → Bool) → map.len (map.retain_keys m p) ≤ map.len m
+  len-retain_keys-le exact m p = omega (
+    arith,
+    map.len-entries (map.retain_keys m p) ∙ ap length (entries-retain_keys exact m p),
+    map.len-entries m,
+    length-filter_both (λ (e : K × V). p e.0) (λ (e : K × V). not (p e.0)) (λ _. refl) (map.entries m),
+  )
