@@ -1,13 +1,12 @@
 -- Lists of numbers that rise: what they have, and that their members determine them.
-use Rattle.std.proofs.Common.{◌≡◌, ℕ, ◌+◌, ◌-◌, ◌≢◌, ◌<◌, ◌≤◌, Bool, true, false, cond, not, ◌||◌, List, [], ◌∷◌, inl, inr, length, refl, sym, ap, ◌∙◌, subst, ⊎_elim, arith, eq-eqb, ne_eqb, true≢false}
-use Rattle.std.specs.Prelude.{filter, insert, ◌==◌, nat_lt}
-use Rattle.std.specs.List.{list_any, position_or_len}
-use Rattle.std.proofs.lemmas.Bool.{cases_eq, cases_order, lt-ltb, le-ltb, or_parts}
-use Rattle.std.proofs.Math.Numerals.{one-add}
+use Rattle.std.proofs.Common.{◌≡◌, ℕ, ◌≢◌, ◌<◌, Bool, true, false, cond, ◌||◌, List, [], ◌∷◌, inl, inr, refl, sym, ap, ◌∙◌, subst, ⊎_elim, arith, eq-eqb, ne_eqb, true≢false}
+use Rattle.std.specs.Prelude.{filter, ◌==◌}
+use Rattle.std.specs.List.{list_any}
+use Rattle.std.proofs.lemmas.Bool.{cases_eq, cases_order, lt-ltb, le-ltb}
 use Rattle.std.specs.Ordering.{nat_cmp, eq_by_cmp}
 use Rattle.std.specs.Cmp.{unsigned_tied}
 use Rattle.ready_set.specs.Ready.{placed, in_order}
-use Rattle.ready_set.specs.Kept.{AllBelow, AllAbove, IsRising}
+use Rattle.ready_set.specs.Kept.{AllAbove, IsRising}
 
 -- whether q is in the list
 abbrev pub has : ℕ → List ℕ → Bool
@@ -89,23 +88,6 @@ rising-placed p [] rises = (tt, tt)
 rising-placed p (x ∷ xs) rises = by_place p x xs IsRising
     (λ h. ((h, above_less p x xs h rises.0), rises)) (λ _. rises) (λ h. (above-placed x p xs h rises.0, rising-placed p xs rises.1))
 
-pub below-placed : (b p : ℕ) (xs : List ℕ) → p < b → AllBelow b xs → AllBelow b (placed p xs)
-below-placed b p [] h below = (h, tt)
-below-placed b p (x ∷ xs) h below = by_place p x xs (AllBelow b) (λ _. (h, below)) (λ _. below) (λ _. (below.0, below-placed b p xs h below.1))
-
-insert-suc : (p x : ℕ) (xs ps : List ℕ) (k : ℕ) (a b : Bool) → b ≡ false → insert xs k p ≡ ps
-    → insert (x ∷ xs) (cond (not a) (1 + k) 0) p ≡ cond a (p ∷ x ∷ xs) (cond b (x ∷ xs) (x ∷ ps))
-insert-suc p x xs ps k true b none rest = refl
-insert-suc p x xs ps k false true none rest = absurd (true≢false none)
-insert-suc p x xs ps k false false none rest = ap (λ n. insert (x ∷ xs) n p) (one-add k) ∙ ap (λ l. x ∷ l) rest
-
--- the place of a number that is not there is before the first number above it
-pub placed-at : (p : ℕ) (xs : List ℕ) → has p xs ≡ false → insert xs (position_or_len (nat_lt p) xs) p ≡ placed p xs
-placed-at p [] none = refl
-placed-at p (x ∷ xs) none =
-    let parts = or_parts (eq_by_cmp nat_cmp p x) (has p xs) none in
-    insert-suc p x xs (placed p xs) (position_or_len (nat_lt p) xs) (nat_lt p x) (p == x) (sym (unsigned_tied p x) ∙ parts.0) (placed-at p xs parts.1)
-
 pub has-in_order : (q : ℕ) (xs : List ℕ) → has q (in_order xs) ≡ has q xs
 has-in_order q [] = refl
 has-in_order q (x ∷ xs) = has-placed q x (in_order xs) ∙ ap (λ b. eq_by_cmp nat_cmp q x || b) (has-in_order q xs)
@@ -128,10 +110,6 @@ above-filter b p (x ∷ xs) above = let rest = above-filter b p xs above.1 in by
 pub rising-filter : (p : ℕ → Bool) (xs : List ℕ) → IsRising xs → IsRising (filter p xs)
 rising-filter p [] rises = tt
 rising-filter p (x ∷ xs) rises = let rest = rising-filter p xs rises.1 in by_cond IsRising (p x) (x ∷ filter p xs) (filter p xs) (above-filter x p xs rises.0, rest) rest
-
-pub below-filter : (b : ℕ) (p : ℕ → Bool) (xs : List ℕ) → AllBelow b xs → AllBelow b (filter p xs)
-below-filter b p [] below = tt
-below-filter b p (x ∷ xs) below = let rest = below-filter b p xs below.1 in by_cond (AllBelow b) (p x) (x ∷ filter p xs) (filter p xs) (below.0, rest) rest
 
 -- ---- two lists that rise
 
@@ -156,15 +134,3 @@ same_rising (x ∷ xs) (y ∷ ys) rises rises' alike =
     let here = subst (λ n. AllAbove n ys) (sym e) rises'.0 in
     let alike' : (q : ℕ) → has q (x ∷ xs) ≡ has q (x ∷ ys) = λ q. alike q ∙ ap (λ n. has q (n ∷ ys)) (sym e) in
     (λ i. e i ∷ same_rising xs ys rises.1 rises'.1 (tails x xs ys rises.0 here alike') i)
-
-length_from : (b x : ℕ) (xs : List ℕ) → IsRising (x ∷ xs) → AllBelow b (x ∷ xs) → length (x ∷ xs) ≤ b - x
-length_from b x [] rises below = let h = below.0 in omega (arith, h)
-length_from b x (y ∷ ys) rises below =
-    let above = rises.0.0 in
-    let h = below.1.0 in
-    omega (arith, above, h, length_from b y ys rises.1 below.1)
-
--- there are no more numbers that rise than numbers below b
-pub length_below : (b : ℕ) (xs : List ℕ) → IsRising xs → AllBelow b xs → length xs ≤ b
-length_below b [] rises below = omega arith
-length_below b (x ∷ xs) rises below = omega (arith, length_from b x xs rises below)

@@ -1,28 +1,21 @@
 -- What a set shows, after each change of its vector.
-use Rattle.std.proofs.Common.{◌≡◌, ℕ, ◌+◌, ◌-◌, ◌^◌, ◌<◌, ◌≤◌, Bool, true, false, cond, not, ◌&&◌, ◌||◌, List, [], ◌∷◌, length, refl, sym, ap, ◌∙◌, ⊎_elim, arith, true≢false}
-use Rattle.std.specs.Prelude.{filter, ◌==◌, Some, None, unwrap_or, position}
-use Rattle.std.specs.List.{position_or_len}
-use Rattle.std.proofs.lemmas.Bool.{cases_lt, lt-ltb, le-ltb}
-use Rattle.std.proofs.lemmas.List.Sums.{prefix_len-le-length}
+use Rattle.std.proofs.Common.{◌≡◌, ℕ, ◌+◌, ◌-◌, Bool, true, false, cond, not, ◌&&◌, ◌||◌, List, [], ◌∷◌, length, refl, sym, ap, ◌∙◌, arith, true≢false}
+use Rattle.std.specs.Prelude.{filter, ◌==◌, nat_lt, Some, None, Option, is_some}
 use Rattle.std.proofs.lemmas.Map.Views.{any-filter_same}
 use Rattle.std.specs.Ordering.{nat_cmp, eq_by_cmp}
 use Rattle.std.specs.Cmp.{nat_cmp_total, unsigned_tied}
+use Rattle.std.specs.Ordering.{is_eq}
+use Rattle.std.specs.Cmp.{ranked}
+use Rattle.std.specs.declared.cmp.Ordering.TheVariants.{Less, Equal, Greater}
+use Rattle.std.specs.FinMap.{find, put}
+use Rattle.std.specs.FinMap.Entries.{by_order, is_some-find}
+use Rattle.room_map.specs.Entries as entries
+use Rattle.room_map.specs.Entries.{without}
 use Rattle.std.specs.FinSet as set
 use Rattle.std.specs.FinSet.{FinSet, contains, insert, remove, items, len, from_list}
 use Rattle.ready_set.specs.Ready.{Ready, placed, rising, with_member, without_member}
-use Rattle.ready_set.specs.Kept.{IsRising, IsKept, is_other}
-use Rattle.ready_set.proofs.Rising.{has, tied, above_all, has-placed, rising-placed, below-placed, has-in_order, rising-in_order, rising-filter, below-filter, same_rising, length_below}
-
--- what a set with these members and this capacity shows
-abbrev pub shown : ℕ → List ℕ → Ready
-shown capacity xs = record { members = from_list xs; spare = capacity - length xs }
-
--- the first place that passes, or the length
-pub position-or_len : (p : ℕ → Bool) (xs : List ℕ) → unwrap_or (position p xs) (length xs) ≡ position_or_len p xs
-position-or_len p xs = ⊎_elim
-    (λ within. ap (λ b. unwrap_or (cond b (Some (position_or_len p xs)) None) (length xs)) (lt-ltb _ _ within))
-    (λ past. ap (λ b. unwrap_or (cond b (Some (position_or_len p xs)) None) (length xs)) (le-ltb _ _ past) ∙ omega (arith, past, prefix_len-le-length (λ x. not (p x)) xs))
-    (cases_lt (position_or_len p xs) (length xs))
+use Rattle.ready_set.specs.Kept.{AllAbove, IsRising, is_other, keys_of}
+use Rattle.ready_set.proofs.Rising.{has, tied, above_all, has-placed, has-in_order, rising-in_order, same_rising}
 
 abbrev set_of : List ℕ → FinSet nat_cmp
 set_of xs = from_list xs
@@ -63,20 +56,6 @@ len-set_of (x ∷ xs) rises =
     ∙ ap (λ b. cond b (len (set_of xs)) (len (set_of xs) + 1)) (contains-set_of xs x ∙ above_all x xs rises.0)
     ∙ omega (arith, len-set_of xs rises.1)
 
-pub kept-placed : (p : ℕ) (xs : List ℕ) → IsKept xs → p < 2 ^ 32 - 1 → IsKept (placed p xs)
-kept-placed p xs kept below = (rising-placed p xs kept.0, below-placed (2 ^ 32 - 1) p xs below kept.1)
-
-pub kept-cut : (p : ℕ) (xs : List ℕ) → IsKept xs → IsKept (filter (is_other p) xs)
-kept-cut p xs kept = (rising-filter (is_other p) xs kept.0, below-filter (2 ^ 32 - 1) (is_other p) xs kept.1)
-
-pub few : (xs : List ℕ) → IsKept xs → length xs ≤ 2 ^ 32 - 1
-few xs kept = length_below (2 ^ 32 - 1) xs kept.0 kept.1
-
--- what has a member is not empty
-some : (xs : List ℕ) (p : ℕ) → contains (set_of xs) p ≡ true → 0 < length xs
-some [] p there = absurd (true≢false (sym there ∙ set.contains-empty nat_cmp p))
-some (x ∷ xs) p there = omega arith
-
 or-same : (a b : Bool) → (a ≡ true → b ≡ true) → (a || b) ≡ b
 or-same true b is = sym (is refl)
 or-same false b is = refl
@@ -89,26 +68,66 @@ insert_member s p there = same_members _ _ (λ q.
 pub with_again : (r : Ready) (p : ℕ) → contains r.members p ≡ true → r ≡ with_member r p
 with_again r p there = λ i. record { members = sym (insert_member r.members p there) i; spare = sym (ap (λ b. cond b r.spare (r.spare - 1)) there) i }
 
-module _ (capacity : ℕ) (xs : List ℕ) (kept : IsKept xs) (fits : length xs ≤ capacity) (p : ℕ) where
-  length-placed : contains (set_of xs) p ≡ false → length (placed p xs) ≡ length xs + 1
-  length-placed none =
-      sym (len-set_of (placed p xs) (rising-placed p xs kept.0)) ∙ ap len (set-placed p xs) ∙ set.len-insert nat_cmp_total (set_of xs) p
-      ∙ ap (λ b. cond b (len (set_of xs)) (len (set_of xs) + 1)) none ∙ ap (λ n. n + 1) (len-set_of xs kept.0)
+-- ---- entries, and their keys
 
-  pub shown-placed : contains (set_of xs) p ≡ false → shown capacity (placed p xs) ≡ with_member (shown capacity xs) p
-  shown-placed none = λ i. record { members = set-placed p xs i; spare = (less ∙ sym (ap (λ b. cond b (capacity - length xs) ((capacity - length xs) - 1)) none)) i }
-    where
-      less : capacity - length (placed p xs) ≡ (capacity - length xs) - 1
-      less = omega (arith, length-placed none)
+-- what a set with these entries and this room shows
+abbrev pub shown : List (ℕ × Unit {0}) → ℕ → Ready
+shown es spare = record { members = from_list (keys_of es); spare = spare }
 
-  length-cut : length (filter (is_other p) xs) ≡ cond (contains (set_of xs) p) (length xs - 1) (length xs)
-  length-cut =
-      sym (len-set_of (filter (is_other p) xs) (rising-filter (is_other p) xs kept.0)) ∙ ap len (set-cut p xs) ∙ set.len-remove nat_cmp_total (set_of xs) p
-      ∙ ap (λ n. cond (contains (set_of xs) p) (n - 1) n) (len-set_of xs kept.0)
+above-keys : (b : ℕ) (es : List (ℕ × Unit {0})) → entries.AllAbove nat_cmp b es → AllAbove b (keys_of es)
+above-keys b [] above = tt
+above-keys b (e ∷ es) above = (ranked b e.0 Less (sym above.0), above-keys b es above.1)
 
-  spare-cut : (b : Bool) → contains (set_of xs) p ≡ b → capacity - cond b (length xs - 1) (length xs) ≡ cond b ((capacity - length xs) + 1) (capacity - length xs)
-  spare-cut true there = omega (arith, some xs p there, fits)
-  spare-cut false there = refl
+pub rising-keys : (es : List (ℕ × Unit {0})) → entries.IsRising nat_cmp es → IsRising (keys_of es)
+rising-keys [] rises = tt
+rising-keys (e ∷ es) rises = (above-keys e.0 es rises.0, rising-keys es rises.1)
 
-  pub shown-cut : shown capacity (filter (is_other p) xs) ≡ without_member (shown capacity xs) p
-  shown-cut = λ i. record { members = set-cut p xs i; spare = (ap (λ n. capacity - n) length-cut ∙ spare-cut (contains (set_of xs) p) refl) i }
+pub keys-put : (p : ℕ) (es : List (ℕ × Unit {0})) → keys_of (put nat_cmp p tt es) ≡ placed p (keys_of es)
+keys-put p [] = refl
+keys-put p (e ∷ es) = by_tests (nat_lt p e.0) (p == e.0) (keys-put p es)
+  where
+    by_tests : (a b : Bool) → keys_of (put nat_cmp p tt es) ≡ placed p (keys_of es)
+        → keys_of (by_order (cond a Less (cond b Equal Greater)) ((p, tt) ∷ e ∷ es) ((e.0, tt) ∷ es) (e ∷ put nat_cmp p tt es))
+        ≡ cond a (p ∷ e.0 ∷ keys_of es) (cond b (e.0 ∷ keys_of es) (e.0 ∷ placed p (keys_of es)))
+    by_tests true b rest = refl
+    by_tests false true rest = refl
+    by_tests false false rest = ap (λ ks. e.0 ∷ ks) rest
+
+pub keys-without : (p : ℕ) (es : List (ℕ × Unit {0})) → keys_of (without nat_cmp p es) ≡ filter (is_other p) (keys_of es)
+keys-without p [] = refl
+keys-without p (e ∷ es) =
+    ap (λ b. keys_of (cond b (without nat_cmp p es) (e ∷ without nat_cmp p es))) (unsigned_tied p e.0) ∙ by_test (p == e.0) (keys-without p es)
+  where
+    by_test : (b : Bool) → keys_of (without nat_cmp p es) ≡ filter (is_other p) (keys_of es)
+        → keys_of (cond b (without nat_cmp p es) (e ∷ without nat_cmp p es)) ≡ cond (not b) (e.0 ∷ filter (is_other p) (keys_of es)) (filter (is_other p) (keys_of es))
+    by_test true rest = rest
+    by_test false rest = ap (λ ks. e.0 ∷ ks) rest
+
+pub has-find : (p : ℕ) (es : List (ℕ × Unit {0})) → is_some (find nat_cmp p es) ≡ contains (set_of (keys_of es)) p
+has-find p es = is_some-find nat_cmp p es ∙ sym (contains-set_of (keys_of es) p)
+
+pub absent : (p : ℕ) (es : List (ℕ × Unit {0})) → contains (set_of (keys_of es)) p ≡ false → find nat_cmp p es ≡ None
+absent p es none = nothing (find nat_cmp p es) (has-find p es ∙ none)
+  where
+    nothing : (o : Option (Unit {0})) → is_some o ≡ false → o ≡ None
+    nothing None h = refl
+    nothing (Some u) h = absurd (true≢false h)
+
+-- ---- what a change shows
+
+pub shown-put : (p : ℕ) (es new : List (ℕ × Unit {0})) (spare spare' : ℕ) → new ≡ put nat_cmp p tt es → spare' + 1 ≡ spare → contains (set_of (keys_of es)) p ≡ false
+    → shown new spare' ≡ with_member (shown es spare) p
+shown-put p es new spare spare' is less none = λ i. record {
+  members = (ap (λ ks. set_of ks) (ap keys_of is ∙ keys-put p es) ∙ set-placed p (keys_of es)) i;
+  spare = (one_less ∙ sym (ap (λ b. cond b spare (spare - 1)) none)) i;
+}
+  where
+    one_less : spare' ≡ spare - 1
+    one_less = omega arith
+
+pub shown-without : (p : ℕ) (es new : List (ℕ × Unit {0})) (spare spare' : ℕ) (b : Bool) → new ≡ without nat_cmp p es → b ≡ is_some (find nat_cmp p es)
+    → spare' ≡ cond b (spare + 1) spare → shown new spare' ≡ without_member (shown es spare) p
+shown-without p es new spare spare' b is there more = λ i. record {
+  members = (ap (λ ks. set_of ks) (ap keys_of is ∙ keys-without p es) ∙ set-cut p (keys_of es)) i;
+  spare = (more ∙ ap (λ b. cond b (spare + 1) spare) (there ∙ has-find p es)) i;
+}

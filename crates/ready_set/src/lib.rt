@@ -1,43 +1,54 @@
 //! The set of the processes that are ready to run, by serial (IEEE 1666-2011, 4.2.1.2), with its members in rising order.
 #![tactic(auto)]
 
-ghost use Rattle.std.specs.Prelude.{◌≡◌, ◌⊎◌, ◌-◌, ◌^◌, ◌<◌, ◌≤◌, IsTrue, OnOk, OnErr, slice_get};
+ghost use Rattle.std.specs.Prelude.{◌≡◌, ◌⊎◌, ◌-◌, ◌^◌, ◌<◌, ◌≤◌, IsTrue, OnOk, OnErr, option_map, slice_get};
 ghost use Rattle.std.specs.FinSet as set;
 
-mod kept;
 mod laws;
 #[cfg(test)]
 mod tests;
 
-use kept::{cut, nth, place};
 pub use laws::least_of_a_set;
+use room_map::RoomMap;
 use std::alloc::{AllocError, Global};
 use std::marker::Model;
 
 /// A set of serials, with room for some more.
+///
+/// A call takes time in the logarithm of the number of members, but for `reserve`, which takes time in the room that it makes.
 #[derive(Drop)]
 pub struct ReadySet {
-    // Rising.
-    sorted: Vec<u32>,
+    kept: RoomMap<u32, ()>,
 }
 
 impl Model for ReadySet {
-    ghost use Rattle.std.specs.Prelude.{◌-◌, length, vec_capacity};
+    ghost use Rattle.std.specs.Ordering.{nat_cmp};
     ghost use Rattle.std.specs.FinSet as set;
+    ghost use Rattle.room_map.specs.Entries.{IsRising};
     ghost use Rattle.ready_set.specs.Ready.{Ready, ready_code};
 
     ghost Value = { Ready };
 
     ghost coded = { ready_code };
 
-    ghost use Rattle.ready_set.specs.Kept.{IsKept};
+    ghost use Rattle.ready_set.specs.Kept.{keys_of};
 
     ghost view = { λ s. record {
-      members = set.from_list s.sorted.items;
-      spare = vec_capacity s.sorted - length s.sorted.items;
+      members = set.from_list (keys_of s.kept.entries);
+      spare = s.kept.spare;
     } };
 
-    ghost invariant = { λ s. IsKept s.sorted.items };
+    ghost invariant = { λ s. IsRising nat_cmp s.kept.entries };
+}
+
+// The key of an entry.
+fn key_of(entry: Option<(u32, ())>) -> Option<u32>
+    ensures { result ≡ option_map (λ e. e.0) entry }
+{
+    match entry {
+        Some((key, _)) => Some(key),
+        None => None,
+    }
 }
 
 impl ReadySet {
@@ -48,7 +59,7 @@ impl ReadySet {
         ensures { result.members ≡ set.empty }
     {
         ReadySet {
-            sorted: Vec::new(alloc),
+            kept: RoomMap::new(alloc),
         }
     }
 
@@ -59,7 +70,7 @@ impl ReadySet {
         ensures kept { self.new.members ≡ self.old.members }
         ensures err { OnErr result (self.new ≡ self.old) }
     {
-        self.sorted.reserve(n as usize)
+        self.kept.reserve(n)
     }
 
     /// Makes the serial a member, if it is none yet.
@@ -71,7 +82,7 @@ impl ReadySet {
         if self.has(p) {
             return;
         }
-        place(&mut self.sorted, p);
+        self.kept.insert(p, ());
     }
 
     /// Takes the serial out, and says whether it was a member.
@@ -79,43 +90,41 @@ impl ReadySet {
         ensures answer { result ≡ set.contains self.old.members p }
         ensures left { self.new ≡ without_member self.old p }
     {
-        let held = self.has(p);
-        cut(&mut self.sorted, p);
-        held
+        self.kept.remove(p).is_some()
     }
 
     /// How many members there are.
     pub fn len(&self) -> u32
         ensures { result ≡ set.len self.now.members }
     {
-        self.sorted.len() as u32
+        self.kept.len()
     }
 
     /// Whether the serial is a member.
     pub fn has(&self, p: u32) -> bool
         ensures { result ≡ set.contains self.now.members p }
     {
-        self.sorted.contains(&p)
+        self.kept.contains(p)
     }
 
     /// The member at place `k` of the rising order, counted from 0, or `None` where there are at most `k`.
     pub fn kth(&self, k: u32) -> Option<u32>
         ensures { result ≡ slice_get (rising self.now.members) k }
     {
-        nth(self.sorted.as_slice(), k as usize)
+        key_of(self.kept.kth(k))
     }
 
     /// The least member, or `None` where there is none.
     pub fn least(&self) -> Option<u32>
         ensures { result ≡ slice_get (rising self.now.members) 0 }
     {
-        self.sorted.first().copied()
+        key_of(self.kept.least())
     }
 
     /// The greatest member, or `None` where there is none.
     pub fn greatest(&self) -> Option<u32>
         ensures { result ≡ slice_get (rising self.now.members) (set.len self.now.members - 1) }
     {
-        self.sorted.last().copied()
+        key_of(self.kept.greatest())
     }
 }

@@ -1,16 +1,19 @@
 use Rattle.std.proofs.Common.{◌∙◌, ◌-◌, ap, sym, length}
-use Rattle.std.specs.Prelude.{slice_get}
+use Rattle.std.specs.Prelude.{option_map, slice_get}
 use Rattle.std.specs.Ordering.{nat_cmp}
 use Rattle.std.specs.FinSet as set
+use Rattle.std.proofs.lemmas.List.{length-map}
+use Rattle.std.proofs.lemmas.Option.{slice_get-map}
 use Rattle.ready_set.specs.Ready.{rising}
-use Rattle.ready_set.proofs.Shown.{len-set_of, rising-set_of}
+use Rattle.ready_set.specs.Kept.{keys_of}
+use Rattle.ready_set.proofs.Shown.{rising-keys, len-set_of, rising-set_of}
 use Rattle.ready_set.proofs.ReadySet.greatest.Goals as goal
 
 pub returns : goal.returns
 returns c =
-    let xs = c.self.inside.sorted.items in
-    c.copied.ensures ∙ c.last.ensures.value
-    ∙ ap (λ ys. slice_get ys (length ys - 1)) c.deref.ensures.value
-    ∙ ap (λ n. slice_get xs (n - 1)) (sym (len-set_of xs c.self.invariant.0))
-    ∙ ap (λ ys. slice_get ys (set.len (set.from_list {R = nat_cmp} xs) - 1)) (sym (rising-set_of xs c.self.invariant.0))
+    let es = c.self.inside.kept.entries in
+    let rises = rising-keys es c.self.invariant in
+    c.key_of.ensures ∙ ap (option_map (λ e. e.0)) c.greatest.ensures ∙ sym (slice_get-map (λ e. e.0) es (length es - 1))
+    ∙ ap (λ n. slice_get (keys_of es) (n - 1)) (sym (length-map es (λ e. e.0)) ∙ sym (len-set_of (keys_of es) rises))
+    ∙ ap (λ xs. slice_get xs (set.len (set.from_list {R = nat_cmp} (keys_of es)) - 1)) (sym (rising-set_of (keys_of es) rises))
     ∙ ap (λ r. slice_get (rising r.members) (set.len r.members - 1)) c.self.view_is
