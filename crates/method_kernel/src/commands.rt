@@ -5,10 +5,10 @@ ghost use Rattle.method_model.specs.Signals.{write_to};
 ghost use Rattle.method_kernel.specs.Kernel.{Goes, Follows, IsSound};
 
 use super::kernel::Kernel;
-use logic_values::Value;
 use flat_design::RunFault;
-use signal_channel::Signal;
+use logic_values::Value;
 use method_model::Phase;
+use signal_channel::Signal;
 use sim_time::{Time, add};
 
 fn write_signal(signals: &mut [Signal], number: usize, value: Value)

@@ -11,11 +11,11 @@ use super::body::Body;
 use event_core::Events;
 use logic_values::{Text, Value};
 use method_design::{CodeId, Design, Object, ObjectForm};
+use method_model::{Phase, Wait, initial_of, is_visible};
 use model_tree::SignalKind;
 use plain_lists::Items;
 use ready_set::ReadySet;
 use signal_channel::{Policy, Signal};
-use method_model::{Phase, Wait, initial_of, is_visible};
 use sim_time::Time;
 use std::alloc::{AllocError, Global};
 

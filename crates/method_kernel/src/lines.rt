@@ -3,8 +3,8 @@ ghost use Rattle.std.specs.Fmt.{decimal};
 ghost use Rattle.logic_values.specs.ValueText.{text_of};
 ghost use Rattle.method_model.specs.Statements as spec;
 
-use logic_values::{Value, value_text};
 use flat_design::Line;
+use logic_values::{Value, value_text};
 use std::alloc::{AllocError, Global};
 
 /// Adds a number in decimal. Where memory is refused the text is as before.

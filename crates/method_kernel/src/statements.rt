@@ -15,11 +15,11 @@ use super::body::Next;
 use super::kernel::{Instance, Kernel};
 use super::lines::print_line;
 use super::values::{eval, is_true, signal_at};
-use logic_values::Value;
 use flat_design::{Line, RunFault};
+use logic_values::Value;
 use method_design::{BlockId, Expr, Form, StmtId};
-use model_tree::PrintText;
 use method_model::Wait;
+use model_tree::PrintText;
 use std::alloc::{AllocError, Global};
 
 /// What a statement step did.

@@ -9,8 +9,8 @@ ghost use Rattle.method_kernel.specs.Woken.{is_delta, is_which, woken_instances,
 
 use super::kernel::Instance;
 use event_core::{Events, When};
-use ready_set::ReadySet;
 use method_model::Wait;
+use ready_set::ReadySet;
 
 /// Which processes a phase makes runnable.
 #[derive(Clone, Copy)]

@@ -1,5 +1,5 @@
-use logic_values::Value;
 use flat_design::RunFault;
+use logic_values::Value;
 use sim_time::Time;
 
 /// Where a run stands in the scheduler's cycle (IEEE 1666-2011, 4.2.1).

@@ -12,9 +12,9 @@ use super::forms::{CommandForm, TextCommand};
 use super::reading::Commands;
 use logic_values::{Text, Value};
 use method_design::{Design, Object, ObjectForm};
+use method_model::{Command, initial_of, is_visible, visible_at};
 use model_tree::{CheckStop, Fault, Kind};
 use plain_lists::Items;
-use method_model::{Command, initial_of, is_visible, visible_at};
 use std::alloc::Global;
 
 /// The commands of a script over a design, in order. Contracts see the list of them.
@@ -145,7 +145,13 @@ fn named(alloc: Global, objects: &[Object], command: &TextCommand) -> Result<Com
     match &command.form {
         CommandForm::Run => Ok(Command::Run(None)),
         CommandForm::Set { path, value } => {
-            set_named(alloc, objects, command.line, path.as_slice(), value.as_slice())
+            set_named(
+                alloc,
+                objects,
+                command.line,
+                path.as_slice(),
+                value.as_slice(),
+            )
         }
         CommandForm::Show { path } => show_named(alloc, objects, command.line, path.as_slice()),
     }

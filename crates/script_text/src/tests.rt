@@ -1,9 +1,9 @@
 use super::{commands, name_all};
 use logic_values::{Text, Value};
 use method_design::{Code, Design, Object, ObjectForm, Objects};
+use method_model::Command;
 use model_tree::{CheckStop, Kind, ParseStop, SignalKind};
 use plain_lists::Items;
-use method_model::Command;
 use std::alloc::{AllocError, Global};
 
 /// What a script is to a design: one of its commands, or the refusal of all of it.

@@ -13,10 +13,10 @@ use super::steps::{Made, make_step};
 use super::texts::closing;
 use flat_design::{Choices, Line};
 use method_design::Design;
-use ready_set::least_of_a_set;
 use method_kernel::{First, Kernel};
-use sim_io::{Sink, Trouble, write_all};
 use method_model::{Command, Phase, Stop};
+use ready_set::least_of_a_set;
+use sim_io::{Sink, Trouble, write_all};
 use std::alloc::Global;
 
 /// The rule by which a turn's process is chosen.

@@ -5,12 +5,12 @@ ghost use Rattle.method_model.specs.Steps.{show_line as line_of_show};
 ghost use Rattle.method_model.specs.Texts as spec;
 ghost use Rattle.session.specs.Show.{line_for, line_at, closing_of};
 
-use logic_values::Value;
 use flat_design::{Line, RunFault};
+use logic_values::Value;
 use method_design::{Design, Object};
 use method_kernel::{Kernel, push_number, push_value};
-use signal_channel::Signal;
 use method_model::{Stop, is_visible, visible_at};
+use signal_channel::Signal;
 use std::alloc::{AllocError, Global};
 
 fn push_bytes(text: &mut Vec<u8>, piece: &[u8]) -> Result<(), AllocError>

@@ -1,5 +1,5 @@
 -- How the refusals of one stage are those of the next.
-use Rattle.std.proofs.Common.{◌≡◌, ◌⊎◌, inl, inr, Option, Some, None, IsSome, refl, subst, sym, ap, ◌∙◌, filter, List, ℕ}
+use Rattle.std.proofs.Common.{◌≡◌, ◌⊎◌, inl, inr, Option, Some, None, IsSome, refl, subst, sym, ap, ◌∙◌, filter, List, ℕ, Result, Ok, Err, IfOk}
 use Rattle.model_tree.specs.Tree as tree
 use Rattle.model_tree.specs.declared.faults.Fault.{Fault}
 use Rattle.model_tree.specs.declared.faults.CheckStop.{CheckStop}
@@ -90,6 +90,11 @@ accepts_over design m model script text text' commands is same same' accepted na
 pub run_over : (m : tree.Model) (code : Code) (design : FlatDesign) (run : Design) → IsDesign m design → design.code ≡ code → IsMethodsOf design run → IsCodeOf m code → IsRunOf m run
 run_over m code design run is same methods reads =
     record { design = design; is_design = record { parts = is; code = subst (IsCodeOf m) (sym same) reads }; is_methods = methods }
+
+-- what is so of a result's value
+pub if_ok : {T E : Type 0} {P Q : T → Type 0} → (r : Result T E) → ((x : T) → P x → Q x) → IfOk r P → IfOk r Q
+if_ok (Ok x) f h = f x h
+if_ok (Err e) f h = tt
 
 by_findings : (text : List ℕ) (m : tree.Model) → Reads text m → (found : Option (ℕ × List ℕ)) (fault : Option Fault) → first_not_built m ≡ found → first_fault m ≡ fault → AcceptsModel text m ⊎ (HasUnbuilt text ⊎ BreaksRule text)
 by_findings text m reads (Some found) fault u f = inr (inl (record { m = m; reads = reads; unbuilt = is_some (first_not_built m) found u }))
