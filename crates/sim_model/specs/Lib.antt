@@ -8,3 +8,7 @@ pub mod Storing
 pub mod Waiting
 pub mod Channels
 pub mod Calls
+pub mod Transport
+pub mod Control
+pub mod Statements
+pub mod Phases
