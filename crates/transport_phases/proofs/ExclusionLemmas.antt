@@ -25,7 +25,7 @@ none_first : (b : Bool) (r : Rule) (o : Option Rule) → (if b then Some r else 
 none_first true r o is = cc
 none_first false r o is = (refl, is)
 
-none_broken : (rules : List (Rule × Bool)) → first_broken rules ≡ None → NoneBroken rules
+pub none_broken : (rules : List (Rule × Bool)) → first_broken rules ≡ None → NoneBroken rules
 none_broken [] is = tt
 none_broken (rule ∷ rules) is = let both : (rule.1 ≡ false) × (first_broken rules ≡ None) = none_first rule.1 rule.0 (first_broken rules) is in (both.0, none_broken rules both.1)
 
@@ -33,14 +33,14 @@ none_broken (rule ∷ rules) is = let both : (rule.1 ≡ false) × (first_broken
 abbrev Enters : (Kept → Bool) → List Entry → Entry → Type 0
 Enters test h e = test (after_entry e (kept_of h (transaction e))) ≡ true → (test (kept_of h (transaction e)) ≡ true) ⊎ (is_other_among (λ n. test (kept_of h n)) (transaction e) h ≡ false)
 
-call_requests : (k : Kept) (a b : Bool) (path : Path) (p : Option Phase) (complete handled : Bool) → first_broken (call_rules k a b path p complete handled) ≡ None → requests (state_called k.state p) ≡ true → (requests k.state ≡ true) ⊎ (a ≡ false)
+pub call_requests : (k : Kept) (a b : Bool) (path : Path) (p : Option Phase) (complete handled : Bool) → first_broken (call_rules k a b path p complete handled) ≡ None → requests (state_called k.state p) ≡ true → (requests k.state ≡ true) ⊎ (a ≡ false)
 call_requests k a b path None complete handled none is = inl is
 call_requests k a b path (Some BeginReq) complete handled none is = inr (none_broken (call_rules k a b path (Some BeginReq) complete handled) none).1.1.0
 call_requests k a b path (Some EndReq) complete handled none is = absurd (true≢false (sym is))
 call_requests k a b path (Some BeginResp) complete handled none is = absurd (true≢false (sym is))
 call_requests k a b path (Some EndResp) complete handled none is = absurd (true≢false (sym is))
 
-call_responds : (k : Kept) (a b : Bool) (path : Path) (p : Option Phase) (complete handled : Bool) → first_broken (call_rules k a b path p complete handled) ≡ None → responds (state_called k.state p) ≡ true → (responds k.state ≡ true) ⊎ (b ≡ false)
+pub call_responds : (k : Kept) (a b : Bool) (path : Path) (p : Option Phase) (complete handled : Bool) → first_broken (call_rules k a b path p complete handled) ≡ None → responds (state_called k.state p) ≡ true → (responds k.state ≡ true) ⊎ (b ≡ false)
 call_responds k a b path None complete handled none is = inl is
 call_responds k a b path (Some BeginReq) complete handled none is = absurd (true≢false (sym is))
 call_responds k a b path (Some EndReq) complete handled none is = absurd (true≢false (sym is))
@@ -61,7 +61,7 @@ accepted_responds Acc is = is
 accepted_responds Resp is = is
 accepted_responds Closing is = is
 
-return_requests : (s : State) (p : Option Phase) (x : Option Answer) → requests (state_returned s p x) ≡ true → requests s ≡ true
+pub return_requests : (s : State) (p : Option Phase) (x : Option Answer) → requests (state_returned s p x) ≡ true → requests s ≡ true
 return_requests s p None is = is
 return_requests s p (Some Accepted) is = accepted_requests s is
 return_requests s None (Some Updated) is = is
@@ -71,7 +71,7 @@ return_requests s (Some BeginResp) (Some Updated) is = absurd (true≢false (sym
 return_requests s (Some EndResp) (Some Updated) is = absurd (true≢false (sym is))
 return_requests s p (Some Completed) is = absurd (true≢false (sym is))
 
-return_responds : (s : State) (b : Bool) (p : Option Phase) (x : Option Answer) (complete : Bool) → first_broken (return_rules s b x p complete) ≡ None → responds (state_returned s p x) ≡ true → (responds s ≡ true) ⊎ (b ≡ false)
+pub return_responds : (s : State) (b : Bool) (p : Option Phase) (x : Option Answer) (complete : Bool) → first_broken (return_rules s b x p complete) ≡ None → responds (state_returned s p x) ≡ true → (responds s ≡ true) ⊎ (b ≡ false)
 return_responds s b p None complete none is = inl is
 return_responds s b p (Some Accepted) complete none is = inl (accepted_responds s is)
 return_responds s b None (Some Updated) complete none is = inl is

@@ -1,2 +1,5 @@
 pub mod HopLemmas
+pub mod MapLemmas
+pub mod SeatLemmas
 pub mod ExclusionLemmas
+pub mod EnterLemmas

@@ -1,6 +1,7 @@
 -- The history of a hop: what was called and returned on it, the oldest first.
-use Rattle.std.specs.Prelude.{◌≡◌, ℕ, ℤ, Bool, not, ◌&&◌, ◌==◌, List, [], ◌∷◌, Option, None, if◌then◌else◌, slice_index_or}
+use Rattle.std.specs.Prelude.{◌≡◌, ℕ, ℤ, Bool, not, ◌&&◌, ◌==◌, List, [], ◌∷◌, Option, None, if◌then◌else◌}
 use Rattle.std.specs.List.{list_any}
+use Rattle.std.specs.FinMap as map
 use Rattle.transport_phases.specs.declared.phases.Path.{Path}
 use Rattle.transport_phases.specs.declared.phases.Rule.{Rule}
 use Rattle.transport_phases.specs.declared.kept.State.{State}
@@ -8,6 +9,7 @@ use Rattle.transport_phases.specs.declared.kept.Open.{Open}
 use Rattle.transport_phases.specs.declared.kept.Open.TheVariants.{Nothing, Blocking}
 use Rattle.transport_phases.specs.declared.kept.Kept.{Kept}
 use Rattle.transport_phases.specs.Phases.{phase_of, answer_of, fresh, called, returned, is_requesting, is_responding, first_broken, call_rules, return_rules, b_call_rules, b_return_rules}
+use Rattle.transport_phases.specs.Rows.{Rows, row_of}
 
 -- one entry, of the transaction that it names first. `complete` says that the response status is not INCOMPLETE,
 -- `handled` that the other end has the handler
@@ -70,10 +72,6 @@ broken h (BCall t handled) = first_broken (b_call_rules (kept_of h t) handled)
 broken h (BReturn t complete) = first_broken (b_return_rules complete)
 broken h (Left t) = None
 
--- what is kept of a transaction: nothing of one that has no row
-abbrev pub row_at : List Kept → ℕ → Kept
-row_at rows t = slice_index_or rows t fresh
-
 -- the rows are what the history leaves of each transaction
-abbrev pub StandsFor : List Kept → List Entry → Type 0
-StandsFor rows h = (t : ℕ) → row_at rows t ≡ kept_of h t
+abbrev pub StandsFor : Rows → List Entry → Type 0
+StandsFor rows h = (t : ℕ) → map.get rows.kept t ≡ row_of (kept_of h t)

@@ -104,6 +104,11 @@ abbrev pub is_open_b : Open → Bool
 is_open_b Blocking = true
 is_open_b _ = false
 
+abbrev pub is_nothing : Open → Bool
+is_nothing Nothing = true
+is_nothing NonBlocking = false
+is_nothing Blocking = false
+
 -- there is one, and it passes the test
 abbrev pub is_one : {X : Type 0} → (X → Bool) → Option X → Bool
 is_one test None = false
@@ -112,6 +117,9 @@ is_one test (Some x) = test x
 -- a transaction that is idle and has no call open
 abbrev pub fresh : Kept
 fresh = record { state = Idle; call = Nothing }
+
+abbrev pub is_fresh : Kept → Bool
+is_fresh k = is_idle k.state && is_nothing k.call
 
 -- the transaction is in the state of a request, or of a response
 abbrev pub requests : State → Bool

@@ -1,13 +1,14 @@
 //! What a hop keeps of one transaction, and how a call or a return of it is judged.
 ghost use Rattle.std.specs.Prelude.{◌≡◌};
-ghost use Rattle.transport_phases.specs.Phases.{allows, may_answer, may_update, is_open_nb, is_open_b, is_idle, is_requesting, is_responding, state_called as called_in, state_accepted, state_updated, called, returned, update_rules, verdict, first_broken, call_rules, return_rules, b_call_rules, b_return_rules};
+ghost use Rattle.transport_phases.specs.Phases.{allows, may_answer, may_update, is_open_nb, is_open_b, is_nothing, fresh, is_fresh, is_idle, is_requesting, is_responding, state_called as called_in, state_accepted, state_updated, called, returned, update_rules, verdict, first_broken, call_rules, return_rules, b_call_rules, b_return_rules};
 
 use crate::{Answer, Path, Phase, Rule};
 
 /// Where a transaction stands in the base protocol on a hop.
-#[derive(Clone, Copy)]
+#[derive(Clone, Copy, Default)]
 pub enum State {
     /// It has not begun, or is over.
+    #[default]
     Idle,
     /// The request has begun.
     Req,
@@ -20,9 +21,10 @@ pub enum State {
 }
 
 /// Which transport call of a transaction is open on a hop.
-#[derive(Clone, Copy)]
+#[derive(Clone, Copy, Default)]
 pub enum Open {
     /// None.
+    #[default]
     Nothing,
     /// An `nb_transport`.
     NonBlocking,
@@ -31,7 +33,7 @@ pub enum Open {
 }
 
 /// What a hop keeps of a transaction.
-#[derive(Clone, Copy)]
+#[derive(Clone, Copy, Default)]
 pub struct Kept {
     /// Where it stands.
     pub state: State,
@@ -119,6 +121,12 @@ impl Open {
     {
         matches!(self, Open::Blocking)
     }
+
+    fn is_nothing(self) -> bool
+        ensures { result ≡ is_nothing self }
+    {
+        matches!(self, Open::Nothing)
+    }
 }
 
 fn state_called(state: State, phase: Option<Phase>) -> State
@@ -131,6 +139,22 @@ fn state_called(state: State, phase: Option<Phase>) -> State
 }
 
 impl Kept {
+    // A transaction that is idle and has no call open.
+    pub(crate) fn fresh() -> Kept
+        ensures { result ≡ fresh }
+    {
+        Kept {
+            state: State::Idle,
+            call: Open::Nothing,
+        }
+    }
+
+    pub(crate) fn is_fresh(self) -> bool
+        ensures { result ≡ is_fresh self }
+    {
+        self.state.is_idle() && self.call.is_nothing()
+    }
+
     pub(crate) fn is_requesting(self) -> bool
         ensures { result ≡ is_requesting self }
     {
@@ -258,6 +282,16 @@ impl Kept {
         Kept {
             state: state_called(self.state, phase),
             call: Open::NonBlocking,
+        }
+    }
+
+    // The same state, with this call open.
+    pub(crate) fn with_call(self, call: Open) -> Kept
+        ensures { result ≡ record self { call = call } }
+    {
+        Kept {
+            state: self.state,
+            call,
         }
     }
 

@@ -5,10 +5,12 @@ mod hop;
 mod kept;
 mod laws;
 mod phases;
+mod rows;
+mod seats;
 #[cfg(test)]
 mod tests;
 
 pub use hop::Hop;
 pub use kept::{Kept, Open, State};
-pub use laws::one_at_a_time;
+pub use laws::{one_at_a_time, open_calls_have_rows};
 pub use phases::{Answer, Path, Phase, Rule};

@@ -1,13 +1,13 @@
-use Rattle.std.proofs.Common.{◌<◌, length, sym, ap, refl, subst}
+use Rattle.std.proofs.Common.{◌∙◌, ap, refl}
 use Rattle.transport_phases.specs.declared.kept.Kept.{Kept}
 use Rattle.transport_phases.specs.declared.kept.Open.TheVariants.{Nothing}
-use Rattle.transport_phases.specs.History.{StandsFor, BReturn}
-use Rattle.transport_phases.proofs.HopLemmas.{row_read, stands_after}
+use Rattle.transport_phases.specs.History.{BReturn}
+use Rattle.transport_phases.proofs.HopLemmas.{kept_read, stands_after}
 use Rattle.transport_phases.proofs.hop.Hop.b_returned.Goals as goal
 
 pub returns-clause-ok : goal.returns-clause-ok
 returns-clause-ok c = λ h stands.
-    let rows : StandsFor c.self.inside.rows.items h = subst (λ rows. StandsFor rows h) (sym c.self.view_is) stands in
-    let placed : c.args.t < length c.self.inside.rows.items = subst (λ rows. c.args.t < length rows) (sym c.self.view_is) c.requires in
-    stands_after c.self.inside.rows.items h rows (BReturn c.args.t c.args.complete) c.args.t refl placed (record c.index-kept.result.now { call = Nothing })
-    (ap {A = Kept} {B = Kept} (λ k. record k { call = Nothing }) (row_read c.self.inside.rows.items h rows c.args.t c.index-kept.result.now placed c.index-kept.ensures))
+    stands_after c.args.self.now c.keep.new.self h stands (BReturn c.args.t c.args.complete) c.args.t refl c.with_call.result
+    (c.with_call.ensures
+    ∙ ap {A = Kept} {B = Kept} (λ k. record k { call = Nothing }) (c.kept-kept.ensures ∙ kept_read c.args.self.now h stands c.args.t))
+    c.keep.ensures.set
