@@ -7,7 +7,6 @@ use Rattle.std.specs.Cmp.{nat_cmp_total, unsigned_tied}
 use Rattle.std.specs.FinMap as map
 use Rattle.transport_phases.specs.declared.kept.Kept.{Kept}
 use Rattle.transport_phases.specs.Phases.{is_fresh}
-use Rattle.transport_phases.specs.Rows.{row_of}
 use Rattle.transport_phases.specs.Seats.{SetsRow}
 
 turned : (u t : ℕ) → (u == t) ≡ (t == u)

@@ -1,5 +1,5 @@
 -- What a contract sees of a `Hop`: its rows, and for how many more of them there is room.
-use Rattle.std.specs.Prelude.{◌≡◌, ◌⊎◌, ℕ, ◌+◌, ◌<◌, IsTrue, Option, None, Some, if◌then◌else◌, unwrap_or, refl}
+use Rattle.std.specs.Prelude.{◌⊎◌, ℕ, ◌+◌, ◌<◌, IsTrue, Option, None, Some, if◌then◌else◌, unwrap_or, refl}
 use Rattle.std.specs.Ordering.{nat_cmp}
 use Rattle.std.specs.Coded.{Coded, code_by, coded×, coded_ℕ}
 use Rattle.std.specs.FinMap as map
