@@ -1,3 +1,3 @@
 pub mod MapLemmas
-pub mod EntryLemmas
-pub mod QueueLemmas
+pub mod Kept
+pub mod Due

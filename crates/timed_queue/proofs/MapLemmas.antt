@@ -1,54 +1,19 @@
 -- Finite maps from numbers, told key by key.
-use Rattle.std.proofs.Common.{◌≡◌, ℕ, ◌+◌, ◌-◌, ◌≢◌, true, false, cond, Some, None, sym, ap, ◌∙◌, ⊎_elim, eq-eqb, ne_eqb}
-use Rattle.std.specs.Prelude.{is_some}
-use Rattle.std.proofs.lemmas.Bool.{cases_eq}
-use Rattle.std.specs.Ordering.{nat_cmp, eq_by_cmp}
+use Rattle.std.proofs.Common.{◌≡◌, ℕ, Bool, true, false, cond, Option, Some, None, sym, ap, ◌∙◌}
+use Rattle.std.specs.Ordering.{nat_cmp}
 use Rattle.std.specs.Cmp.{nat_cmp_total, unsigned_tied}
+use Rattle.std.specs.Prelude.{◌==◌}
 use Rattle.std.specs.FinMap as map
 
-pub ties_itself : (q k : ℕ) → q ≡ k → eq_by_cmp nat_cmp q k ≡ true
-ties_itself q k same = unsigned_tied q k ∙ eq-eqb q k same
-
-pub ties_no_other : (q k : ℕ) → q ≢ k → eq_by_cmp nat_cmp q k ≡ false
-ties_no_other q k apart = unsigned_tied q k ∙ ne_eqb q k apart
-
 module _ {X : Type 0} where
-  pub get-insert_same : (m : map.FinMap nat_cmp X) (k : ℕ) (x : X) (q : ℕ) → q ≡ k → map.get (map.insert m k x) q ≡ Some x
-  get-insert_same m k x q same = map.get-insert nat_cmp_total m k x q ∙ ap (λ b. cond b (Some x) (map.get m q)) (ties_itself q k same)
-
-  pub get-insert_other : (m : map.FinMap nat_cmp X) (k : ℕ) (x : X) (q : ℕ) → q ≢ k → map.get (map.insert m k x) q ≡ map.get m q
-  get-insert_other m k x q apart = map.get-insert nat_cmp_total m k x q ∙ ap (λ b. cond b (Some x) (map.get m q)) (ties_no_other q k apart)
-
-  pub get-remove_same : (m : map.FinMap nat_cmp X) (k q : ℕ) → q ≡ k → map.get (map.remove m k) q ≡ None
-  get-remove_same m k q same = map.get-remove nat_cmp_total m k q ∙ ap (λ b. cond b None (map.get m q)) (ties_itself q k same)
-
-  pub get-remove_other : (m : map.FinMap nat_cmp X) (k q : ℕ) → q ≢ k → map.get (map.remove m k) q ≡ map.get m q
-  get-remove_other m k q apart = map.get-remove nat_cmp_total m k q ∙ ap (λ b. cond b None (map.get m q)) (ties_no_other q k apart)
-
-  -- a map that has x at the key, and at the other keys what m has
-  pub is_insert : (m new : map.FinMap nat_cmp X) (k : ℕ) (x : X) → map.get new k ≡ Some x → ((q : ℕ) → q ≢ k → map.get new q ≡ map.get m q)
-      → new ≡ map.insert m k x
-  is_insert m new k x here there = map.same_map nat_cmp_total map.nat_cmp-IsAntisymmetric new _ (λ q. ⊎_elim
-      (λ same. ap (map.get new) same ∙ here ∙ sym (get-insert_same m k x q same))
-      (λ apart. there q apart ∙ sym (get-insert_other m k x q apart))
-      (cases_eq q k))
-
-  -- a map that has nothing at the key, and at the other keys what m has
-  pub is_remove : (m new : map.FinMap nat_cmp X) (k : ℕ) → map.get new k ≡ None → ((q : ℕ) → q ≢ k → map.get new q ≡ map.get m q)
-      → new ≡ map.remove m k
-  is_remove m new k here there = map.same_map nat_cmp_total map.nat_cmp-IsAntisymmetric new _ (λ q. ⊎_elim
-      (λ same. ap (map.get new) same ∙ here ∙ sym (get-remove_same m k q same))
-      (λ apart. there q apart ∙ sym (get-remove_other m k q apart))
-      (cases_eq q k))
-
-  pub len-insert_new : (m : map.FinMap nat_cmp X) (k : ℕ) (x : X) → map.get m k ≡ None → map.len (map.insert m k x) ≡ map.len m + 1
-  len-insert_new m k x none = map.len-insert nat_cmp_total m k x ∙ ap (λ o. cond (is_some o) (map.len m) (map.len m + 1)) none
-
-  pub len-insert_there : (m : map.FinMap nat_cmp X) (k : ℕ) (x : X) → is_some (map.get m k) ≡ true → map.len (map.insert m k x) ≡ map.len m
-  len-insert_there m k x there = map.len-insert nat_cmp_total m k x ∙ ap (λ b. cond b (map.len m) (map.len m + 1)) there
-
-  pub len-remove_there : (m : map.FinMap nat_cmp X) (k : ℕ) → is_some (map.get m k) ≡ true → map.len (map.remove m k) ≡ map.len m - 1
-  len-remove_there m k there = map.len-remove nat_cmp_total m k ∙ ap (λ b. cond b (map.len m - 1) (map.len m)) there
-
   pub same_gets : (m new : map.FinMap nat_cmp X) → ((q : ℕ) → map.get new q ≡ map.get m q) → new ≡ m
   same_gets m new each = map.same_map nat_cmp_total map.nat_cmp-IsAntisymmetric new m each
+
+  pub get-inserted : (m : map.FinMap nat_cmp X) (k : ℕ) (x : X) (q : ℕ) → map.get (map.insert m k x) q ≡ cond (q == k) (Some x) (map.get m q)
+  get-inserted m k x q = map.get-insert nat_cmp_total m k x q ∙ ap (λ b. cond b (Some x) (map.get m q)) (unsigned_tied q k)
+
+  pub get-removed : (m : map.FinMap nat_cmp X) (k q : ℕ) → map.get (map.remove m k) q ≡ cond (q == k) None (map.get m q)
+  get-removed m k q = map.get-remove nat_cmp_total m k q ∙ ap (λ b. cond b None (map.get m q)) (unsigned_tied q k)
+
+  pub get-retained : (m : map.FinMap nat_cmp X) (p : ℕ → Bool) (q : ℕ) → map.get (map.retain_keys m p) q ≡ cond (p q) (map.get m q) None
+  get-retained m p q = map.get-retain_keys m p q (λ x tied. ap p (sym (map.nat_cmp-IsAntisymmetric q x tied)))

@@ -1,2 +1,2 @@
 pub mod Timed
-pub mod Entries
+pub mod Kept

@@ -1,0 +1,84 @@
+//! The calls of the timed queue.
+ghost use Rattle.std.specs.Prelude.{◌≡◌, ◌+◌, ◌≤◌, vec_len, vec_capacity};
+
+use crate::clock::{Spent, numbers, rounds};
+use anyhow::Result;
+use sim_time::Time;
+use std::alloc::AllocError;
+use std::rt::Clock;
+use std::time::Instant;
+use timed_queue::{TimedQueue, due_names_are_held};
+
+// Gives each number, as a name, the time of the product of itself and the factor.
+fn fill(queue: &mut TimedQueue, names: &[u32], factor: u64) -> Result<(), AllocError> {
+    for name in names {
+        queue.reserve(1)?;
+        queue.set(*name, Time(u64::from(*name).wrapping_mul(factor)));
+    }
+    Ok(())
+}
+
+// Takes the names with this time out.
+fn take(queue: &mut TimedQueue, t: Time, out: &mut Vec<u32>) -> Result<(), AllocError> {
+    out.clear();
+    out.reserve(queue.len() as usize)?;
+    due_names_are_held();
+    queue.take_due(t, out);
+    Ok(())
+}
+
+// Takes the names with the earliest time out, as often as there are numbers.
+fn empty(queue: &mut TimedQueue, names: &[u32], out: &mut Vec<u32>) -> Result<usize, AllocError> {
+    let mut found = 0;
+    for _name in names {
+        match queue.earliest() {
+            Some(t) => {
+                take(queue, t, out)?;
+                if found < names.len() {
+                    found += 1;
+                }
+            }
+            None => {}
+        }
+    }
+    Ok(found)
+}
+
+// Takes each name out.
+fn clear_all(queue: &mut TimedQueue, names: &[u32]) {
+    for name in names {
+        queue.clear(*name);
+    }
+}
+
+/// Times the calls at so many names.
+pub fn time_queue(rt: &(impl Print + Clock + AllocGlobal), size: u32) -> Result<()> {
+    let names = numbers(rt.alloc(), size)?;
+    let mut out = Vec::new(rt.alloc());
+    let mut queue = TimedQueue::new(rt.alloc());
+    queue.reserve(size)?;
+    out.reserve(names.len())?;
+    let mut set = Spent::new();
+    let mut again = Spent::new();
+    let mut due = Spent::new();
+    let mut clear = Spent::new();
+    for _ in 0..rounds(size) {
+        let start = Instant::now(rt)?;
+        fill(&mut queue, names.as_slice(), 0x9e37_79b9_7f4a_7c15)?;
+        set.add(rt, start, names.len())?;
+        let start = Instant::now(rt)?;
+        fill(&mut queue, names.as_slice(), 0xd134_2543_de82_ef95)?;
+        again.add(rt, start, names.len())?;
+        let start = Instant::now(rt)?;
+        let found = empty(&mut queue, names.as_slice(), &mut out)?;
+        due.add(rt, start, found)?;
+        fill(&mut queue, names.as_slice(), 0x9e37_79b9_7f4a_7c15)?;
+        let start = Instant::now(rt)?;
+        clear_all(&mut queue, names.as_slice());
+        clear.add(rt, start, names.len())?;
+    }
+    set.print(rt, "timed_queue", size, "reserve and set, of a new name")?;
+    again.print(rt, "timed_queue", size, "reserve and set, of a name that is there")?;
+    due.print(rt, "timed_queue", size, "earliest and take_due, of one name")?;
+    clear.print(rt, "timed_queue", size, "clear")
+}
