@@ -12,3 +12,6 @@ pub mod Transport
 pub mod Control
 pub mod Statements
 pub mod Phases
+pub mod Steps
+pub mod Runs
+pub mod Texts

@@ -4,4 +4,4 @@
 
 mod plain;
 
-pub use plain::{Command, Goal, Phase, Stop, Via};
+pub use plain::{Command, Goal, Log, Phase, Rule, Stop, Via};

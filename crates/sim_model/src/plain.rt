@@ -1,4 +1,4 @@
-use flat_design::RunFault;
+use flat_design::{Choices, RunFault};
 use logic_values::Value;
 use sim_time::Time;
 
@@ -52,6 +52,28 @@ pub struct Via {
     pub blocking: bool,
     /// The payload, by its number.
     pub payload: u32,
+}
+
+/// Which of the runnable processes is taken next.
+#[derive(Drop)]
+pub enum Rule {
+    /// The least serial.
+    First,
+    /// The greatest serial.
+    Last,
+    /// The one that the next word of a generator points at, which is made by this seed.
+    Seed(u64),
+    /// These, one after another.
+    Replay(Choices),
+}
+
+/// What a report tells of a run.
+#[derive(Clone, Copy, Debug, PartialEq, Eq)]
+pub enum Log {
+    /// What the model prints and the script shows.
+    Prints,
+    /// That, and each taking of a process.
+    Turns,
 }
 
 /// How a session ended.
