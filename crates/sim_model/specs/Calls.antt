@@ -1,5 +1,5 @@
 -- Statements of functions, guards, exceptions and spawned instances.
-use Rattle.std.specs.Prelude.{ℕ, suc, ◌+◌, ◌-◌, ◌==◌, Bool, true, false, not, nat_lt, nat_le, List, [], ◌∷◌, ◌++◌, map, filter, length, slice_get, option_map, unwrap_or, Option, Some, None, Result, Ok, Err, if◌then◌else◌}
+use Rattle.std.specs.Prelude.{ℕ, suc, ◌+◌, Bool, true, false, not, nat_lt, List, [], ◌∷◌, ◌++◌, map, filter, length, slice_get, option_map, unwrap_or, Option, Some, None, Result, Ok, Err, if◌then◌else◌}
 use Rattle.std.specs.List.{flat_map}
 use Rattle.std.specs.Fmt.{decimal}
 use Rattle.logic_values.specs.declared.kinds.Value.{Value}
@@ -28,11 +28,10 @@ use Rattle.flat_design.specs.declared.faults.RunFault.{RunFault}
 use Rattle.flat_design.specs.declared.faults.RunFault.TheVariants as fault
 use Rattle.transport_phases.specs.History.{Entry, Left}
 use Rattle.sim_model.specs.Values.{on_ok, cut_to}
-use Rattle.sim_model.specs.Residual as residual
 use Rattle.sim_model.specs.Residual.{Residual, Frame, skip, guard, try_, put, block, entered, innermost, open_frames, enter}
 use Rattle.sim_model.specs.Unwinding.{returned, return_marks, catches, raise, left_by_raise}
-use Rattle.sim_model.specs.Configuration.{Config, Instance, Trace, waits_for_nothing, waits_statically, no_deadline, arena, change, change_instance, below, path_of, with_residual, with_marks, with_runnable}
-use Rattle.sim_model.specs.Reading.{Here, denotes, read_name, val, val_if, vals}
+use Rattle.sim_model.specs.Configuration.{Config, Instance, waits_for_nothing, waits_statically, no_deadline, arena, change, below, path_of, with_residual, with_marks, with_runnable}
+use Rattle.sim_model.specs.Reading.{Here, denotes, read_name, val, val_if}
 use Rattle.sim_model.specs.Storing.{passes, set_name, stored_if}
 use Rattle.sim_model.specs.Waiting.{channel_event}
 use Rattle.sim_model.specs.declared.plain.Goal.TheVariants as goal_of

@@ -4,12 +4,11 @@ use Rattle.logic_values.specs.declared.kinds.Value.{Value}
 use Rattle.logic_values.specs.declared.kinds.Value.TheVariants as value
 use Rattle.logic_values.specs.Integers.{bits_of}
 use Rattle.event_core.specs.declared.event.Ev.{Ev}
-use Rattle.event_core.specs.declared.event.Ev.TheVariants as ev
 use Rattle.signal_channel.specs.Signals.{written, conflict_of}
-use Rattle.signal_channel.specs.Drivers.{Driven, driven_by}
+use Rattle.signal_channel.specs.Drivers.{driven_by}
 use Rattle.signal_channel.specs.declared.signal.Signal.{Signal}
 use Rattle.signal_channel.specs.declared.signal.WriterConflict.{WriterConflict}
-use Rattle.fifo_sync.specs.Fifos.{Queued, available, free, readable, after_read, after_write}
+use Rattle.fifo_sync.specs.Fifos.{Queued, free, readable, after_read, after_write}
 use Rattle.fifo_sync.specs.Locks.{answer, is_unlocked, is_owner, locked_by, unlocked_by, is_used_up}
 use Rattle.flat_design.specs.Code.{Term, ChannelTerm}
 use Rattle.flat_design.specs.declared.value_types.ValueType.{ValueType}

@@ -1,7 +1,6 @@
 -- The configuration of a run: all that its next step and its texts depend on.
-use Rattle.std.specs.Prelude.{ℕ, zero, suc, ◌==◌, Bool, true, false, List, [], ◌∷◌, ◌++◌, map, replicate, length, slice_get, slice_set, option_map, unwrap_or, Option, Some, None, if◌then◌else◌}
+use Rattle.std.specs.Prelude.{ℕ, zero, suc, ◌==◌, Bool, true, false, List, [], ◌∷◌, ◌++◌, map, replicate, length, slice_get, slice_set, Option, Some, None, if◌then◌else◌}
 use Rattle.std.specs.FinMap as map_of
-use Rattle.std.specs.Ordering.{nat_cmp}
 use Rattle.logic_values.specs.declared.kinds.Value.{Value}
 use Rattle.model_tree.specs.declared.items.ProcessKind.{ProcessKind}
 use Rattle.model_tree.specs.declared.items.SignalKind.{SignalKind}

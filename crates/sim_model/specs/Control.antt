@@ -1,5 +1,5 @@
 -- Process control (IEEE 1666-2011, 5.6.6): what a control call does, by its target, and what an unwinding ends in.
-use Rattle.std.specs.Prelude.{ℕ, ◌==◌, Bool, true, false, not, ◌&&◌, ◌||◌, List, [], ◌∷◌, ◌++◌, drop, Option, Some, None, Result, Ok, Err, if◌then◌else◌}
+use Rattle.std.specs.Prelude.{ℕ, Bool, true, false, not, ◌&&◌, ◌||◌, List, [], ◌∷◌, ◌++◌, drop, Option, Some, None, Result, Ok, Err, if◌then◌else◌}
 use Rattle.model_tree.specs.declared.items.ProcessKind.{ProcessKind}
 use Rattle.model_tree.specs.declared.items.ProcessKind.TheVariants as process
 use Rattle.model_tree.specs.declared.statements.Control.{Control}
@@ -10,9 +10,9 @@ use Rattle.flat_design.specs.declared.code.Controlled.TheVariants as controlled
 use Rattle.flat_design.specs.declared.faults.RunFault.{RunFault}
 use Rattle.flat_design.specs.declared.faults.RunFault.TheVariants as fault
 use Rattle.sim_model.specs.Values.{on_ok}
-use Rattle.sim_model.specs.Residual.{Residual, skip, goal, put, in_nb, has_goal, begun}
+use Rattle.sim_model.specs.Residual.{Residual, skip, goal, in_nb, has_goal, begun}
 use Rattle.sim_model.specs.Unwinding.{unw, catches, raise, left_by_unw, left_by_raise}
-use Rattle.sim_model.specs.Configuration.{Config, Instance, Trigger, waits_for_nothing, waits_statically, no_deadline, instance_at, change_instance, with_residual, with_runnable, with_stack, arena}
+use Rattle.sim_model.specs.Configuration.{Config, Instance, Trigger, waits_statically, no_deadline, instance_at, change_instance, with_residual, with_runnable, arena}
 use Rattle.sim_model.specs.Waits.{holds, without, freed, fire, leaves_stack}
 use Rattle.sim_model.specs.Reading.{Here, process_of, not_empty}
 use Rattle.sim_model.specs.Storing.{passes}

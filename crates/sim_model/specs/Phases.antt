@@ -1,7 +1,6 @@
 -- The phases of the scheduler (IEEE 1666-2011, 4.2.1): initialization, update, delta and timed notification.
-use Rattle.std.specs.Prelude.{ℕ, suc, ◌+◌, ◌==◌, Bool, true, false, not, ◌&&◌, ◌||◌, nat_lt, nat_le, List, [], ◌∷◌, ◌++◌, map, slice_get, unwrap_or, Option, Some, None, if◌then◌else◌}
+use Rattle.std.specs.Prelude.{ℕ, suc, ◌+◌, ◌==◌, Bool, true, false, nat_lt, List, [], ◌∷◌, ◌++◌, map, slice_get, unwrap_or, Option, Some, None, if◌then◌else◌}
 use Rattle.logic_values.specs.declared.kinds.Value.{Value}
-use Rattle.logic_values.specs.declared.kinds.Value.TheVariants as value
 use Rattle.event_core.specs.declared.event.Ev.{Ev}
 use Rattle.event_core.specs.declared.event.Ev.TheVariants as ev
 use Rattle.event_core.specs.declared.notifications.Pending.{Pending}
@@ -19,8 +18,8 @@ use Rattle.flat_design.specs.declared.design.ProcessPart.{ProcessPart}
 use Rattle.flat_design.specs.declared.design.Visible.{Visible}
 use Rattle.flat_design.specs.declared.design.VisibleId.{VisibleId}
 use Rattle.flat_design.specs.declared.design.VisibleId.TheVariants as visible_id
-use Rattle.sim_model.specs.Configuration.{Config, Instance, Channels, Deadline, no_deadline, next_delta, at_time, Snapshot, instance_at, change_instance, with_phase, with_runnable}
-use Rattle.sim_model.specs.Waits.{fire_all, wake_all, freed, notify, holds}
+use Rattle.sim_model.specs.Configuration.{Config, Instance, Channels, Deadline, no_deadline, next_delta, at_time, change_instance, with_phase, with_runnable}
+use Rattle.sim_model.specs.Waits.{fire_all, wake_all, freed, notify}
 use Rattle.sim_model.specs.Reading.{signal_value, resolved_value}
 use Rattle.sim_model.specs.declared.plain.Phase.{Phase}
 use Rattle.sim_model.specs.declared.plain.Phase.TheVariants as phase

@@ -1,6 +1,5 @@
 -- The value of an expression, or its first fault.
-use Rattle.std.specs.Prelude.{ℕ, ◌==◌, ◌+◌, Bool, true, false, not, nat_lt, List, [], ◌∷◌, length, slice_get, option_map, unwrap_or, Option, Some, None, is_some, Result, Ok, Err, if◌then◌else◌}
-use Rattle.std.specs.FinMap as map_of
+use Rattle.std.specs.Prelude.{ℕ, Bool, true, false, List, [], ◌∷◌, length, slice_get, option_map, unwrap_or, Option, Some, None, is_some, Result, Ok, Err, if◌then◌else◌}
 use Rattle.logic_values.specs.declared.kinds.Value.{Value}
 use Rattle.logic_values.specs.declared.kinds.Value.TheVariants as value
 use Rattle.logic_values.specs.Integers.{bits_of}

@@ -1,5 +1,5 @@
 -- One step of the instance on top of the stack: by what shows of its body once finished parts have fallen away.
-use Rattle.std.specs.Prelude.{ℕ, List, [], ◌∷◌, Option, Some, None, Result, Ok, Err}
+use Rattle.std.specs.Prelude.{ℕ, Option, Some, None, Result, Ok}
 use Rattle.flat_design.specs.Code as code
 use Rattle.flat_design.specs.Code.{Statement, statement_at}
 use Rattle.flat_design.specs.declared.faults.RunFault.{RunFault}

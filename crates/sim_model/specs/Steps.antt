@@ -1,5 +1,5 @@
 -- One step of a run: the next command in Idle, the step of the phase, or the taking of a process (IEEE 1666-2011, 4.2.1).
-use Rattle.std.specs.Prelude.{ℕ, ◌+◌, ◌==◌, ◌^◌, Bool, true, false, nat_lt, List, [], ◌∷◌, ◌++◌, slice_get, Option, Some, None, Result, Ok, Err, codes, if◌then◌else◌}
+use Rattle.std.specs.Prelude.{ℕ, ◌+◌, Bool, true, false, List, [], ◌∷◌, ◌++◌, slice_get, Option, Some, None, Result, Ok, Err, codes, if◌then◌else◌}
 use Rattle.std.specs.Fmt.{decimal}
 use Rattle.logic_values.specs.declared.kinds.Value.{Value}
 use Rattle.logic_values.specs.ValueText.{text_of}
@@ -10,7 +10,7 @@ use Rattle.flat_design.specs.declared.design.VisibleId.{VisibleId}
 use Rattle.flat_design.specs.declared.design.VisibleId.TheVariants as visible_id
 use Rattle.flat_design.specs.declared.faults.RunFault.{RunFault}
 use Rattle.sim_model.specs.Values.{on_ok, time_within}
-use Rattle.sim_model.specs.Configuration.{Config, Channels, Instance, line, turn, path_of, change, instance_at, with_runnable, with_stack, with_told}
+use Rattle.sim_model.specs.Configuration.{Config, Instance, line, turn, path_of, change, instance_at, with_runnable, with_stack, with_told}
 use Rattle.sim_model.specs.Waits.{holds, without}
 use Rattle.sim_model.specs.Control.{begins}
 use Rattle.sim_model.specs.Statements.{statement_step}

@@ -1,5 +1,5 @@
 -- Statements of data: variables, assignments, prints, choices and loops; and how a value is stored.
-use Rattle.std.specs.Prelude.{ℕ, ◌%◌, ◌∷◌, Bool, true, false, List, [], ◌++◌, length, slice_get, slice_set, Option, Some, None, Result, Ok, Err, codes}
+use Rattle.std.specs.Prelude.{ℕ, ◌%◌, ◌∷◌, Bool, true, false, List, [], ◌++◌, length, slice_set, Option, Some, None, Result, Ok, codes}
 use Rattle.std.specs.Fmt.{decimal}
 use Rattle.logic_values.specs.declared.kinds.Sign.TheVariants as sign
 use Rattle.logic_values.specs.declared.kinds.Value.{Value}
@@ -22,8 +22,8 @@ use Rattle.flat_design.specs.declared.design.Denoted.{Denoted}
 use Rattle.flat_design.specs.declared.design.Denoted.TheVariants as denoted
 use Rattle.flat_design.specs.declared.faults.RunFault.{RunFault}
 use Rattle.sim_model.specs.Values.{on_ok, truth, bits, cut_to, index_within}
-use Rattle.sim_model.specs.Residual.{Residual, Frame, skip, seq, followed, put, block, in_innermost}
-use Rattle.sim_model.specs.Configuration.{Config, Instance, line, change, change_instance, with_residual, with_told, arena}
+use Rattle.sim_model.specs.Residual.{Residual, Frame, skip, followed, put, block, in_innermost}
+use Rattle.sim_model.specs.Configuration.{Config, Instance, line, change_instance, with_residual, with_told, arena}
 use Rattle.sim_model.specs.Reading.{Here, denotes, val, val_if, payload_number, live_payload, memory_number, memory_here}
 
 -- the statement in place of instance p, of which r is left, is past

@@ -1,5 +1,5 @@
 -- Statements of payloads, transport calls and quantum keepers (IEEE 1666-2011, clauses 11, 14, 15 and 16).
-use Rattle.std.specs.Prelude.{ℕ, ◌+◌, ◌==◌, Bool, true, false, not, ◌&&◌, nat_lt, nat_le, List, [], ◌∷◌, length, slice_get, slice_set, unwrap_or, Option, Some, None, is_some, Result, Ok, Err, ℤ, pos, if◌then◌else◌}
+use Rattle.std.specs.Prelude.{ℕ, ◌==◌, Bool, true, false, not, ◌&&◌, nat_lt, nat_le, List, [], ◌∷◌, slice_get, slice_set, unwrap_or, Option, Some, None, is_some, Result, Ok, Err, ℤ, pos, if◌then◌else◌}
 use Rattle.std.specs.Ordering.{int_eq}
 use Rattle.std.specs.FinMap as map_of
 use Rattle.logic_values.specs.declared.kinds.Sign.TheVariants as sign
@@ -18,7 +18,6 @@ use Rattle.quantum_keeper.specs.Keepers.{after_reset, after_inc, with_local}
 use Rattle.quantum_keeper.specs.declared.keeper.Keeper.{Keeper}
 use Rattle.flat_design.specs.Code.{Term}
 use Rattle.flat_design.specs.declared.names.NameUse.{NameUse}
-use Rattle.flat_design.specs.declared.names.NameUse.TheVariants as name_use
 use Rattle.flat_design.specs.declared.code.Store.{Store as Target}
 use Rattle.flat_design.specs.declared.design.Denoted.{Denoted}
 use Rattle.flat_design.specs.declared.design.Denoted.TheVariants as denoted
@@ -27,7 +26,7 @@ use Rattle.flat_design.specs.declared.faults.RunFault.{RunFault}
 use Rattle.flat_design.specs.declared.faults.RunFault.TheVariants as fault
 use Rattle.sim_model.specs.Values.{on_ok, bits, moment}
 use Rattle.sim_model.specs.Residual.{Residual, Frame}
-use Rattle.sim_model.specs.Configuration.{Config, change, arena}
+use Rattle.sim_model.specs.Configuration.{Config, arena}
 use Rattle.sim_model.specs.Reading.{Here, denotes, read_name, payload_number, live_payload, memory_number, memory_here, keeper_number, keeper_at, val, val_if}
 use Rattle.sim_model.specs.Storing.{passes, set_name, set_memory, set_payload, stored_if}
 use Rattle.sim_model.specs.Calls.{enters, may_enter, with_entry, answer_of, final_value}

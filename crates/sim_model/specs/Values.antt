@@ -1,6 +1,6 @@
 -- What operators make of values. Where an operand has another type than the operation says, it counts as 0, false, no
 -- digits or time 0: accepted code never meets that.
-use Rattle.std.specs.Prelude.{ℕ, ◌+◌, ◌-◌, ◌*◌, ◌/◌, ◌%◌, ◌^◌, ◌==◌, Bool, true, false, not, ◌&&◌, ◌||◌, nat_lt, nat_le, List, [], ◌∷◌, ◌++◌, map, length, drop, take, slice_get, Option, Some, None, Result, Ok, Err, if◌then◌else◌, bit_and, bit_or, bit_xor}
+use Rattle.std.specs.Prelude.{ℕ, ◌+◌, ◌-◌, ◌*◌, ◌/◌, ◌%◌, ◌^◌, ◌==◌, Bool, true, false, not, ◌&&◌, ◌||◌, nat_lt, List, [], ◌∷◌, ◌++◌, map, drop, take, slice_get, Option, Some, None, Result, Ok, Err, if◌then◌else◌, bit_and, bit_or, bit_xor}
 use Rattle.logic_values.specs.declared.kinds.Digit.{Digit}
 use Rattle.logic_values.specs.declared.kinds.Digit.TheVariants as digit
 use Rattle.logic_values.specs.declared.kinds.Sign.{Sign}

@@ -1,6 +1,5 @@
 -- Statements of waits and events (IEEE 1666-2011, 5.2.17, 5.2.18 and 5.10).
-use Rattle.std.specs.Prelude.{ℕ, suc, ◌+◌, ◌==◌, true, List, [], ◌∷◌, Option, Some, None, Result, Ok, Err, if◌then◌else◌}
-use Rattle.sim_time.specs.declared.moments.Time.{Time}
+use Rattle.std.specs.Prelude.{ℕ, ◌+◌, ◌==◌, true, List, [], ◌∷◌, Option, Some, None, Result, Ok, Err, if◌then◌else◌}
 use Rattle.event_core.specs.declared.event.Ev.{Ev}
 use Rattle.event_core.specs.declared.event.Ev.TheVariants as ev
 use Rattle.event_core.specs.declared.notifications.When.{When}
