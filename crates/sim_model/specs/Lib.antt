@@ -15,3 +15,4 @@ pub mod Phases
 pub mod Steps
 pub mod Runs
 pub mod Texts
+pub mod Trace
