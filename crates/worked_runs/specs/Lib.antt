@@ -1,0 +1,4 @@
+pub mod Body
+pub mod Build
+pub mod Run
+pub mod Rows

@@ -1,0 +1,30 @@
+-- What a run tells.
+use Rattle.std.specs.Prelude.{ℕ, List, [], ◌∷◌, length, option_map, option_and_then, Option, Some, None}
+use Rattle.std.specs.Fmt.{digits}
+use Rattle.sim_time.specs.declared.moments.Time.{Time}
+use Rattle.flat_design.specs.declared.design.Design.{Design}
+use Rattle.sim_model.specs.Configuration.{start, path_up}
+use Rattle.sim_model.specs.Runs.{after, stop_of}
+use Rattle.sim_model.specs.Texts.{report}
+use Rattle.sim_model.specs.declared.plain.Command.{Command}
+use Rattle.sim_model.specs.declared.plain.Command.TheVariants as command
+use Rattle.sim_model.specs.declared.plain.Log.{Log}
+use Rattle.sim_model.specs.declared.plain.Log.TheVariants as log_of
+use Rattle.sim_model.specs.declared.plain.Rule.{Rule}
+use Rattle.sim_model.specs.declared.plain.Rule.TheVariants as rule
+
+abbrev pub run : Command
+run = command.Run None
+
+abbrev pub run_for : ℕ → Command
+run_for t = command.Run (Some (record { 0 = t }))
+
+-- the report of the run of n steps with these choices, where it ends there
+unfoldable pub told_under : Rule → Log → ℕ → ℕ → List ℕ → Design → List Command → Option (List ℕ)
+unfolding digits path_up
+told_under r log budget n choices d script =
+    option_and_then (λ c. option_map (report log c) (stop_of c r (length choices) n budget)) (after n choices (start d script))
+
+unfoldable pub told : ℕ → List ℕ → Design → List Command → Option (List ℕ)
+unfolding told_under
+told n choices d script = told_under rule.First log_of.Prints 10000000 n choices d script
