@@ -1,5 +1,5 @@
 -- Bodies written by hand: statements one inside another, which are laid out as numbered blocks of numbered statements.
-use Rattle.std.specs.Prelude.{ℕ, List, [], ◌∷◌, ◌++◌, ◌^◌, ltb, length, refl, T, Option, Some, None}
+use Rattle.std.specs.Prelude.{ℕ, List, [], ◌∷◌, ◌++◌, ◌^◌, ltb, length, refl, T, Some, None}
 use Rattle.std.specs.Global.{Vec, Box}
 use Rattle.std.proofs.Common.{le_refl, lit<}
 use denote.RawPtr.{null_ptr}
@@ -10,8 +10,6 @@ use Rattle.model_tree.specs.declared.expressions.BinaryOp.{BinaryOp}
 use Rattle.flat_design.specs.declared.value_types.ValueType.{ValueType}
 use Rattle.flat_design.specs.declared.names.NameUse.{NameUse}
 use Rattle.flat_design.specs.declared.names.NameUse.TheVariants as name_use
-use Rattle.flat_design.specs.declared.names.Member.{Member}
-use Rattle.flat_design.specs.declared.names.EventMember.{EventMember}
 use Rattle.flat_design.specs.declared.names.EventMember.TheVariants as event
 use Rattle.flat_design.specs.declared.terms.Expr.{Expr, Unary', Binary'}
 use Rattle.flat_design.specs.declared.terms.Expr.TheVariants as expr

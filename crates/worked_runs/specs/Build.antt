@@ -1,9 +1,7 @@
 -- Designs written by hand: one instance of a module, with its items in text order.
-use Rattle.std.specs.Prelude.{ℕ, ◌+◌, Bool, true, false, List, [], ◌∷◌, ◌++◌, codes, length, slice_get, slice_set, Option, Some, None}
-use Rattle.logic_values.specs.declared.kinds.Value.{Value}
+use Rattle.std.specs.Prelude.{ℕ, ◌+◌, Bool, false, List, [], ◌∷◌, ◌++◌, codes, length, None}
 use Rattle.model_tree.specs.declared.items.ProcessKind.{ProcessKind}
 use Rattle.model_tree.specs.declared.items.ProcessKind.TheVariants as process
-use Rattle.model_tree.specs.declared.items.SignalKind.{SignalKind}
 use Rattle.model_tree.specs.declared.items.SignalKind.TheVariants as signal_kind
 use Rattle.event_core.specs.declared.event.Ev.{Ev}
 use Rattle.flat_design.specs.ValueTypes.{default_value}
@@ -28,8 +26,20 @@ abbrev pub empty : Design
 empty = record {
   objects = record { list = (record { name = codes "m"; line = 1; parent = 0; form = form.Instance 0 }) ∷ []; binds = [] };
   instances = (record { object = 0; module_place = 0; names = [] }) ∷ [];
-  signals = []; resolved = []; fifos = []; mutexes = 0; semaphores = []; keepers = 0; memories = []; variables = []; ports = [];
-  processes = []; hops = []; events = 0; visible = []; exceptions = [];
+  signals = [];
+  resolved = [];
+  fifos = [];
+  mutexes = 0;
+  semaphores = [];
+  keepers = 0;
+  memories = [];
+  variables = [];
+  ports = [];
+  processes = [];
+  hops = [];
+  events = 0;
+  visible = [];
+  exceptions = [];
   code = record { bodies = []; blocks = []; statements = [] };
 }
 
@@ -50,14 +60,16 @@ signal name t d =
     with_object name (form.Signal signal_kind.Signal false t (default_value t)) (denoted.Channel (channel.Signal (length d.signals) d.events))
     (record (seen (visible_id.Signal (length d.signals)) d) {
       signals = d.signals ++ (record { object = next_object d; kind = signal_kind.Signal; many = false; value_type = t; initial = default_value t; events = d.events }) ∷ [];
-      events = d.events + 3 })
+      events = d.events + 3;
+    })
 
 abbrev pub resolved : List ℕ → Design → Design
 resolved name d =
     with_object name form.Resolved (denoted.Channel (channel.Resolved (length d.resolved) d.events))
     (record (seen (visible_id.Resolved (length d.resolved)) d) {
       resolved = d.resolved ++ (record { object = next_object d; events = d.events }) ∷ [];
-      events = d.events + 3 })
+      events = d.events + 3;
+    })
 
 abbrev pub fifo : List ℕ → ValueType → ℕ → Design → Design
 fifo name t size d =
@@ -80,11 +92,13 @@ abbrev pub laid_in : Design → Laid
 laid_in d = record { blocks = d.code.blocks; statements = d.code.statements }
 
 abbrev pub with_laid : Design → BodyKind → List ℕ → List Local → Laid × List ℕ → Design
-with_laid d k name locals x = record d { code = record {
-  bodies = d.code.bodies ++ (record { kind = k; module_place = 0; name = name; locals = locals; parameters = 0; answer = None; block = block_of x; room = 0 }) ∷ [];
-  blocks = (with_block x).blocks;
-  statements = x.0.statements;
-} }
+with_laid d k name locals x = record d {
+  code = record {
+    bodies = d.code.bodies ++ (record { kind = k; module_place = 0; name = name; locals = locals; parameters = 0; answer = None; block = block_of x; room = 0 }) ∷ [];
+    blocks = (with_block x).blocks;
+    statements = x.0.statements;
+  };
+}
 
 abbrev pub with_body : BodyKind → List ℕ → List Local → Body → Design → Design
 with_body k name locals b d = with_laid d k name locals (lay b (laid_in d))

@@ -1,7 +1,7 @@
 -- What a run tells.
-use Rattle.std.specs.Prelude.{ℕ, List, [], ◌∷◌, length, option_map, option_and_then, Option, Some, None}
+use Rattle.std.specs.Prelude.{ℕ, List, length, option_map, option_and_then, Option, Some, None}
 use Rattle.std.specs.Fmt.{digits}
-use Rattle.sim_time.specs.declared.moments.Time.{Time}
+use Rattle.logic_values.specs.declared.kinds.Value.{Value}
 use Rattle.flat_design.specs.declared.design.Design.{Design}
 use Rattle.sim_model.specs.Configuration.{start, path_up}
 use Rattle.sim_model.specs.Runs.{after, stop_of}
@@ -18,6 +18,12 @@ run = command.Run None
 
 abbrev pub run_for : ℕ → Command
 run_for t = command.Run (Some (record { 0 = t }))
+
+abbrev pub set : ℕ → Value → Command
+set i v = command.Set i v
+
+abbrev pub show : ℕ → Command
+show i = command.Show i
 
 -- the report of the run of n steps with these choices, where it ends there
 unfoldable pub told_under : Rule → Log → ℕ → ℕ → List ℕ → Design → List Command → Option (List ℕ)

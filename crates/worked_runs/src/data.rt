@@ -1,15 +1,46 @@
-//! Runs of signals and prints.
-ghost use Rattle.std.specs.Prelude.{◌≡◌, [], ◌∷◌, codes, Some};
+//! Runs of signals, values and the script's commands.
+ghost use Rattle.std.specs.Prelude.{◌≡◌, [], ◌∷◌, codes, Some, true};
+ghost use Rattle.logic_values.specs.declared.kinds.Value.TheVariants as value;
+ghost use Rattle.sim_model.specs.declared.plain.Log.TheVariants as log_of;
+ghost use Rattle.sim_model.specs.declared.plain.Rule.TheVariants as rule;
 ghost use Rattle.worked_runs.specs.Build.{empty};
-ghost use Rattle.worked_runs.specs.Rows.{writer};
-ghost use Rattle.worked_runs.specs.Run.{told, run};
+ghost use Rattle.worked_runs.specs.Rows as rows;
+ghost use Rattle.worked_runs.specs.Run.{told, told_under, run, set, show};
 
 /// A model with nothing in it ends at once.
 pub fn nothing_is_run()
     ensures ends { told 5 [] empty (run ∷ []) ≡ Some (codes "end done 0\n") }
 {}
 
-/// A value that is written is read after the update.
+/// A value that is written is read after the update, and a report may tell the turns.
 pub fn a_written_value_is_read_after_the_update()
-    ensures reads { told 14 (0 ∷ 0 ∷ []) writer (run ∷ []) ≡ Some (codes "0 m.t a 0\n0 m.t a 5\nfinal m.a 5\nend done 0\n") }
+    ensures reads { told 14 (0 ∷ 0 ∷ []) rows.writer (run ∷ []) ≡ Some (codes "0 m.t a 0\n0 m.t a 5\nfinal m.a 5\nend done 0\n") }
+    ensures turns { told_under rule.First log_of.Turns 10000000 14 (0 ∷ 0 ∷ []) rows.writer (run ∷ []) ≡ Some (codes "0 m.t turn 0\n0 m.t a 0\n0 m.t turn 0\n0 m.t a 5\nfinal m.a 5\nend done 0\n") }
+{}
+
+/// A second writer of a signal is a fault that names both, in the order of their writes.
+pub fn a_second_writer_is_a_fault()
+    ensures first { told 6 (0 ∷ 1 ∷ []) rows.two_writers (run ∷ []) ≡ Some (codes "final m.a 0\nend fault 0 WriterConflict 0 1\n") }
+    ensures last { told_under rule.Last log_of.Prints 10000000 6 (1 ∷ 0 ∷ []) rows.two_writers (run ∷ []) ≡ Some (codes "final m.a 0\nend fault 0 WriterConflict 1 0\n") }
+{}
+
+/// What several threads drive is resolved.
+pub fn drivers_are_resolved()
+    ensures resolves { told 13 (0 ∷ 1 ∷ []) rows.drivers (run ∷ []) ≡ Some (codes "final m.r X\nfinal m.s 1\nend done 0\n") }
+{}
+
+/// A fifo of one place blocks its writer when full, and its reader when empty.
+pub fn a_fifo_blocks()
+    ensures blocks { told 39 (0 ∷ 1 ∷ 1 ∷ 0 ∷ 1 ∷ 0 ∷ 1 ∷ []) rows.through_fifo (run ∷ []) ≡ Some (codes "0 m.c x 1\n0 m.c x 2\n0 m.c x 3\nend done 0\n") }
+{}
+
+/// What the script sets is seen after the update.
+pub fn the_script_sets_and_shows()
+    ensures shows { told 8 [] rows.set_by_script (set 0 (value.Bool true) ∷ show 0 ∷ run ∷ show 0 ∷ []) ≡ Some (codes "0 script m.a 0\n0 script m.a 1\nfinal m.a 1\nend done 0\n") }
+{}
+
+/// Stored values are cut to their types, and a remainder has the sign of what is divided; a division by zero is a fault.
+pub fn numbers_are_cut()
+    ensures cuts { told 19 (0 ∷ 0 ∷ []) rows.numbers (run ∷ []) ≡ Some (codes "0 m.s n -56\n0 m.s q -2\n0 m.s n -56\n0 m.s q -2\nfinal m.a 44\nend done 0\n") }
+    ensures divides { told 3 (0 ∷ []) rows.by_zero (run ∷ []) ≡ Some (codes "end fault 0 DivideByZero\n") }
 {}
