@@ -1,6 +1,5 @@
 -- The configuration of a run: all that its next step and its texts depend on.
 use Rattle.std.specs.Prelude.{ℕ, zero, suc, ◌==◌, Bool, true, false, List, [], ◌∷◌, ◌++◌, map, replicate, length, slice_get, slice_set, Option, Some, None, if◌then◌else◌}
-use Rattle.std.specs.FinMap as map_of
 use Rattle.logic_values.specs.declared.kinds.Value.{Value}
 use Rattle.model_tree.specs.declared.items.ProcessKind.{ProcessKind}
 use Rattle.model_tree.specs.declared.items.SignalKind.{SignalKind}
@@ -14,7 +13,6 @@ use Rattle.signal_channel.specs.declared.signal.Policy.{Policy}
 use Rattle.signal_channel.specs.declared.signal.Policy.TheVariants as policy
 use Rattle.signal_channel.specs.declared.signal.Signal.{Signal}
 use Rattle.fifo_sync.specs.Fifos.{Queued, nothing_in}
-use Rattle.payload_pool.specs.Payloads.{Payloads}
 use Rattle.transport_phases.specs.History.{Entry}
 use Rattle.quantum_keeper.specs.declared.keeper.Keeper.{Keeper}
 use Rattle.quantum_keeper.specs.Keepers.{at_start}
@@ -28,6 +26,7 @@ use Rattle.flat_design.specs.declared.design.VariablePart.{VariablePart}
 use Rattle.flat_design.specs.declared.design.ProcessPart.{ProcessPart}
 use Rattle.flat_design.specs.declared.design.Design.{Design}
 use Rattle.sim_model.specs.Residual.{Residual, Mark, skip}
+use Rattle.sim_model.specs.Payloads.{Payloads}
 use Rattle.sim_model.specs.declared.plain.Phase.{Phase}
 use Rattle.sim_model.specs.declared.plain.Phase.TheVariants as phase
 use Rattle.sim_model.specs.declared.plain.Command.{Command}
@@ -204,9 +203,6 @@ first_instance d p = record {
   ended = false;
 }
 
-abbrev pub no_payloads : Payloads
-no_payloads = record { live = map_of.empty; next = 0 }
-
 abbrev pub first_channels : Design → Channels
 first_channels d = record {
   signals = map first_signal d.signals;
@@ -228,7 +224,7 @@ start d script = record {
   events = replicate d.events pending.Nothing;
   channels = first_channels d;
   store = record { variables = map (λ (p : VariablePart). p.initial) d.variables; memories = map (λ (p : MemoryPart). replicate p.size 0) d.memories };
-  transactions = record { pool = no_payloads; hops = replicate (length d.hops) [] };
+  transactions = record { pool = []; hops = replicate (length d.hops) [] };
   quantum = record { keepers = replicate d.keepers at_start; global = 0 };
   script = script;
   trace = record { told = []; snapshots = []; marks = []; next_guard = 0 };

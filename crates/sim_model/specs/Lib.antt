@@ -1,6 +1,7 @@
 pub mod Values
 pub mod Residual
 pub mod Unwinding
+pub mod Payloads
 pub mod Configuration
 pub mod Waits
 pub mod Reading

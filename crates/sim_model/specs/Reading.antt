@@ -6,7 +6,6 @@ use Rattle.logic_values.specs.Integers.{bits_of}
 use Rattle.signal_channel.specs.Drivers.{Driven}
 use Rattle.signal_channel.specs.declared.signal.Signal.{Signal}
 use Rattle.fifo_sync.specs.Fifos.{Queued, available, free}
-use Rattle.payload_pool.specs.Payloads.{payload_of}
 use Rattle.payload_pool.specs.declared.payload.Payload.{Payload}
 use Rattle.quantum_keeper.specs.Keepers.{must_sync}
 use Rattle.quantum_keeper.specs.declared.keeper.Keeper.{Keeper}
@@ -32,6 +31,7 @@ use Rattle.flat_design.specs.declared.faults.RunFault.{RunFault}
 use Rattle.flat_design.specs.declared.faults.RunFault.TheVariants as fault
 use Rattle.sim_model.specs.Values.{on_ok, truth, bits, process_handle, payload_handle, widened, unsigned, signed, bool_value, unary, binary, decides, digit_at, digits_between, converted, joined_digits, index_within}
 use Rattle.sim_model.specs.Residual.{Residual, Frame, innermost, within}
+use Rattle.sim_model.specs.Payloads.{payload_of}
 use Rattle.sim_model.specs.Configuration.{Config, Instance, instance_at}
 use Rattle.sim_model.specs.declared.plain.Via.{Via}
 

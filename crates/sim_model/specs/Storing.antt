@@ -5,7 +5,6 @@ use Rattle.logic_values.specs.declared.kinds.Sign.TheVariants as sign
 use Rattle.logic_values.specs.declared.kinds.Value.{Value}
 use Rattle.logic_values.specs.Integers.{cut_of, number_of}
 use Rattle.logic_values.specs.ValueText.{text_of}
-use Rattle.payload_pool.specs.Payloads.{with_payload}
 use Rattle.payload_pool.specs.declared.payload.Payload.{Payload}
 use Rattle.flat_design.specs.Code as code
 use Rattle.flat_design.specs.Code.{Term, DestinationTerm}
@@ -23,6 +22,7 @@ use Rattle.flat_design.specs.declared.design.Denoted.TheVariants as denoted
 use Rattle.flat_design.specs.declared.faults.RunFault.{RunFault}
 use Rattle.sim_model.specs.Values.{on_ok, truth, bits, cut_to, index_within}
 use Rattle.sim_model.specs.Residual.{Residual, Frame, skip, followed, put, block, in_innermost}
+use Rattle.sim_model.specs.Payloads.{with_payload}
 use Rattle.sim_model.specs.Configuration.{Config, Instance, line, change_instance, with_residual, with_told, arena}
 use Rattle.sim_model.specs.Reading.{Here, denotes, val, val_if, payload_number, live_payload, memory_number, memory_here}
 

@@ -1,12 +1,10 @@
 -- Statements of payloads, transport calls and quantum keepers (IEEE 1666-2011, clauses 11, 14, 15 and 16).
-use Rattle.std.specs.Prelude.{ℕ, ◌==◌, Bool, true, false, not, ◌&&◌, nat_lt, nat_le, List, [], ◌∷◌, slice_get, slice_set, unwrap_or, Option, Some, None, is_some, Result, Ok, Err, ℤ, pos, if◌then◌else◌}
+use Rattle.std.specs.Prelude.{ℕ, ◌==◌, Bool, true, false, not, ◌&&◌, nat_lt, nat_le, List, [], ◌∷◌, length, slice_get, slice_set, unwrap_or, Option, Some, None, is_some, Result, Ok, Err, ℤ, pos, if◌then◌else◌}
 use Rattle.std.specs.Ordering.{int_eq}
-use Rattle.std.specs.FinMap as map_of
 use Rattle.logic_values.specs.declared.kinds.Sign.TheVariants as sign
 use Rattle.logic_values.specs.declared.kinds.Value.{Value}
 use Rattle.logic_values.specs.declared.kinds.Value.TheVariants as value
 use Rattle.logic_values.specs.Integers.{number_of}
-use Rattle.payload_pool.specs.Payloads.{Payloads, payload_of, with_made, with_acquired, with_released}
 use Rattle.payload_pool.specs.Transfer.{carried, memory_after}
 use Rattle.payload_pool.specs.declared.payload.Payload.{Payload}
 use Rattle.transport_phases.specs.History.{Entry, Call, Return, BCall, BReturn, broken}
@@ -26,6 +24,7 @@ use Rattle.flat_design.specs.declared.faults.RunFault.{RunFault}
 use Rattle.flat_design.specs.declared.faults.RunFault.TheVariants as fault
 use Rattle.sim_model.specs.Values.{on_ok, bits, moment}
 use Rattle.sim_model.specs.Residual.{Residual, Frame}
+use Rattle.sim_model.specs.Payloads.{Payloads, payload_of, live_payloads, with_made, with_acquired, with_released}
 use Rattle.sim_model.specs.Configuration.{Config, arena}
 use Rattle.sim_model.specs.Reading.{Here, denotes, read_name, payload_number, live_payload, memory_number, memory_here, keeper_number, keeper_at, val, val_if}
 use Rattle.sim_model.specs.Storing.{passes, set_name, set_memory, set_payload, stored_if}
@@ -48,7 +47,7 @@ abbrev pub size_within : ℕ → ℕ → Result ℕ RunFault
 size_within least n = if nat_le least n && nat_le n byte_limit then Ok n else Err (fault.IndexRange n byte_limit)
 
 abbrev pub may_make : Config → Result Unit RunFault
-may_make c = if nat_lt (map_of.len c.transactions.pool.live) payload_limit then Ok tt else Err fault.TooManyPayloads
+may_make c = if nat_lt (live_payloads c.transactions.pool) payload_limit then Ok tt else Err fault.TooManyPayloads
 
 abbrev pub size_or : Option Value → ℕ
 size_or None = 0
@@ -57,7 +56,7 @@ size_or (Some v) = bits v
 abbrev pub do_make : Config → ℕ → Residual → Here → NameUse → Term → Option Term → Result Config RunFault
 do_make c p r h n e m =
     on_ok (val h e) (λ v. on_ok (val_if h m) (λ w. on_ok (size_within 1 (bits v)) (λ x. on_ok (size_within 0 (size_or w)) (λ y. on_ok (may_make c) (λ ok.
-    Ok (set_name (with_pool (passes c p r) (with_made c.transactions.pool x y)) p h n (value.Pay (Some c.transactions.pool.next))))))))
+    Ok (set_name (with_pool (passes c p r) (with_made c.transactions.pool x y)) p h n (value.Pay (Some (length c.transactions.pool)))))))))
 
 abbrev pub do_acquire : Config → ℕ → Residual → Here → NameUse → Result Config RunFault
 do_acquire c p r h n = on_ok (payload_number h n) (λ t. on_ok (live_payload c t) (λ q. Ok (with_pool (passes c p r) (with_acquired c.transactions.pool t))))

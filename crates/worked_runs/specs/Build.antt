@@ -1,5 +1,5 @@
--- Designs written by hand: one instance of a module, with its items in text order.
-use Rattle.std.specs.Prelude.{ℕ, ◌+◌, Bool, false, List, [], ◌∷◌, ◌++◌, codes, length, None}
+-- Designs written by hand: the items of instances of modules in text order. An item stands in the instance that was begun last.
+use Rattle.std.specs.Prelude.{ℕ, ◌+◌, ◌-◌, Bool, true, false, List, [], ◌∷◌, ◌++◌, codes, length, slice_get, Option, Some, None}
 use Rattle.model_tree.specs.declared.items.ProcessKind.{ProcessKind}
 use Rattle.model_tree.specs.declared.items.ProcessKind.TheVariants as process
 use Rattle.model_tree.specs.declared.items.SignalKind.TheVariants as signal_kind
@@ -14,6 +14,7 @@ use Rattle.flat_design.specs.declared.design.Denoted.TheVariants as denoted
 use Rattle.flat_design.specs.declared.design.VisibleId.{VisibleId}
 use Rattle.flat_design.specs.declared.design.VisibleId.TheVariants as visible_id
 use Rattle.flat_design.specs.declared.design.InstancePart.{InstancePart}
+use Rattle.flat_design.specs.declared.design.Hop.{Hop}
 use Rattle.flat_design.specs.declared.design.Design.{Design}
 use Rattle.flat_design.specs.declared.code.BodyKind.{BodyKind}
 use Rattle.flat_design.specs.declared.code.BodyKind.TheVariants as body_kind
@@ -46,10 +47,28 @@ empty = record {
 abbrev pub next_object : Design → ℕ
 next_object d = length d.objects.list
 
+-- the instance that was begun last, by its number among the instances, and by that among the objects
+abbrev pub home : Design → ℕ
+home d = length d.instances - 1
+
+abbrev pub object_of : Option InstancePart → ℕ
+object_of None = 0
+object_of (Some i) = i.object
+
+abbrev pub home_object : Design → ℕ
+home_object d = object_of (slice_get d.instances (home d))
+
 abbrev pub with_object : List ℕ → ObjectForm → Denoted → Design → Design
 with_object name f what d = record d {
-  objects = record d.objects { list = d.objects.list ++ (record { name = name; line = 1; parent = 0; form = f }) ∷ [] };
-  instances = change d.instances 0 (λ (i : InstancePart). record i { names = i.names ++ what ∷ [] });
+  objects = record d.objects { list = d.objects.list ++ (record { name = name; line = 1; parent = home_object d; form = f }) ∷ [] };
+  instances = change d.instances (home d) (λ (i : InstancePart). record i { names = i.names ++ what ∷ [] });
+}
+
+-- an instance in another one, by that one's number among the objects
+abbrev pub instance : List ℕ → ℕ → Design → Design
+instance name parent d = record d {
+  objects = record d.objects { list = d.objects.list ++ (record { name = name; line = 1; parent = parent; form = form.Instance (length d.instances) }) ∷ [] };
+  instances = d.instances ++ (record { object = next_object d; module_place = length d.instances; names = [] }) ∷ [];
 }
 
 abbrev pub seen : VisibleId → Design → Design
@@ -91,24 +110,48 @@ exception name d = record d { exceptions = d.exceptions ++ name ∷ [] }
 abbrev pub laid_in : Design → Laid
 laid_in d = record { blocks = d.code.blocks; statements = d.code.statements }
 
-abbrev pub with_laid : Design → BodyKind → List ℕ → List Local → Laid × List ℕ → Design
-with_laid d k name locals x = record d {
+abbrev pub with_laid : Design → BodyKind → List ℕ → List Local → Option ValueType → Laid × List ℕ → Design
+with_laid d k name locals answer x = record d {
   code = record {
-    bodies = d.code.bodies ++ (record { kind = k; module_place = 0; name = name; locals = locals; parameters = 0; answer = None; block = block_of x; room = 0 }) ∷ [];
+    bodies = d.code.bodies ++ (record { kind = k; module_place = home d; name = name; locals = locals; parameters = length locals; answer = answer; block = block_of x; room = 0 }) ∷ [];
     blocks = (with_block x).blocks;
     statements = x.0.statements;
   };
 }
 
-abbrev pub with_body : BodyKind → List ℕ → List Local → Body → Design → Design
-with_body k name locals b d = with_laid d k name locals (lay b (laid_in d))
+abbrev pub with_body : BodyKind → List ℕ → List Local → Option ValueType → Body → Design → Design
+with_body k name locals answer b d = with_laid d k name locals answer (lay b (laid_in d))
 
 -- a local variable
 abbrev pub local_of : List ℕ → ValueType → Local
 local_of name t = record { name = name; value_type = t; inout = false }
 
 abbrev pub function : List ℕ → Body → Design → Design
-function name b d = with_body body_kind.Function name [] b (with_object name (form.Mutex) denoted.Nothing d)
+function name b d = with_body body_kind.Function name [] None b (with_object name (form.Mutex) denoted.Nothing d)
+
+-- a parameter that is an inout one
+abbrev pub inout : List ℕ → ValueType → Local
+inout name t = record { name = name; value_type = t; inout = true }
+
+abbrev pub function_with : List ℕ → List Local → ValueType → Body → Design → Design
+function_with name locals t b d = with_body body_kind.Function name locals (Some t) b (with_object name (form.Mutex) denoted.Nothing d)
+
+abbrev pub keeper : List ℕ → Design → Design
+keeper name d = with_object name form.Keeper (denoted.Keeper d.keepers) (record d { keepers = d.keepers + 1 })
+
+abbrev pub memory : List ℕ → ℕ → Design → Design
+memory name size d =
+    with_object name (form.Memory size) (denoted.Memory (length d.memories)) (record d { memories = d.memories ++ (record { object = next_object d; size = size }) ∷ [] })
+
+-- the two ends of a hop, and the hop itself
+abbrev pub initiator : List ℕ → ℕ → Option ℕ → Design → Design
+initiator name n backward d = with_object name (form.Initiator false backward) (denoted.Socket n true) d
+
+abbrev pub target : List ℕ → ℕ → Option ℕ → Option ℕ → Design → Design
+target name n blocking forward d = with_object name (form.Target false blocking forward) (denoted.Socket n false) d
+
+abbrev pub hop : Hop → Design → Design
+hop h d = record d { hops = d.hops ++ h ∷ [] }
 
 abbrev pub kind_of_body : ProcessKind → BodyKind
 kind_of_body process.Thread = body_kind.Thread
@@ -116,9 +159,9 @@ kind_of_body process.Method = body_kind.Method
 
 abbrev pub process_of : ProcessKind → List ℕ → List Local → List Ev → Bool → Body → Design → Design
 process_of k name locals sensitive dont_initialize b d =
-    with_body (kind_of_body k) name locals b
+    with_body (kind_of_body k) name locals None b
     (with_object name (form.Process k (length d.code.bodies) dont_initialize) (denoted.Process (length d.processes))
-    (record d { processes = d.processes ++ (record { object = next_object d; kind = k; home = 0; code = length d.code.bodies; sensitive = sensitive; dont_initialize = dont_initialize }) ∷ [] }))
+    (record d { processes = d.processes ++ (record { object = next_object d; kind = k; home = home d; code = length d.code.bodies; sensitive = sensitive; dont_initialize = dont_initialize }) ∷ [] }))
 
 abbrev pub thread : List ℕ → Body → Design → Design
 thread name b d = process_of process.Thread name [] [] false b d

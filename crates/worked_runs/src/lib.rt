@@ -5,6 +5,7 @@
 mod controlling;
 mod data;
 mod scheduling;
+mod transporting;
 
 pub use controlling::{
     a_kill_may_be_a_fault, a_kill_unwinds_at_once, a_reset_begins_again,
@@ -17,4 +18,8 @@ pub use data::{
 pub use scheduling::{
     a_cancelled_notification_never_comes, a_run_ends_at_its_time, a_wait_for_all_ends_by_its_time,
     an_own_notification_wakes_nobody, sessions_end, the_earliest_notification_stands,
+};
+pub use transporting::{
+    a_keeper_asks_for_a_sync, a_payload_is_carried, a_spawned_instance_is_another_one,
+    calls_follow_the_base_protocol,
 };

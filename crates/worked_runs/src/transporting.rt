@@ -1,0 +1,25 @@
+//! Runs of spawned instances, payloads, transport calls and quantum keepers.
+ghost use Rattle.std.specs.Prelude.{◌≡◌, [], ◌∷◌, codes, Some};
+ghost use Rattle.worked_runs.specs.Transports as models;
+ghost use Rattle.worked_runs.specs.Run.{told, run};
+
+/// A killed instance has ended, and one that is spawned after it is another one.
+pub fn a_spawned_instance_is_another_one()
+    ensures spawns { told 28 (0 ∷ 1 ∷ 0 ∷ 2 ∷ 0 ∷ []) models.spawned (run ∷ []) ≡ Some (codes "2000 m.k ended 1\n2000 m.k other 0\nend done 2000\n") }
+{}
+
+/// A payload is carried to a memory by its enable bytes and its streaming width (IEEE 1666-2011, 14.14 and 14.15).
+pub fn a_payload_is_carried()
+    ensures carries { told 21 (0 ∷ []) models.carried (run ∷ []) ≡ Some (codes "0 m.t status 1\n0 m.t b 51\n0 m.t b 0\nend done 0\n") }
+{}
+
+/// A keeper asks for a sync once its local time has reached the next sync point (IEEE 1666-2011, 16.2).
+pub fn a_keeper_asks_for_a_sync()
+    ensures syncs { told 31 (0 ∷ 0 ∷ []) models.keeping (run ∷ []) ≡ Some (codes "12000 m.t sync\n12000 m.t next 20000\nend done 12000\n") }
+{}
+
+/// A request while another transaction requests is a fault, and a response may come later (IEEE 1666-2011, 15.2).
+pub fn calls_follow_the_base_protocol()
+    ensures second_request { told 17 (0 ∷ []) models.second_request (run ∷ []) ≡ Some (codes "0 m.i.t f\n0 m.i.t r 0\nend fault 0 Protocol P3 m.i.s 1\n") }
+    ensures later_response { told 37 (0 ∷ 1 ∷ 1 ∷ []) models.later_response (run ∷ []) ≡ Some (codes "0 m.i.t r 0\n1000 m.g.u r 2\nend done 1000\n") }
+{}
