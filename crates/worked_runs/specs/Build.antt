@@ -6,6 +6,10 @@ use Rattle.model_tree.specs.declared.items.SignalKind.TheVariants as signal_kind
 use Rattle.event_core.specs.declared.event.Ev.{Ev}
 use Rattle.flat_design.specs.ValueTypes.{default_value}
 use Rattle.flat_design.specs.declared.value_types.ValueType.{ValueType}
+use Rattle.flat_design.specs.declared.value_types.ValueType.TheVariants as type
+use Rattle.flat_design.specs.declared.objects.LeadsTo.{LeadsTo}
+use Rattle.flat_design.specs.declared.design.ChannelId.{ChannelId}
+use Rattle.model_tree.specs.declared.types.BoundRule.TheVariants as bound
 use Rattle.flat_design.specs.declared.objects.ObjectForm.{ObjectForm}
 use Rattle.flat_design.specs.declared.objects.ObjectForm.TheVariants as form
 use Rattle.flat_design.specs.declared.design.ChannelId.TheVariants as channel
@@ -171,6 +175,22 @@ thread_with name locals b d = process_of process.Thread name locals [] false b d
 
 abbrev pub method : List ℕ → List Ev → Body → Design → Design
 method name sensitive b d = process_of process.Method name [] sensitive false b d
+
+-- a port, with its channels
+abbrev pub port : List ℕ → LeadsTo → List ChannelId → Design → Design
+port name leads_to channels d =
+    with_object name (form.Port leads_to 1 bound.One) (denoted.Port (length d.ports)) (record d { ports = d.ports ++ (record { object = next_object d; leads_to = leads_to; channels = channels }) ∷ [] })
+
+-- a clock that begins with its first posedge: a signal, and a thread with this body
+abbrev pub clock : List ℕ → ℕ → ℕ → Body → Design → Design
+clock name period high b d =
+    with_body body_kind.Clock name [] None b
+    (with_object name (form.Clock (record { 0 = period }) (record { 0 = high }) (record { 0 = 0 }) (length d.code.bodies)) (denoted.Channel (channel.Signal (length d.signals) d.events))
+    (record (seen (visible_id.Signal (length d.signals)) d) {
+      signals = d.signals ++ (record { object = next_object d; kind = signal_kind.Signal; many = false; value_type = type.Bool; initial = default_value type.Bool; events = d.events }) ∷ [];
+      events = d.events + 3;
+      processes = d.processes ++ (record { object = next_object d; kind = process.Thread; home = home d; code = length d.code.bodies; sensitive = []; dont_initialize = false }) ∷ [];
+    }))
 
 -- items in text order
 abbrev pub with_items : List (Design → Design) → Design → Design

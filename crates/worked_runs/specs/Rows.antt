@@ -1,6 +1,6 @@
 -- The models of the worked runs. Items are numbered by their places in the text, events of the design as they come, and
 -- processes by their serials.
-use Rattle.std.specs.Prelude.{ℕ, [], ◌∷◌, ◌^◌, ◌-◌, Some, None, true, codes}
+use Rattle.std.specs.Prelude.{ℕ, Bool, false, List, [], ◌∷◌, ◌^◌, ◌-◌, Some, None, true, codes}
 use Rattle.logic_values.specs.declared.kinds.Digit.{Digit}
 use Rattle.logic_values.specs.declared.kinds.Digit.TheVariants as digit
 use Rattle.logic_values.specs.declared.kinds.Value.TheVariants as value
@@ -16,9 +16,12 @@ use Rattle.flat_design.specs.declared.code.Statement.{Statement}
 use Rattle.flat_design.specs.declared.code.Statement.TheVariants as kept
 use Rattle.flat_design.specs.declared.terms.Expr.{Expr}
 use Rattle.flat_design.specs.declared.terms.Expr.TheVariants as expr
+use Rattle.flat_design.specs.declared.objects.LeadsTo.TheVariants as leads_to
+use Rattle.flat_design.specs.declared.design.ChannelId.{ChannelId}
+use Rattle.flat_design.specs.declared.design.ChannelId.TheVariants as channel_id
 use Rattle.flat_design.specs.declared.design.Design.{Design}
 use Rattle.worked_runs.specs.Body.{Body, end, then, loop, guarded, tried, vec_of, own_event, item, local, named, number, moment, binary, store, channel, assign, say, say_value, write, wait_for, wait_delta, wait_on, control, throw_at, call}
-use Rattle.worked_runs.specs.Build.{design_of, signal, resolved, fifo, event, variable, exception, function, local_of, thread, thread_with, method, process_of}
+use Rattle.worked_runs.specs.Build.{design_of, signal, resolved, fifo, event, variable, exception, function, local_of, thread, thread_with, method, process_of, instance, port, clock}
 
 abbrev pub byte : ValueType
 byte = type.Uint 8
@@ -165,3 +168,23 @@ numbers = design_of (signal (codes "a") byte ∷ variable (codes "n") (type.Int 
 -- a division by zero
 abbrev pub by_zero : Design
 by_zero = design_of (method (codes "s") [] (then (say_value (codes "x") (binary op.Divide signed (integer 1) (integer 0))) end) ∷ [])
+
+-- a counter of a clock's posedges, two instances deep
+abbrev pub set_to : Bool → Statement
+set_to b = write 0 type.Bool (expr.Literal (value.Bool b))
+
+abbrev pub ticking : Body
+ticking = loop one (then (set_to true) (then (wait_for 5000) (then (set_to false) (then (wait_for 5000) end)))) end
+
+abbrev pub clk : List ChannelId
+clk = channel_id.Signal 0 0 ∷ []
+
+abbrev pub q : List ChannelId
+q = channel_id.Signal 1 3 ∷ []
+
+abbrev pub clocked_counter : Design
+clocked_counter = design_of (clock (codes "clk") 10000 5000 ticking ∷ signal (codes "q") byte
+    ∷ instance (codes "b") 0 ∷ port (codes "clk") (leads_to.In type.Bool) clk ∷ port (codes "q") (leads_to.Out byte) q
+    ∷ instance (codes "c") 3 ∷ port (codes "clk") (leads_to.In type.Bool) clk ∷ port (codes "q") (leads_to.Out byte) q ∷ variable (codes "n") byte
+    ∷ process_of process.Method (codes "tick") [] (ev.Fixed 1 ∷ []) true (then (assign (item 2) byte (binary op.Add (type.Uint 64) (named (item 2)) (number 1))) (then (write 1 byte (named (item 2))) end))
+    ∷ [])

@@ -5,6 +5,7 @@ use Rattle.logic_values.specs.declared.kinds.Value.{Value}
 use Rattle.flat_design.specs.declared.design.Design.{Design}
 use Rattle.sim_model.specs.Configuration.{start, path_up}
 use Rattle.sim_model.specs.Runs.{after, stop_of}
+use Rattle.sim_model.specs.Trace.{trace_text}
 use Rattle.sim_model.specs.Texts.{report}
 use Rattle.sim_model.specs.declared.plain.Command.{Command}
 use Rattle.sim_model.specs.declared.plain.Command.TheVariants as command
@@ -34,3 +35,8 @@ told_under r log budget n choices d script =
 unfoldable pub told : ℕ → List ℕ → Design → List Command → Option (List ℕ)
 unfolding told_under
 told n choices d script = told_under rule.First log_of.Prints 10000000 n choices d script
+
+-- the text of the trace of the run of n steps with these choices
+unfoldable pub traced : ℕ → List ℕ → Design → List Command → Option (List ℕ)
+unfolding digits
+traced n choices d script = option_map trace_text (after n choices (start d script))

@@ -5,7 +5,7 @@ ghost use Rattle.sim_model.specs.declared.plain.Log.TheVariants as log_of;
 ghost use Rattle.sim_model.specs.declared.plain.Rule.TheVariants as rule;
 ghost use Rattle.worked_runs.specs.Build.{empty};
 ghost use Rattle.worked_runs.specs.Rows as rows;
-ghost use Rattle.worked_runs.specs.Run.{told, told_under, run, set, show};
+ghost use Rattle.worked_runs.specs.Run.{told, told_under, traced, run, run_for, set, show};
 
 /// A model with nothing in it ends at once.
 pub fn nothing_is_run()
@@ -43,4 +43,10 @@ pub fn the_script_sets_and_shows()
 pub fn numbers_are_cut()
     ensures cuts { told 19 (0 ∷ 0 ∷ []) rows.numbers (run ∷ []) ≡ Some (codes "0 m.s n -56\n0 m.s q -2\n0 m.s n -56\n0 m.s q -2\nfinal m.a 44\nend done 0\n") }
     ensures divides { told 3 (0 ∷ []) rows.by_zero (run ∷ []) ≡ Some (codes "end fault 0 DivideByZero\n") }
+{}
+
+/// A clocked counter counts the posedges, through ports of two instances, and its trace tells each change once.
+pub fn a_clocked_counter_is_traced()
+    ensures counts { told 59 (0 ∷ 1 ∷ 0 ∷ 0 ∷ 1 ∷ 0 ∷ 0 ∷ 1 ∷ 0 ∷ []) rows.clocked_counter (run_for 30000 ∷ []) ≡ Some (codes "final m.clk 0\nfinal m.q 3\nend done 30000\n") }
+    ensures traces { traced 59 (0 ∷ 1 ∷ 0 ∷ 0 ∷ 1 ∷ 0 ∷ 0 ∷ 1 ∷ 0 ∷ []) rows.clocked_counter (run_for 30000 ∷ []) ≡ Some (codes "$timescale 1 ps $end\n$scope module m $end\n$var wire 1 ! clk $end\n$var wire 8 \" q $end\n$scope module b $end\n$scope module c $end\n$upscope $end\n$upscope $end\n$upscope $end\n$enddefinitions $end\n#0\n$dumpvars\n1!\nb00000001 \"\n$end\n#5000\n0!\n#10000\n1!\nb00000010 \"\n#15000\n0!\n#20000\n1!\nb00000011 \"\n#25000\n0!\n") }
 {}

@@ -1,6 +1,6 @@
 //! Worked runs: what the definitions of a run give for models and scripts written by hand, computed by the checker. A clause
 //! says, for one model and script, that the run of exactly so many steps with these choices ends there, and its report.
-#![tactic(auto, unfolding(crate::specs::Run::told, crate::specs::Run::told_under))]
+#![tactic(auto, unfolding(crate::specs::Run::told, crate::specs::Run::told_under, crate::specs::Run::traced))]
 
 mod controlling;
 mod data;
@@ -12,8 +12,9 @@ pub use controlling::{
     an_exception_is_caught_where_it_is_thrown, flags_hold,
 };
 pub use data::{
-    a_fifo_blocks, a_second_writer_is_a_fault, a_written_value_is_read_after_the_update,
-    drivers_are_resolved, nothing_is_run, numbers_are_cut, the_script_sets_and_shows,
+    a_clocked_counter_is_traced, a_fifo_blocks, a_second_writer_is_a_fault,
+    a_written_value_is_read_after_the_update, drivers_are_resolved, nothing_is_run,
+    numbers_are_cut, the_script_sets_and_shows,
 };
 pub use scheduling::{
     a_cancelled_notification_never_comes, a_run_ends_at_its_time, a_wait_for_all_ends_by_its_time,
