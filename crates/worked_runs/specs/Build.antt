@@ -176,6 +176,26 @@ thread_with name locals b d = process_of process.Thread name locals [] false b d
 abbrev pub method : List ℕ → List Ev → Body → Design → Design
 method name sensitive b d = process_of process.Method name [] sensitive false b d
 
+-- a function without an answer
+abbrev pub procedure : List ℕ → List Local → Body → Design → Design
+procedure name locals b d = with_body body_kind.Function name locals None b (with_object name form.Mutex denoted.Nothing d)
+
+abbrev pub buffer : List ℕ → ValueType → Design → Design
+buffer name t d =
+    with_object name (form.Signal signal_kind.Buffer false t (default_value t)) (denoted.Channel (channel.Signal (length d.signals) d.events))
+    (record (seen (visible_id.Signal (length d.signals)) d) {
+      signals = d.signals ++ (record { object = next_object d; kind = signal_kind.Buffer; many = false; value_type = t; initial = default_value t; events = d.events }) ∷ [];
+      events = d.events + 3;
+    })
+
+abbrev pub mutex : List ℕ → Design → Design
+mutex name d = with_object name form.Mutex (denoted.Channel (channel.Mutex d.mutexes d.events)) (record d { mutexes = d.mutexes + 1; events = d.events + 1 })
+
+abbrev pub semaphore : List ℕ → ℕ → Design → Design
+semaphore name n d =
+    with_object name (form.Semaphore n) (denoted.Channel (channel.Semaphore (length d.semaphores) d.events))
+    (record d { semaphores = d.semaphores ++ (record { object = next_object d; start = n }) ∷ []; events = d.events + 1 })
+
 -- a port, with its channels
 abbrev pub port : List ℕ → LeadsTo → List ChannelId → Design → Design
 port name leads_to channels d =

@@ -10,18 +10,19 @@ use Rattle.model_tree.specs.declared.statements.Control.TheVariants as control_o
 use Rattle.event_core.specs.declared.event.Ev.TheVariants as ev
 use Rattle.flat_design.specs.declared.value_types.ValueType.{ValueType}
 use Rattle.flat_design.specs.declared.value_types.ValueType.TheVariants as type
+use Rattle.flat_design.specs.declared.names.Member.TheVariants as member
 use Rattle.flat_design.specs.declared.code.Await.TheVariants as await
 use Rattle.flat_design.specs.declared.code.Controlled.TheVariants as controlled
 use Rattle.flat_design.specs.declared.code.Statement.{Statement}
 use Rattle.flat_design.specs.declared.code.Statement.TheVariants as kept
-use Rattle.flat_design.specs.declared.terms.Expr.{Expr}
+use Rattle.flat_design.specs.declared.terms.Expr.{Expr, Placed'}
 use Rattle.flat_design.specs.declared.terms.Expr.TheVariants as expr
 use Rattle.flat_design.specs.declared.objects.LeadsTo.TheVariants as leads_to
 use Rattle.flat_design.specs.declared.design.ChannelId.{ChannelId}
 use Rattle.flat_design.specs.declared.design.ChannelId.TheVariants as channel_id
 use Rattle.flat_design.specs.declared.design.Design.{Design}
-use Rattle.worked_runs.specs.Body.{Body, end, then, loop, guarded, tried, vec_of, own_event, item, local, named, number, moment, binary, store, channel, assign, say, say_value, write, wait_for, wait_delta, wait_on, control, throw_at, call}
-use Rattle.worked_runs.specs.Build.{design_of, signal, resolved, fifo, event, variable, exception, function, local_of, thread, thread_with, method, process_of, instance, port, clock}
+use Rattle.worked_runs.specs.Body.{Body, end, then, loop, guarded, tried, vec_of, boxed, own_event, item, local, named, number, moment, binary, store, channel, assign, say, say_value, write, wait_for, wait_delta, wait_on, control, throw_at, call}
+use Rattle.worked_runs.specs.Build.{design_of, signal, resolved, fifo, event, variable, exception, function, local_of, thread, thread_with, method, process_of, instance, port, clock, mutex, buffer, semaphore}
 
 abbrev pub byte : ValueType
 byte = type.Uint 8
@@ -187,4 +188,32 @@ clocked_counter = design_of (clock (codes "clk") 10000 5000 ticking ∷ signal (
     ∷ instance (codes "b") 0 ∷ port (codes "clk") (leads_to.In type.Bool) clk ∷ port (codes "q") (leads_to.Out byte) q
     ∷ instance (codes "c") 3 ∷ port (codes "clk") (leads_to.In type.Bool) clk ∷ port (codes "q") (leads_to.Out byte) q ∷ variable (codes "n") byte
     ∷ process_of process.Method (codes "tick") [] (ev.Fixed 1 ∷ []) true (then (assign (item 2) byte (binary op.Add (type.Uint 64) (named (item 2)) (number 1))) (then (write 1 byte (named (item 2))) end))
+    ∷ [])
+
+-- a mutex between two threads
+abbrev pub locked : Design
+locked = design_of (mutex (codes "x")
+    ∷ thread (codes "p") (then (kept.Lock (channel 0)) (then (wait_for 2000) (then (kept.Unlock None (channel 0)) (then (say (codes "p")) end))))
+    ∷ thread (codes "q") (then (kept.Lock (channel 0)) (then (say_value (codes "q") expr.Now) (then (kept.Unlock None (channel 0)) end)))
+    ∷ [])
+
+-- a buffer announces an equal value
+abbrev pub buffered : Design
+buffered = design_of (buffer (codes "b") type.Bool
+    ∷ process_of process.Method (codes "s") [] (ev.Fixed 0 ∷ []) true (then (say_value (codes "b") (named (item 0))) end)
+    ∷ thread (codes "t") (then (write 0 type.Bool (expr.Literal (value.Bool false))) end)
+    ∷ [])
+
+-- a semaphore
+abbrev pub counted : Design
+counted = design_of (semaphore (codes "s") 1
+    ∷ thread_with (codes "t") (local_of (codes "r") (type.Int 32) ∷ []) (then (kept.Var 0 (type.Int 32) None) (then (kept.SemWait (channel 0)) (then (kept.SemTrywait (Some (store (local 0) (type.Int 32))) (channel 0))
+    (then (say_value (codes "r") (named (local 0))) (then (kept.Post (channel 0)) (then (say_value (codes "v") (expr.Member (item 0) member.Value)) end))))))
+    ∷ [])
+
+-- a port of two channels
+abbrev pub two_channels : Design
+two_channels = design_of (signal (codes "a") type.Bool ∷ signal (codes "b") type.Bool
+    ∷ instance (codes "c") 0 ∷ port (codes "p") (leads_to.In type.Bool) (channel_id.Signal 0 0 ∷ channel_id.Signal 1 3 ∷ [])
+    ∷ method (codes "s") (ev.Fixed 0 ∷ ev.Fixed 3 ∷ []) (then (say_value (codes "p") (Placed' 0 boxed (number 1))) end)
     ∷ [])

@@ -9,6 +9,8 @@ use Rattle.flat_design.specs.declared.names.NameUse.{NameUse}
 use Rattle.flat_design.specs.declared.names.PayloadField.{PayloadField}
 use Rattle.flat_design.specs.declared.names.PayloadField.TheVariants as field
 use Rattle.flat_design.specs.declared.names.PayloadBytes.TheVariants as bytes_of
+use Rattle.flat_design.specs.declared.names.EventMember.TheVariants as event_member
+use Rattle.flat_design.specs.declared.code.Argument.TheVariants as argument
 use Rattle.flat_design.specs.declared.code.Await.TheVariants as await
 use Rattle.flat_design.specs.declared.code.Destination.TheVariants as destination
 use Rattle.flat_design.specs.declared.code.Local.{Local}
@@ -18,8 +20,8 @@ use Rattle.flat_design.specs.declared.terms.Expr.{Expr, Element'}
 use Rattle.flat_design.specs.declared.terms.Expr.TheVariants as expr
 use Rattle.flat_design.specs.declared.design.Hop.{Hop}
 use Rattle.flat_design.specs.declared.design.Design.{Design}
-use Rattle.worked_runs.specs.Body.{Body, end, then, branch, loop, vec_of, boxed, item, local, named, number, moment, binary, store, assign, say, say_value, wait_for, wait_on, control}
-use Rattle.worked_runs.specs.Build.{design_of, event, variable, function, function_with, local_of, inout, thread, thread_with, instance, initiator, target, hop, keeper, memory}
+use Rattle.worked_runs.specs.Body.{Body, end, then, branch, loop, guarded, tried, vec_of, boxed, item, local, named, number, moment, binary, store, assign, say, say_value, wait_for, wait_on, control}
+use Rattle.worked_runs.specs.Build.{design_of, event, variable, function, function_with, local_of, inout, thread, thread_with, instance, initiator, target, hop, keeper, memory, exception, procedure}
 use Rattle.worked_runs.specs.Rows.{byte, integer}
 
 -- an instance is killed, and another one spawned after it
@@ -99,14 +101,63 @@ second_request = design_of (sender (then (assign (local 2) (type.Int 32) (intege
     ∷ function_with (codes "f") handler_locals (type.Int 32) (then (say (codes "f")) (then (answers 0) end))
     ∷ [])
 
--- a response that comes later
-abbrev pub later_response : Design
-later_response = design_of (sender end
-    ++ instance (codes "g") 0 ∷ target (codes "s") 0 None (Some 2) ∷ hop (the_hop 6)
+-- a response that comes later, as the thread of the target sends it
+
+abbrev pub target_with : Body → List (Design → Design)
+target_with rest = instance (codes "g") 0 ∷ target (codes "s") 0 None (Some 2) ∷ hop (the_hop 6)
     ∷ function_with (codes "f") handler_locals (type.Int 32) (then (assign (item 2) type.Payload (named (local 0))) (then (kept.NotifyAfter 3 (moment 1000)) (then (answers 0) end)))
     ∷ variable (codes "k") type.Payload ∷ event (codes "go")
     ∷ thread_with (codes "u") (local_of (codes "ph") (type.Int 32) ∷ local_of (codes "r") (type.Int 32) ∷ local_of (codes "d") type.Time ∷ [])
-    (then (kept.Var 0 (type.Int 32) None) (then (kept.Var 1 (type.Int 32) None) (then (kept.Var 2 type.Time None) (then (wait_on 3)
-    (then (kept.Assign (destination.Field (item 2) field.Status) (integer 1)) (then (assign (local 0) (type.Int 32) (integer 3))
-    (then (kept.NbTransport (Some (store (local 1) (type.Int 32))) 0 (item 2) (local 0) (local 2)) (then (say_value (codes "r") (named (local 1))) end))))))))
+    (then (kept.Var 0 (type.Int 32) None) (then (kept.Var 1 (type.Int 32) None) (then (kept.Var 2 type.Time None) (then (wait_on 3) rest))))
+    ∷ []
+
+abbrev pub completing : Body → Body
+completing rest = then (kept.Assign (destination.Field (item 2) field.Status) (integer 1)) rest
+
+abbrev pub responding : Body → Body
+responding rest = then (assign (local 0) (type.Int 32) (integer 3)) (then (kept.NbTransport (Some (store (local 1) (type.Int 32))) 0 (item 2) (local 0) (local 2)) (then (say_value (codes "r") (named (local 1))) rest))
+
+abbrev pub response : Body → Design
+response b = design_of (sender end ++ target_with b)
+
+-- a blocking call, whose handler waits and carries, or does nothing
+
+abbrev pub blocking_call : Body → Design
+blocking_call handler = design_of (instance (codes "i") 0 ∷ initiator (codes "s") 0 None
+    ∷ thread_with (codes "t") (local_of (codes "p") type.Payload ∷ local_of (codes "d") type.Time ∷ [])
+    (then (kept.Var 0 type.Payload None) (then (kept.Var 1 type.Time None) (then (kept.Make (local 0) (number 2) None) (then (with_field field.Command 1) (then (with_data 0 42)
+    (then (kept.BTransport 0 (local 0) (local 1)) (then (say_value (codes "status") (expr.Member (local 0) (member.Field field.Status))) (then (say_value (codes "now") expr.Now)
+    (then (kept.Release (local 0)) (then (say_value (codes "live") (expr.Member (local 0) member.Live)) end))))))))))
+    ∷ instance (codes "g") 0 ∷ target (codes "s") 0 (Some 1) None ∷ memory (codes "m") 16
+    ∷ hop (record { initiator = 2; target = 5; initiator_home = 1; target_home = 2; backward = None; blocking = Some 1; forward = None })
+    ∷ procedure (codes "h") (local_of (codes "p") type.Payload ∷ inout (codes "d") type.Time ∷ []) handler
+    ∷ [])
+
+abbrev pub carrying : Body
+carrying = then (wait_for 3000) (then (kept.Carry (local 0) 1) end)
+
+-- a keeper that is reset at some time
+abbrev pub late_keeper : Design
+late_keeper = design_of (keeper (codes "k")
+    ∷ thread (codes "t") (then (wait_for 3000) (then (kept.QkGlobal (moment 10000)) (then (kept.QkReset 0) (then (say_value (codes "next") (expr.Member (item 0) member.Next)) end))))
+    ∷ [])
+
+-- functions with arguments, and an exception that passes a guard
+
+abbrev pub called : Design
+called = design_of (exception (codes "Bad")
+    ∷ function_with (codes "add") (local_of (codes "x") byte ∷ inout (codes "y") byte ∷ []) byte
+    (then (assign (local 1) byte (binary op.Add (type.Uint 64) (named (local 1)) (named (local 0)))) (then (kept.Return (Some (binary op.Multiply (type.Uint 64) (named (local 1)) (number 2)))) end))
+    ∷ thread_with (codes "t") (local_of (codes "k") byte ∷ local_of (codes "r") byte ∷ [])
+    (then (kept.Var 0 byte (Some (number 3))) (then (kept.Var 1 byte None) (then (kept.Call (Some (store (local 1) byte)) 0 (vec_of (argument.Value (number 4) ∷ argument.Inout (local 0) ∷ []) tt))
+    (then (say_value (codes "k") (named (local 0))) (then (say_value (codes "r") (named (local 1)))
+    (tried (guarded (then (kept.Throw 0) end) (then (say (codes "undo")) end) end) 0 (then (say (codes "caught")) end) end))))))
+    ∷ [])
+
+abbrev pub awaited : Design
+awaited = design_of (procedure (codes "w") (local_of (codes "n") byte ∷ []) (then (say_value (codes "w") (named (local 0))) end)
+    ∷ thread_with (codes "t") (local_of (codes "h") type.Process ∷ [])
+    (then (kept.Var 0 type.Process None)
+    (then (kept.Spawn (record { handle = Some (local 0); kind = process.Thread; function = 0; arguments = vec_of (number 5 ∷ []) tt; sensitive = []; dont_initialize = false }))
+    (then (kept.Wait (await.Any (vec_of ((record { name = local 0; place = None; event = event_member.Terminated }) ∷ []) tt) None)) (then (say_value (codes "done") (expr.Member (local 0) member.Terminated)) end))))
     ∷ [])

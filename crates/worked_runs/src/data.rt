@@ -50,3 +50,23 @@ pub fn a_clocked_counter_is_traced()
     ensures counts { told 59 (0 ∷ 1 ∷ 0 ∷ 0 ∷ 1 ∷ 0 ∷ 0 ∷ 1 ∷ 0 ∷ []) rows.clocked_counter (run_for 30000 ∷ []) ≡ Some (codes "final m.clk 0\nfinal m.q 3\nend done 30000\n") }
     ensures traces { traced 59 (0 ∷ 1 ∷ 0 ∷ 0 ∷ 1 ∷ 0 ∷ 0 ∷ 1 ∷ 0 ∷ []) rows.clocked_counter (run_for 30000 ∷ []) ≡ Some (codes "$timescale 1 ps $end\n$scope module m $end\n$var wire 1 ! clk $end\n$var wire 8 \" q $end\n$scope module b $end\n$scope module c $end\n$upscope $end\n$upscope $end\n$upscope $end\n$enddefinitions $end\n#0\n$dumpvars\n1!\nb00000001 \"\n$end\n#5000\n0!\n#10000\n1!\nb00000010 \"\n#15000\n0!\n#20000\n1!\nb00000011 \"\n#25000\n0!\n") }
 {}
+
+/// A mutex that was unlocked goes to the thread that waits for it.
+pub fn a_mutex_is_handed_on()
+    ensures hands { told 22 (0 ∷ 1 ∷ 0 ∷ 1 ∷ []) rows.locked (run ∷ []) ≡ Some (codes "2000 m.p p\n2000 m.q q 2000\nend done 2000\n") }
+{}
+
+/// A buffer announces an equal value too.
+pub fn a_buffer_announces_an_equal_value()
+    ensures announces { told 13 (1 ∷ 0 ∷ []) rows.buffered (run ∷ []) ≡ Some (codes "0 m.s b 0\nfinal m.b 0\nend done 0\n") }
+{}
+
+/// A semaphore counts.
+pub fn a_semaphore_counts()
+    ensures counts { told 13 (0 ∷ []) rows.counted (run ∷ []) ≡ Some (codes "0 m.t r -1\n0 m.t v 1\nend done 0\n") }
+{}
+
+/// A port of two channels is read at a place, and is sensitive to both.
+pub fn a_port_has_places()
+    ensures places { told 18 (0 ∷ 0 ∷ []) rows.two_channels (run ∷ set 1 (value.Bool true) ∷ run ∷ []) ≡ Some (codes "0 m.c.s p 0\n0 m.c.s p 1\nfinal m.a 0\nfinal m.b 1\nend done 0\n") }
+{}

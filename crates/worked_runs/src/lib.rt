@@ -12,7 +12,8 @@ pub use controlling::{
     an_exception_is_caught_where_it_is_thrown, flags_hold,
 };
 pub use data::{
-    a_clocked_counter_is_traced, a_fifo_blocks, a_second_writer_is_a_fault,
+    a_buffer_announces_an_equal_value, a_clocked_counter_is_traced, a_fifo_blocks,
+    a_mutex_is_handed_on, a_port_has_places, a_second_writer_is_a_fault, a_semaphore_counts,
     a_written_value_is_read_after_the_update, drivers_are_resolved, nothing_is_run,
     numbers_are_cut, the_script_sets_and_shows,
 };
@@ -21,6 +22,7 @@ pub use scheduling::{
     an_own_notification_wakes_nobody, sessions_end, the_earliest_notification_stands,
 };
 pub use transporting::{
-    a_keeper_asks_for_a_sync, a_payload_is_carried, a_spawned_instance_is_another_one,
-    calls_follow_the_base_protocol,
+    a_blocking_call_may_wait, a_call_gives_back, a_keeper_asks_for_a_sync,
+    a_keeper_looks_to_the_next_quantum, a_payload_is_carried, a_spawned_instance_is_another_one,
+    an_end_can_be_waited_for, calls_follow_the_base_protocol,
 };
