@@ -136,6 +136,10 @@ forever = design_of (thread (codes "t") (loop one end end) ∷ [])
 abbrev pub two_prints : Design
 two_prints = design_of (thread (codes "p") (then (say (codes "p")) end) ∷ thread (codes "q") (then (say (codes "q")) end) ∷ [])
 
+-- three threads print
+abbrev pub three_prints : Design
+three_prints = design_of (thread (codes "p") (then (say (codes "p")) end) ∷ thread (codes "q") (then (say (codes "q")) end) ∷ thread (codes "r") (then (say (codes "r")) end) ∷ [])
+
 -- a wait past the greatest time
 abbrev pub past_the_end : Design
 past_the_end = design_of (thread (codes "t") (then (wait_for (2 ^ 64 - 1)) (then (wait_for 1) end)) ∷ [])

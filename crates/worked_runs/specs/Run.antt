@@ -1,10 +1,12 @@
 -- What a run tells.
 use Rattle.std.specs.Prelude.{ℕ, List, length, option_map, option_and_then, Option, Some, None}
 use Rattle.std.specs.Fmt.{digits}
+use Rattle.rand_core.specs.Pcg32Seed.{pcg32_seed}
+use Rattle.rand_core.specs.Steps.{word_bytes, u32_at}
 use Rattle.logic_values.specs.declared.kinds.Value.{Value}
 use Rattle.flat_design.specs.declared.design.Design.{Design}
 use Rattle.sim_model.specs.Configuration.{start, path_up}
-use Rattle.sim_model.specs.Runs.{after, stop_of}
+use Rattle.sim_model.specs.Runs.{after, Ruled, stop_of}
 use Rattle.sim_model.specs.Trace.{trace_text}
 use Rattle.sim_model.specs.Texts.{report}
 use Rattle.sim_model.specs.declared.plain.Command.{Command}
@@ -40,3 +42,8 @@ told n choices d script = told_under rule.First log_of.Prints 10000000 n choices
 unfoldable pub traced : ℕ → List ℕ → Design → List Command → Option (List ℕ)
 unfolding digits
 traced n choices d script = option_map trace_text (after n choices (start d script))
+
+-- the choices of n steps are those of the rule
+unfoldable pub IsRuled : Rule → ℕ → List ℕ → Design → List Command → Type 0
+unfolding pcg32_seed word_bytes u32_at
+IsRuled r n choices d script = Ruled r n choices (start d script)

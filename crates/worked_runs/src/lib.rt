@@ -1,6 +1,6 @@
 //! Worked runs: what the definitions of a run give for models and scripts written by hand, computed by the checker. A clause
 //! says, for one model and script, that the run of exactly so many steps with these choices ends there, and its report.
-#![tactic(auto, unfolding(crate::specs::Run::told, crate::specs::Run::told_under, crate::specs::Run::traced))]
+#![tactic(auto, unfolding(crate::specs::Run::told, crate::specs::Run::told_under, crate::specs::Run::traced, crate::specs::Run::IsRuled))]
 
 mod controlling;
 mod data;
@@ -18,8 +18,9 @@ pub use data::{
     numbers_are_cut, the_script_sets_and_shows,
 };
 pub use scheduling::{
-    a_cancelled_notification_never_comes, a_run_ends_at_its_time, a_wait_for_all_ends_by_its_time,
-    an_own_notification_wakes_nobody, sessions_end, the_earliest_notification_stands,
+    a_cancelled_notification_never_comes, a_rule_picks_each_choice, a_run_ends_at_its_time,
+    a_wait_for_all_ends_by_its_time, an_own_notification_wakes_nobody, sessions_end,
+    the_earliest_notification_stands,
 };
 pub use transporting::{
     a_blocking_call_may_wait, a_call_gives_back, a_keeper_asks_for_a_sync,

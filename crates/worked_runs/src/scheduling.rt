@@ -3,7 +3,7 @@ ghost use Rattle.std.specs.Prelude.{◌≡◌, [], ◌∷◌, codes, Some};
 ghost use Rattle.sim_model.specs.declared.plain.Log.TheVariants as log_of;
 ghost use Rattle.sim_model.specs.declared.plain.Rule.TheVariants as rule;
 ghost use Rattle.worked_runs.specs.Rows as rows;
-ghost use Rattle.worked_runs.specs.Run.{told, told_under, run, run_for};
+ghost use Rattle.worked_runs.specs.Run.{told, told_under, IsRuled, run, run_for};
 
 /// Of several notifications of an event the earliest stands (IEEE 1666-2011, 5.10.8).
 pub fn the_earliest_notification_stands()
@@ -37,4 +37,13 @@ pub fn sessions_end()
     ensures stop { told 7 (0 ∷ []) rows.stopping (run ∷ []) ≡ Some (codes "0 m.t a\nend stopped 0\n") }
     ensures replay { told_under (rule.Replay (1 ∷ 1 ∷ [])) log_of.Prints 10000000 5 (1 ∷ []) rows.two_prints (run ∷ []) ≡ Some (codes "0 m.q q\nend replay 0 2\n") }
     ensures time { told 8 (0 ∷ 0 ∷ []) rows.past_the_end (run ∷ []) ≡ Some (codes "end fault 18446744073709551615 TimeOverflow\n") }
+{}
+
+/// A rule picks each choice: the least, the greatest, the one at the place to which a seeded generator's next word points, or the listed one.
+pub fn a_rule_picks_each_choice()
+    ensures told { told 14 (2 ∷ 0 ∷ 1 ∷ []) rows.three_prints (run ∷ []) ≡ Some (codes "0 m.r r\n0 m.p p\n0 m.q q\nend done 0\n") }
+    ensures first { IsRuled rule.First 14 (0 ∷ 1 ∷ 2 ∷ []) rows.three_prints (run ∷ []) }
+    ensures last { IsRuled rule.Last 14 (2 ∷ 1 ∷ 0 ∷ []) rows.three_prints (run ∷ []) }
+    ensures seeded { IsRuled (rule.Seed 7) 14 (2 ∷ 0 ∷ 1 ∷ []) rows.three_prints (run ∷ []) }
+    ensures listed { IsRuled (rule.Replay (1 ∷ 2 ∷ 0 ∷ [])) 14 (1 ∷ 2 ∷ 0 ∷ []) rows.three_prints (run ∷ []) }
 {}
