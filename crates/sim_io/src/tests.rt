@@ -104,10 +104,15 @@ fn a_shelf_in_memory(rt: HostRuntime) -> Result<(), Fail> {
 fn real_files_and_streams(rt: HostRuntime) -> Result<(), Fail> {
     let alloc = rt.alloc();
     let mut shelf = HostShelf::new(&rt, alloc);
-    let id = shelf.create("report")?;
-    write_file(&mut shelf, id, b"some bytes")?;
+    let report = shelf.create("report")?;
+    let trace = shelf.create("trace")?;
+    write_file(&mut shelf, report, b"some")?;
+    write_file(&mut shelf, trace, b"a trace")?;
+    write_file(&mut shelf, report, b" bytes")?;
     let bytes = read_all(alloc, &mut shelf, "report", 10)?;
     assert_eq!(rt; bytes.as_slice(), b"some bytes".as_slice());
+    let other = read_all(alloc, &mut shelf, "trace", 10)?;
+    assert_eq!(rt; other.as_slice(), b"a trace".as_slice());
     let large = read_all(alloc, &mut shelf, "report", 9);
     assert!(rt; matches!(large, Err(ReadStop::TooLarge { limit: 9 })));
     let missing = read_all(alloc, &mut shelf, "missing", 10);
