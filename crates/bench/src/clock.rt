@@ -23,9 +23,14 @@ impl Spent {
         Spent { nanos: 0, calls: 0 }
     }
 
-    /// So many calls more, made since the start.
-    pub fn add(&mut self, clock: &impl Clock, start: Instant, calls: usize) -> io::Result<()> {
-        let nanos = start.elapsed(clock)?.as_nanos();
+    /// So many calls more, made since the clock showed the start.
+    pub fn add(
+        &mut self,
+        clock: &impl Clock,
+        start: io::Result<Instant>,
+        calls: usize,
+    ) -> io::Result<()> {
+        let nanos = start?.elapsed(clock)?.as_nanos();
         self.nanos = self.nanos.saturating_add(nanos);
         self.calls = self.calls.saturating_add(calls as u128);
         Ok(())

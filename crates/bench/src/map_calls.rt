@@ -2,6 +2,7 @@
 use crate::clock::{Spent, numbers, rounds};
 use anyhow::Result;
 use room_map::RoomMap;
+use std::io;
 use std::rt::Clock;
 use std::time::Instant;
 
@@ -75,41 +76,69 @@ fn empty(map: &mut Map, keys: &[u32]) -> usize {
     found
 }
 
+// What the calls of each kind took.
+#[derive(Clone, Copy)]
+struct Spans {
+    insert: Spent,
+    contains: Spent,
+    kth: Spent,
+    not_below: Spent,
+    replace: Spent,
+    remove: Spent,
+}
+
+impl Spans {
+    fn new() -> Spans {
+        Spans {
+            insert: Spent::new(),
+            contains: Spent::new(),
+            kth: Spent::new(),
+            not_below: Spent::new(),
+            replace: Spent::new(),
+            remove: Spent::new(),
+        }
+    }
+
+    fn print(&self, rt: &impl Print, part: &str, size: u32) -> Result<()> {
+        self.insert.print(rt, part, size, "get and insert")?;
+        self.contains.print(rt, part, size, "contains")?;
+        self.kth.print(rt, part, size, "kth")?;
+        self.not_below.print(rt, part, size, "first_not_below")?;
+        self.replace.print(rt, part, size, "get and replace")?;
+        self.remove.print(rt, part, size, "remove")
+    }
+}
+
+// One round of calls.
+fn round(clock: &impl Clock, map: &mut Map, keys: &[u32], spans: &mut Spans) -> io::Result<()> {
+    let start = Instant::now(clock);
+    fill(map, keys);
+    spans.insert.add(clock, start, keys.len())?;
+    let start = Instant::now(clock);
+    let found = count_found(map, keys);
+    spans.contains.add(clock, start, found)?;
+    let start = Instant::now(clock);
+    let found = count_places(map, keys);
+    spans.kth.add(clock, start, found)?;
+    let start = Instant::now(clock);
+    let found = count_not_below(map, keys);
+    spans.not_below.add(clock, start, found)?;
+    let start = Instant::now(clock);
+    refill(map, keys);
+    spans.replace.add(clock, start, keys.len())?;
+    let start = Instant::now(clock);
+    let found = empty(map, keys);
+    spans.remove.add(clock, start, found)
+}
+
 /// Times the calls at so many entries.
 pub fn time_map(rt: &(impl Print + Clock + AllocGlobal), size: u32) -> Result<()> {
     let keys = numbers(rt.alloc(), size)?;
     let mut map = Map::new(rt.alloc());
     map.reserve(size)?;
-    let mut insert = Spent::new();
-    let mut contains = Spent::new();
-    let mut kth = Spent::new();
-    let mut not_below = Spent::new();
-    let mut replace = Spent::new();
-    let mut remove = Spent::new();
+    let mut spans = Spans::new();
     for _ in 0..rounds(size) {
-        let start = Instant::now(rt)?;
-        fill(&mut map, keys.as_slice());
-        insert.add(rt, start, keys.len())?;
-        let start = Instant::now(rt)?;
-        let found = count_found(&map, keys.as_slice());
-        contains.add(rt, start, found)?;
-        let start = Instant::now(rt)?;
-        let found = count_places(&map, keys.as_slice());
-        kth.add(rt, start, found)?;
-        let start = Instant::now(rt)?;
-        let found = count_not_below(&map, keys.as_slice());
-        not_below.add(rt, start, found)?;
-        let start = Instant::now(rt)?;
-        refill(&mut map, keys.as_slice());
-        replace.add(rt, start, keys.len())?;
-        let start = Instant::now(rt)?;
-        let found = empty(&mut map, keys.as_slice());
-        remove.add(rt, start, found)?;
+        round(rt, &mut map, keys.as_slice(), &mut spans)?;
     }
-    insert.print(rt, "room_map", size, "get and insert")?;
-    contains.print(rt, "room_map", size, "contains")?;
-    kth.print(rt, "room_map", size, "kth")?;
-    not_below.print(rt, "room_map", size, "first_not_below")?;
-    replace.print(rt, "room_map", size, "get and replace")?;
-    remove.print(rt, "room_map", size, "remove")
+    spans.print(rt, "room_map", size)
 }

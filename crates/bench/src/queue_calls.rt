@@ -5,6 +5,7 @@ use crate::clock::{Spent, numbers, rounds};
 use anyhow::Result;
 use sim_time::Time;
 use std::alloc::AllocError;
+use std::io;
 use std::rt::Clock;
 use std::time::Instant;
 use timed_queue::{TimedQueue, due_names_are_held};
@@ -51,34 +52,67 @@ fn clear_all(queue: &mut TimedQueue, names: &[u32]) {
     }
 }
 
+// What the calls of each kind took.
+#[derive(Clone, Copy)]
+struct Spans {
+    set: Spent,
+    again: Spent,
+    due: Spent,
+    clear: Spent,
+}
+
+impl Spans {
+    fn new() -> Spans {
+        Spans {
+            set: Spent::new(),
+            again: Spent::new(),
+            due: Spent::new(),
+            clear: Spent::new(),
+        }
+    }
+
+    fn print(&self, rt: &impl Print, part: &str, size: u32) -> Result<()> {
+        self.set
+            .print(rt, part, size, "reserve and set, of a new name")?;
+        self.again
+            .print(rt, part, size, "reserve and set, of a name that is there")?;
+        self.due
+            .print(rt, part, size, "earliest and take_due, of one name")?;
+        self.clear.print(rt, part, size, "clear")
+    }
+}
+
+// One round of calls.
+fn round(
+    clock: &impl Clock,
+    queue: &mut TimedQueue,
+    names: &[u32],
+    out: &mut Vec<u32>,
+    spans: &mut Spans,
+) -> io::Result<()> {
+    let start = Instant::now(clock);
+    fill(queue, names, 0x9e37_79b9_7f4a_7c15)?;
+    spans.set.add(clock, start, names.len())?;
+    let start = Instant::now(clock);
+    fill(queue, names, 0xd134_2543_de82_ef95)?;
+    spans.again.add(clock, start, names.len())?;
+    let start = Instant::now(clock);
+    let found = empty(queue, names, out)?;
+    spans.due.add(clock, start, found)?;
+    fill(queue, names, 0x9e37_79b9_7f4a_7c15)?;
+    let start = Instant::now(clock);
+    clear_all(queue, names);
+    spans.clear.add(clock, start, names.len())
+}
+
 /// Times the calls at so many names.
 pub fn time_queue(rt: &(impl Print + Clock + AllocGlobal), size: u32) -> Result<()> {
     let names = numbers(rt.alloc(), size)?;
     let mut out = Vec::new(rt.alloc());
     let mut queue = TimedQueue::new(rt.alloc());
-    queue.reserve(size)?;
-    out.reserve(names.len())?;
-    let mut set = Spent::new();
-    let mut again = Spent::new();
-    let mut due = Spent::new();
-    let mut clear = Spent::new();
+    let mut spans = Spans::new();
     for _ in 0..rounds(size) {
-        let start = Instant::now(rt)?;
-        fill(&mut queue, names.as_slice(), 0x9e37_79b9_7f4a_7c15)?;
-        set.add(rt, start, names.len())?;
-        let start = Instant::now(rt)?;
-        fill(&mut queue, names.as_slice(), 0xd134_2543_de82_ef95)?;
-        again.add(rt, start, names.len())?;
-        let start = Instant::now(rt)?;
-        let found = empty(&mut queue, names.as_slice(), &mut out)?;
-        due.add(rt, start, found)?;
-        fill(&mut queue, names.as_slice(), 0x9e37_79b9_7f4a_7c15)?;
-        let start = Instant::now(rt)?;
-        clear_all(&mut queue, names.as_slice());
-        clear.add(rt, start, names.len())?;
+        round(rt, &mut queue, names.as_slice(), &mut out, &mut spans)?;
     }
-    set.print(rt, "timed_queue", size, "reserve and set, of a new name")?;
-    again.print(rt, "timed_queue", size, "reserve and set, of a name that is there")?;
-    due.print(rt, "timed_queue", size, "earliest and take_due, of one name")?;
-    clear.print(rt, "timed_queue", size, "clear")
+    spans.print(rt, "timed_queue", size)
 }

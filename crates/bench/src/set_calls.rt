@@ -3,6 +3,7 @@ use crate::clock::{Spent, numbers, rounds};
 use anyhow::Result;
 use ready_set::ReadySet;
 use std::alloc::AllocError;
+use std::io;
 use std::rt::Clock;
 use std::time::Instant;
 
@@ -54,31 +55,61 @@ fn empty(ready: &mut ReadySet, serials: &[u32]) -> usize {
     found
 }
 
+// What the calls of each kind took.
+#[derive(Clone, Copy)]
+struct Spans {
+    insert: Spent,
+    has: Spent,
+    kth: Spent,
+    remove: Spent,
+}
+
+impl Spans {
+    fn new() -> Spans {
+        Spans {
+            insert: Spent::new(),
+            has: Spent::new(),
+            kth: Spent::new(),
+            remove: Spent::new(),
+        }
+    }
+
+    fn print(&self, rt: &impl Print, part: &str, size: u32) -> Result<()> {
+        self.insert.print(rt, part, size, "reserve and insert")?;
+        self.has.print(rt, part, size, "has")?;
+        self.kth.print(rt, part, size, "kth")?;
+        self.remove.print(rt, part, size, "least and remove")
+    }
+}
+
+// One round of calls.
+fn round(
+    clock: &impl Clock,
+    ready: &mut ReadySet,
+    serials: &[u32],
+    spans: &mut Spans,
+) -> io::Result<()> {
+    let start = Instant::now(clock);
+    fill(ready, serials)?;
+    spans.insert.add(clock, start, serials.len())?;
+    let start = Instant::now(clock);
+    let found = count_found(ready, serials);
+    spans.has.add(clock, start, found)?;
+    let start = Instant::now(clock);
+    let found = count_places(ready, serials);
+    spans.kth.add(clock, start, found)?;
+    let start = Instant::now(clock);
+    let found = empty(ready, serials);
+    spans.remove.add(clock, start, found)
+}
+
 /// Times the calls at so many members.
 pub fn time_set(rt: &(impl Print + Clock + AllocGlobal), size: u32) -> Result<()> {
     let serials = numbers(rt.alloc(), size)?;
     let mut ready = ReadySet::new(rt.alloc());
-    ready.reserve(size)?;
-    let mut insert = Spent::new();
-    let mut has = Spent::new();
-    let mut kth = Spent::new();
-    let mut remove = Spent::new();
+    let mut spans = Spans::new();
     for _ in 0..rounds(size) {
-        let start = Instant::now(rt)?;
-        fill(&mut ready, serials.as_slice())?;
-        insert.add(rt, start, serials.len())?;
-        let start = Instant::now(rt)?;
-        let found = count_found(&ready, serials.as_slice());
-        has.add(rt, start, found)?;
-        let start = Instant::now(rt)?;
-        let found = count_places(&ready, serials.as_slice());
-        kth.add(rt, start, found)?;
-        let start = Instant::now(rt)?;
-        let found = empty(&mut ready, serials.as_slice());
-        remove.add(rt, start, found)?;
+        round(rt, &mut ready, serials.as_slice(), &mut spans)?;
     }
-    insert.print(rt, "ready_set", size, "reserve and insert")?;
-    has.print(rt, "ready_set", size, "has")?;
-    kth.print(rt, "ready_set", size, "kth")?;
-    remove.print(rt, "ready_set", size, "least and remove")
+    spans.print(rt, "ready_set", size)
 }
