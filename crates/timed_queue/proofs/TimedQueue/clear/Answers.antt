@@ -1,9 +1,8 @@
-use Rattle.std.proofs.Common.{◌≡◌, ◌+◌, ◌-◌, ◌<◌, true, false, cond, Some, None, refl, ◌∙◌, ap, sym, subst, ⊎_elim, arith, eq-eqb, true≢false}
+use Rattle.std.proofs.Common.{◌≡◌, ◌+◌, true, cond, Some, None, refl, ◌∙◌, ap, sym, subst, arith, eq-eqb}
 use Rattle.std.specs.Prelude.{is_some}
 use Rattle.std.specs.Ordering.{nat_cmp}
-use Rattle.std.specs.FinMap as map
 use Rattle.std.specs.FinMap.{find}
-use Rattle.timed_queue.specs.Timed.{with_time, without}
+use Rattle.timed_queue.specs.Timed.{without}
 use Rattle.timed_queue.specs.Kept.{pair_cmp, is_this}
 use Rattle.timed_queue.proofs.Kept.{Says, says_absent, says_cleared, queue_changed, finds_without, shown-without}
 use Rattle.timed_queue.proofs.TimedQueue.clear.Goals as goal

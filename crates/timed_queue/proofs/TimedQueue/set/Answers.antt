@@ -3,7 +3,7 @@ use Rattle.std.specs.Prelude.{is_some}
 use Rattle.std.specs.Ordering.{nat_cmp}
 use Rattle.std.specs.FinMap as map
 use Rattle.std.specs.FinMap.{find}
-use Rattle.timed_queue.specs.Timed.{with_time, without}
+use Rattle.timed_queue.specs.Timed.{with_time}
 use Rattle.timed_queue.specs.Kept.{pair_cmp, is_this}
 use Rattle.timed_queue.proofs.Kept.{Says, says_absent, says_cleared, says_put, put_absent, queue_changed, finds_put, has-times_of, shown-put}
 use Rattle.timed_queue.proofs.TimedQueue.set.Goals as goal
