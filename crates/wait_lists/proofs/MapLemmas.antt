@@ -15,7 +15,7 @@ pub ties_no_other : (q k : ℕ) → q ≢ k → eq_by_cmp nat_cmp q k ≡ false
 ties_no_other q k apart = unsigned_tied q k ∙ ne_eqb q k apart
 
 module _ {X : Type 0} where
-  get-updated : (m : map.FinMap nat_cmp X) (k : ℕ) (o : Option X) (q : ℕ) → map.get (updated m k o) q ≡ cond (eq_by_cmp nat_cmp q k) o (map.get m q)
+  pub get-updated : (m : map.FinMap nat_cmp X) (k : ℕ) (o : Option X) (q : ℕ) → map.get (updated m k o) q ≡ cond (eq_by_cmp nat_cmp q k) o (map.get m q)
   get-updated m k None q = map.get-remove nat_cmp_total m k q
   get-updated m k (Some x) q = map.get-insert nat_cmp_total m k x q
 
@@ -44,7 +44,7 @@ module _ {X : Type 0} where
   pub len-updated : (m : map.FinMap nat_cmp X) (k : ℕ) (o : Option X) → map.get m k ≡ None → map.len (updated m k o) ≡ cond (is_some o) 1 0 + map.len m
   len-updated = len-none
 
-contains-marked : (s : set.FinSet nat_cmp) (k : ℕ) (b : Bool) (q : ℕ) → set.contains (marked s k b) q ≡ cond (eq_by_cmp nat_cmp q k) b (set.contains s q)
+pub contains-marked : (s : set.FinSet nat_cmp) (k : ℕ) (b : Bool) (q : ℕ) → set.contains (marked s k b) q ≡ cond (eq_by_cmp nat_cmp q k) b (set.contains s q)
 contains-marked s k true q = set.contains-insert nat_cmp_total s k q ∙ or_cond (eq_by_cmp nat_cmp q k) _
   where
     or_cond : (a b : Bool) → (a || b) ≡ cond a true b

@@ -1,2 +1,4 @@
 pub mod Waits
-pub mod Waiters
+pub mod Shown
+pub mod Links
+pub mod Kept

@@ -82,6 +82,10 @@ waits_code =
     (λ p. record { waits = p.0; muted = p.1.0; room = p.1.1 })
     (λ _. refl)
 
+-- nobody waits, is muted or has room
+abbrev pub no_waits : Waits
+no_waits = record { waits = map.empty; muted = set.empty; room = map.empty }
+
 -- how many events an instance may wait for: none where no room was made for it
 abbrev pub room_for : Waits → ℕ → ℕ
 room_for w p = unwrap_or (map.get w.room p) 0
@@ -117,9 +121,21 @@ with_wait w p wait = record w { waits = updated w.waits p wait }
 abbrev pub with_mark : Waits → ℕ → Bool → Waits
 with_mark w p on = record w { muted = marked w.muted p on }
 
+-- the instance has room for so many events now, and nothing else changes
+abbrev pub with_room : Waits → ℕ → ℕ → Waits
+with_room w p items = record w { room = map.insert w.room p items }
+
+-- the instance waits for nothing, is not muted and has no room, and nothing else changes
+abbrev pub without_instance : Waits → ℕ → Waits
+without_instance w p = record { waits = map.remove w.waits p; muted = set.remove w.muted p; room = map.remove w.room p }
+
 -- room was made for the instance, and for so many events
 abbrev pub HasRoom : Waits → ℕ → ℕ → Type 0
 HasRoom w p items = IsTrue (map.contains_key w.room p) × (items ≤ room_for w p)
+
+-- who waits has room
+abbrev pub AllHaveRoom : Waits → Type 0
+AllHaveRoom w = (p : ℕ) → map.contains_key w.waits p ≡ true → map.contains_key w.room p ≡ true
 
 -- what the event leaves of the instance's wait
 abbrev pub wait_after : Waits → ℕ → Ev → Option Wait

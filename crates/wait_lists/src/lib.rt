@@ -1,44 +1,52 @@
 //! Who waits for which event: for each instance the events that it waits for, and whether any or all of them must come (IEEE 1666-2011, 5.2.18 and 5.8).
+//!
+//! An event looks only at those who wait for it, and an instance that leaves only at what it waits for: a call takes time in
+//! the logarithm of the number of instances and events that are waited for, times those that it looks at.
 #![tactic(auto)]
 
-ghost use Rattle.std.specs.Prelude.{◌≡◌, ℕ, ◌≢◌, ◌+◌, ◌≤◌, None, IsTrue, OnOk, OnErr, length, vec_len, vec_capacity};
+ghost use Rattle.std.specs.Prelude.{◌≡◌, ℕ, ◌≢◌, ◌+◌, ◌≤◌, None, IsTrue, OnOk, OnErr, length, vec_len, vec_capacity, drop};
+ghost use Rattle.std.specs.List.Sorted.{IsStrictlyIncreasing};
 ghost use Rattle.std.specs.FinMap as map;
 ghost use Rattle.std.specs.FinSet as set;
 
+mod kept;
+mod laws;
+mod links;
 #[cfg(test)]
 mod tests;
 mod waiter;
 
 pub use event_core::Ev;
+use kept::{Kept, make_room, nothing_kept, put_out, set_mark, set_wait, strike_all};
+pub use laws::{
+    as_many_as_have_room, as_many_as_serials, as_many_as_wait_for_it, who_waits_has_room,
+};
 use std::alloc::{AllocError, Global};
 use std::marker::Model;
-use waiter::{Waiter, make_place, set_wait, strike_all, widen};
 
 /// The waits of all instances.
 #[derive(Drop)]
 pub struct WaitLists {
     alloc: Global,
-    // By serial.
-    waiters: Vec<Waiter>,
+    kept: Kept,
 }
 
 impl Model for WaitLists {
-    ghost use Rattle.std.specs.Prelude.{◌≤◌, ◌^◌, map, length};
     ghost use Rattle.wait_lists.specs.Waits.{Waits, waits_code};
 
     ghost Value = { Waits };
 
     ghost coded = { waits_code };
 
-    ghost use Rattle.wait_lists.specs.Waiters.{show, waits_of};
+    ghost use Rattle.wait_lists.specs.Kept.{IsSound, waits_by};
 
-    ghost view = { λ w. waits_of (map show w.waiters.items) };
+    ghost view = { λ w. waits_by w.kept };
 
-    ghost invariant = { λ w. length w.waiters.items ≤ 2 ^ 32 };
+    ghost invariant = { λ w. IsSound w.kept };
 }
 
 impl WaitLists {
-    ghost use Rattle.wait_lists.specs.Waits.{any_of, all_of, with_wait, with_mark, wait_after, waits_naming, is_met_by, room_for, HasRoom, AddsEach};
+    ghost use Rattle.wait_lists.specs.Waits.{any_of, all_of, with_wait, with_mark, without_instance, wait_after, waits_naming, is_met_by, room_for, HasRoom, AddsEach};
 
     /// Lists in which no instance waits, and with no room. It takes no memory.
     pub fn new(alloc: Global) -> WaitLists
@@ -48,13 +56,13 @@ impl WaitLists {
     {
         WaitLists {
             alloc,
-            waiters: Vec::new(alloc),
+            kept: nothing_kept(alloc),
         }
     }
 
     /// Makes room for the instance `p`, so that it can wait for as many as `items` events.
     ///
-    /// The room stays, used or not. It takes some memory for each instance below `p` too, so instances are best numbered from 0.
+    /// The room stays, used or not, until `forget`.
     pub fn reserve_for(&mut self, p: u32, items: u32) -> Result<(), AllocError>
         ensures ok { OnOk result (HasRoom self.new p items) }
         ensures grows { room_for self.old p ≤ room_for self.new p }
@@ -62,10 +70,7 @@ impl WaitLists {
         ensures kept { self.new ≡ record self.old { room = self.new.room } }
         ensures err { OnErr result (self.new ≡ self.old) }
     {
-        let at = p as usize;
-        make_place(&mut self.waiters, self.alloc, at)?;
-        widen(&mut self.waiters[at], items as usize)?;
-        Ok(())
+        make_room(&mut self.kept, self.alloc, p, items)
     }
 
     /// Lets `p` wait for any of these events, in place of what it waited for. With no event it waits for nothing.
@@ -73,10 +78,7 @@ impl WaitLists {
         requires { length list.now ≤ room_for self.old p }
         ensures { self.new ≡ with_wait self.old p (any_of list.now) }
     {
-        let at = p as usize;
-        if at < self.waiters.len() {
-            set_wait(&mut self.waiters[at], false, list);
-        }
+        set_wait(&mut self.kept, p, false, list);
     }
 
     /// Lets `p` wait for all of these events, in place of what it waited for. One that stands twice counts once. With no event it waits for nothing.
@@ -84,20 +86,14 @@ impl WaitLists {
         requires { length list.now ≤ room_for self.old p }
         ensures { self.new ≡ with_wait self.old p (all_of list.now) }
     {
-        let at = p as usize;
-        if at < self.waiters.len() {
-            set_wait(&mut self.waiters[at], true, list);
-        }
+        set_wait(&mut self.kept, p, true, list);
     }
 
     /// Takes `p` out of all lists. Its mark and its room stay.
     pub fn leave(&mut self, p: u32)
         ensures { self.new ≡ with_wait self.old p None }
     {
-        let at = p as usize;
-        if at < self.waiters.len() {
-            set_wait(&mut self.waiters[at], false, &[]);
-        }
+        set_wait(&mut self.kept, p, false, &[]);
     }
 
     /// Mutes `p` or ends that: while it is muted, events pass it by.
@@ -105,18 +101,25 @@ impl WaitLists {
         requires { IsTrue (map.contains_key self.old.room p) }
         ensures { self.new ≡ with_mark self.old p on }
     {
-        let at = p as usize;
-        self.waiters[at].is_muted = on;
+        set_mark(&mut self.kept, p, on);
     }
 
-    /// Strikes the event from each wait of an instance that is not muted, and adds the instances whose wait is met to `out`: those are in no list any more.
+    /// Takes `p` out of all lists, with its mark and its room. Others use its memory from now on.
+    pub fn forget(&mut self, p: u32)
+        ensures { self.new ≡ without_instance self.old p }
+    {
+        put_out(&mut self.kept, p);
+    }
+
+    /// Strikes the event from each wait of an instance that is not muted, and adds the instances whose wait is met to `out`, by rising serials: those are in no list any more.
     pub fn fire(&mut self, e: Ev, out: &mut Vec<u32>)
         requires { vec_len out.old + map.len (waits_naming self.old e) ≤ vec_capacity out.old }
         ensures struck { (p : ℕ) → map.get self.new.waits p ≡ wait_after self.old p e }
         ensures kept { self.new ≡ record self.old { waits = self.new.waits } }
         ensures met { AddsEach out.old.items out.new.items (λ p. is_met_by self.old p e) }
+        ensures rising { IsStrictlyIncreasing (drop (vec_len out.old) out.new.items) }
         ensures capacity { vec_capacity out.new ≡ vec_capacity out.old }
     {
-        strike_all(&mut self.waiters, e, out);
+        strike_all(&mut self.kept, e, out);
     }
 }
