@@ -2,3 +2,4 @@ pub mod Waits
 pub mod Shown
 pub mod Links
 pub mod Kept
+pub mod Rows
