@@ -1,4 +1,4 @@
-pub mod MapLemmas
+pub mod SetLemmas
 pub mod Told
 pub mod LinkLemmas
 pub mod Places
@@ -15,3 +15,4 @@ pub mod Passed
 pub mod LawLemmas
 pub mod Reserved
 pub mod Waiting
+pub mod Counting

@@ -5,16 +5,18 @@ use Rattle.std.specs.Prelude.{slice_get}
 use Rattle.std.specs.Ordering.{nat_cmp, eq_by_cmp}
 use Rattle.std.specs.FinMap as maps
 use Rattle.std.specs.FinSet as sets
-use Rattle.wait_lists.specs.Waits.{Wait, updated, marked, with_wait, with_mark, with_room, without_instance}
+use Rattle.map_lemmas.specs.Updated.{updated}
+use Rattle.wait_lists.specs.Waits.{Wait, marked, with_wait, with_mark, with_room, without_instance}
 use Rattle.wait_lists.specs.Shown.{Shown, wait_of, mark_of, room_of, shown_at, told, indexed, marks, waits_of}
-use Rattle.wait_lists.proofs.MapLemmas.{get-updated, contains-marked, is_updated, same_gets, is_marked, same_members}
+use Rattle.map_lemmas.proofs.MapLemmas.{get-updated, is_updated, same_gets}
+use Rattle.wait_lists.proofs.SetLemmas.{contains-marked, is_marked, same_members}
 
 by_place : {Y : Type 0} (f : Option Shown → Y) (ss : List Shown) (b : Bool) (at : ℕ) (o : Option ℕ)
     → cond b (f (slice_get ss at)) (f (shown_at ss o)) ≡ f (shown_at ss (cond b (Some at) o))
 by_place f ss true at o = refl
 by_place f ss false at o = refl
 
-get-indexed : {X : Type 0} (f : Option Shown → Option X) → f None ≡ None → (ss : List Shown) (es : List (ℕ × ℕ)) (p : ℕ) → maps.get (indexed f ss es) p ≡ f (told ss es p)
+pub get-indexed : {X : Type 0} (f : Option Shown → Option X) → f None ≡ None → (ss : List Shown) (es : List (ℕ × ℕ)) (p : ℕ) → maps.get (indexed f ss es) p ≡ f (told ss es p)
 get-indexed f nothing ss [] p = maps.get-empty nat_cmp p ∙ sym nothing
 get-indexed f nothing ss (e ∷ es) p =
     get-updated (indexed f ss es) e.0 (f (slice_get ss e.1)) p

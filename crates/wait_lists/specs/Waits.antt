@@ -7,6 +7,7 @@ use Rattle.std.specs.FinMap as map
 use Rattle.std.specs.FinSet as set
 use Rattle.event_core.specs.declared.event.Ev.{Ev}
 use Rattle.event_core.specs.contracts.event.Ev as ev
+use Rattle.map_lemmas.specs.Updated.{updated}
 use Rattle.event_core.specs.Ev.{same_event}
 
 -- the event stands in the list
@@ -102,11 +103,6 @@ waits_for w p e = named_by e (map.get w.waits p)
 -- the waits of the instances that wait for the event
 abbrev pub waits_naming : Waits → Ev → map.FinMap nat_cmp Wait
 waits_naming w e = map.retain_keys w.waits (λ p. waits_for w p e)
-
--- the map with this at the key, or with nothing there
-abbrev pub updated : {X : Type 0} → map.FinMap nat_cmp X → ℕ → Option X → map.FinMap nat_cmp X
-updated m k None = map.remove m k
-updated m k (Some x) = map.insert m k x
 
 -- the set with the key, or without it
 abbrev pub marked : set.FinSet nat_cmp → ℕ → Bool → set.FinSet nat_cmp

@@ -60,6 +60,13 @@ impl WaitLists {
         }
     }
 
+    /// How many instances have room. An event gives out no more than these.
+    pub fn instances(&self) -> u32
+        ensures { result ≡ map.len self.now.room }
+    {
+        self.kept.places.len()
+    }
+
     /// Makes room for the instance `p`, so that it can wait for as many as `items` events.
     ///
     /// The room stays, used or not, until `forget`. It runs out of memory, too, where there would be room for 2^32 events or more in all.

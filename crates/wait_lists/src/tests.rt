@@ -208,6 +208,7 @@ fn waits_are_struck_and_met(rt: HostRuntime) -> Result<(), Fail> {
     assert_eq!(rt; woken.as_slice(), [p].as_slice());
     fire_anew(&mut lists, Ev::Terminated(2), &mut woken);
     assert_eq!(rt; woken.as_slice(), [].as_slice());
+    assert_eq!(rt; lists.instances(), 2);
     // While it is muted, its event passes it by.
     make_room(&mut lists, q)?;
     lists.mute(q, true);
@@ -223,6 +224,7 @@ fn waits_are_struck_and_met(rt: HostRuntime) -> Result<(), Fail> {
     make_room(&mut lists, q)?;
     lists.wait_any(q, &[Ev::Restarted(8)]);
     forget(&mut lists, q);
+    assert_eq!(rt; lists.instances(), 1);
     fire_anew(&mut lists, Ev::Restarted(8), &mut woken);
     assert_eq!(rt; woken.as_slice(), [].as_slice());
     Ok(())
