@@ -36,7 +36,7 @@ fn one_more(count: u32) -> Result<u32, AllocError>
     }
 }
 
-/// How many there were with an item. A number past 32 bits is called want of memory.
+/// How many there were with an item. A number past 32 bits is answered as out of memory.
 fn behind(before: Before, item: &Item) -> Result<Before, AllocError>
     ensures { IfOk result (λ n. counts n ≡ spec.behind (counts before) (item_of item.now)) }
 {

@@ -297,7 +297,7 @@ fn climb(
 }
 
 /// An expression of at most 256 tokens. So many brackets may be opened in it. A refusal names the line of the
-/// first token that no expression goes on with, and that is the token past the 256th at the latest.
+/// token at which reading stops: one that no expression goes on with, or at the latest the one past the 256th.
 #[cycle(expression)]
 #[tactic(auto, unfolding(crate::specs::Parse::expression))]
 pub fn expression(

@@ -45,7 +45,7 @@ fn name_place(names: &[Text], name: &[u8]) -> usize
     names.len()
 }
 
-/// The number of a name. Past 32 bits it is called want of memory.
+/// The number of a name. Past 32 bits it is answered as out of memory.
 fn name_number(names: &[Text], name: &[u8]) -> Result<u32, AllocError>
     ensures { IfOk result (λ n. n ≡ position_or_len (λ declared. bytes_eq declared name.now) names.now) }
 {

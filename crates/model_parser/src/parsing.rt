@@ -36,8 +36,8 @@ fn read(alloc: Global, text: &[u8]) -> Result<(Vec<Module>, Top), ParseStop>
 }
 
 /// The tree that the text reads as. Syntax exactly where it reads as none. The line is that of the first
-/// piece that is no token; or else of the first token that no tree goes on with, which a bracket past the 64th
-/// and a token past the 256th of an expression are; or else, where the text ends too early, one more than the
+/// piece that is no token; or else of the token at which reading stops: one that no tree goes on with, a bracket past
+/// the 64th, or a token past the 256th of an expression; or else, where the text ends too early, one more than the
 /// number of its line ends. The text is shorter than 2^32 bytes.
 pub fn parse(alloc: Global, text: &[u8]) -> Result<Tree, ParseStop>
     requires { length text.now < 2 ^ 32 }

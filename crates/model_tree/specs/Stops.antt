@@ -1,4 +1,4 @@
--- What a refusal says, where it is one: want of memory says nothing.
+-- What a refusal says, where it is one: out of memory says nothing.
 use Rattle.std.specs.Prelude.{ℕ, ⊤}
 use Rattle.model_tree.specs.declared.faults.Fault.{Fault}
 use Rattle.model_tree.specs.declared.faults.CheckStop.{CheckStop}

@@ -51,7 +51,7 @@ impl Name {
         self.bytes.as_slice()
     }
 
-    /// The same name in memory of its own, or want of memory.
+    /// The same name in memory of its own, or out of memory.
     pub fn try_clone(&self, alloc: Global) -> Result<Name, AllocError>
         ensures { IfOk result (λ name. name ≡ self.now) }
     {

@@ -70,7 +70,7 @@ pub enum Who {
     Myself(u32),
 }
 
-/// A control call without an operand of its own (IEEE 1666-2011, 5.2.14.4).
+/// A control call without an operand of its own (IEEE 1666-2011, 5.6.6).
 #[derive(Clone, Copy)]
 pub enum Control {
     /// `suspend`

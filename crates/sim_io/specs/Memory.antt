@@ -120,7 +120,7 @@ IsListed s = Contains s.failing s.calls
 abbrev pub is_listed : ShelfState → Bool
 is_listed s = list_any (λ number. nat_eq number s.calls) s.failing
 
--- the shelf after each call; after want of memory it is as before
+-- the shelf after each call; after out of memory it is as before
 abbrev pub opened : ShelfState → List ℕ → Result ℕ Trouble → ShelfState
 opened s name (Ok id) = record s { readers = s.readers ++ (record { file = place_of s.files name; at = 0 }) ∷ []; calls = next s.calls }
 opened s name (Err Failed) = record s { calls = next s.calls; reads = if is_listed s then next s.reads else s.reads }

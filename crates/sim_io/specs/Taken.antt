@@ -22,7 +22,7 @@ TookOf old new piece result = (bytes : List ℕ) × Grew old new bytes × PieceT
 abbrev pub FileTook : List ℕ → Option Files → Option Files → List ℕ → Result Unit Trouble → Type 0
 FileTook name old new piece result = (bytes : List ℕ) × AfterTold old new (Grows name bytes) × PieceTaken piece bytes result
 
--- `create`: the file is empty at Ok; after Failed it is as before or empty; want of memory leaves it
+-- `create`: the file is empty at Ok; after Failed it is as before or empty; out of memory leaves it
 abbrev pub Creates : List ℕ → Result ℕ Trouble → Files → Files → Type 0
 Creates name (Ok id) old new = (new name ≡ Some []) × Others name old new
 Creates name (Err Failed) old new = ((new name ≡ old name) ⊎ (new name ≡ Some [])) × Others name old new

@@ -47,7 +47,7 @@ fn next_id<F>(files: &mut Vec<F>) -> Result<u32, AllocError>
 
 /// A stream as a sink. It tells no bytes.
 ///
-/// A write that takes nothing is `Failed`, as each error is but want of memory. Contracts see it as
+/// A write that takes nothing is `Failed`, as each error is but out of memory. Contracts see it as
 /// the count of its faults, which stays at the last value of a `u64`.
 #[derive(Drop)]
 pub struct HostSink<W: Write> {
