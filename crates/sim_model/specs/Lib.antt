@@ -17,3 +17,4 @@ pub mod Steps
 pub mod Runs
 pub mod Texts
 pub mod Trace
+pub mod Clean

@@ -4,7 +4,7 @@ use Rattle.logic_values.specs.declared.kinds.Value.{Value}
 use Rattle.flat_design.specs.Code.{Arena, block_at}
 use Rattle.flat_design.specs.declared.code.Handler.{Handler}
 use Rattle.sim_model.specs.Residual as residual
-use Rattle.sim_model.specs.Residual.{Residual, Frame, Mark, skip, one, seq, owing, guard, try_, frame, shell, run, goal, followed}
+use Rattle.sim_model.specs.Residual.{Residual, Mark, skip, one, seq, owing, guard, try_, frame, shell, run, goal, followed}
 use Rattle.sim_model.specs.declared.plain.Goal.{Goal}
 use Rattle.sim_model.specs.declared.plain.Via.{Via}
 
