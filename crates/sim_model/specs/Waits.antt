@@ -34,10 +34,14 @@ freed i = record i { wait = waits_for_nothing; deadline = no_deadline }
 abbrev pub is_active : Config → ℕ → Bool
 is_active c p = holds c.processes.stack p
 
+-- the runnable list with p, which stands there once: an event and the end of a time may come together
+abbrev pub joined : List ℕ → ℕ → List ℕ
+joined ps p = if holds ps p then ps else ps ++ p ∷ []
+
 -- a wake has no effect on an instance that has ended, is active or is disabled; it is kept where the instance is suspended;
 -- and else it makes it runnable
 abbrev pub woken : Config → ℕ → Instance → Config
-woken c p i = if i.suspended then change_instance c p (λ j. record (freed j) { kept = true }) else with_runnable (change_instance c p freed) (c.processes.runnable ++ p ∷ [])
+woken c p i = if i.suspended then change_instance c p (λ j. record (freed j) { kept = true }) else with_runnable (change_instance c p freed) (joined c.processes.runnable p)
 
 abbrev pub wake_instance : Config → ℕ → Option Instance → Config
 wake_instance c p None = c
