@@ -129,8 +129,9 @@ ended_instance i = record (freed i) { residual = skip; kept = false; trigger = N
 abbrev pub ends : Config → ℕ → Config
 ends c p = fire (leaves_stack (change_instance c p ended_instance)) (ev.Terminated p)
 
+-- the body begins; a next trigger that was set in this turn stays
 abbrev pub begins : Config → ℕ → Instance → Config
-begins c p i = change_instance c p (λ j. record j { residual = begun (arena c) i.code i.arguments; started = true; trigger = None })
+begins c p i = change_instance c p (λ j. record j { residual = begun (arena c) i.code i.arguments; started = true })
 
 -- an instance that is suspended leaves the stack, and is kept
 abbrev pub stays_kept : Config → ℕ → Config

@@ -10,7 +10,7 @@ use Rattle.flat_design.specs.declared.design.VisibleId.{VisibleId}
 use Rattle.flat_design.specs.declared.design.VisibleId.TheVariants as visible_id
 use Rattle.flat_design.specs.declared.faults.RunFault.{RunFault}
 use Rattle.sim_model.specs.Values.{on_ok, time_within}
-use Rattle.sim_model.specs.Configuration.{Config, Instance, line, turn, path_of, change, instance_at, with_runnable, with_stack, with_told}
+use Rattle.sim_model.specs.Configuration.{Config, Instance, line, turn, path_of, change, change_instance, instance_at, with_runnable, with_stack, with_told}
 use Rattle.sim_model.specs.Waits.{holds, without}
 use Rattle.sim_model.specs.Control.{begins}
 use Rattle.sim_model.specs.Statements.{statement_step}
@@ -94,8 +94,9 @@ step c = if c.cycle.stopped then ended else step_in c c.cycle.phase
 abbrev pub turn_line : ℕ → List ℕ → ℕ → List ℕ
 turn_line now path p = decimal now ++ codes " " ++ path ++ codes " turn " ++ decimal p ++ 10 ∷ []
 
+-- a new turn has no next trigger yet
 abbrev pub begins_unless_begun : Config → ℕ → Instance → Config
-begins_unless_begun c p i = if i.started then c else begins c p i
+begins_unless_begun c p i = if i.started then c else begins (change_instance c p (λ j. record j { trigger = None })) p i
 
 abbrev pub instance_taken : Config → ℕ → Option Instance → Config
 instance_taken c p None = c
