@@ -91,8 +91,28 @@ control c p = kept.Control c (controlled.Named (item p))
 abbrev pub throw_at : ℕ → ℕ → Statement
 throw_at p e = kept.ThrowIt (controlled.Named (item p)) e
 
+-- control of the instance itself
+abbrev pub control_self : Control → Statement
+control_self c = kept.Control c controlled.Myself
+
+abbrev pub throw_at_self : ℕ → Statement
+throw_at_self e = kept.ThrowIt controlled.Myself e
+
 abbrev pub call : ℕ → Statement
 call f = kept.Call None f (vec_of [] tt)
+
+-- events by their places in the module
+abbrev pub notify : ℕ → Statement
+notify e = kept.Notify e
+
+abbrev pub notify_delta : ℕ → Statement
+notify_delta e = kept.NotifyDelta e
+
+abbrev pub notify_after : ℕ → ℕ → Statement
+notify_after e t = kept.NotifyAfter e (moment t)
+
+abbrev pub cancel : ℕ → Statement
+cancel e = kept.Cancel e
 
 -- a body: nothing, or a statement and what follows it; a try has one handler
 pub data Body : Type 0 where
