@@ -123,6 +123,11 @@ pub data Body : Type 0 where
   guarded : Body → Body → Body → Body
   tried : Body → ℕ → Body → Body → Body
 
+-- these statements, and what follows
+abbrev pub does : List Statement → Body → Body
+does [] rest = rest
+does (s ∷ ss) rest = then s (does ss rest)
+
 pub record Laid : Type 0 where
   pub blocks : List (List ℕ)
   pub statements : List Statement

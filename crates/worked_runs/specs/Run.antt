@@ -1,10 +1,12 @@
 -- What a run tells.
-use Rattle.std.specs.Prelude.{ℕ, List, length, option_map, option_and_then, Option, Some, None}
+use Rattle.std.specs.Prelude.{ℕ, List, length, slice_get, option_map, option_and_then, Option, Some, None}
 use Rattle.std.specs.Fmt.{digits}
 use Rattle.rand_core.specs.Pcg32Seed.{pcg32_seed}
 use Rattle.rand_core.specs.Steps.{word_bytes, u32_at}
 use Rattle.logic_values.specs.declared.kinds.Value.{Value}
+use Rattle.transport_phases.specs.History.{Entry}
 use Rattle.flat_design.specs.declared.design.Design.{Design}
+use Rattle.sim_model.specs.Residual.{Mark}
 use Rattle.sim_model.specs.Configuration.{start, path_up}
 use Rattle.sim_model.specs.Runs.{after, Ruled, stop_of}
 use Rattle.sim_model.specs.Trace.{trace_text}
@@ -42,6 +44,16 @@ told n choices d script = told_under rule.First log_of.Prints 10000000 n choices
 unfoldable pub traced : ℕ → List ℕ → Design → List Command → Option (List ℕ)
 unfolding digits
 traced n choices d script = option_map trace_text (after n choices (start d script))
+
+-- the marks of guards in the run of n steps with these choices
+unfoldable pub marked : ℕ → List ℕ → Design → List Command → Option (List Mark)
+unfolding digits
+marked n choices d script = option_map (λ c. c.trace.marks) (after n choices (start d script))
+
+-- what was called and returned on the only hop in the run of n steps with these choices
+unfoldable pub called : ℕ → List ℕ → Design → List Command → Option (List Entry)
+unfolding digits
+called n choices d script = option_and_then (λ c. slice_get c.transactions.hops 0) (after n choices (start d script))
 
 -- the choices of n steps are those of the rule
 unfoldable pub IsRuled : Rule → ℕ → List ℕ → Design → List Command → Type 0

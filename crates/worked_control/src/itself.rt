@@ -1,0 +1,31 @@
+//! Runs of processes that control themselves.
+ghost use Rattle.std.specs.Prelude.{◌≡◌, [], ◌∷◌, codes, Some};
+ghost use Rattle.worked_control.specs.Selves.{thread_does, method_does, thread_resets_once, method_resets_once, thread_throws, method_throws, killing, one_says};
+ghost use Rattle.worked_control.specs.Targets.{after_a_while, suspending, resume, says, later, fires};
+ghost use Rattle.worked_runs.specs.Run.{told, run};
+
+/// A thread that suspends itself stops at once and is kept, and one that kills itself is unwound from where it stands.
+pub fn a_thread_controls_itself()
+    ensures suspends { told 24 (0 ∷ 3 ∷ 3 ∷ 0 ∷ 1 ∷ []) (thread_does suspending (after_a_while (says ∷ resume ∷ []))) (run ∷ []) ≡ Some (codes "0 m.t begin\n1000 m.k k\n1000 m.t on\n1000 m.w ended\nend done 1000\n") }
+    ensures kills { told 17 (0 ∷ 1 ∷ 3 ∷ []) (thread_does killing one_says) (run ∷ []) ≡ Some (codes "0 m.t begin\n0 m.t undo\n0 m.w ended\n0 m.k k\nend done 0\n") }
+{}
+
+/// A method that suspends itself runs to its return and is not kept by that, and one that kills itself is unwound.
+pub fn a_method_controls_itself()
+    ensures resumed { told 32 (0 ∷ 3 ∷ 3 ∷ 3 ∷ 0 ∷ []) (method_does suspending (after_a_while (resume ∷ says ∷ later ∷ fires ∷ []))) (run ∷ []) ≡ Some (codes "0 m.t run\n0 m.t on\n1000 m.k k\n2000 m.t run\n2000 m.t on\nend done 2000\n") }
+    ensures kept { told 32 (0 ∷ 3 ∷ 3 ∷ 3 ∷ 0 ∷ []) (method_does suspending (after_a_while (fires ∷ says ∷ later ∷ resume ∷ []))) (run ∷ []) ≡ Some (codes "0 m.t run\n0 m.t on\n1000 m.k k\n2000 m.t run\n2000 m.t on\nend done 2000\n") }
+    ensures kills { told 17 (0 ∷ 1 ∷ 3 ∷ []) (method_does killing one_says) (run ∷ []) ≡ Some (codes "0 m.t run\n0 m.t undo\n0 m.w ended\n0 m.k k\nend done 0\n") }
+{}
+
+/// A process that resets itself is unwound and begins again, in the same turn.
+pub fn a_process_resets_itself()
+    ensures thread { told 27 (0 ∷ 2 ∷ 1 ∷ 3 ∷ []) thread_resets_once (run ∷ []) ≡ Some (codes "0 m.t n 1\n0 m.t undo\n0 m.t n 2\n0 m.t end\n0 m.v restarted\n0 m.w ended\n0 m.k k\nend done 0\n") }
+    ensures method { told 24 (0 ∷ 2 ∷ 3 ∷ []) method_resets_once (run ∷ []) ≡ Some (codes "0 m.t n 1\n0 m.t undo\n0 m.t n 2\n0 m.t end\n0 m.v restarted\n0 m.k k\nend done 0\n") }
+{}
+
+/// A process that throws an exception at itself is unwound to its handler; where it has none, that is a fault.
+pub fn a_process_catches_what_it_throws_at_itself()
+    ensures thread { told 20 (0 ∷ 1 ∷ 3 ∷ []) (thread_throws 0) (run ∷ []) ≡ Some (codes "0 m.t undo\n0 m.t halted\n0 m.t end\n0 m.w ended\n0 m.k k\nend done 0\n") }
+    ensures method { told 17 (0 ∷ 3 ∷ []) (method_throws 0) (run ∷ []) ≡ Some (codes "0 m.t undo\n0 m.t halted\n0 m.t end\n0 m.k k\nend done 0\n") }
+    ensures uncaught { told 5 (0 ∷ []) (thread_throws 1) (run ∷ []) ≡ Some (codes "end fault 0 Uncaught Other\n") }
+{}
