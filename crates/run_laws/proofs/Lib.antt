@@ -1,0 +1,3 @@
+pub mod ResidualLemmas
+pub mod Splits
+pub mod Ends
