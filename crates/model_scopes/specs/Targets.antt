@@ -177,9 +177,37 @@ taken_type meaning.Instance = None
 taken_type meaning.Function = None
 taken_type meaning.Process = None
 
--- what a statement writes to its channel, and what it takes from it
+-- the type of what is put into a fifo, or a port of one
+abbrev pub put_type : Meaning → Option ValueType
+put_type (meaning.Signal s) = None
+put_type meaning.Resolved = None
+put_type meaning.Clock = None
+put_type (meaning.Fifo s) = s
+put_type meaning.Mutex = None
+put_type meaning.Event = None
+put_type meaning.Keeper = None
+put_type meaning.Semaphore = None
+put_type meaning.Memory = None
+put_type (meaning.Variable s) = None
+put_type (meaning.In s size) = None
+put_type (meaning.Out s size) = None
+put_type (meaning.FifoIn s size) = None
+put_type (meaning.FifoOut s size) = s
+put_type (meaning.MutexPort size) = None
+put_type (meaning.SemaphorePort size) = None
+put_type meaning.Export = None
+put_type (meaning.Initiator pass) = None
+put_type (meaning.Target pass) = None
+put_type meaning.Instance = None
+put_type meaning.Function = None
+put_type meaning.Process = None
+
+-- what a statement writes to its channel, puts into it, and takes from it
 abbrev pub written_to : Scope → tree.Channel → Option ValueType
 written_to s c = option_and_then written_type (channel_of s c)
+
+abbrev pub put_into : Scope → tree.Channel → Option ValueType
+put_into s c = option_and_then put_type (channel_of s c)
 
 abbrev pub taken_from : Scope → tree.Channel → Option ValueType
 taken_from s c = option_and_then taken_type (channel_of s c)

@@ -1,0 +1,190 @@
+-- Items: clocks, sizes and first numbers, and the forms of bindings.
+use Rattle.std.specs.Prelude.{ℕ, ◌*◌, ◌==◌, ◌&&◌, ◌||◌, Bool, true, false, not, nat_le, nat_lt, List, [], unwrap_or, option_and_then, option_map, Option, Some, None}
+use Rattle.sim_time.specs.Times.{picoseconds_in}
+use Rattle.model_tree.specs.Tree as tree
+use Rattle.model_tree.specs.declared.types.ConstantForm.{ConstantForm}
+use Rattle.model_tree.specs.declared.types.ConstantForm.TheVariants as constant
+use Rattle.model_tree.specs.declared.types.End.{End}
+use Rattle.model_tree.specs.declared.types.PortSize.{PortSize}
+use Rattle.model_tree.specs.declared.types.Span.{Span}
+use Rattle.model_tree.specs.declared.items.ClockItem.{ClockItem}
+use Rattle.model_scopes.specs.Meanings.{port_size}
+use Rattle.model_scopes.specs.Scopes.{Scope, meaning_of}
+use Rattle.model_scopes.specs.Types.{is_port}
+use Rattle.model_scopes.specs.declared.meanings.Meaning.{Meaning}
+use Rattle.model_scopes.specs.declared.meanings.Meaning.TheVariants as meaning
+use Rattle.model_faults.specs.Sites as part
+use Rattle.model_faults.specs.Sites.{Part, Site}
+use Rattle.model_faults.specs.Names.{name_if, child_module, declared_in}
+
+-- 0 < high < period
+abbrev pub picoseconds : Span → ℕ
+picoseconds t = t.count * picoseconds_in t.unit
+
+abbrev pub is_clock : ClockItem → Bool
+is_clock c = nat_lt 0 (picoseconds c.high) && nat_lt (picoseconds c.high) (picoseconds c.period)
+
+abbrev pub clock_in : Part → Option (List ℕ)
+clock_in (part.of_item before (tree.clock line c)) = name_if (not (is_clock c)) c.name
+clock_in other = None
+
+abbrev pub bad_clock : Site → Option (List ℕ)
+bad_clock x = clock_in x.part
+
+-- the size of a fifo is 1 to 65,536
+abbrev pub is_fifo_size : Option ℕ → Bool
+is_fifo_size None = true
+is_fifo_size (Some size) = nat_le 1 size && nat_le size 65536
+
+abbrev pub fifo_in : Part → Option (List ℕ)
+fifo_in (part.of_item before (tree.fifo line t name size)) = name_if (not (is_fifo_size size)) name
+fifo_in other = None
+
+abbrev pub fifo_size : Site → Option (List ℕ)
+fifo_size x = fifo_in x.part
+
+-- a semaphore starts from 0 to 2,147,483,647
+abbrev pub is_start : ConstantForm → Bool
+is_start (constant.Number n) = nat_le n 2147483647
+is_start (constant.Negative n) = n == 0
+is_start (constant.Time n unit) = true
+is_start (constant.Logic v) = true
+is_start (constant.Truth b) = true
+
+abbrev pub semaphore_in : Part → Option (List ℕ)
+semaphore_in (part.of_item before (tree.semaphore line name c)) = name_if (not (is_start c.form)) name
+semaphore_in other = None
+
+abbrev pub semaphore_range : Site → Option (List ℕ)
+semaphore_range x = semaphore_in x.part
+
+-- the size of a port is 1 to 64
+abbrev pub is_port_size : ℕ → Bool
+is_port_size size = nat_le 1 size && nat_le size 64
+
+abbrev pub port_in : Part → Option (List ℕ)
+port_in (part.of_item before (tree.port line i name size)) = name_if (not (is_port_size (port_size size))) name
+port_in other = None
+
+abbrev pub port_range : Site → Option (List ℕ)
+port_range x = port_in x.part
+
+-- bindings
+
+-- an end: what the module declares itself, or what a child's module declares; none where that is not known
+pub data Reached : Type 0 where
+  unknown : Reached
+  own : Meaning → Reached
+  of_child : Meaning → Reached
+
+abbrev pub own_if : Option Meaning → Reached
+own_if None = unknown
+own_if (Some m) = own m
+
+abbrev pub of_child_if : Option Meaning → Reached
+of_child_if None = unknown
+of_child_if (Some m) = of_child m
+
+abbrev pub reached : Scope → List ℕ → Option (List ℕ) → Reached
+reached s name None = own_if (meaning_of s name)
+reached s name (Some member) = of_child_if (option_and_then (λ (m : tree.Module). declared_in m member) (child_module s name))
+
+-- what is bound at the left end
+pub data Left : Type 0 where
+  not_known : Left
+  none : Left
+  port_of_child : Left
+  own_export : Left
+  initiator_of_child : Left
+  own_pass_target : Left
+
+abbrev pub left_own : Meaning → Left
+left_own meaning.Export = own_export
+left_own (meaning.Target true) = own_pass_target
+left_own other = none
+
+abbrev pub left_child : Meaning → Left
+left_child (meaning.In s size) = port_of_child
+left_child (meaning.Out s size) = port_of_child
+left_child (meaning.FifoIn s size) = port_of_child
+left_child (meaning.FifoOut s size) = port_of_child
+left_child (meaning.MutexPort size) = port_of_child
+left_child (meaning.SemaphorePort size) = port_of_child
+left_child (meaning.Initiator pass) = initiator_of_child
+left_child other = none
+
+abbrev pub left_of : Reached → Left
+left_of unknown = not_known
+left_of (own m) = left_own m
+left_of (of_child m) = left_child m
+
+-- what each left end may be bound to
+abbrev pub is_own_channel : Reached → Bool
+is_own_channel (own (meaning.Signal s)) = true
+is_own_channel (own meaning.Resolved) = true
+is_own_channel (own meaning.Clock) = true
+is_own_channel (own (meaning.Fifo s)) = true
+is_own_channel (own meaning.Mutex) = true
+is_own_channel (own meaning.Semaphore) = true
+is_own_channel other = false
+
+abbrev pub is_own_port : Reached → Bool
+is_own_port unknown = false
+is_own_port (own m) = is_port m
+is_own_port (of_child m) = false
+
+abbrev pub is_export_of_child : Reached → Bool
+is_export_of_child (of_child meaning.Export) = true
+is_export_of_child other = false
+
+abbrev pub is_own_pass_initiator : Reached → Bool
+is_own_pass_initiator (own (meaning.Initiator true)) = true
+is_own_pass_initiator other = false
+
+abbrev pub is_target_of_child : Reached → Bool
+is_target_of_child (of_child (meaning.Target pass)) = true
+is_target_of_child other = false
+
+abbrev pub leads : Left → Reached → Bool
+leads not_known right = true
+leads none right = true
+leads port_of_child right = is_own_channel right || is_own_port right || is_export_of_child right
+leads own_export right = is_own_channel right || is_export_of_child right
+leads initiator_of_child right = is_own_pass_initiator right || is_target_of_child right
+leads own_pass_target right = is_target_of_child right
+
+abbrev pub leads_if_known : Left → Reached → Bool
+leads_if_known left unknown = true
+leads_if_known left (own m) = leads left (own m)
+leads_if_known left (of_child m) = leads left (of_child m)
+
+abbrev pub last_name : List ℕ → Option (List ℕ) → List ℕ
+last_name name member = unwrap_or member name
+
+-- the left end has no form of its own, or the right end is none that it may be bound to
+abbrev pub bound_wrong : Left → Reached → List ℕ → List ℕ → Option (List ℕ)
+bound_wrong none right left_name right_name = Some left_name
+bound_wrong left right left_name right_name = name_if (not (leads_if_known left right)) right_name
+
+abbrev pub binding_in_item : Scope → tree.Item → Option (List ℕ)
+binding_in_item s (tree.bind line left right) =
+    bound_wrong (left_of (reached s left.name left.member)) (reached s right.name right.member) (last_name left.name left.member) (last_name right.name right.member)
+binding_in_item s other = None
+
+-- a socket that hands calls on is used in no transport call
+abbrev pub is_pass : Option Meaning → Bool
+is_pass (Some (meaning.Initiator pass)) = pass
+is_pass (Some (meaning.Target pass)) = pass
+is_pass other = false
+
+abbrev pub pass_in : Scope → List ℕ → Option (List ℕ)
+pass_in s socket = name_if (is_pass (meaning_of s socket)) socket
+
+abbrev pub binding_in : Scope → Part → Option (List ℕ)
+binding_in s (part.of_item before i) = binding_in_item s i
+binding_in s (part.of_operation (tree.nb_transport socket p phase delay)) = pass_in s socket
+binding_in s (part.of_statement (tree.act line (tree.b_transport socket p delay))) = pass_in s socket
+binding_in s other = None
+
+abbrev pub bad_binding : Site → Option (List ℕ)
+bad_binding x = binding_in x.scope x.part
