@@ -1,0 +1,24 @@
+//! Worked rules: what the definitions of the rules answer for texts written by hand as trees, computed by the checker. A clause
+//! says of one tree that it has this first fault, with its kind, line and name, or that it has none.
+#![tactic(auto)]
+
+mod calling;
+mod naming;
+mod reaching;
+mod valuing;
+
+pub use calling::{
+    arguments_are_counted, handlers_have_their_signatures, numbers_of_items_are_in_range,
+    sockets_of_calls, values_are_returned,
+};
+pub use naming::{
+    ends_are_known, locals_are_visible_in_their_block, members_are_of_their_column,
+    names_are_known, names_differ,
+};
+pub use reaching::{
+    handlers_do_not_wait, methods_do_not_wait, passes_have_their_order, threads_set_no_trigger,
+    unwind_blocks_are_plain,
+};
+pub use valuing::{
+    operands_have_one_sign, places_and_slices_are_in_range, types_fit, written_types_come_first,
+};
