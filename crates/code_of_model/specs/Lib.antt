@@ -1,0 +1,4 @@
+pub mod Terms
+pub mod Deeds
+pub mod Numbered
+pub mod Bodies
