@@ -1,0 +1,5 @@
+pub mod Lists
+pub mod Reached
+pub mod Ranks
+pub mod Rounds
+pub mod Listed
