@@ -4,3 +4,4 @@ pub mod Paths
 pub mod Faults
 pub mod Formed
 pub mod Bound
+pub mod Written
