@@ -2,18 +2,15 @@
 -- whose thread u calls back. Items are numbered by their places in their module, and processes by their serials.
 use Rattle.std.specs.Prelude.{ℕ, ◌+◌, ◌-◌, Option, Some, None, List, [], ◌∷◌, ◌++◌, codes, length}
 use Rattle.model_tree.specs.declared.expressions.BinaryOp.TheVariants as op
-use Rattle.model_tree.specs.declared.statements.Control.TheVariants as control_of
 use Rattle.flat_design.specs.declared.value_types.ValueType.TheVariants as type
-use Rattle.flat_design.specs.declared.names.NameUse.{NameUse}
 use Rattle.flat_design.specs.declared.names.PayloadField.TheVariants as field
 use Rattle.flat_design.specs.declared.code.Destination.TheVariants as destination
 use Rattle.flat_design.specs.declared.code.Local.{Local}
 use Rattle.flat_design.specs.declared.code.Statement.{Statement}
 use Rattle.flat_design.specs.declared.code.Statement.TheVariants as kept
 use Rattle.flat_design.specs.declared.terms.Expr.{Expr}
-use Rattle.flat_design.specs.declared.design.Hop.{Hop}
 use Rattle.flat_design.specs.declared.design.Design.{Design}
-use Rattle.worked_runs.specs.Body.{Body, end, does, branch, guarded, tried, item, local, named, number, moment, binary, store, assign, say, say_value, wait_for, wait_on, control, throw_at, notify_after}
+use Rattle.worked_runs.specs.Body.{Body, end, does, branch, item, local, named, number, binary, store, assign, say, say_value, wait_on, notify_after}
 use Rattle.worked_runs.specs.Build.{design_of, next_object, event, variable, exception, function_with, procedure, local_of, inout, thread, instance, initiator, target, hop}
 use Rattle.worked_runs.specs.Rows.{integer, signed}
 use Rattle.worked_runs.specs.Transports.{handler_locals, answers}

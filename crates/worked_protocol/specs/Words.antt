@@ -1,6 +1,6 @@
 -- The words of the base protocol: what is called and answered from a request to the end of a transaction, told by models of the
 -- link. Each has a blocking call of the same payload behind it, which may come only where the transaction is idle.
-use Rattle.std.specs.Prelude.{ℕ, Option, Some, None, List, [], ◌∷◌, ◌++◌, codes}
+use Rattle.std.specs.Prelude.{ℕ, List, [], ◌∷◌, ◌++◌, codes}
 use Rattle.model_tree.specs.declared.statements.Control.TheVariants as control_of
 use Rattle.model_tree.specs.declared.expressions.BinaryOp.TheVariants as op
 use Rattle.flat_design.specs.declared.value_types.ValueType.TheVariants as type
@@ -11,7 +11,7 @@ use Rattle.worked_runs.specs.Body.{Body, end, does, branch, guarded, tried, item
 use Rattle.worked_runs.specs.Build.{thread}
 use Rattle.worked_runs.specs.Rows.{integer, signed}
 use Rattle.worked_runs.specs.Transports.{answers}
-use Rattle.worked_protocol.specs.Links.{Handlers, all, link, link_of, makes, makes_q, phase, calls, calls_for, tells, tells_phase, tells_delay, sends, blocks, completed, releases, idle, keeps, goes, updates, completes, frees, at_phase, accepts, nothing, woken}
+use Rattle.worked_protocol.specs.Links.{Handlers, all, link, link_of, makes, makes_q, phase, calls, calls_for, tells, tells_phase, tells_delay, sends, blocks, completed, idle, keeps, goes, updates, completes, at_phase, accepts, nothing, woken}
 
 -- the request is answered with COMPLETED
 abbrev pub completed_request : Design

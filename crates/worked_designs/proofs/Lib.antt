@@ -1,0 +1,3 @@
+pub mod SameDesign
+pub mod Cutting
+pub mod Reading
