@@ -22,7 +22,9 @@ use Rattle.model_scopes.specs.Meanings.{variable_type}
 use Rattle.model_scopes.specs.Members.{row_of, event_member}
 use Rattle.model_scopes.specs.Scopes.{Scope, meaning_of, use_of, place_of, function_named}
 use Rattle.model_scopes.specs.Operators.{both}
-use Rattle.model_scopes.specs.Targets.{Destination, nowhere, variable, field, byte, element, destination_of, written_to, put_into, variable_named}
+use Rattle.model_scopes.specs.Targets.{destination_of, written_to, put_into, variable_named}
+use Rattle.model_scopes.specs.declared.meanings.Destination.{Destination}
+use Rattle.model_scopes.specs.declared.meanings.Destination.TheVariants as to
 use Rattle.code_of_model.specs.Terms.{number, term_of}
 
 -- what is told of the module around a body: the number of its first body, and the names of exceptions by their numbers
@@ -158,11 +160,11 @@ to_index f s None = None
 to_index f s (Some index) = option_map f (term_of s index)
 
 abbrev pub destination_term : Scope → tree.Target → Destination → Option DestinationTerm
-destination_term s target nowhere = None
-destination_term s target (variable t) = option_map code.to_name (store s target.name)
-destination_term s target (field f) = option_map (λ n. code.to_field n f) (use_of s target.name)
-destination_term s target (byte b) = option_and_then (λ n. to_index (code.to_payload_byte n b) s target.index) (use_of s target.name)
-destination_term s target element = option_and_then (λ n. to_index (code.to_element n) s target.index) (place_of s target.name)
+destination_term s target to.Nowhere = None
+destination_term s target (to.Variable t) = option_map code.to_name (store s target.name)
+destination_term s target (to.Field f) = option_map (λ n. code.to_field n f) (use_of s target.name)
+destination_term s target (to.Byte b) = option_and_then (λ n. to_index (code.to_payload_byte n b) s target.index) (use_of s target.name)
+destination_term s target to.Element = option_and_then (λ n. to_index (code.to_element n) s target.index) (place_of s target.name)
 
 -- statements
 

@@ -20,7 +20,9 @@ use Rattle.flat_design.specs.declared.value_types.ValueType.TheVariants as type
 use Rattle.flat_design.specs.declared.names.NameUse.{NameUse}
 use Rattle.flat_design.specs.declared.names.NameUse.TheVariants as name_use
 use Rattle.flat_design.specs.declared.names.PayloadBytes.{PayloadBytes}
-use Rattle.model_scopes.specs.Members.{ValueMember, one, many, row_of, value_member}
+use Rattle.model_scopes.specs.Members.{row_of, value_member}
+use Rattle.model_scopes.specs.declared.meanings.ValueMember.{ValueMember}
+use Rattle.model_scopes.specs.declared.meanings.ValueMember.TheVariants as reached
 use Rattle.model_scopes.specs.Scopes.{Scope, meaning_of, use_of, place_of}
 use Rattle.model_scopes.specs.Operators.{option_if, both, evaluated_as, operands}
 use Rattle.model_scopes.specs.Types.{value_of, at_number, at_computed, is_time_literal, type_of}
@@ -146,11 +148,11 @@ term_made (bytes n b) = None
 term_made (value_made e) = Some e
 
 abbrev pub placed_member : NameUse → Option Term → ValueMember → Made
-placed_member n None (one m) = value_made (code.member n m)
-placed_member n None (many b) = bytes n b
+placed_member n None (reached.One m) = value_made (code.member n m)
+placed_member n None (reached.Many b) = bytes n b
 placed_member (name_use.Local i) (Some place) member = nothing
-placed_member (name_use.Declared n) (Some place) (one m) = value_made (code.placed_member n place m)
-placed_member (name_use.Declared n) (Some place) (many b) = nothing
+placed_member (name_use.Declared n) (Some place) (reached.One m) = value_made (code.placed_member n place m)
+placed_member (name_use.Declared n) (Some place) (reached.Many b) = nothing
 
 abbrev pub member_if : NameUse → Option Term → Option ValueMember → Made
 member_if n place None = nothing

@@ -16,6 +16,10 @@ use Rattle.model_scopes.specs.declared.meanings.Meaning.TheVariants as meaning
 use Rattle.model_faults.specs.Sites as part
 use Rattle.model_faults.specs.Sites.{Part, Site}
 use Rattle.model_faults.specs.Names.{name_if, child_module, declared_in}
+use Rattle.model_faults.specs.declared.ends.EndMeaning.{EndMeaning}
+use Rattle.model_faults.specs.declared.ends.EndMeaning.TheVariants as end_meaning
+use Rattle.model_faults.specs.declared.ends.LeftEnd.{LeftEnd}
+use Rattle.model_faults.specs.declared.ends.LeftEnd.TheVariants as left_end
 
 -- 0 < high < period
 abbrev pub picoseconds : Span → ℕ
@@ -71,99 +75,84 @@ port_range x = port_in x.part
 
 -- bindings
 
--- an end: what the module declares itself, or what a child's module declares; none where that is not known
-pub data Reached : Type 0 where
-  unknown : Reached
-  own : Meaning → Reached
-  of_child : Meaning → Reached
+abbrev pub own_if : Option Meaning → EndMeaning
+own_if None = end_meaning.Unknown
+own_if (Some m) = end_meaning.Own m
 
-abbrev pub own_if : Option Meaning → Reached
-own_if None = unknown
-own_if (Some m) = own m
+abbrev pub of_child_if : Option Meaning → EndMeaning
+of_child_if None = end_meaning.Unknown
+of_child_if (Some m) = end_meaning.OfChild m
 
-abbrev pub of_child_if : Option Meaning → Reached
-of_child_if None = unknown
-of_child_if (Some m) = of_child m
-
-abbrev pub reached : Scope → List ℕ → Option (List ℕ) → Reached
+abbrev pub reached : Scope → List ℕ → Option (List ℕ) → EndMeaning
 reached s name None = own_if (meaning_of s name)
 reached s name (Some member) = of_child_if (option_and_then (λ (m : tree.Module). declared_in m member) (child_module s name))
 
--- what is bound at the left end
-pub data Left : Type 0 where
-  not_known : Left
-  none : Left
-  port_of_child : Left
-  own_export : Left
-  initiator_of_child : Left
-  own_pass_target : Left
+abbrev pub left_own : Meaning → LeftEnd
+left_own meaning.Export = left_end.Export
+left_own (meaning.Target true) = left_end.PassTarget
+left_own other = left_end.NoForm
 
-abbrev pub left_own : Meaning → Left
-left_own meaning.Export = own_export
-left_own (meaning.Target true) = own_pass_target
-left_own other = none
+abbrev pub left_child : Meaning → LeftEnd
+left_child (meaning.In s size) = left_end.PortOfChild
+left_child (meaning.Out s size) = left_end.PortOfChild
+left_child (meaning.FifoIn s size) = left_end.PortOfChild
+left_child (meaning.FifoOut s size) = left_end.PortOfChild
+left_child (meaning.MutexPort size) = left_end.PortOfChild
+left_child (meaning.SemaphorePort size) = left_end.PortOfChild
+left_child (meaning.Initiator pass) = left_end.InitiatorOfChild
+left_child other = left_end.NoForm
 
-abbrev pub left_child : Meaning → Left
-left_child (meaning.In s size) = port_of_child
-left_child (meaning.Out s size) = port_of_child
-left_child (meaning.FifoIn s size) = port_of_child
-left_child (meaning.FifoOut s size) = port_of_child
-left_child (meaning.MutexPort size) = port_of_child
-left_child (meaning.SemaphorePort size) = port_of_child
-left_child (meaning.Initiator pass) = initiator_of_child
-left_child other = none
-
-abbrev pub left_of : Reached → Left
-left_of unknown = not_known
-left_of (own m) = left_own m
-left_of (of_child m) = left_child m
+abbrev pub left_of : EndMeaning → LeftEnd
+left_of end_meaning.Unknown = left_end.Unknown
+left_of (end_meaning.Own m) = left_own m
+left_of (end_meaning.OfChild m) = left_child m
 
 -- what each left end may be bound to
-abbrev pub is_own_channel : Reached → Bool
-is_own_channel (own (meaning.Signal s)) = true
-is_own_channel (own meaning.Resolved) = true
-is_own_channel (own meaning.Clock) = true
-is_own_channel (own (meaning.Fifo s)) = true
-is_own_channel (own meaning.Mutex) = true
-is_own_channel (own meaning.Semaphore) = true
+abbrev pub is_own_channel : EndMeaning → Bool
+is_own_channel (end_meaning.Own (meaning.Signal s)) = true
+is_own_channel (end_meaning.Own meaning.Resolved) = true
+is_own_channel (end_meaning.Own meaning.Clock) = true
+is_own_channel (end_meaning.Own (meaning.Fifo s)) = true
+is_own_channel (end_meaning.Own meaning.Mutex) = true
+is_own_channel (end_meaning.Own meaning.Semaphore) = true
 is_own_channel other = false
 
-abbrev pub is_own_port : Reached → Bool
-is_own_port unknown = false
-is_own_port (own m) = is_port m
-is_own_port (of_child m) = false
+abbrev pub is_own_port : EndMeaning → Bool
+is_own_port end_meaning.Unknown = false
+is_own_port (end_meaning.Own m) = is_port m
+is_own_port (end_meaning.OfChild m) = false
 
-abbrev pub is_export_of_child : Reached → Bool
-is_export_of_child (of_child meaning.Export) = true
+abbrev pub is_export_of_child : EndMeaning → Bool
+is_export_of_child (end_meaning.OfChild meaning.Export) = true
 is_export_of_child other = false
 
-abbrev pub is_own_pass_initiator : Reached → Bool
-is_own_pass_initiator (own (meaning.Initiator true)) = true
+abbrev pub is_own_pass_initiator : EndMeaning → Bool
+is_own_pass_initiator (end_meaning.Own (meaning.Initiator true)) = true
 is_own_pass_initiator other = false
 
-abbrev pub is_target_of_child : Reached → Bool
-is_target_of_child (of_child (meaning.Target pass)) = true
+abbrev pub is_target_of_child : EndMeaning → Bool
+is_target_of_child (end_meaning.OfChild (meaning.Target pass)) = true
 is_target_of_child other = false
 
-abbrev pub leads : Left → Reached → Bool
-leads not_known right = true
-leads none right = true
-leads port_of_child right = is_own_channel right || is_own_port right || is_export_of_child right
-leads own_export right = is_own_channel right || is_export_of_child right
-leads initiator_of_child right = is_own_pass_initiator right || is_target_of_child right
-leads own_pass_target right = is_target_of_child right
+abbrev pub leads : LeftEnd → EndMeaning → Bool
+leads left_end.Unknown right = true
+leads left_end.NoForm right = true
+leads left_end.PortOfChild right = is_own_channel right || is_own_port right || is_export_of_child right
+leads left_end.Export right = is_own_channel right || is_export_of_child right
+leads left_end.InitiatorOfChild right = is_own_pass_initiator right || is_target_of_child right
+leads left_end.PassTarget right = is_target_of_child right
 
-abbrev pub leads_if_known : Left → Reached → Bool
-leads_if_known left unknown = true
-leads_if_known left (own m) = leads left (own m)
-leads_if_known left (of_child m) = leads left (of_child m)
+abbrev pub leads_if_known : LeftEnd → EndMeaning → Bool
+leads_if_known left end_meaning.Unknown = true
+leads_if_known left (end_meaning.Own m) = leads left (end_meaning.Own m)
+leads_if_known left (end_meaning.OfChild m) = leads left (end_meaning.OfChild m)
 
 abbrev pub last_name : List ℕ → Option (List ℕ) → List ℕ
 last_name name member = unwrap_or member name
 
 -- the left end has no form of its own, or the right end is none that it may be bound to
-abbrev pub bound_wrong : Left → Reached → List ℕ → List ℕ → Option (List ℕ)
-bound_wrong none right left_name right_name = Some left_name
+abbrev pub bound_wrong : LeftEnd → EndMeaning → List ℕ → List ℕ → Option (List ℕ)
+bound_wrong left_end.NoForm right left_name right_name = Some left_name
 bound_wrong left right left_name right_name = name_if (not (leads_if_known left right)) right_name
 
 abbrev pub binding_in_item : Scope → tree.Item → Option (List ℕ)

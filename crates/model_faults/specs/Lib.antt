@@ -6,3 +6,4 @@ pub mod Items
 pub mod Reach
 pub mod Passes
 pub mod Answered
+pub mod Closed

@@ -17,14 +17,24 @@ use Rattle.flat_design.specs.declared.value_types.ValueType.TheVariants as type
 use Rattle.flat_design.specs.declared.names.EventMember.{EventMember}
 use Rattle.flat_design.specs.declared.names.EventMember.TheVariants as event
 use Rattle.model_scopes.specs.Meanings.{Declared, declarations, declared_name}
-use Rattle.model_scopes.specs.Members.{Row, signals, fifos, semaphores, processes, payloads, keepers, ValueMember, one, many, row_of, value_member, event_member, has_edges}
+use Rattle.model_scopes.specs.Members.{row_of, value_member, event_member, has_edges}
+use Rattle.model_scopes.specs.declared.meanings.Row.{Row}
+use Rattle.model_scopes.specs.declared.meanings.Row.TheVariants as row
+use Rattle.model_scopes.specs.declared.meanings.ValueMember.{ValueMember}
+use Rattle.model_scopes.specs.declared.meanings.ValueMember.TheVariants as reached
+use Rattle.model_scopes.specs.declared.meanings.Seen.{Seen}
+use Rattle.model_scopes.specs.declared.meanings.Seen.TheVariants as seen
+use Rattle.model_scopes.specs.declared.meanings.Destination.{Destination}
+use Rattle.model_scopes.specs.declared.meanings.Destination.TheVariants as to
 use Rattle.model_scopes.specs.Scopes.{Scope, meaning_of, is_known, module_named}
-use Rattle.model_scopes.specs.Types.{Seen, nothing, object, bytes, value, is_port, seen_of}
-use Rattle.model_scopes.specs.Targets.{Destination, nowhere, variable, field, byte, element, destination_of}
+use Rattle.model_scopes.specs.Types.{is_port, seen_of}
+use Rattle.model_scopes.specs.Targets.{destination_of}
 use Rattle.model_scopes.specs.declared.meanings.Meaning.{Meaning}
 use Rattle.model_scopes.specs.declared.meanings.Meaning.TheVariants as meaning
 use Rattle.model_faults.specs.Sites as part
-use Rattle.model_faults.specs.Sites.{Need, Part, Site}
+use Rattle.model_faults.specs.Sites.{Part, Site}
+use Rattle.model_faults.specs.declared.needs.Need.{Need}
+use Rattle.model_faults.specs.declared.needs.Need.TheVariants as need_of
 
 -- the first that is found in a list
 abbrev pub first : {A B : Type 0} → (A → Option B) → List A → Option B
@@ -91,24 +101,24 @@ optional (Some name) need = (name, need) ∷ []
 abbrev pub action_uses : tree.Action → List Used
 action_uses (tree.write c e) = []
 action_uses (tree.print text e) = []
-action_uses (tree.notify name n) = (name, part.a_plain_event) ∷ []
-action_uses (tree.cancel name) = (name, part.a_plain_event) ∷ []
+action_uses (tree.notify name n) = (name, need_of.PlainEvent) ∷ []
+action_uses (tree.cancel name) = (name, need_of.PlainEvent) ∷ []
 action_uses (tree.wait w) = []
 action_uses (tree.next_trigger w) = []
 action_uses (tree.lock c) = []
 action_uses (tree.sem_wait c) = []
 action_uses (tree.post c) = []
-action_uses (tree.make name n enables) = (name, part.a_payload) ∷ []
-action_uses (tree.acquire name) = (name, part.a_payload) ∷ []
-action_uses (tree.release name) = (name, part.a_payload) ∷ []
-action_uses (tree.carry p m) = (p, part.a_payload) ∷ (m, part.a_memory) ∷ []
-action_uses (tree.b_transport socket p delay) = (socket, part.an_initiator) ∷ (p, part.a_variable) ∷ (delay, part.a_variable) ∷ []
+action_uses (tree.make name n enables) = (name, need_of.Payload) ∷ []
+action_uses (tree.acquire name) = (name, need_of.Payload) ∷ []
+action_uses (tree.release name) = (name, need_of.Payload) ∷ []
+action_uses (tree.carry p m) = (p, need_of.Payload) ∷ (m, need_of.Memory) ∷ []
+action_uses (tree.b_transport socket p delay) = (socket, need_of.Initiator) ∷ (p, need_of.Variable) ∷ (delay, need_of.Variable) ∷ []
 action_uses (tree.qk_global e) = []
-action_uses (tree.qk_inc name e) = (name, part.a_keeper) ∷ []
-action_uses (tree.qk_set name e) = (name, part.a_keeper) ∷ []
-action_uses (tree.qk_reset name) = (name, part.a_keeper) ∷ []
-action_uses (tree.qk_sync name) = (name, part.a_keeper) ∷ []
-action_uses (tree.spawn x) = optional x.handle part.a_variable ++ (x.function, part.a_function) ∷ []
+action_uses (tree.qk_inc name e) = (name, need_of.Keeper) ∷ []
+action_uses (tree.qk_set name e) = (name, need_of.Keeper) ∷ []
+action_uses (tree.qk_reset name) = (name, need_of.Keeper) ∷ []
+action_uses (tree.qk_sync name) = (name, need_of.Keeper) ∷ []
+action_uses (tree.spawn x) = optional x.handle need_of.Variable ++ (x.function, need_of.Function) ∷ []
 action_uses (tree.control c w) = []
 action_uses (tree.throw_it w name) = []
 action_uses (tree.throw name) = []
@@ -116,25 +126,25 @@ action_uses (tree.return_ e) = []
 action_uses tree.stop = []
 
 abbrev pub operation_uses : tree.Operation → List Used
-operation_uses (tree.call name arguments) = (name, part.a_function) ∷ []
+operation_uses (tree.call name arguments) = (name, need_of.Function) ∷ []
 operation_uses (tree.read c) = []
-operation_uses (tree.nb_read c name) = (name, part.a_variable) ∷ []
+operation_uses (tree.nb_read c name) = (name, need_of.Variable) ∷ []
 operation_uses (tree.nb_write c e) = []
 operation_uses (tree.trylock c) = []
 operation_uses (tree.unlock c) = []
 operation_uses (tree.sem_trywait c) = []
-operation_uses (tree.nb_transport socket p phase delay) = (socket, part.a_socket) ∷ (p, part.a_variable) ∷ (phase, part.a_variable) ∷ (delay, part.a_variable) ∷ []
+operation_uses (tree.nb_transport socket p phase delay) = (socket, need_of.Socket) ∷ (p, need_of.Variable) ∷ (phase, need_of.Variable) ∷ (delay, need_of.Variable) ∷ []
 
 -- what the name of an assignment's target has to be, by what follows it
 abbrev pub target_need : Option (List ℕ) → Option tree.Expression → Need
-target_need None None = part.a_variable
-target_need None (Some index) = part.a_memory
-target_need (Some member) index = part.an_object
+target_need None None = need_of.Variable
+target_need None (Some index) = need_of.Memory
+target_need (Some member) index = need_of.Object
 
 abbrev pub statement_uses : tree.Statement → List Used
 statement_uses (tree.var line t name e) = []
 statement_uses (tree.assign line target e) = (target.name, target_need target.member target.index) ∷ []
-statement_uses (tree.operate line name at o) = optional name part.a_variable
+statement_uses (tree.operate line name at o) = optional name need_of.Variable
 statement_uses (tree.act line a) = action_uses a
 statement_uses (tree.if_ line e body other) = []
 statement_uses (tree.while_ line e body) = []
@@ -144,11 +154,11 @@ statement_uses (tree.try_ line body handlers) = []
 -- the handlers of a socket
 abbrev pub initiator_uses : InitiatorRole → List Used
 initiator_uses initiator.Pass = []
-initiator_uses (initiator.Own backward) = optional backward part.a_function
+initiator_uses (initiator.Own backward) = optional backward need_of.Function
 
 abbrev pub target_uses : TargetRole → List Used
 target_uses target.Pass = []
-target_uses (target.Own blocking forward) = optional blocking part.a_function ++ optional forward part.a_function
+target_uses (target.Own blocking forward) = optional blocking need_of.Function ++ optional forward need_of.Function
 
 abbrev pub item_uses : tree.Item → List Used
 item_uses (tree.signal line s) = []
@@ -169,7 +179,7 @@ item_uses (tree.function line f) = []
 item_uses (tree.process line p) = []
 
 abbrev pub who_uses : Who → List Used
-who_uses (who.Named line name) = (name, part.a_process) ∷ []
+who_uses (who.Named line name) = (name, need_of.Process) ∷ []
 who_uses (who.Myself line) = []
 
 abbrev pub uses : Part → List Used
@@ -279,45 +289,45 @@ is_instance meaning.Instance = true
 is_instance other = false
 
 abbrev pub meets : Need → Meaning → Bool
-meets part.a_value m = is_value m
-meets part.an_object m = true
-meets part.an_array_or_value m = is_memory m || is_value m
-meets part.written m = is_signal_written m || is_fifo_written m
-meets part.put m = is_fifo_written m
-meets part.taken m = is_fifo_read m
-meets part.a_mutex m = is_mutex m
-meets part.a_semaphore m = is_semaphore m
-meets part.an_event m = is_event m
-meets part.a_static_event m = is_event m
-meets part.a_static_object m = not (is_variable m)
-meets part.a_plain_event m = is_plain_event m
-meets part.a_variable m = is_variable m
-meets part.a_payload m = is_payload m
-meets part.a_process m = is_process m
-meets part.a_function m = is_function m
-meets part.a_keeper m = is_keeper m
-meets part.a_memory m = is_memory m
-meets part.a_socket m = is_initiator m || is_target m
-meets part.an_initiator m = is_initiator m
+meets need_of.Readable m = is_value m
+meets need_of.Object m = true
+meets need_of.Indexed m = is_memory m || is_value m
+meets need_of.Written m = is_signal_written m || is_fifo_written m
+meets need_of.Put m = is_fifo_written m
+meets need_of.Taken m = is_fifo_read m
+meets need_of.Mutex m = is_mutex m
+meets need_of.Semaphore m = is_semaphore m
+meets need_of.Event m = is_event m
+meets need_of.StaticEvent m = is_event m
+meets need_of.StaticObject m = not (is_variable m)
+meets need_of.PlainEvent m = is_plain_event m
+meets need_of.Variable m = is_variable m
+meets need_of.Payload m = is_payload m
+meets need_of.Process m = is_process m
+meets need_of.Function m = is_function m
+meets need_of.Keeper m = is_keeper m
+meets need_of.Memory m = is_memory m
+meets need_of.Socket m = is_initiator m || is_target m
+meets need_of.Initiator m = is_initiator m
 
 -- members
 
--- a row has a member in neither column
+-- a r has a member in neither column
 abbrev pub row_lacks : Row → List ℕ → Bool
-row_lacks row name = is_none (value_member row name) && is_none (event_member row name)
+row_lacks r name = is_none (value_member r name) && is_none (event_member r name)
 
 -- an object that has a row, which lacks the member
 abbrev pub unknown_in_row : List ℕ → Option Row → Option (List ℕ)
 unknown_in_row name None = None
-unknown_in_row name (Some row) = name_if (row_lacks row name) name
+unknown_in_row name (Some r) = name_if (row_lacks r name) name
 
 abbrev pub unknown_member : Option Meaning → List ℕ → Option (List ℕ)
 unknown_member m name = unknown_in_row name (option_and_then row_of m)
 
--- an object without a row is of the wrong kind itself, and a member for what the row's test says
+-- an object without a r is of the wrong kind itself, and a member for what the row's test says
 abbrev pub wrong_in_row : (Row → Bool) → List ℕ → List ℕ → Option Row → Option (List ℕ)
 wrong_in_row is_wrong of name None = Some of
-wrong_in_row is_wrong of name (Some row) = name_if (is_wrong row && not (row_lacks row name)) name
+wrong_in_row is_wrong of name (Some r) = name_if (is_wrong r && not (row_lacks r name)) name
 
 abbrev pub wrong_member : (Row → Bool) → List ℕ → List ℕ → Option Meaning → Option (List ℕ)
 wrong_member is_wrong of name None = None
@@ -326,28 +336,28 @@ wrong_member is_wrong of name (Some m) = wrong_in_row is_wrong of name (row_of m
 -- a member that is no value, or bytes without an index
 abbrev pub is_no_value : Bool → Option ValueMember → Bool
 is_no_value indexed None = true
-is_no_value indexed (Some (one m)) = false
-is_no_value indexed (Some (many b)) = not indexed
+is_no_value indexed (Some (reached.One m)) = false
+is_no_value indexed (Some (reached.Many b)) = not indexed
 
 -- a member that is no event; edges are those of truth values and logic digits
 abbrev pub lacks_edges : Row → Bool
-lacks_edges (signals None) = false
-lacks_edges (signals (Some s)) = not (has_edges s)
-lacks_edges fifos = false
-lacks_edges semaphores = false
-lacks_edges processes = false
-lacks_edges payloads = false
-lacks_edges keepers = false
+lacks_edges (row.Signals None) = false
+lacks_edges (row.Signals (Some s)) = not (has_edges s)
+lacks_edges row.Fifos = false
+lacks_edges row.Semaphores = false
+lacks_edges row.Processes = false
+lacks_edges row.Payloads = false
+lacks_edges row.Keepers = false
 
 abbrev pub is_no_event : Row → Option EventMember → Bool
-is_no_event row None = true
-is_no_event row (Some event.Own) = false
-is_no_event row (Some event.Posedge) = lacks_edges row
-is_no_event row (Some event.Negedge) = lacks_edges row
-is_no_event row (Some event.DataWritten) = false
-is_no_event row (Some event.DataRead) = false
-is_no_event row (Some event.Terminated) = false
-is_no_event row (Some event.Reset) = false
+is_no_event r None = true
+is_no_event r (Some event.Own) = false
+is_no_event r (Some event.Posedge) = lacks_edges r
+is_no_event r (Some event.Negedge) = lacks_edges r
+is_no_event r (Some event.DataWritten) = false
+is_no_event r (Some event.DataRead) = false
+is_no_event r (Some event.Terminated) = false
+is_no_event r (Some event.Reset) = false
 
 -- what the expression in front of a member's dot is: a name with its meaning, or a value of its own
 pub data Head : Type 0 where
@@ -382,10 +392,10 @@ object_name (tree.unary line op e) = object_name e
 object_name (tree.binary op left right) = object_name left
 
 abbrev pub computed_head : List ℕ → Seen → Head
-computed_head name nothing = broken
-computed_head name (object m) = computed name
-computed_head name (bytes b) = computed name
-computed_head name (value e) = computed name
+computed_head name seen.Nothing = broken
+computed_head name (seen.Object m) = computed name
+computed_head name (seen.Bytes b) = computed name
+computed_head name (seen.Value e) = computed name
 
 abbrev pub head_of : Scope → tree.Expression → Head
 head_of s (tree.named line name) = named_head name (meaning_of s name)
@@ -400,7 +410,7 @@ unknown_of_head name (computed of) = None
 
 abbrev pub wrong_of_head : Bool → List ℕ → Head → Option (List ℕ)
 wrong_of_head indexed name broken = None
-wrong_of_head indexed name (named of m) = wrong_member (λ row. is_no_value indexed (value_member row name)) of name (Some m)
+wrong_of_head indexed name (named of m) = wrong_member (λ r. is_no_value indexed (value_member r name)) of name (Some m)
 wrong_of_head indexed name (computed of) = Some of
 
 -- the member of an event
@@ -410,7 +420,7 @@ unknown_event s c (Some name) = unknown_member (meaning_of s c.name) name
 
 abbrev pub wrong_event : Scope → tree.Channel → Option (List ℕ) → Option (List ℕ)
 wrong_event s c None = None
-wrong_event s c (Some name) = wrong_member (λ row. is_no_event row (event_member row name)) c.name name (meaning_of s c.name)
+wrong_event s c (Some name) = wrong_member (λ r. is_no_event r (event_member r name)) c.name name (meaning_of s c.name)
 
 -- the member of an assignment's target: only fields and bytes of payloads are assigned
 abbrev pub unknown_assigned : Scope → List ℕ → Option (List ℕ) → Option (List ℕ)
@@ -418,11 +428,11 @@ unknown_assigned s of None = None
 unknown_assigned s of (Some name) = unknown_member (meaning_of s of) name
 
 abbrev pub goes_nowhere : Destination → Bool
-goes_nowhere nowhere = true
-goes_nowhere (variable s) = false
-goes_nowhere (field f) = false
-goes_nowhere (byte b) = false
-goes_nowhere element = false
+goes_nowhere to.Nowhere = true
+goes_nowhere (to.Variable s) = false
+goes_nowhere (to.Field f) = false
+goes_nowhere (to.Byte b) = false
+goes_nowhere to.Element = false
 
 abbrev pub wrong_assigned : Scope → tree.Target → Option (List ℕ) → Option (List ℕ)
 wrong_assigned s target None = None
@@ -526,8 +536,8 @@ wrong_use s u = name_if (is_unmet u.1 (meaning_of s u.0)) u.0
 
 -- a place stands on a port alone, and in a static sensitivity it is a number
 abbrev pub is_static : Need → Bool
-is_static part.a_static_event = true
-is_static part.a_static_object = true
+is_static need_of.StaticEvent = true
+is_static need_of.StaticObject = true
 is_static other = false
 
 abbrev pub is_wrong_place : Need → tree.Place → Option Meaning → Bool

@@ -143,23 +143,31 @@ functions items = filter (λ (b : Body). is_of_kind body_kind.Function b.kind) (
 abbrev pub names_where : (Body → Bool) → List Body → Names
 names_where test bs = map (λ (b : Body). b.name) (filter test bs)
 
--- one round for each item: no chain of calls without repetition is longer
-abbrev pub rounds : List tree.Item → (Names → Names) → Names → Names
+-- one step along the calls: a function to which one of these leads, and all of these with what they lead to
+abbrev pub is_next : (Body → Body → Bool) → List Body → Names → Body → Bool
+is_next leads fs set b = list_any (λ (c : Body). is_among set c.name && leads c b) fs
+
+abbrev pub spread : (Body → Body → Bool) → List Body → Names → Names
+spread leads fs set = names_where (λ (b : Body). is_among set b.name || is_next leads fs set b) fs
+
+-- one round for each function: no chain of calls without repetition is longer
+abbrev pub rounds : List Body → (Names → Names) → Names → Names
 rounds [] grow set = set
-rounds (i ∷ is) grow set = rounds is grow (grow set)
+rounds (f ∷ fs) grow set = rounds fs grow (grow set)
 
--- these functions and those that they call
-abbrev pub with_called : List tree.Item → Names → Names
-with_called items set =
-    names_where (λ (b : Body). is_among set b.name || list_any (λ (c : Body). is_among set c.name && calls b.name c) (functions items)) (functions items)
+abbrev pub closure : (Body → Body → Bool) → List Body → Names → Names
+closure leads fs set = rounds fs (spread leads fs) set
 
+-- the first function calls the second; the second calls the first
+abbrev pub is_caller : Body → Body → Bool
+is_caller c b = calls b.name c
+
+abbrev pub is_called_by : Body → Body → Bool
+is_called_by c b = calls c.name b
+
+-- these functions and those that they call, at any depth
 abbrev pub reached_from : List tree.Item → Names → Names
-reached_from items set = rounds items (with_called items) set
-
--- these functions and those that call them
-abbrev pub with_callers : List tree.Item → Names → Names
-with_callers items set =
-    names_where (λ (b : Body). is_among set b.name || list_any (λ (n : List ℕ). calls n b) set) (functions items)
+reached_from items set = closure is_caller (functions items) set
 
 -- blocking statements
 
@@ -221,9 +229,9 @@ blocks_itself items (tree.try_ line body handlers) = false
 abbrev pub has_blocking : List tree.Item → Body → Bool
 has_blocking items b = list_any (λ (x : Placed). blocks_itself items x.0) (statements_of b)
 
--- the functions that have a blocking statement, at any depth
+-- the functions that have a blocking statement, and those that call them, at any depth
 abbrev pub blocking_functions : List tree.Item → Names
-blocking_functions items = rounds items (with_callers items) (names_where (has_blocking items) (functions items))
+blocking_functions items = closure is_called_by (functions items) (names_where (has_blocking items) (functions items))
 
 -- a call of such a function blocks too
 abbrev pub is_blocking : List tree.Item → tree.Statement → Bool

@@ -13,31 +13,10 @@ use Rattle.model_tree.specs.declared.types.End.{End}
 use Rattle.model_tree.specs.declared.statements.Who.{Who}
 use Rattle.model_tree.specs.declared.statements.Who.TheVariants as who
 use Rattle.model_tree.specs.declared.items.Top.{Top}
+use Rattle.model_faults.specs.declared.needs.Need.{Need}
+use Rattle.model_faults.specs.declared.needs.Need.TheVariants as need_of
 use Rattle.model_scopes.specs.Meanings.{declared_name}
 use Rattle.model_scopes.specs.Scopes.{Scope, item_scope, with_local, with_parameters, locals_in_block, locals_in_else, locals_in_handlers, past, behind, in_unwind}
-
--- what a construct needs its name to stand for
-pub data Need : Type 0 where
-  a_value : Need
-  an_object : Need
-  an_array_or_value : Need
-  written : Need
-  put : Need
-  taken : Need
-  a_mutex : Need
-  a_semaphore : Need
-  an_event : Need
-  a_static_event : Need
-  a_static_object : Need
-  a_plain_event : Need
-  a_variable : Need
-  a_payload : Need
-  a_process : Need
-  a_function : Need
-  a_keeper : Need
-  a_memory : Need
-  a_socket : Need
-  an_initiator : Need
 
 -- A construct. A module and an item stand with those before them; a channel with what it has to be; an event with whether it
 -- is one of a static sensitivity; a member of an expression with whether an index follows.
@@ -92,7 +71,7 @@ constant_sites s (Some c) = site s c.line (of_constant c) ∷ []
 
 -- a member with an index, or without one
 abbrev pub has_index : Need → Bool
-has_index an_array_or_value = true
+has_index need_of.Indexed = true
 has_index other = false
 
 abbrev pub expression_site : Scope → tree.Expression → Site
@@ -109,21 +88,21 @@ sites_as need s (tree.truth line b) = expression_site s (tree.truth line b) ∷ 
 sites_as need s (tree.now line) = expression_site s (tree.now line) ∷ []
 sites_as need s (tree.myself line) = expression_site s (tree.myself line) ∷ []
 sites_as need s (tree.constant line word) = expression_site s (tree.constant line word) ∷ []
-sites_as need s (tree.paren line e) = expression_site s (tree.paren line e) ∷ sites_as a_value s e
-sites_as need s (tree.convert line c e) = expression_site s (tree.convert line c e) ∷ sites_as a_value s e
-sites_as need s (tree.to_vector line width e) = expression_site s (tree.to_vector line width e) ∷ sites_as a_value s e
-sites_as need s (tree.concat line upper lower) = expression_site s (tree.concat line upper lower) ∷ sites_as a_value s upper ++ sites_as a_value s lower
+sites_as need s (tree.paren line e) = expression_site s (tree.paren line e) ∷ sites_as need_of.Readable s e
+sites_as need s (tree.convert line c e) = expression_site s (tree.convert line c e) ∷ sites_as need_of.Readable s e
+sites_as need s (tree.to_vector line width e) = expression_site s (tree.to_vector line width e) ∷ sites_as need_of.Readable s e
+sites_as need s (tree.concat line upper lower) = expression_site s (tree.concat line upper lower) ∷ sites_as need_of.Readable s upper ++ sites_as need_of.Readable s lower
 sites_as need s (tree.named line name) = channel_site s need (record { line = line; name = name; place = tree.first }) ∷ []
 sites_as need s (tree.placed line name n) = channel_site s need (record { line = line; name = name; place = tree.place_number n }) ∷ []
-sites_as need s (tree.placed_by line name e) = channel_site s need (record { line = line; name = name; place = tree.computed e }) ∷ sites_as a_value s e
-sites_as need s (tree.member e name) = site s (first_line e) (of_member (has_index need) e name) ∷ sites_as an_object s e
-sites_as need s (tree.element e index) = expression_site s (tree.element e index) ∷ sites_as an_array_or_value s e ++ sites_as a_value s index
-sites_as need s (tree.slice e high low) = expression_site s (tree.slice e high low) ∷ sites_as a_value s e
-sites_as need s (tree.unary line op e) = expression_site s (tree.unary line op e) ∷ sites_as a_value s e
-sites_as need s (tree.binary op left right) = expression_site s (tree.binary op left right) ∷ sites_as a_value s left ++ sites_as a_value s right
+sites_as need s (tree.placed_by line name e) = channel_site s need (record { line = line; name = name; place = tree.computed e }) ∷ sites_as need_of.Readable s e
+sites_as need s (tree.member e name) = site s (first_line e) (of_member (has_index need) e name) ∷ sites_as need_of.Object s e
+sites_as need s (tree.element e index) = expression_site s (tree.element e index) ∷ sites_as need_of.Indexed s e ++ sites_as need_of.Readable s index
+sites_as need s (tree.slice e high low) = expression_site s (tree.slice e high low) ∷ sites_as need_of.Readable s e
+sites_as need s (tree.unary line op e) = expression_site s (tree.unary line op e) ∷ sites_as need_of.Readable s e
+sites_as need s (tree.binary op left right) = expression_site s (tree.binary op left right) ∷ sites_as need_of.Readable s left ++ sites_as need_of.Readable s right
 
 abbrev pub expression_sites : Scope → tree.Expression → List Site
-expression_sites s e = sites_as a_value s e
+expression_sites s e = sites_as need_of.Readable s e
 
 abbrev pub option_sites : Scope → Option tree.Expression → List Site
 option_sites s None = []
@@ -145,10 +124,10 @@ channel_sites s need c = channel_site s need c ∷ place_sites s c.place
 
 -- what the channel of an event has to be: where no member is written it is the event itself
 abbrev pub event_need : Bool → Option (List ℕ) → Need
-event_need true None = a_static_event
-event_need true (Some name) = a_static_object
-event_need false None = an_event
-event_need false (Some name) = an_object
+event_need true None = need_of.StaticEvent
+event_need true (Some name) = need_of.StaticObject
+event_need false None = need_of.Event
+event_need false (Some name) = need_of.Object
 
 abbrev pub event_sites : Scope → Bool → tree.Event → List Site
 event_sites s static e = site s e.channel.line (of_event static e) ∷ channel_sites s (event_need static e.member) e.channel
@@ -181,24 +160,24 @@ who_sites s w = site s (who_line w) (of_who w) ∷ []
 
 abbrev pub operation_parts : Scope → tree.Operation → List Site
 operation_parts s (tree.call name arguments) = argument_sites s arguments
-operation_parts s (tree.read c) = channel_sites s taken c
-operation_parts s (tree.nb_read c name) = channel_sites s taken c
-operation_parts s (tree.nb_write c e) = channel_sites s put c ++ expression_sites s e
-operation_parts s (tree.trylock c) = channel_sites s a_mutex c
-operation_parts s (tree.unlock c) = channel_sites s a_mutex c
-operation_parts s (tree.sem_trywait c) = channel_sites s a_semaphore c
+operation_parts s (tree.read c) = channel_sites s need_of.Taken c
+operation_parts s (tree.nb_read c name) = channel_sites s need_of.Taken c
+operation_parts s (tree.nb_write c e) = channel_sites s need_of.Put c ++ expression_sites s e
+operation_parts s (tree.trylock c) = channel_sites s need_of.Mutex c
+operation_parts s (tree.unlock c) = channel_sites s need_of.Mutex c
+operation_parts s (tree.sem_trywait c) = channel_sites s need_of.Semaphore c
 operation_parts s (tree.nb_transport socket p phase delay) = []
 
 abbrev pub action_parts : Scope → tree.Action → List Site
-action_parts s (tree.write c e) = channel_sites s written c ++ expression_sites s e
+action_parts s (tree.write c e) = channel_sites s need_of.Written c ++ expression_sites s e
 action_parts s (tree.print text e) = option_sites s e
 action_parts s (tree.notify name n) = notification_sites s n
 action_parts s (tree.cancel name) = []
 action_parts s (tree.wait w) = waiting_sites s w
 action_parts s (tree.next_trigger w) = waiting_sites s w
-action_parts s (tree.lock c) = channel_sites s a_mutex c
-action_parts s (tree.sem_wait c) = channel_sites s a_semaphore c
-action_parts s (tree.post c) = channel_sites s a_semaphore c
+action_parts s (tree.lock c) = channel_sites s need_of.Mutex c
+action_parts s (tree.sem_wait c) = channel_sites s need_of.Semaphore c
+action_parts s (tree.post c) = channel_sites s need_of.Semaphore c
 action_parts s (tree.make name n enables) = expression_sites s n ++ option_sites s enables
 action_parts s (tree.acquire name) = []
 action_parts s (tree.release name) = []

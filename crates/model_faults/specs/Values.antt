@@ -17,10 +17,11 @@ use Rattle.flat_design.specs.declared.value_types.ValueType.TheVariants as type
 use Rattle.model_scopes.specs.Meanings.{is_width, signal_type, variable_type}
 use Rattle.model_scopes.specs.Scopes.{Scope, meaning_of, function_named}
 use Rattle.model_scopes.specs.Operators.{seen_as, is_integer, is_bool, is_time, is_process, is_payload, operands, unary_type, conversion_type, becomes_vector, concat_type, digit_type, digit_count, is_within}
-use Rattle.model_scopes.specs.Types.{Seen, places, is_time_literal, is_array, type_seen, seen_of, type_of}
+use Rattle.model_scopes.specs.Types.{places, is_time_literal, is_array, type_seen, seen_of, type_of}
 use Rattle.model_scopes.specs.Targets.{misfits, differ, constant_type, target_type, written_to, put_into, taken_from, variable_named, result_type, gives_nothing}
 use Rattle.model_scopes.specs.declared.meanings.ExpressionType.{ExpressionType}
 use Rattle.model_scopes.specs.declared.meanings.Meaning.{Meaning}
+use Rattle.model_scopes.specs.declared.meanings.Seen.{Seen}
 use Rattle.model_faults.specs.Sites as part
 use Rattle.model_faults.specs.Sites.{Part, Site}
 use Rattle.model_faults.specs.Names.{name_if}

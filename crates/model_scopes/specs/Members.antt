@@ -14,17 +14,12 @@ use Rattle.model_scopes.specs.declared.meanings.ExpressionType.{ExpressionType}
 use Rattle.model_scopes.specs.declared.meanings.ExpressionType.TheVariants as t
 use Rattle.model_scopes.specs.declared.meanings.Meaning.{Meaning}
 use Rattle.model_scopes.specs.declared.meanings.Meaning.TheVariants as meaning
+use Rattle.model_scopes.specs.declared.meanings.Row.{Row}
+use Rattle.model_scopes.specs.declared.meanings.Row.TheVariants as row
+use Rattle.model_scopes.specs.declared.meanings.ValueMember.{ValueMember}
+use Rattle.model_scopes.specs.declared.meanings.ValueMember.TheVariants as reached
 
--- the rows of the table; that of signals knows their type
-pub data Row : Type 0 where
-  signals : Option ValueType → Row
-  fifos : Row
-  semaphores : Row
-  processes : Row
-  payloads : Row
-  keepers : Row
-
--- a variable has a row where it holds the handle of a process or a payload
+-- a variable has a r where it holds the handle of a process or a payload
 abbrev pub variable_row : Option ValueType → Option Row
 variable_row None = None
 variable_row (Some type.Bool) = None
@@ -33,74 +28,69 @@ variable_row (Some (type.Uint width)) = None
 variable_row (Some type.Logic) = None
 variable_row (Some (type.Vector width)) = None
 variable_row (Some type.Time) = None
-variable_row (Some type.Process) = Some processes
-variable_row (Some type.Payload) = Some payloads
+variable_row (Some type.Process) = Some row.Processes
+variable_row (Some type.Payload) = Some row.Payloads
 
--- the row of a kind of object; none where it has no members
+-- the r of a kind of object; none where it has no members
 abbrev pub row_of : Meaning → Option Row
-row_of (meaning.Signal s) = Some (signals s)
-row_of meaning.Resolved = Some (signals (Some type.Logic))
-row_of meaning.Clock = Some (signals (Some type.Bool))
-row_of (meaning.Fifo s) = Some fifos
+row_of (meaning.Signal s) = Some (row.Signals s)
+row_of meaning.Resolved = Some (row.Signals (Some type.Logic))
+row_of meaning.Clock = Some (row.Signals (Some type.Bool))
+row_of (meaning.Fifo s) = Some row.Fifos
 row_of meaning.Mutex = None
 row_of meaning.Event = None
-row_of meaning.Keeper = Some keepers
-row_of meaning.Semaphore = Some semaphores
+row_of meaning.Keeper = Some row.Keepers
+row_of meaning.Semaphore = Some row.Semaphores
 row_of meaning.Memory = None
 row_of (meaning.Variable s) = variable_row s
-row_of (meaning.In s size) = Some (signals s)
-row_of (meaning.Out s size) = Some (signals s)
-row_of (meaning.FifoIn s size) = Some fifos
-row_of (meaning.FifoOut s size) = Some fifos
+row_of (meaning.In s size) = Some (row.Signals s)
+row_of (meaning.Out s size) = Some (row.Signals s)
+row_of (meaning.FifoIn s size) = Some row.Fifos
+row_of (meaning.FifoOut s size) = Some row.Fifos
 row_of (meaning.MutexPort size) = None
-row_of (meaning.SemaphorePort size) = Some semaphores
+row_of (meaning.SemaphorePort size) = Some row.Semaphores
 row_of meaning.Export = None
 row_of (meaning.Initiator pass) = None
 row_of (meaning.Target pass) = None
 row_of meaning.Instance = None
 row_of meaning.Function = None
-row_of meaning.Process = Some processes
-
--- a member that is a value, or bytes that are reached by an index
-pub data ValueMember : Type 0 where
-  one : Member → ValueMember
-  many : PayloadBytes → ValueMember
+row_of meaning.Process = Some row.Processes
 
 abbrev pub value_members : Row → List (List ℕ × ValueMember)
-value_members (signals s) = (codes "changed", one member.Changed) ∷ []
-value_members fifos = (codes "available", one member.Available) ∷ (codes "free", one member.Free) ∷ []
-value_members semaphores = (codes "value", one member.Value) ∷ []
-value_members processes = (codes "valid", one member.Valid) ∷ (codes "terminated", one member.Terminated) ∷ []
-value_members payloads =
-    (codes "live", one member.Live)
-    ∷ (codes "command", one (member.Field field.Command))
-    ∷ (codes "status", one (member.Field field.Status))
-    ∷ (codes "address", one (member.Field field.Address))
-    ∷ (codes "width", one (member.Field field.Width))
-    ∷ (codes "length", one member.Length)
-    ∷ (codes "enable_length", one member.EnableLength)
-    ∷ (codes "data", many bytes.Data)
-    ∷ (codes "byte_enable", many bytes.ByteEnable)
+value_members (row.Signals s) = (codes "changed", reached.One member.Changed) ∷ []
+value_members row.Fifos = (codes "available", reached.One member.Available) ∷ (codes "free", reached.One member.Free) ∷ []
+value_members row.Semaphores = (codes "value", reached.One member.Value) ∷ []
+value_members row.Processes = (codes "valid", reached.One member.Valid) ∷ (codes "terminated", reached.One member.Terminated) ∷ []
+value_members row.Payloads =
+    (codes "live", reached.One member.Live)
+    ∷ (codes "command", reached.One (member.Field field.Command))
+    ∷ (codes "status", reached.One (member.Field field.Status))
+    ∷ (codes "address", reached.One (member.Field field.Address))
+    ∷ (codes "width", reached.One (member.Field field.Width))
+    ∷ (codes "length", reached.One member.Length)
+    ∷ (codes "enable_length", reached.One member.EnableLength)
+    ∷ (codes "data", reached.Many bytes.Data)
+    ∷ (codes "byte_enable", reached.Many bytes.ByteEnable)
     ∷ []
-value_members keepers = (codes "local", one member.Local) ∷ (codes "next", one member.Next) ∷ (codes "need_sync", one member.NeedSync) ∷ []
+value_members row.Keepers = (codes "local", reached.One member.Local) ∷ (codes "next", reached.One member.Next) ∷ (codes "need_sync", reached.One member.NeedSync) ∷ []
 
 abbrev pub event_members : Row → List (List ℕ × EventMember)
-event_members (signals s) = (codes "pos", event.Posedge) ∷ (codes "neg", event.Negedge) ∷ []
-event_members fifos = (codes "data_written", event.DataWritten) ∷ (codes "data_read", event.DataRead) ∷ []
-event_members semaphores = []
-event_members processes = (codes "terminated_event", event.Terminated) ∷ (codes "reset_event", event.Reset) ∷ []
-event_members payloads = []
-event_members keepers = []
+event_members (row.Signals s) = (codes "pos", event.Posedge) ∷ (codes "neg", event.Negedge) ∷ []
+event_members row.Fifos = (codes "data_written", event.DataWritten) ∷ (codes "data_read", event.DataRead) ∷ []
+event_members row.Semaphores = []
+event_members row.Processes = (codes "terminated_event", event.Terminated) ∷ (codes "reset_event", event.Reset) ∷ []
+event_members row.Payloads = []
+event_members row.Keepers = []
 
 -- an entry of the table by its name
 abbrev pub entry : {A : Type 0} → List ℕ → List (List ℕ × A) → Option A
 entry name entries = option_map (λ e. e.1) (find (λ e. bytes_eq e.0 name) entries)
 
 abbrev pub value_member : Row → List ℕ → Option ValueMember
-value_member row name = entry name (value_members row)
+value_member r name = entry name (value_members r)
 
 abbrev pub event_member : Row → List ℕ → Option EventMember
-event_member row name = entry name (event_members row)
+event_member r name = entry name (event_members r)
 
 -- edges are those of truth values and logic digits: what a row's type says of them, where it says it
 abbrev pub has_edges : ValueType → Bool

@@ -10,7 +10,13 @@ use Rattle.flat_design.specs.declared.names.PayloadField.{PayloadField}
 use Rattle.flat_design.specs.declared.names.PayloadBytes.{PayloadBytes}
 use Rattle.flat_design.specs.declared.names.Member.TheVariants as member
 use Rattle.model_scopes.specs.Meanings.{variable_type}
-use Rattle.model_scopes.specs.Members.{Row, payloads, ValueMember, one, many, row_of, value_member}
+use Rattle.model_scopes.specs.Members.{row_of, value_member}
+use Rattle.model_scopes.specs.declared.meanings.Row.{Row}
+use Rattle.model_scopes.specs.declared.meanings.Row.TheVariants as row
+use Rattle.model_scopes.specs.declared.meanings.ValueMember.{ValueMember}
+use Rattle.model_scopes.specs.declared.meanings.ValueMember.TheVariants as reached
+use Rattle.model_scopes.specs.declared.meanings.Destination.{Destination}
+use Rattle.model_scopes.specs.declared.meanings.Destination.TheVariants as to
 use Rattle.model_scopes.specs.Scopes.{Scope, meaning_of, function_named}
 use Rattle.model_scopes.specs.Operators.{option_if, seen_as, is_integer, is_bool, is_logic, is_time, is_process, is_payload, is_vector_of}
 use Rattle.model_scopes.specs.Types.{is_time_literal, is_integer_type, type_of, channel_of}
@@ -68,34 +74,25 @@ constant_type (constant.Truth b) = Some t.Bool
 
 -- assignments
 
--- what gets an assigned value: a variable, a field or a byte of a payload, a byte of a memory; nothing where the target
--- breaks a rule on its names
-pub data Destination : Type 0 where
-  nowhere : Destination
-  variable : Option ValueType → Destination
-  field : PayloadField → Destination
-  byte : PayloadBytes → Destination
-  element : Destination
-
 abbrev pub to_variable : Option Meaning → Destination
-to_variable (Some (meaning.Variable s)) = variable s
-to_variable other = nowhere
+to_variable (Some (meaning.Variable s)) = to.Variable s
+to_variable other = to.Nowhere
 
 abbrev pub to_element : Option Meaning → Destination
-to_element (Some meaning.Memory) = element
-to_element other = nowhere
+to_element (Some meaning.Memory) = to.Element
+to_element other = to.Nowhere
 
 -- the members of a payload that can be assigned
 abbrev pub to_field : Option ValueMember → Destination
-to_field (Some (one (member.Field f))) = field f
-to_field other = nowhere
+to_field (Some (reached.One (member.Field f))) = to.Field f
+to_field other = to.Nowhere
 
 abbrev pub to_byte : Option ValueMember → Destination
-to_byte (Some (many b)) = byte b
-to_byte other = nowhere
+to_byte (Some (reached.Many b)) = to.Byte b
+to_byte other = to.Nowhere
 
 abbrev pub assigned_member : List ℕ → Option Row → Option ValueMember
-assigned_member name (Some payloads) = value_member payloads name
+assigned_member name (Some row.Payloads) = value_member row.Payloads name
 assigned_member name other = None
 
 abbrev pub member_assigned : List ℕ → Option Meaning → Option ValueMember
@@ -112,11 +109,11 @@ destination_of s target = destination (meaning_of s target.name) target.member t
 
 -- the type of a target; none where its index is no integer
 abbrev pub destination_type : Destination → Option ValueType
-destination_type nowhere = None
-destination_type (variable s) = s
-destination_type (field f) = Some (field_type f)
-destination_type (byte b) = Some (type.Uint 8)
-destination_type element = Some (type.Uint 8)
+destination_type to.Nowhere = None
+destination_type (to.Variable s) = s
+destination_type (to.Field f) = Some (field_type f)
+destination_type (to.Byte b) = Some (type.Uint 8)
+destination_type to.Element = Some (type.Uint 8)
 
 abbrev pub is_index : Scope → Option tree.Expression → Bool
 is_index s None = true

@@ -7,7 +7,7 @@ use Rattle.sim_time.specs.declared.moments.Unit.{Unit as TimeUnit}
 use Rattle.model_tree.specs.Tree as tree
 use Rattle.flat_design.specs.declared.names.PayloadBytes.{PayloadBytes}
 use Rattle.model_scopes.specs.Meanings.{is_width}
-use Rattle.model_scopes.specs.Members.{ValueMember, one, many, row_of, value_member, member_type}
+use Rattle.model_scopes.specs.Members.{row_of, value_member, member_type}
 use Rattle.model_scopes.specs.Scopes.{Scope, meaning_of}
 use Rattle.model_scopes.specs.Operators.{option_if, both, seen_as, is_integer, operands, given, unary_type, conversion_type, becomes_vector, concat_type, digit_type, slice_type}
 use Rattle.model_scopes.specs.declared.meanings.ExpressionType.{ExpressionType}
@@ -15,12 +15,10 @@ use Rattle.model_scopes.specs.declared.meanings.ExpressionType.TheVariants as t
 use Rattle.model_scopes.specs.declared.meanings.Meaning.{Meaning}
 use Rattle.model_scopes.specs.declared.meanings.Meaning.TheVariants as meaning
 
--- an object or a port's channel, the bytes of a payload, or a value; nothing where it breaks a rule
-pub data Seen : Type 0 where
-  nothing : Seen
-  object : Meaning → Seen
-  bytes : PayloadBytes → Seen
-  value : ExpressionType → Seen
+use Rattle.model_scopes.specs.declared.meanings.Seen.{Seen}
+use Rattle.model_scopes.specs.declared.meanings.Seen.TheVariants as seen
+use Rattle.model_scopes.specs.declared.meanings.ValueMember.{ValueMember}
+use Rattle.model_scopes.specs.declared.meanings.ValueMember.TheVariants as reached
 
 -- the type of what is read by a name: a variable, a signal or a port of one, and a process
 abbrev pub value_of : Meaning → Option ExpressionType
@@ -48,18 +46,18 @@ value_of meaning.Function = None
 value_of meaning.Process = Some t.Process
 
 abbrev pub type_seen : Seen → Option ExpressionType
-type_seen nothing = None
-type_seen (object m) = value_of m
-type_seen (bytes b) = None
-type_seen (value e) = Some e
+type_seen seen.Nothing = None
+type_seen (seen.Object m) = value_of m
+type_seen (seen.Bytes b) = None
+type_seen (seen.Value e) = Some e
 
 abbrev pub value_if : Option ExpressionType → Seen
-value_if None = nothing
-value_if (Some e) = value e
+value_if None = seen.Nothing
+value_if (Some e) = seen.Value e
 
 abbrev pub object_if : Option Meaning → Seen
-object_if None = nothing
-object_if (Some m) = object m
+object_if None = seen.Nothing
+object_if (Some m) = seen.Object m
 
 -- how many places a port has; nothing else has any
 abbrev pub places : Meaning → Option ℕ
@@ -115,40 +113,40 @@ logic_type (d ∷ []) = t.Logic
 logic_type (d ∷ e ∷ ds) = t.Vector (length (d ∷ e ∷ ds))
 
 abbrev pub seen_member : Option ValueMember → Seen
-seen_member None = nothing
-seen_member (Some (one m)) = value (member_type m)
-seen_member (Some (many b)) = bytes b
+seen_member None = seen.Nothing
+seen_member (Some (reached.One m)) = seen.Value (member_type m)
+seen_member (Some (reached.Many b)) = seen.Bytes b
 
 -- a member of an object by the table
 abbrev pub member_seen : Seen → List ℕ → Seen
-member_seen nothing name = nothing
-member_seen (object m) name = seen_member (option_and_then (λ row. value_member row name) (row_of m))
-member_seen (bytes b) name = nothing
-member_seen (value e) name = nothing
+member_seen seen.Nothing name = seen.Nothing
+member_seen (seen.Object m) name = seen_member (option_and_then (λ row. value_member row name) (row_of m))
+member_seen (seen.Bytes b) name = seen.Nothing
+member_seen (seen.Value e) name = seen.Nothing
 
 -- whether an index reaches a byte: of a memory, or of a payload
 abbrev pub is_array : Seen → Bool
-is_array nothing = false
-is_array (object meaning.Memory) = true
-is_array (object other) = false
-is_array (bytes b) = true
-is_array (value e) = false
+is_array seen.Nothing = false
+is_array (seen.Object meaning.Memory) = true
+is_array (seen.Object other) = false
+is_array (seen.Bytes b) = true
+is_array (seen.Value e) = false
 
 -- an element of a memory or of a payload is an unsigned byte; of a value it is a digit
 abbrev pub element_type : Seen → Option ExpressionType
 element_type of = if is_array of then Some t.Unsigned else option_and_then digit_type (type_seen of)
 
 abbrev pub element_seen : Seen → Option ExpressionType → Seen
-element_seen of index = if is_integer_type index then value_if (element_type of) else nothing
+element_seen of index = if is_integer_type index then value_if (element_type of) else seen.Nothing
 
 abbrev pub seen_of : Scope → tree.Expression → Seen
-seen_of s (tree.number line n) = value t.Free
+seen_of s (tree.number line n) = seen.Value t.Free
 seen_of s (tree.time line n unit) = value_if (option_if (is_time_literal n unit) t.Time)
-seen_of s (tree.logic line digits) = value (logic_type digits)
-seen_of s (tree.truth line b) = value t.Bool
-seen_of s (tree.now line) = value t.Time
-seen_of s (tree.myself line) = value t.Process
-seen_of s (tree.constant line word) = value t.Free
+seen_of s (tree.logic line digits) = seen.Value (logic_type digits)
+seen_of s (tree.truth line b) = seen.Value t.Bool
+seen_of s (tree.now line) = seen.Value t.Time
+seen_of s (tree.myself line) = seen.Value t.Process
+seen_of s (tree.constant line word) = seen.Value t.Free
 seen_of s (tree.paren line e) = value_if (type_seen (seen_of s e))
 seen_of s (tree.convert line c e) = value_if (option_and_then (conversion_type c) (type_seen (seen_of s e)))
 seen_of s (tree.to_vector line width e) =

@@ -3,4 +3,4 @@
 
 mod meanings;
 
-pub use meanings::{ExpressionType, Meaning};
+pub use meanings::{Destination, ExpressionType, Meaning, Row, Seen, ValueMember};

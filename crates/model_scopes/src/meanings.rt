@@ -1,4 +1,4 @@
-use flat_design::ValueType;
+use flat_design::{Member, PayloadBytes, PayloadField, ValueType};
 
 /// What a declared name stands for, as far as the rules ask. A type is none where its declaration has a width out of
 /// range; the number of a port is its size.
@@ -72,4 +72,59 @@ pub enum ExpressionType {
     Process,
     /// A handle of a payload.
     Payload,
+}
+
+/// A row of the table of members: a kind of object that has some. That of signals has their type, none where it is not
+/// known.
+#[derive(Clone, Copy)]
+pub enum Row {
+    /// Signals, buffers, resolved signals, clocks, and ports of these.
+    Signals(Option<ValueType>),
+    /// Fifos and ports of these.
+    Fifos,
+    /// Semaphores and ports of these.
+    Semaphores,
+    /// Processes, and variables that hold the handle of one.
+    Processes,
+    /// Variables that hold the handle of a payload.
+    Payloads,
+    /// Quantum keepers.
+    Keepers,
+}
+
+/// A member that is a value, or bytes that are reached by an index.
+#[derive(Clone, Copy)]
+pub enum ValueMember {
+    /// A value.
+    One(Member),
+    /// Bytes.
+    Many(PayloadBytes),
+}
+
+/// What an expression stands for.
+#[derive(Clone, Copy)]
+pub enum Seen {
+    /// Nothing: a part of it breaks a rule of its own.
+    Nothing,
+    /// An object, or a port's channel.
+    Object(Meaning),
+    /// The bytes of a payload.
+    Bytes(PayloadBytes),
+    /// A value.
+    Value(ExpressionType),
+}
+
+/// What gets an assigned value.
+#[derive(Clone, Copy)]
+pub enum Destination {
+    /// Nothing: the target breaks a rule on its names.
+    Nowhere,
+    /// A variable.
+    Variable(Option<ValueType>),
+    /// A field of a payload.
+    Field(PayloadField),
+    /// A byte of a payload.
+    Byte(PayloadBytes),
+    /// A byte of a memory.
+    Element,
 }
