@@ -1,9 +1,11 @@
 -- What is kept stays sound when a mark is set or taken back.
-use Rattle.std.proofs.Common.{◌≡◌, ℕ, ◌≢◌, ◌+◌, ◌-◌, ◌<◌, ◌≤◌, ◌^◌, Bool, true, false, cond, List, [], ◌∷◌, ◌++◌, length, get_or, set, replicate, map, slice_get, unwrap_or, Some, None, count_by, refl, sym, ap, ◌∙◌, subst, ⊎_elim, arith}
+use Rattle.std.proofs.Common.{◌≡◌, ℕ, ◌+◌, ◌-◌, ◌<◌, ◌≤◌, ◌^◌, Bool, true, false, cond, List, [], ◌∷◌, ◌++◌, length, get_or, set, replicate, slice_get, unwrap_or, Some, None, vec_items, count_by, refl, sym, ap, ◌∙◌, subst, ⊎_elim, arith}
 use Rattle.std.specs.Prelude.{◌==◌}
 use Rattle.std.proofs.lemmas.Bool.{cases_eq, cases_lt}
 use Rattle.std.specs.List.Sorted.{IsPermutation}
-use Rattle.std.proofs.lemmas.List.{map-set, length-set, length-replicate, get_or-replicate, get_or_past, set_past, set-get_or, length-map, length-append, get_or-set_same, get_or-set_other}
+use Rattle.std.specs.Global.{Vec}
+use Rattle.std.specs.Vec.{with_items}
+use Rattle.std.proofs.lemmas.List.{map-set, length-set, length-replicate, get_or-replicate, get_or_past, set_past, set-get_or, with_items_is, length-map, length-append, get_or-set_same, get_or-set_other}
 use Rattle.std.proofs.lemmas.List.Folds.{sum_by-replicate}
 use Rattle.std.proofs.lemmas.List.Sorted.{sum_by-IsPermutation}
 use Rattle.std.proofs.lemmas.List.Sums.{sum_by-set, count_by-le-length}
@@ -11,7 +13,7 @@ use Rattle.std.proofs.lemmas.Option.{slice_get-get_or, unwrap_or-slice_get}
 use Rattle.number_marks.specs.declared.flags.Flag.{Flag}
 use Rattle.number_marks.specs.declared.flags.Flag.TheVariants.{Free, Marked, Struck}
 use Rattle.number_marks.specs.Kept.{is_marked, is_listed, marks_of, ListsEachOnce, IsSound}
-use Rattle.number_marks.proofs.Listed.{times, times-pushed, times-push_other, one_if, mark_at, no_count}
+use Rattle.number_marks.proofs.Listed.{times, times-pushed, times-push_other, one_if, mark_at, marks_of_free, no_count}
 
 module _ (flags : List Flag) (n : ℕ) (h : n < length flags) (f : Flag) where
   -- how many are marked and how many are listed, after the flag of n has changed
@@ -121,6 +123,23 @@ sound_free n room size enough = record {
   size = subst (λ k. k < 2 ^ 32) (sym (length-replicate n Free)) size;
   enough = subst (λ k. k ≤ room) (sym (length-replicate n Free)) enough;
 }
+
+-- the flags of a vector that were all freed through its slice
+module _ (v : Vec Flag) (old new : List Flag) (same : old ≡ vec_items v) (freed : new ≡ replicate (length old) Free) where
+  pub items_freed : vec_items (with_items v new) ≡ replicate (length (vec_items v)) Free
+  items_freed =
+      let all : new ≡ replicate (length (vec_items v)) Free = freed ∙ ap (λ (fs : List Flag). replicate (length fs) Free) same in
+      with_items_is v new (ap length all ∙ length-replicate (length (vec_items v)) Free ∙ sym v.ok.0) ∙ all
+
+  pub marks_freed : (marks : List Bool) → marks_of (vec_items v) ≡ marks → marks_of (vec_items (with_items v new)) ≡ replicate (length marks) false
+  marks_freed marks is = ap marks_of items_freed ∙ marks_of_free (length (vec_items v))
+      ∙ ap (λ (k : ℕ). replicate k false) (sym (length-map (vec_items v) is_marked) ∙ ap length is)
+
+  pub sound_freed : (xs : List ℕ) (room : ℕ) → xs ≡ [] → length (vec_items v) < 2 ^ 32 → length (vec_items v) ≤ room → IsSound (vec_items (with_items v new)) xs room 0
+  sound_freed xs room none size enough =
+      subst (λ (fs : List Flag). IsSound fs xs room 0) (sym items_freed)
+      (subst (λ (ys : List ℕ). IsSound (replicate (length (vec_items v)) Free) ys room 0) (sym none)
+      (sound_free (length (vec_items v)) room size enough))
 
 -- a list of the same numbers in another order
 pub lists_sorted : (flags : List Flag) (xs ys : List ℕ) → IsPermutation xs ys → ListsEachOnce flags xs → ListsEachOnce flags ys

@@ -10,6 +10,8 @@ ghost use Rattle.std.specs.Option.{unwrap_or};
 
 mod flags;
 mod laws;
+#[cfg(test)]
+mod tests;
 
 use flags::{Flag, flag_of, free_listed, is_marked_at, move_marked};
 pub use laws::{marked_places_are_those_of_the_marks, only_marked_places_rise};
@@ -18,8 +20,8 @@ use std::marker::Model;
 
 /// A mark for each number below a size. Contracts see, for each number, whether it is marked.
 ///
-/// All memory is taken by `new`. To take all marked numbers, or to clear them, takes time in how many were marked since
-/// that was last done, and any other call takes the same short time.
+/// All memory is taken by `new`. `clear_all` takes time in how many numbers were marked since all marks were last taken or
+/// cleared, `take_all` that times its logarithm, and any other call the same short time.
 #[derive(Drop)]
 pub struct Marks {
     flags: Vec<Flag>,

@@ -1,7 +1,7 @@
-use Rattle.std.proofs.Common.{◌≡◌, ◌<◌, true, false, length, get_or, set, vec_capacity, sym, ap, ◌∙◌}
+use Rattle.std.proofs.Common.{◌≡◌, true, false, get_or, set, vec_capacity, sym, ap, ◌∙◌}
 use Rattle.std.proofs.lemmas.List.{map-set}
 use Rattle.std.proofs.lemmas.Option.{unwrap_or-slice_get}
-use Rattle.number_marks.specs.declared.flags.Flag.TheVariants.{Free, Marked, Struck}
+use Rattle.number_marks.specs.declared.flags.Flag.TheVariants.{Struck}
 use Rattle.number_marks.specs.Kept.{is_marked, marks_of}
 use Rattle.number_marks.proofs.Listed.{where_marked}
 use Rattle.number_marks.proofs.Sound.{some_marked, sound_struck, clear_again}

@@ -1,4 +1,4 @@
-use Rattle.std.proofs.Common.{◌≡◌, ◌≤◌, ◌<◌, ◌^◌, [], replicate, vec_capacity, ap, sym, ◌∙◌, subst, refl, arith, le_of_eq}
+use Rattle.std.proofs.Common.{replicate, vec_capacity, ap, sym, ◌∙◌, subst}
 use Rattle.number_marks.specs.declared.flags.Flag.TheVariants.{Free}
 use Rattle.number_marks.specs.Kept.{marks_of, IsSound}
 use Rattle.number_marks.proofs.Listed.{marks_of_free}

@@ -1,8 +1,8 @@
-use Rattle.std.proofs.Common.{◌≡◌, ◌<◌, ◌+◌, ◌++◌, ℕ, List, true, false, [], ◌∷◌, length, get_or, set, slice_get, Some, None, vec_capacity, sym, ap, ◌∙◌, subst, arith}
+use Rattle.std.proofs.Common.{◌≡◌, ◌+◌, ◌++◌, ℕ, List, true, [], ◌∷◌, set, slice_get, Some, None, vec_capacity, sym, ap, ◌∙◌, subst, arith}
 use Rattle.std.proofs.lemmas.List.{map-set}
 use Rattle.std.proofs.lemmas.Option.{slice_get_within, get_or_from_slice_get}
 use Rattle.number_marks.specs.declared.flags.Flag.TheVariants.{Free, Marked, Struck}
-use Rattle.number_marks.specs.Kept.{is_marked, marks_of, IsSound}
+use Rattle.number_marks.specs.Kept.{is_marked, IsSound}
 use Rattle.number_marks.proofs.Sound.{room_to_list, room_to_mark, sound_listed, sound_again, set_again, set_past_size}
 use Rattle.number_marks.proofs.Marks.set.Goals as goal
 

@@ -1,5 +1,4 @@
-use Rattle.std.proofs.Common.{◌≡◌, ◌+◌, ◌++◌, ℕ, Bool, true, false, List, [], ◌∷◌, length, get_or, set, drop, replicate, vec_items, vec_capacity, refl, sym, ap, ◌∙◌, arith, append_assoc, append-nil, length-append}
-use Rattle.number_marks.specs.declared.flags.Flag.{Flag}
+use Rattle.std.proofs.Common.{◌≡◌, ◌++◌, ℕ, Bool, true, List, [], ◌∷◌, length, get_or, set, replicate, vec_items, vec_capacity, sym, ap, ◌∙◌, arith, append_assoc, append-nil, length-append}
 use Rattle.number_marks.specs.declared.flags.Flag.TheVariants as flag
 use Rattle.number_marks.specs.Kept.{is_marked, marks_of}
 use Rattle.number_marks.specs.Places.{marked_places}
