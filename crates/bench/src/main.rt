@@ -2,9 +2,11 @@
 #![tactic(auto)]
 
 mod clock;
+mod hop_calls;
 mod map_calls;
 mod queue_calls;
 mod set_calls;
+mod wait_calls;
 
 use anyhow::{Context, Result, bail};
 use std::env;
@@ -12,7 +14,8 @@ use std::rt::{Clock, Env};
 
 const USAGE: &str = "usage: bench NAME SIZE
 Times the calls of a part at a number of entries, and prints nanoseconds a call.
-NAME is room_map, ready_set or timed_queue; SIZE is at most 1000000 (as 1000, 10000 and 60000).";
+NAME is room_map, ready_set, timed_queue, wait_lists or transport_phases;
+SIZE is at most 1000000 (as 1000, 10000 and 60000).";
 
 /// The greatest number of entries.
 const LARGEST: u32 = 1_000_000;
@@ -23,6 +26,8 @@ fn time_part(rt: &(impl Print + Clock + AllocGlobal), name: &str, size: u32) -> 
         "room_map" => map_calls::time_map(rt, size),
         "ready_set" => set_calls::time_set(rt, size),
         "timed_queue" => queue_calls::time_queue(rt, size),
+        "wait_lists" => wait_calls::time_waits(rt, size),
+        "transport_phases" => hop_calls::time_hop(rt, size),
         _ => bail!("no part is called {name}"),
     }
 }
