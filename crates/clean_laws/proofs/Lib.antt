@@ -1,0 +1,16 @@
+pub mod Times
+pub mod Changes
+pub mod Fits
+pub mod Wakes
+pub mod Moves
+pub mod Stacks
+pub mod Controls
+pub mod Goals
+pub mod DataForms
+pub mod ChannelForms
+pub mod TransportForms
+pub mod Statements
+pub mod Start
+pub mod PhaseMoves
+pub mod Steps
+pub mod Runs
