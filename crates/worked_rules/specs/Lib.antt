@@ -1,2 +1,4 @@
 pub mod Trees
 pub mod Rows
+pub mod Coded
+pub mod Arenas

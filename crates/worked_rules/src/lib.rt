@@ -3,6 +3,7 @@
 #![tactic(auto)]
 
 mod calling;
+mod coding;
 mod naming;
 mod reaching;
 mod valuing;
@@ -11,6 +12,7 @@ pub use calling::{
     arguments_are_counted, handlers_have_their_signatures, numbers_of_items_are_in_range,
     sockets_of_calls, values_are_returned,
 };
+pub use coding::{a_clock_reads_back, parts_are_told_apart, signs_are_kept, statements_are_coded};
 pub use naming::{
     ends_are_known, locals_are_visible_in_their_block, members_are_of_their_column,
     names_are_known, names_differ,
