@@ -17,7 +17,7 @@ first_append f [] ys = refl
 first_append f (x ∷ xs) ys = rw (first_append f xs ys) (or_or (f x) (first f xs) (first f ys))
 
 -- none is found exactly where none of them has one
-or_none : {B : Type 0} (a b : Option B) → option_or a b ≡ None → (a ≡ None) × (b ≡ None)
+pub or_none : {B : Type 0} (a b : Option B) → option_or a b ≡ None → (a ≡ None) × (b ≡ None)
 or_none None b h = (refl, h)
 or_none (Some x) b h = cc
 

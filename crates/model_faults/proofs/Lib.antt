@@ -1,2 +1,3 @@
 pub mod Firsts
 pub mod Closures
+pub mod Doubles

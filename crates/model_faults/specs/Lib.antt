@@ -7,3 +7,4 @@ pub mod Reach
 pub mod Passes
 pub mod Answered
 pub mod Closed
+pub mod Distinct

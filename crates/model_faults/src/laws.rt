@@ -8,6 +8,7 @@ ghost use Rattle.model_faults.specs.Sites.{Site, sites};
 ghost use Rattle.model_faults.specs.Passes.{Rule, fault_at, fault_of, passes, first_fault};
 ghost use Rattle.model_faults.specs.Answered.{IsFirstAt};
 ghost use Rattle.model_faults.specs.Closed.{IsLeast};
+ghost use Rattle.model_faults.specs.Distinct.{HasDistinctNames};
 ghost use Rattle.model_faults.specs.Reach.{Names, functions, names_where, has_blocking, is_caller, is_called_by, reached_from, blocking_functions};
 
 /// The fault of constructs in text order is that of the first part of them, and else that of what follows.
@@ -34,4 +35,9 @@ pub fn reached_is_least()
 /// call it.
 pub fn blocking_is_least()
     ensures { (items : List Item) → IsLeast is_called_by (functions items) (names_where (has_blocking items) (functions items)) (blocking_functions items) }
+{}
+
+/// Where a model has no first fault, the names of its modules differ, and the names in each module.
+pub fn names_differ()
+    ensures { (m : Model) → first_fault m ≡ None → HasDistinctNames m }
 {}

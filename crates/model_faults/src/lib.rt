@@ -7,6 +7,7 @@ mod needs;
 
 pub use ends::{EndMeaning, LeftEnd};
 pub use laws::{
-    blocking_is_least, fault_is_first, first_of_two, no_fault_nothing_broken, reached_is_least,
+    blocking_is_least, fault_is_first, first_of_two, names_differ, no_fault_nothing_broken,
+    reached_is_least,
 };
 pub use needs::Need;
