@@ -5,14 +5,15 @@ use Rattle.model_tree.specs.declared.statements.Control.TheVariants as control_o
 use Rattle.model_tree.specs.declared.expressions.BinaryOp.TheVariants as op
 use Rattle.event_core.specs.declared.event.Ev.TheVariants as ev
 use Rattle.flat_design.specs.declared.value_types.ValueType.TheVariants as type
+use Rattle.flat_design.specs.declared.code.Await.TheVariants as await
 use Rattle.flat_design.specs.declared.code.Statement.{Statement}
 use Rattle.flat_design.specs.declared.code.Statement.TheVariants as kept
 use Rattle.flat_design.specs.declared.terms.Expr.{Expr}
 use Rattle.flat_design.specs.declared.design.Design.{Design}
-use Rattle.worked_runs.specs.Body.{Body, end, does, branch, guarded, tried, item, named, number, binary, assign, say, say_value, wait_for, wait_on, control, control_self, throw_at, throw_at_self, call}
+use Rattle.worked_runs.specs.Body.{Body, end, does, branch, guarded, tried, vec_of, own_event, item, named, number, binary, assign, say, say_value, wait_for, wait_on, control, control_self, throw_at, throw_at_self, call}
 use Rattle.worked_runs.specs.Build.{design_of, exception, variable, thread, method, procedure}
 use Rattle.worked_runs.specs.Rows.{byte}
-use Rattle.worked_control.specs.Targets.{acts, says, later, suspending, after_a_while}
+use Rattle.worked_control.specs.Targets.{acts, says, later, fires, fires_g, suspending, after_a_while}
 
 -- a thread controls itself inside a guard; a method does so
 abbrev pub thread_does : Statement → Body → Design
@@ -56,6 +57,12 @@ method_resets_once = acts (method (codes "t") (ev.Fixed 0 ∷ []) resets_once) o
 -- a thread disables itself, and waits for a time
 abbrev pub disables_itself : Design
 disables_itself = acts (thread (codes "t") (does (say (codes "begin") ∷ disabling ∷ later ∷ say (codes "woke") ∷ []) end)) one_says []
+
+-- a method sets its next trigger and resets itself: it goes on in the same turn
+abbrev pub retriggered : Design
+retriggered = acts (method (codes "t") (ev.Fixed 0 ∷ [])
+    (does (counts ∷ []) (branch first_time (does (kept.NextTrigger (await.Any (vec_of (own_event 1 ∷ []) tt) None) ∷ control_self control_of.Reset ∷ []) end) (does (tells ∷ []) end))))
+    (after_a_while (fires ∷ says ∷ later ∷ fires_g ∷ [])) (count ∷ [])
 
 -- they throw exceptions at themselves, of which they catch the first
 abbrev pub throws : ℕ → Body

@@ -1,6 +1,6 @@
 //! Runs of processes that control themselves.
 ghost use Rattle.std.specs.Prelude.{◌≡◌, [], ◌∷◌, codes, Some};
-ghost use Rattle.worked_control.specs.Selves.{thread_does, method_does, thread_resets_once, method_resets_once, thread_throws, method_throws, killing, one_says};
+ghost use Rattle.worked_control.specs.Selves.{thread_does, method_does, thread_resets_once, method_resets_once, thread_throws, method_throws, retriggered, killing, one_says};
 ghost use Rattle.worked_control.specs.Targets.{after_a_while, suspending, resume, says, later, fires};
 ghost use Rattle.worked_runs.specs.Run.{told, run};
 
@@ -17,10 +17,11 @@ pub fn a_method_controls_itself()
     ensures kills { told 17 (0 ∷ 1 ∷ 3 ∷ []) (method_does killing one_says) (run ∷ []) ≡ Some (codes "0 m.t run\n0 m.t undo\n0 m.w ended\n0 m.k k\nend done 0\n") }
 {}
 
-/// A process that resets itself is unwound and begins again, in the same turn.
+/// A process that resets itself is unwound and begins again, in the same turn: a next trigger that was set before stays.
 pub fn a_process_resets_itself()
     ensures thread { told 27 (0 ∷ 2 ∷ 1 ∷ 3 ∷ []) thread_resets_once (run ∷ []) ≡ Some (codes "0 m.t n 1\n0 m.t undo\n0 m.t n 2\n0 m.t end\n0 m.v restarted\n0 m.w ended\n0 m.k k\nend done 0\n") }
     ensures method { told 24 (0 ∷ 2 ∷ 3 ∷ []) method_resets_once (run ∷ []) ≡ Some (codes "0 m.t n 1\n0 m.t undo\n0 m.t n 2\n0 m.t end\n0 m.v restarted\n0 m.k k\nend done 0\n") }
+    ensures trigger { told 38 (0 ∷ 2 ∷ 3 ∷ 3 ∷ 3 ∷ 0 ∷ []) retriggered (run ∷ []) ≡ Some (codes "0 m.t n 2\n0 m.v restarted\n1000 m.k k\n2000 m.t n 3\nend done 2000\n") }
 {}
 
 /// A process that throws an exception at itself is unwound to its handler; where it has none, that is a fault.

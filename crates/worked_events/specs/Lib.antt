@@ -1,1 +1,2 @@
 pub mod Notifications
+pub mod Waiting

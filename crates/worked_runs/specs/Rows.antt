@@ -1,6 +1,6 @@
 -- The models of the worked runs. Items are numbered by their places in the text, events of the design as they come, and
 -- processes by their serials.
-use Rattle.std.specs.Prelude.{ℕ, Bool, false, List, [], ◌∷◌, ◌^◌, ◌-◌, Some, None, true, codes}
+use Rattle.std.specs.Prelude.{ℕ, Bool, false, List, [], ◌∷◌, ◌^◌, ◌-◌, Option, Some, None, true, codes}
 use Rattle.logic_values.specs.declared.kinds.Digit.{Digit}
 use Rattle.logic_values.specs.declared.kinds.Digit.TheVariants as digit
 use Rattle.logic_values.specs.declared.kinds.Value.TheVariants as value
@@ -14,6 +14,7 @@ use Rattle.flat_design.specs.declared.names.Member.TheVariants as member
 use Rattle.flat_design.specs.declared.code.Await.TheVariants as await
 use Rattle.flat_design.specs.declared.code.Controlled.TheVariants as controlled
 use Rattle.flat_design.specs.declared.code.Statement.{Statement}
+use Rattle.flat_design.specs.declared.code.Store.{Store}
 use Rattle.flat_design.specs.declared.code.Statement.TheVariants as kept
 use Rattle.flat_design.specs.declared.terms.Expr.{Expr, Placed'}
 use Rattle.flat_design.specs.declared.terms.Expr.TheVariants as expr
@@ -21,7 +22,7 @@ use Rattle.flat_design.specs.declared.objects.LeadsTo.TheVariants as leads_to
 use Rattle.flat_design.specs.declared.design.ChannelId.{ChannelId}
 use Rattle.flat_design.specs.declared.design.ChannelId.TheVariants as channel_id
 use Rattle.flat_design.specs.declared.design.Design.{Design}
-use Rattle.worked_runs.specs.Body.{Body, end, then, loop, guarded, tried, vec_of, boxed, own_event, item, local, named, number, moment, binary, store, channel, assign, say, say_value, write, wait_for, wait_delta, wait_on, control, throw_at, call}
+use Rattle.worked_runs.specs.Body.{Body, end, then, does, loop, guarded, tried, vec_of, boxed, own_event, item, local, named, number, moment, binary, store, channel, assign, say, say_value, write, wait_for, wait_delta, wait_on, control, throw_at, call}
 use Rattle.worked_runs.specs.Build.{design_of, signal, resolved, fifo, event, variable, exception, function, local_of, thread, thread_with, method, process_of, instance, port, clock, mutex, buffer, semaphore}
 
 abbrev pub byte : ValueType
@@ -221,3 +222,50 @@ two_channels = design_of (signal (codes "a") type.Bool ∷ signal (codes "b") ty
     ∷ instance (codes "c") 0 ∷ port (codes "p") (leads_to.In type.Bool) (channel_id.Signal 0 0 ∷ channel_id.Signal 1 3 ∷ [])
     ∷ method (codes "s") (ev.Fixed 0 ∷ ev.Fixed 3 ∷ []) (then (say_value (codes "p") (Placed' 0 boxed (number 1))) end)
     ∷ [])
+
+-- a mutex for which two threads wait
+abbrev pub contended : Design
+contended = design_of (mutex (codes "x")
+    ∷ thread (codes "p") (does (kept.Lock (channel 0) ∷ wait_for 1000 ∷ kept.Unlock None (channel 0) ∷ []) end)
+    ∷ thread (codes "q") (does (kept.Lock (channel 0) ∷ say (codes "q") ∷ wait_for 1000 ∷ kept.Unlock None (channel 0) ∷ []) end)
+    ∷ thread (codes "r") (does (kept.Lock (channel 0) ∷ say (codes "r") ∷ kept.Unlock None (channel 0) ∷ []) end)
+    ∷ [])
+
+-- what locks answer
+abbrev pub answered : Statement
+answered = say_value (codes "r") (named (item 1))
+
+abbrev pub result : Option Store
+result = Some (store (item 1) (type.Int 32))
+
+abbrev pub tried_locks : Design
+tried_locks = design_of (mutex (codes "x") ∷ variable (codes "r") (type.Int 32)
+    ∷ thread (codes "p") (does (kept.Trylock result (channel 0) ∷ answered ∷ kept.Trylock result (channel 0) ∷ answered ∷ wait_for 1000 ∷ kept.Unlock result (channel 0) ∷ answered ∷ []) end)
+    ∷ thread (codes "q") (does (kept.Unlock result (channel 0) ∷ answered ∷ []) end)
+    ∷ [])
+
+-- a semaphore for which two threads wait
+abbrev pub used_up : Design
+used_up = design_of (semaphore (codes "s") 0
+    ∷ thread (codes "p") (does (kept.SemWait (channel 0) ∷ say (codes "p") ∷ []) end)
+    ∷ thread (codes "q") (does (kept.SemWait (channel 0) ∷ say (codes "q") ∷ []) end)
+    ∷ thread (codes "k") (does (kept.Post (channel 0) ∷ wait_for 1000 ∷ kept.Post (channel 0) ∷ []) end)
+    ∷ [])
+
+-- a fifo of one place is read and written without blocking
+abbrev pub told_ok : Statement
+told_ok = say_value (codes "ok") (named (item 1))
+
+abbrev pub ok : Option Store
+ok = Some (store (item 1) type.Bool)
+
+abbrev pub unblocked : Design
+unblocked = design_of (fifo (codes "f") byte 1 ∷ variable (codes "ok") type.Bool ∷ variable (codes "x") byte
+    ∷ thread (codes "t")
+    (does (kept.NbRead ok (channel 0) (store (item 2) byte) ∷ told_ok ∷ kept.NbWrite ok (channel 0) byte (number 5) ∷ told_ok ∷ kept.NbWrite ok (channel 0) byte (number 6) ∷ told_ok ∷ wait_delta
+    ∷ kept.NbRead ok (channel 0) (store (item 2) byte) ∷ told_ok ∷ say_value (codes "x") (named (item 2)) ∷ []) end)
+    ∷ [])
+
+-- a function calls itself without an end
+abbrev pub endless_calls : Design
+endless_calls = design_of (function (codes "f") (does (call 0 ∷ []) end) ∷ thread (codes "t") (does (call 0 ∷ []) end) ∷ [])

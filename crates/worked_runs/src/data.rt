@@ -70,3 +70,24 @@ pub fn a_semaphore_counts()
 pub fn a_port_has_places()
     ensures places { told 18 (0 ∷ 0 ∷ []) rows.two_channels (run ∷ set 1 (value.Bool true) ∷ run ∷ []) ≡ Some (codes "0 m.c.s p 0\n0 m.c.s p 1\nfinal m.a 0\nfinal m.b 1\nend done 0\n") }
 {}
+
+/// All that wait for a mutex or a semaphore are woken when it is free, and each tries again.
+pub fn waiters_try_again()
+    ensures mutex { told 35 (0 ∷ 1 ∷ 2 ∷ 0 ∷ 1 ∷ 2 ∷ 1 ∷ 2 ∷ []) rows.contended (run ∷ []) ≡ Some (codes "1000 m.q q\n2000 m.r r\nend done 2000\n") }
+    ensures semaphore { told 28 (0 ∷ 1 ∷ 2 ∷ 0 ∷ 1 ∷ 2 ∷ 1 ∷ []) rows.used_up (run ∷ []) ≡ Some (codes "0 m.p p\n1000 m.q q\nend done 1000\n") }
+{}
+
+/// A mutex that is owned cannot be locked, by its owner neither, and only its owner unlocks it.
+pub fn a_mutex_has_an_owner()
+    ensures answers { told 22 (0 ∷ 1 ∷ 0 ∷ []) rows.tried_locks (run ∷ []) ≡ Some (codes "0 m.p r 0\n0 m.p r -1\n0 m.q r -1\n1000 m.p r 0\nend done 1000\n") }
+{}
+
+/// A fifo answers at once whether it was read or written: what was written in this evaluation phase is not read yet.
+pub fn a_fifo_answers()
+    ensures answers { told 20 (0 ∷ 0 ∷ []) rows.unblocked (run ∷ []) ≡ Some (codes "0 m.t ok 0\n0 m.t ok 1\n0 m.t ok 0\n0 m.t ok 1\n0 m.t x 5\nend done 0\n") }
+{}
+
+/// The call past 64 open ones is a fault.
+pub fn calls_may_be_too_deep()
+    ensures fault { told 67 (0 ∷ []) rows.endless_calls (run ∷ []) ≡ Some (codes "end fault 0 FrameDepth\n") }
+{}
