@@ -2,3 +2,4 @@ pub mod Trees
 pub mod Rows
 pub mod Coded
 pub mod Arenas
+pub mod Uses

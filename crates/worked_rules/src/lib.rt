@@ -6,6 +6,7 @@ mod calling;
 mod coding;
 mod naming;
 mod reaching;
+mod using;
 mod valuing;
 
 pub use calling::{
@@ -20,6 +21,10 @@ pub use naming::{
 pub use reaching::{
     handlers_do_not_wait, methods_do_not_wait, passes_have_their_order, threads_set_no_trigger,
     unwind_blocks_are_plain,
+};
+pub use using::{
+    channels_are_of_their_kind, handles_are_told_apart, sensitivities_are_static,
+    targets_are_assigned, unwind_blocks_do_not_sync, values_are_read,
 };
 pub use valuing::{
     operands_have_one_sign, places_and_slices_are_in_range, types_fit, written_types_come_first,
