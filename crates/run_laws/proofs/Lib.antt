@@ -1,3 +1,5 @@
 pub mod ResidualLemmas
 pub mod Splits
 pub mod Ends
+pub mod ShapeLemmas
+pub mod MarkLemmas
