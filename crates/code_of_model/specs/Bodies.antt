@@ -1,5 +1,5 @@
 -- That code is that of a model: one body for each function, process and clock, in text order over all modules.
-use Rattle.std.specs.Prelude.{◌≡◌, ℕ, ◌+◌, ◌*◌, ◌-◌, ◌==◌, Bool, true, false, not, if◌then◌else◌, List, [], ◌∷◌, ◌++◌, length, filter, bytes_eq, option_map, option_to_list, unwrap_or, Option, Some, None}
+use Rattle.std.specs.Prelude.{◌≡◌, ℕ, ◌+◌, ◌*◌, ◌-◌, ◌==◌, Bool, true, false, not, if◌then◌else◌, List, [], ◌∷◌, ◌++◌, length, filter, bytes_eq, option_to_list, unwrap_or, Option, Some, None}
 use Rattle.std.specs.List.{flat_map}
 use Rattle.logic_values.specs.declared.kinds.Value.TheVariants as value
 use Rattle.sim_time.specs.Times.{picoseconds_in}
@@ -22,7 +22,7 @@ use Rattle.flat_design.specs.declared.code.Code.{Code}
 use Rattle.model_scopes.specs.Meanings.{variable_type, declared_name}
 use Rattle.model_scopes.specs.Scopes.{Scope, item_scope, with_parameters, place_of}
 use Rattle.code_of_model.specs.Deeds.{Home}
-use Rattle.code_of_model.specs.Numbered.{AtBlock, AreFirst, IsFirst, IsBlock}
+use Rattle.code_of_model.specs.Numbered.{AtBlock, AreFirst, IsBlock}
 
 -- exceptions
 

@@ -1,5 +1,5 @@
 -- The code of a statement that holds no others, at a place of a model. There is none where a part of it has none.
-use Rattle.std.specs.Prelude.{ℕ, ◌+◌, Bool, true, false, List, [], ◌∷◌, bytes_eq, position, filter_map, option_map, option_and_then, is_some, Option, Some, None}
+use Rattle.std.specs.Prelude.{ℕ, ◌+◌, Bool, true, false, List, [], ◌∷◌, bytes_eq, position, filter_map, option_map, option_and_then, Option, Some, None}
 use Rattle.model_tree.specs.Tree as tree
 use Rattle.model_tree.specs.declared.types.Parameter.{Parameter}
 use Rattle.model_tree.specs.declared.statements.Who.{Who}
@@ -8,8 +8,6 @@ use Rattle.model_tree.specs.declared.items.ProcessKind.{ProcessKind}
 use Rattle.model_tree.specs.declared.items.ProcessKind.TheVariants as process
 use Rattle.flat_design.specs.Code as code
 use Rattle.flat_design.specs.Code.{Term, ChannelTerm, EventTerm, AwaitTerm, ArgumentTerm, DestinationTerm, SpawnTerm}
-use Rattle.flat_design.specs.declared.value_types.ValueType.{ValueType}
-use Rattle.flat_design.specs.declared.names.NameUse.{NameUse}
 use Rattle.flat_design.specs.declared.names.NameUse.TheVariants as name_use
 use Rattle.flat_design.specs.declared.names.Member.TheVariants as member
 use Rattle.flat_design.specs.declared.names.EventMember.{EventMember}
@@ -18,11 +16,10 @@ use Rattle.flat_design.specs.declared.code.Store.{Store}
 use Rattle.flat_design.specs.declared.code.StaticUse.{StaticUse}
 use Rattle.flat_design.specs.declared.code.Controlled.{Controlled}
 use Rattle.flat_design.specs.declared.code.Controlled.TheVariants as controlled
-use Rattle.model_scopes.specs.Meanings.{variable_type}
 use Rattle.model_scopes.specs.Members.{row_of, event_member}
 use Rattle.model_scopes.specs.Scopes.{Scope, meaning_of, use_of, place_of, function_named}
 use Rattle.model_scopes.specs.Operators.{both}
-use Rattle.model_scopes.specs.Targets.{destination_of, written_to, put_into, variable_named}
+use Rattle.model_scopes.specs.Targets.{written_to, put_into, variable_named}
 use Rattle.model_scopes.specs.declared.meanings.Destination.{Destination}
 use Rattle.model_scopes.specs.declared.meanings.Destination.TheVariants as to
 use Rattle.code_of_model.specs.Terms.{number, term_of}

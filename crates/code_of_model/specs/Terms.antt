@@ -1,6 +1,6 @@
 -- The code of an expression at a place of a model. There is none where the expression has no type there. Lines and parentheses
 -- have no place in the code; each operation has the type of its operands.
-use Rattle.std.specs.Prelude.{ℕ, ◌*◌, ◌-◌, ◌^◌, ◌==◌, ◌&&◌, Bool, true, false, if◌then◌else◌, List, [], ◌∷◌, option_map, option_and_then, Option, Some, None}
+use Rattle.std.specs.Prelude.{ℕ, ◌*◌, ◌-◌, ◌^◌, List, [], ◌∷◌, option_map, option_and_then, Option, Some, None}
 use Rattle.logic_values.specs.declared.kinds.Digit.{Digit}
 use Rattle.logic_values.specs.declared.kinds.Value.{Value}
 use Rattle.logic_values.specs.declared.kinds.Value.TheVariants as value
@@ -23,7 +23,7 @@ use Rattle.flat_design.specs.declared.names.PayloadBytes.{PayloadBytes}
 use Rattle.model_scopes.specs.Members.{row_of, value_member}
 use Rattle.model_scopes.specs.declared.meanings.ValueMember.{ValueMember}
 use Rattle.model_scopes.specs.declared.meanings.ValueMember.TheVariants as reached
-use Rattle.model_scopes.specs.Scopes.{Scope, meaning_of, use_of, place_of}
+use Rattle.model_scopes.specs.Scopes.{Scope, meaning_of, use_of}
 use Rattle.model_scopes.specs.Operators.{option_if, both, evaluated_as, operands}
 use Rattle.model_scopes.specs.Types.{value_of, at_number, at_computed, is_time_literal, type_of}
 use Rattle.model_scopes.specs.declared.meanings.ExpressionType.{ExpressionType}

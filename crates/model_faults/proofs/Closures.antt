@@ -1,6 +1,6 @@
 -- The functions that are reached are the least closed set.
 use Rattle.std.proofs.lemmas.Bool.Decides.{nat_tests}
-use Rattle.std.proofs.Common.{◌≡◌, ℕ, Bool, true, false, cond, ◌||◌, ◌&&◌, ◌++◌, ◌+◌, ◌≤◌, ◌<◌, List, [], ◌∷◌, refl, sym, ◌∙◌, subst, true≢false, suc, zero, arith, le_trans}
+use Rattle.std.proofs.Common.{◌≡◌, ℕ, Bool, true, false, cond, ◌||◌, ◌&&◌, ◌++◌, ◌+◌, ◌≤◌, List, [], ◌∷◌, refl, sym, subst, true≢false, arith}
 use Rattle.std.specs.Prelude.{map, filter, length, bytes_eq, nat_le}
 use Rattle.std.specs.List.{list_any, AllByRecursion}
 use Rattle.std.proofs.lemmas.Slice.Eq.{bytes_eq-Decides}

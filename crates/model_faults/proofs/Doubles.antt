@@ -9,12 +9,11 @@ use Rattle.std.proofs.lemmas.List.{map-append, append-nil}
 use Rattle.std.proofs.lemmas.Map.Keys.{IsDistinct-push}
 use Rattle.model_tree.specs.Tree as tree
 use Rattle.model_tree.specs.Lines.{item_line}
-use Rattle.model_tree.specs.declared.faults.Fault.{Fault}
 use Rattle.model_scopes.specs.Meanings.{Declared, declaration, declarations, declared_name}
 use Rattle.model_scopes.specs.Scopes.{Scope, item_scope}
 use Rattle.model_faults.specs.Sites as part
 use Rattle.model_faults.specs.Sites.{Site, around_item, site, item_parts, item_sites, items_sites, module_sites, modules_sites, top_site, sites}
-use Rattle.model_faults.specs.Names.{first, name_if, is_module_name, is_item_name, double_item, double_in, double_name}
+use Rattle.model_faults.specs.Names.{name_if, is_module_name, is_item_name, double_item}
 use Rattle.model_faults.specs.Passes.{doubles, fault_at, fault_of}
 use Rattle.model_faults.specs.Distinct.{names_of, HasDistinctNames}
 use Rattle.model_faults.proofs.Firsts.{first_append, or_none}

@@ -1,11 +1,9 @@
 -- Items: clocks, sizes and first numbers, and the forms of bindings.
-use Rattle.std.specs.Prelude.{ℕ, ◌*◌, ◌==◌, ◌&&◌, ◌||◌, Bool, true, false, not, nat_le, nat_lt, List, [], unwrap_or, option_and_then, option_map, Option, Some, None}
+use Rattle.std.specs.Prelude.{ℕ, ◌*◌, ◌==◌, ◌&&◌, ◌||◌, Bool, true, false, not, nat_le, nat_lt, List, unwrap_or, option_and_then, Option, Some, None}
 use Rattle.sim_time.specs.Times.{picoseconds_in}
 use Rattle.model_tree.specs.Tree as tree
 use Rattle.model_tree.specs.declared.types.ConstantForm.{ConstantForm}
 use Rattle.model_tree.specs.declared.types.ConstantForm.TheVariants as constant
-use Rattle.model_tree.specs.declared.types.End.{End}
-use Rattle.model_tree.specs.declared.types.PortSize.{PortSize}
 use Rattle.model_tree.specs.declared.types.Span.{Span}
 use Rattle.model_tree.specs.declared.items.ClockItem.{ClockItem}
 use Rattle.model_scopes.specs.Meanings.{port_size}

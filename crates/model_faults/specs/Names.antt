@@ -4,15 +4,12 @@ use Rattle.std.specs.Prelude.{ℕ, Bool, true, false, ◌&&◌, ◌||◌, not, L
 use Rattle.std.specs.List.{list_any}
 use Rattle.std.specs.Option.{option_or}
 use Rattle.model_tree.specs.Tree as tree
-use Rattle.model_tree.specs.declared.types.End.{End}
-use Rattle.model_tree.specs.declared.types.Parameter.{Parameter}
 use Rattle.model_tree.specs.declared.statements.Who.{Who}
 use Rattle.model_tree.specs.declared.statements.Who.TheVariants as who
 use Rattle.model_tree.specs.declared.items.InitiatorRole.{InitiatorRole}
 use Rattle.model_tree.specs.declared.items.InitiatorRole.TheVariants as initiator
 use Rattle.model_tree.specs.declared.items.TargetRole.{TargetRole}
 use Rattle.model_tree.specs.declared.items.TargetRole.TheVariants as target
-use Rattle.flat_design.specs.declared.value_types.ValueType.{ValueType}
 use Rattle.flat_design.specs.declared.value_types.ValueType.TheVariants as type
 use Rattle.flat_design.specs.declared.names.EventMember.{EventMember}
 use Rattle.flat_design.specs.declared.names.EventMember.TheVariants as event

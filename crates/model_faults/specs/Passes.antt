@@ -1,6 +1,6 @@
 -- The first fault of a model. A pass is a list of rules; its fault is that of the first site that breaks one of them, and there
 -- the first of them in the list. The first pass with a fault decides.
-use Rattle.std.specs.Prelude.{ℕ, List, [], ◌∷◌, option_map, Option, Some, None}
+use Rattle.std.specs.Prelude.{ℕ, List, [], ◌∷◌, option_map, Option}
 use Rattle.model_tree.specs.Tree as tree
 use Rattle.model_tree.specs.declared.faults.Fault.{Fault}
 use Rattle.model_tree.specs.declared.faults.Kind.{Kind}

@@ -1,6 +1,6 @@
 -- What bodies reach: which functions are called from where, at any depth, which statements block, and which may not stand
 -- where they are reached. Each of these rules answers the function or process around the site.
-use Rattle.std.specs.Prelude.{ℕ, ◌&&◌, ◌||◌, Bool, true, false, not, List, [], ◌∷◌, ◌++◌, map, filter, filter_map, bytes_eq, is_some, find, option_map, Option, Some, None}
+use Rattle.std.specs.Prelude.{ℕ, ◌&&◌, ◌||◌, Bool, true, false, not, List, [], ◌∷◌, ◌++◌, map, filter, filter_map, bytes_eq, find, option_map, Option, Some, None}
 use Rattle.std.specs.List.{list_any}
 use Rattle.model_tree.specs.Tree as tree
 use Rattle.model_tree.specs.declared.items.ProcessKind.{ProcessKind}

@@ -16,7 +16,7 @@ use Rattle.model_tree.specs.declared.items.Top.{Top}
 use Rattle.model_faults.specs.declared.needs.Need.{Need}
 use Rattle.model_faults.specs.declared.needs.Need.TheVariants as need_of
 use Rattle.model_scopes.specs.Meanings.{declared_name}
-use Rattle.model_scopes.specs.Scopes.{Scope, item_scope, with_local, with_parameters, locals_in_block, locals_in_else, locals_in_handlers, past, behind, in_unwind}
+use Rattle.model_scopes.specs.Scopes.{Scope, item_scope, with_local, with_parameters, locals_in_block, past, behind, in_unwind}
 
 -- A construct. A module and an item stand with those before them; a channel with what it has to be; an event with whether it
 -- is one of a static sensitivity; a member of an expression with whether an index follows.

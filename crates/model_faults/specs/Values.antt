@@ -2,7 +2,6 @@
 -- function or process around a site that breaks it, or else the item. Where the type of a part is not known, because the
 -- part breaks a rule of its own, nothing is asked of it.
 use Rattle.std.specs.Prelude.{ℕ, ◌&&◌, ◌||◌, Bool, true, false, not, nat_lt, List, [], ◌∷◌, is_none, is_some, option_map, option_and_then, Option, Some, None}
-use Rattle.sim_time.specs.declared.moments.Unit.{Unit as TimeUnit}
 use Rattle.model_tree.specs.Tree as tree
 use Rattle.model_tree.specs.declared.types.TypeForm.{TypeForm}
 use Rattle.model_tree.specs.declared.types.TypeForm.TheVariants as form
@@ -11,7 +10,6 @@ use Rattle.model_tree.specs.declared.types.ConstantForm.TheVariants as constant
 use Rattle.model_tree.specs.declared.types.Constant.{Constant}
 use Rattle.model_tree.specs.declared.types.Parameter.{Parameter}
 use Rattle.model_tree.specs.declared.types.Span.{Span}
-use Rattle.model_tree.specs.declared.items.ClockItem.{ClockItem}
 use Rattle.flat_design.specs.declared.value_types.ValueType.{ValueType}
 use Rattle.flat_design.specs.declared.value_types.ValueType.TheVariants as type
 use Rattle.model_scopes.specs.Meanings.{is_width, signal_type, variable_type}

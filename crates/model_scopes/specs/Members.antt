@@ -6,7 +6,6 @@ use Rattle.flat_design.specs.declared.names.Member.{Member}
 use Rattle.flat_design.specs.declared.names.Member.TheVariants as member
 use Rattle.flat_design.specs.declared.names.PayloadField.{PayloadField}
 use Rattle.flat_design.specs.declared.names.PayloadField.TheVariants as field
-use Rattle.flat_design.specs.declared.names.PayloadBytes.{PayloadBytes}
 use Rattle.flat_design.specs.declared.names.PayloadBytes.TheVariants as bytes
 use Rattle.flat_design.specs.declared.names.EventMember.{EventMember}
 use Rattle.flat_design.specs.declared.names.EventMember.TheVariants as event

@@ -6,8 +6,6 @@ use Rattle.model_tree.specs.declared.types.ConstantForm.TheVariants as constant
 use Rattle.flat_design.specs.Typed.{field_type}
 use Rattle.flat_design.specs.declared.value_types.ValueType.{ValueType}
 use Rattle.flat_design.specs.declared.value_types.ValueType.TheVariants as type
-use Rattle.flat_design.specs.declared.names.PayloadField.{PayloadField}
-use Rattle.flat_design.specs.declared.names.PayloadBytes.{PayloadBytes}
 use Rattle.flat_design.specs.declared.names.Member.TheVariants as member
 use Rattle.model_scopes.specs.Meanings.{variable_type}
 use Rattle.model_scopes.specs.Members.{row_of, value_member}

@@ -5,7 +5,6 @@ use Rattle.logic_values.specs.declared.kinds.Digit.{Digit}
 use Rattle.sim_time.specs.Times.{picoseconds_in}
 use Rattle.sim_time.specs.declared.moments.Unit.{Unit as TimeUnit}
 use Rattle.model_tree.specs.Tree as tree
-use Rattle.flat_design.specs.declared.names.PayloadBytes.{PayloadBytes}
 use Rattle.model_scopes.specs.Meanings.{is_width}
 use Rattle.model_scopes.specs.Members.{row_of, value_member, member_type}
 use Rattle.model_scopes.specs.Scopes.{Scope, meaning_of}
@@ -14,7 +13,6 @@ use Rattle.model_scopes.specs.declared.meanings.ExpressionType.{ExpressionType}
 use Rattle.model_scopes.specs.declared.meanings.ExpressionType.TheVariants as t
 use Rattle.model_scopes.specs.declared.meanings.Meaning.{Meaning}
 use Rattle.model_scopes.specs.declared.meanings.Meaning.TheVariants as meaning
-
 use Rattle.model_scopes.specs.declared.meanings.Seen.{Seen}
 use Rattle.model_scopes.specs.declared.meanings.Seen.TheVariants as seen
 use Rattle.model_scopes.specs.declared.meanings.ValueMember.{ValueMember}

@@ -1,10 +1,8 @@
 -- The numbers of the worked code, one statement after another.
-use Rattle.std.proofs.Common.{◌≡◌, ℕ, List, [], ◌∷◌, refl, true}
-use Rattle.std.specs.Prelude.{Some}
+use Rattle.std.proofs.Common.{[], ◌∷◌, refl, true}
 use Rattle.logic_values.specs.declared.kinds.Value.TheVariants as value
 use Rattle.flat_design.specs.Code as code
-use Rattle.code_of_model.specs.Numbered.{AreFirst}
-use Rattle.worked_rules.specs.Arenas.{ReadsBack, bodies, arena}
+use Rattle.worked_rules.specs.Arenas.{ReadsBack}
 
 pub clock_reads_back : ReadsBack 4000
 clock_reads_back = (

@@ -1,5 +1,5 @@
 -- A text with a clock and a thread that syncs, and code written by hand that reads back as it.
-use Rattle.std.specs.Prelude.{◌≡◌, ℕ, Bool, true, false, List, [], ◌∷◌, codes, Some, None}
+use Rattle.std.specs.Prelude.{ℕ, Bool, true, false, List, [], ◌∷◌, codes, Some, None}
 use Rattle.logic_values.specs.declared.kinds.Value.TheVariants as value
 use Rattle.sim_time.specs.declared.moments.Unit.TheVariants as unit
 use Rattle.model_tree.specs.Tree as tree

@@ -1,7 +1,7 @@
 -- The places and expressions of the worked code: signals b (bool), u (uint<8>), i (int<8>), v (lv<9>), a memory m, a port p of two
 -- channels, a keeper k, a fifo f of uint<8>, a function g(inout uint<8> x, bool y) -> int<8>; in a body with the local variable n
 -- (uint<8>), the payload q and the time d, which are numbers 0, 1 and 2.
-use Rattle.std.specs.Prelude.{ℕ, Bool, true, false, List, [], ◌∷◌, codes, Some, None}
+use Rattle.std.specs.Prelude.{ℕ, true, false, List, [], ◌∷◌, codes, Some, None}
 use Rattle.model_tree.specs.Tree as tree
 use Rattle.model_tree.specs.declared.types.TypeForm.TheVariants as form
 use Rattle.model_tree.specs.declared.types.VarType.TheVariants as var_type
@@ -10,7 +10,7 @@ use Rattle.model_tree.specs.declared.types.BoundRule.TheVariants as bound_rule
 use Rattle.model_tree.specs.declared.items.PlainKind.TheVariants as plain_kind
 use Rattle.model_scopes.specs.Scopes.{Scope, item_scope, with_local}
 use Rattle.code_of_model.specs.Deeds.{Home}
-use Rattle.worked_rules.specs.Trees.{typed, plain, signal, parameter, function, clock}
+use Rattle.worked_rules.specs.Trees.{typed, plain, signal, parameter, function}
 
 abbrev pub items : List tree.Item
 items =

@@ -1,5 +1,5 @@
 -- The texts of the worked rules, as trees: each breaks a rule, or comes as near as a text may.
-use Rattle.std.specs.Prelude.{ℕ, ◌^◌, if◌then◌else◌, Bool, true, false, List, [], ◌∷◌, ◌++◌, codes, Some, None}
+use Rattle.std.specs.Prelude.{ℕ, if◌then◌else◌, Bool, true, false, List, [], ◌∷◌, ◌++◌, codes, Some, None}
 use Rattle.sim_time.specs.declared.moments.Unit.TheVariants as unit
 use Rattle.model_tree.specs.Tree as tree
 use Rattle.model_tree.specs.declared.types.TypeForm.TheVariants as form
@@ -12,7 +12,7 @@ use Rattle.model_tree.specs.declared.expressions.UnaryOp.TheVariants as unary_op
 use Rattle.model_tree.specs.declared.items.PlainKind.TheVariants as plain_kind
 use Rattle.model_tree.specs.declared.items.InitiatorRole.TheVariants as initiator
 use Rattle.model_tree.specs.declared.items.TargetRole.TheVariants as target
-use Rattle.worked_rules.specs.Trees.{models, module_of, model, typed, plain, constant, signal, signal_at, clock, span, thread, method, parameter, function, end, named, number, yes_, channel, event, local, local_at, assign, call, print, write, wait_on, wait_delta, if_true, if_else, guard, spawn, returns}
+use Rattle.worked_rules.specs.Trees.{models, module_of, model, typed, plain, constant, signal, signal_at, clock, span, thread, method, parameter, function, end, named, number, yes_, local, local_at, assign, call, print, write, wait_on, wait_delta, if_true, if_else, guard, spawn, returns}
 
 -- names
 
