@@ -2,11 +2,17 @@
 ghost use Rattle.std.specs.Prelude.{◌≡◌, [], ◌∷◌, codes, Some};
 ghost use Rattle.worked_control.specs.Selves.{thread_does, method_does, thread_resets_once, method_resets_once, thread_throws, method_throws, retriggered, killing, one_says};
 ghost use Rattle.worked_control.specs.Targets.{after_a_while, suspending, resume, says, later, fires};
+ghost use Rattle.model_tree.specs.declared.statements.Control.TheVariants as control_of;
+ghost use Rattle.worked_runs.specs.Body.{control_self};
 ghost use Rattle.worked_runs.specs.Run.{told, run};
 
-/// A thread that suspends itself stops at once and is kept, and one that kills itself is unwound from where it stands.
+/// A thread that suspends itself stops at once and is kept, and one that kills itself is unwound from where it stands; one that
+/// resumes, disables or enables itself goes on.
 pub fn a_thread_controls_itself()
     ensures suspends { told 24 (0 ∷ 3 ∷ 3 ∷ 0 ∷ 1 ∷ []) (thread_does suspending (after_a_while (says ∷ resume ∷ []))) (run ∷ []) ≡ Some (codes "0 m.t begin\n1000 m.k k\n1000 m.t on\n1000 m.w ended\nend done 1000\n") }
+    ensures resumes { told 17 (0 ∷ 1 ∷ 3 ∷ []) (thread_does (control_self control_of.Resume) one_says) (run ∷ []) ≡ Some (codes "0 m.t begin\n0 m.t on\n0 m.w ended\n0 m.k k\nend done 0\n") }
+    ensures disables { told 17 (0 ∷ 1 ∷ 3 ∷ []) (thread_does (control_self control_of.Disable) one_says) (run ∷ []) ≡ Some (codes "0 m.t begin\n0 m.t on\n0 m.w ended\n0 m.k k\nend done 0\n") }
+    ensures enables { told 17 (0 ∷ 1 ∷ 3 ∷ []) (thread_does (control_self control_of.Enable) one_says) (run ∷ []) ≡ Some (codes "0 m.t begin\n0 m.t on\n0 m.w ended\n0 m.k k\nend done 0\n") }
     ensures kills { told 17 (0 ∷ 1 ∷ 3 ∷ []) (thread_does killing one_says) (run ∷ []) ≡ Some (codes "0 m.t begin\n0 m.t undo\n0 m.w ended\n0 m.k k\nend done 0\n") }
 {}
 

@@ -7,6 +7,7 @@ ghost use Rattle.worked_runs.specs.Run.{told, run};
 pub fn a_process_is_suspended()
     ensures never { told 20 (0 ∷ 3 ∷ 3 ∷ []) (on_waiter (suspend ∷ fires ∷ says ∷ [])) (run ∷ []) ≡ Some (codes "0 m.t begin\n1000 m.k k\nend done 1000\n") }
     ensures waiting { told 31 (0 ∷ 3 ∷ 3 ∷ 3 ∷ 0 ∷ []) (on_waiter (suspend ∷ suspend ∷ fires ∷ says ∷ later ∷ resume ∷ resume ∷ [])) (run ∷ []) ≡ Some (codes "0 m.t begin\n1000 m.k k\n2000 m.t woke\nend done 2000\n") }
+    ensures again { told 30 (0 ∷ 3 ∷ 3 ∷ 3 ∷ 0 ∷ []) (on_waiter (suspend ∷ fires ∷ suspend ∷ says ∷ later ∷ resume ∷ [])) (run ∷ []) ≡ Some (codes "0 m.t begin\n1000 m.k k\n2000 m.t woke\nend done 2000\n") }
     ensures runnable { told 29 (0 ∷ 3 ∷ 3 ∷ 3 ∷ 0 ∷ []) (on_waiter (fires ∷ suspend ∷ says ∷ later ∷ resume ∷ [])) (run ∷ []) ≡ Some (codes "0 m.t begin\n1000 m.k k\n2000 m.t woke\nend done 2000\n") }
     ensures unstarted { told 20 (3 ∷ 3 ∷ 0 ∷ []) (on_unstarted (suspend ∷ says ∷ later ∷ resume ∷ [])) (run ∷ []) ≡ Some (codes "0 m.k k\n1000 m.t begin\nend done 1000\n") }
     ensures method { told 27 (0 ∷ 3 ∷ 3 ∷ 3 ∷ 0 ∷ []) (on_method (suspend ∷ fires ∷ says ∷ later ∷ resume ∷ [])) (run ∷ []) ≡ Some (codes "0 m.t run\n1000 m.k k\n2000 m.t run\nend done 2000\n") }

@@ -119,6 +119,7 @@ pub data Body : Type 0 where
   end : Body
   then : Statement → Body → Body
   branch : Expr → Body → Body → Body
+  choice : Expr → Body → Body → Body → Body
   loop : Expr → Body → Body → Body
   guarded : Body → Body → Body → Body
   tried : Body → ℕ → Body → Body → Body
@@ -150,6 +151,8 @@ abbrev pub lay : Body → Laid → Laid × List ℕ
 lay end a = (a, [])
 lay (then s rest) a = followed_by a s (lay rest)
 lay (branch e b rest) a = let x = lay b a in followed_by (with_block x) (kept.If e (block_of x) None) (lay rest)
+lay (choice e b other rest) a =
+    let x = lay b a in let y = lay other (with_block x) in followed_by (with_block y) (kept.If e (block_of x) (Some (block_of y))) (lay rest)
 lay (loop e b rest) a = let x = lay b a in followed_by (with_block x) (kept.While e (block_of x)) (lay rest)
 lay (guarded b u rest) a =
     let x = lay b a in let y = lay u (with_block x) in followed_by (with_block y) (kept.Guard (block_of x) (block_of y)) (lay rest)

@@ -86,6 +86,15 @@ signal name t d =
       events = d.events + 3;
     })
 
+-- a signal that several processes may write
+abbrev pub many_signal : List ℕ → ValueType → Design → Design
+many_signal name t d =
+    with_object name (form.Signal signal_kind.Signal true t (default_value t)) (denoted.Channel (channel.Signal (length d.signals) d.events))
+    (record (seen (visible_id.Signal (length d.signals)) d) {
+      signals = d.signals ++ (record { object = next_object d; kind = signal_kind.Signal; many = true; value_type = t; initial = default_value t; events = d.events }) ∷ [];
+      events = d.events + 3;
+    })
+
 abbrev pub resolved : List ℕ → Design → Design
 resolved name d =
     with_object name form.Resolved (denoted.Channel (channel.Resolved (length d.resolved) d.events))

@@ -22,8 +22,8 @@ use Rattle.flat_design.specs.declared.objects.LeadsTo.TheVariants as leads_to
 use Rattle.flat_design.specs.declared.design.ChannelId.{ChannelId}
 use Rattle.flat_design.specs.declared.design.ChannelId.TheVariants as channel_id
 use Rattle.flat_design.specs.declared.design.Design.{Design}
-use Rattle.worked_runs.specs.Body.{Body, end, then, does, loop, guarded, tried, vec_of, boxed, own_event, item, local, named, number, moment, binary, store, channel, assign, say, say_value, write, wait_for, wait_delta, wait_on, control, throw_at, call}
-use Rattle.worked_runs.specs.Build.{design_of, signal, resolved, fifo, event, variable, exception, function, local_of, thread, thread_with, method, process_of, instance, port, clock, mutex, buffer, semaphore}
+use Rattle.worked_runs.specs.Body.{Body, end, then, does, choice, loop, guarded, tried, vec_of, boxed, own_event, item, local, named, number, moment, binary, store, channel, assign, say, say_value, write, wait_for, wait_delta, wait_on, control, throw_at, call}
+use Rattle.worked_runs.specs.Build.{design_of, signal, many_signal, resolved, fifo, event, variable, exception, function, local_of, thread, thread_with, method, process_of, instance, port, clock, mutex, buffer, semaphore}
 
 abbrev pub byte : ValueType
 byte = type.Uint 8
@@ -269,3 +269,17 @@ unblocked = design_of (fifo (codes "f") byte 1 ∷ variable (codes "ok") type.Bo
 -- a function calls itself without an end
 abbrev pub endless_calls : Design
 endless_calls = design_of (function (codes "f") (does (call 0 ∷ []) end) ∷ thread (codes "t") (does (call 0 ∷ []) end) ∷ [])
+
+-- two threads write one signal, the second one 1 ns later
+abbrev pub writes_later : (List ℕ → ValueType → Design → Design) → Design
+writes_later kind = design_of (kind (codes "a") type.Bool ∷ thread (codes "p") (does (write 0 type.Bool one ∷ []) end)
+    ∷ thread (codes "q") (does (wait_for 1000 ∷ write 0 type.Bool (expr.Literal (value.Bool false)) ∷ []) end) ∷ [])
+
+abbrev pub shared_writers : Design
+shared_writers = design_of (many_signal (codes "a") type.Bool ∷ thread (codes "p") (does (write 0 type.Bool one ∷ []) end) ∷ thread (codes "q") (does (write 0 type.Bool one ∷ []) end) ∷ [])
+
+-- a method chooses by a signal
+abbrev pub chooses : Design
+chooses = design_of (signal (codes "a") type.Bool
+    ∷ method (codes "s") (ev.Fixed 0 ∷ []) (choice (named (item 0)) (does (say (codes "on") ∷ []) end) (does (say (codes "off") ∷ []) end) (does (say (codes "behind") ∷ []) end))
+    ∷ [])

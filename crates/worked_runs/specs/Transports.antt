@@ -1,5 +1,5 @@
 -- The models of the worked runs of spawned instances, payloads, transport calls and quantum keepers.
-use Rattle.std.specs.Prelude.{ℕ, List, [], ◌∷◌, ◌++◌, Option, Some, None, codes, false}
+use Rattle.std.specs.Prelude.{ℕ, List, [], ◌∷◌, ◌++◌, Option, Some, None, codes, true, false}
 use Rattle.model_tree.specs.declared.items.ProcessKind.TheVariants as process
 use Rattle.model_tree.specs.declared.expressions.BinaryOp.TheVariants as op
 use Rattle.model_tree.specs.declared.statements.Control.TheVariants as control_of
@@ -20,7 +20,7 @@ use Rattle.flat_design.specs.declared.terms.Expr.{Expr, Element'}
 use Rattle.flat_design.specs.declared.terms.Expr.TheVariants as expr
 use Rattle.flat_design.specs.declared.design.Hop.{Hop}
 use Rattle.flat_design.specs.declared.design.Design.{Design}
-use Rattle.worked_runs.specs.Body.{Body, end, then, branch, loop, guarded, tried, vec_of, boxed, item, local, named, number, moment, binary, store, assign, say, say_value, wait_for, wait_on, control}
+use Rattle.worked_runs.specs.Body.{Body, end, then, does, branch, loop, guarded, tried, vec_of, boxed, item, local, named, number, moment, binary, store, assign, say, say_value, wait_for, wait_on, control, notify}
 use Rattle.worked_runs.specs.Build.{design_of, event, variable, function, function_with, local_of, inout, thread, thread_with, instance, initiator, target, hop, keeper, memory, exception, procedure}
 use Rattle.worked_runs.specs.Rows.{byte, integer}
 
@@ -160,4 +160,13 @@ awaited = design_of (procedure (codes "w") (local_of (codes "n") byte ∷ []) (t
     (then (kept.Var 0 type.Process None)
     (then (kept.Spawn (record { handle = Some (local 0); kind = process.Thread; function = 0; arguments = vec_of (number 5 ∷ []) tt; sensitive = []; dont_initialize = false }))
     (then (kept.Wait (await.Any (vec_of ((record { name = local 0; place = None; event = event_member.Terminated }) ∷ []) tt) None)) (then (say_value (codes "done") (expr.Member (local 0) member.Terminated)) end))))
+    ∷ [])
+
+-- a spawned method, whose argument is changed in each turn
+abbrev pub spawned_method : Design
+spawned_method = design_of (event (codes "e")
+    ∷ procedure (codes "w") (local_of (codes "n") byte ∷ []) (does (say_value (codes "n") (named (local 0)) ∷ assign (local 0) byte (number 9) ∷ []) end)
+    ∷ thread (codes "k")
+    (does (kept.Spawn (record { handle = None; kind = process.Method; function = 0; arguments = vec_of (number 5 ∷ []) tt; sensitive = (record { name = 0; place = None; event = event_member.Own }) ∷ []; dont_initialize = true })
+    ∷ wait_for 1000 ∷ notify 0 ∷ wait_for 1000 ∷ notify 0 ∷ []) end)
     ∷ [])

@@ -3,7 +3,7 @@ ghost use Rattle.std.specs.Prelude.{◌≡◌, [], ◌∷◌, codes, Some, true}
 ghost use Rattle.logic_values.specs.declared.kinds.Value.TheVariants as value;
 ghost use Rattle.sim_model.specs.declared.plain.Log.TheVariants as log_of;
 ghost use Rattle.sim_model.specs.declared.plain.Rule.TheVariants as rule;
-ghost use Rattle.worked_runs.specs.Build.{empty};
+ghost use Rattle.worked_runs.specs.Build.{empty, signal, many_signal};
 ghost use Rattle.worked_runs.specs.Rows as rows;
 ghost use Rattle.worked_runs.specs.Run.{told, told_under, traced, run, run_for, set, show};
 
@@ -22,6 +22,20 @@ pub fn a_written_value_is_read_after_the_update()
 pub fn a_second_writer_is_a_fault()
     ensures first { told 6 (0 ∷ 1 ∷ []) rows.two_writers (run ∷ []) ≡ Some (codes "final m.a 0\nend fault 0 WriterConflict 0 1\n") }
     ensures last { told_under rule.Last log_of.Prints 10000000 6 (1 ∷ 0 ∷ []) rows.two_writers (run ∷ []) ≡ Some (codes "final m.a 0\nend fault 0 WriterConflict 1 0\n") }
+{}
+
+/// A signal has one writer over the whole run, and one that several processes may write has one in each evaluation phase; the
+/// script is no writer.
+pub fn a_signal_has_a_writer()
+    ensures one { told 11 (0 ∷ 1 ∷ 1 ∷ []) (rows.writes_later signal) (run ∷ []) ≡ Some (codes "final m.a 1\nend fault 1000 WriterConflict 0 1\n") }
+    ensures many { told 16 (0 ∷ 1 ∷ 1 ∷ []) (rows.writes_later many_signal) (run ∷ []) ≡ Some (codes "final m.a 0\nend done 1000\n") }
+    ensures at_once { told 6 (0 ∷ 1 ∷ []) rows.shared_writers (run ∷ []) ≡ Some (codes "final m.a 0\nend fault 0 WriterConflict 0 1\n") }
+    ensures script { told 17 (0 ∷ 1 ∷ 1 ∷ []) (rows.writes_later many_signal) (set 0 (value.Bool true) ∷ run ∷ []) ≡ Some (codes "final m.a 0\nend done 1000\n") }
+{}
+
+/// A choice takes one of two blocks, and goes on behind them.
+pub fn a_choice_takes_one_block()
+    ensures takes { told 22 (0 ∷ 0 ∷ []) rows.chooses (run ∷ set 0 (value.Bool true) ∷ run ∷ []) ≡ Some (codes "0 m.s off\n0 m.s behind\n0 m.s on\n0 m.s behind\nfinal m.a 1\nend done 0\n") }
 {}
 
 /// What several threads drive is resolved.

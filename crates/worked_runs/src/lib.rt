@@ -12,11 +12,11 @@ pub use controlling::{
     an_exception_is_caught_where_it_is_thrown, flags_hold,
 };
 pub use data::{
-    a_buffer_announces_an_equal_value, a_clocked_counter_is_traced, a_fifo_answers, a_fifo_blocks,
-    a_mutex_has_an_owner, a_mutex_is_handed_on, a_port_has_places, a_second_writer_is_a_fault,
-    a_semaphore_counts, a_written_value_is_read_after_the_update, calls_may_be_too_deep,
-    drivers_are_resolved, nothing_is_run, numbers_are_cut, the_script_sets_and_shows,
-    waiters_try_again,
+    a_buffer_announces_an_equal_value, a_choice_takes_one_block, a_clocked_counter_is_traced,
+    a_fifo_answers, a_fifo_blocks, a_mutex_has_an_owner, a_mutex_is_handed_on, a_port_has_places,
+    a_second_writer_is_a_fault, a_semaphore_counts, a_signal_has_a_writer,
+    a_written_value_is_read_after_the_update, calls_may_be_too_deep, drivers_are_resolved,
+    nothing_is_run, numbers_are_cut, the_script_sets_and_shows, waiters_try_again,
 };
 pub use scheduling::{
     a_cancelled_notification_never_comes, a_rule_picks_each_choice, a_run_ends_at_its_time,
@@ -26,5 +26,5 @@ pub use scheduling::{
 pub use transporting::{
     a_blocking_call_may_wait, a_call_gives_back, a_keeper_asks_for_a_sync,
     a_keeper_looks_to_the_next_quantum, a_payload_is_carried, a_spawned_instance_is_another_one,
-    an_end_can_be_waited_for, calls_follow_the_base_protocol,
+    a_spawned_method_runs_anew, an_end_can_be_waited_for, calls_follow_the_base_protocol,
 };

@@ -47,3 +47,8 @@ pub fn a_call_gives_back()
 pub fn an_end_can_be_waited_for()
     ensures ends { told 15 (0 ∷ 1 ∷ 0 ∷ []) models.awaited (run ∷ []) ≡ Some (codes "0 m.w_1 w 5\n0 m.t done 1\nend done 0\n") }
 {}
+
+/// A spawned method waits by its sensitivity, and has its first arguments in each turn.
+pub fn a_spawned_method_runs_anew()
+    ensures runs { told 28 (0 ∷ 0 ∷ 1 ∷ 0 ∷ 1 ∷ []) models.spawned_method (run ∷ []) ≡ Some (codes "1000 m.w_1 n 5\n2000 m.w_1 n 5\nend done 2000\n") }
+{}
