@@ -1,0 +1,2 @@
+pub mod NamesMet
+pub mod Kept
