@@ -1,2 +1,3 @@
 pub mod NamesMet
 pub mod Kept
+pub mod Typed
