@@ -1,0 +1,6 @@
+mod CutLemmas
+mod ProgressLemmas
+mod RangeLemmas
+mod FitsLemmas
+mod PathLemmas
+mod ChoiceLemmas
