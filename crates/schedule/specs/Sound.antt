@@ -1,0 +1,78 @@
+-- What holds of a schedule: its parts agree.
+use Rattle.std.specs.Prelude.{◌≡◌, ◌≢◌, ◌≤◌, ◌<◌, ◌+◌, ◌-◌, ◌^◌, ℕ, Bool, true, false, List, [], ◌∷◌, Option, Some, None, vec_len, vec_capacity, length, ⊤}
+use Rattle.std.specs.FinMap as map
+use Rattle.std.specs.FinSet as set
+use Rattle.std.specs.List.{list_any}
+use Rattle.sim_time.specs.declared.moments.Time.{Time}
+use Rattle.event_core.specs.declared.event.Ev.{Ev}
+use Rattle.instance_table.specs.declared.instances.Instance.{Instance as Entry}
+use Rattle.instance_table.specs.declared.instances.Waiting.{Waiting}
+use Rattle.instance_table.specs.declared.instances.Waiting.TheVariants as waiting
+use Rattle.instance_table.specs.declared.instances.Deadline.{Deadline as Kept}
+use Rattle.instance_table.specs.declared.instances.Deadline.TheVariants as due
+use Rattle.wait_lists.specs.Waits as lists
+use Rattle.schedule.specs.Seen.{Seen, seen, listed, is_on}
+use Rattle.schedule.specs.declared.parts.Process.{Process}
+use Rattle.schedule.specs.declared.parts.Schedule.{Schedule}
+
+-- the wait lists have what the entry says
+abbrev pub Agrees : Waiting → List Ev → Option lists.Wait → Type 0
+Agrees waiting.None static w = w ≡ None
+Agrees waiting.Static static w = w ≡ lists.any_of static
+Agrees waiting.Any static w = w ≡ lists.any_of (listed w)
+Agrees waiting.All static w = w ≡ lists.all_of (listed w)
+
+abbrev pub time_of : Kept → Option Time
+time_of due.None = None
+time_of due.Delta = None
+time_of (due.At t) = Some (record { 0 = t })
+
+abbrev pub is_zero : Kept → Bool
+is_zero due.None = false
+is_zero due.Delta = true
+is_zero (due.At t) = false
+
+-- no doubles
+abbrev pub IsOnce : List ℕ → Type 0
+IsOnce [] = ⊤
+IsOnce (p ∷ ps) = (is_on ps p ≡ false) × IsOnce ps
+
+module _ {B : Type 0} where
+  -- of a live instance
+  pub record IsKept (x : Entry (Process B)) (s : Seen B) : Type 0 where
+    pub wait : Agrees x.wait x.body.sensitive s.wait
+    pub muted : s.muted ≡ x.disabled
+    pub has_room : s.has_room ≡ true
+    pub time : s.time ≡ time_of x.deadline
+    pub zero : s.zero ≡ is_zero x.deadline
+
+  -- of a serial that no live instance has
+  pub record IsNobody (s : Seen B) : Type 0 where
+    pub wait : s.wait ≡ None
+    pub muted : s.muted ≡ false
+    pub has_room : s.has_room ≡ false
+    pub time : s.time ≡ None
+    pub zero : s.zero ≡ false
+    pub ready : s.ready ≡ false
+
+  abbrev pub FitsAs : Option (Entry (Process B)) → Seen B → Type 0
+  FitsAs None s = IsNobody s
+  FitsAs (Some x) s = IsKept x s
+
+  abbrev pub Fits : Seen B → Type 0
+  Fits s = FitsAs s.entry s
+
+  pub record IsSound (s : Schedule B) : Type 0 where
+    pub each : (p : ℕ) → Fits (seen s p)
+    pub active : (p : ℕ) → is_on s.stack.items p ≡ true → map.contains_key s.table.live p ≡ true
+    pub once : IsOnce s.stack.items
+    -- what is active waits for nothing
+    pub free : (p : ℕ) (x : Entry (Process B)) → is_on s.stack.items p ≡ true → map.get s.table.live p ≡ Some x → (x.wait ≡ waiting.None) × (x.deadline ≡ due.None)
+    -- there is room for every live instance on the stack, among the runnable ones, and among those that one event wakes
+    pub stack_room : map.len s.table.live ≤ vec_capacity s.stack
+    pub ready_room : map.len s.table.live ≤ set.len s.ready.members + s.ready.spare
+    pub woken_room : map.len s.lists.room ≤ vec_capacity s.woken
+    pub nobody_woken : s.woken.items ≡ []
+    -- serials are below the next one, and fit
+    pub below : (p : ℕ) → map.contains_key s.table.live p ≡ true → p < s.table.next
+    pub serials : s.table.next < 2 ^ 32 - 1

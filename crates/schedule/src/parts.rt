@@ -1,0 +1,35 @@
+use event_core::Ev;
+use instance_table::Table;
+use plain_lists::Items;
+use ready_set::ReadySet;
+use timed_queue::TimedQueue;
+use wait_lists::WaitLists;
+
+/// What is kept of a process beside its marks: its static sensitivity, and what the caller keeps for it.
+#[derive(Drop)]
+pub struct Process<B> {
+    /// The events that it waits for where it waits for no others (IEEE 1666-2011, 5.2.4).
+    pub sensitive: Items<Ev>,
+    /// What the caller keeps.
+    pub body: B,
+}
+
+/// The processes of a run by their serials: who waits for what and until when, who is runnable, and who is active
+/// (IEEE 1666-2011, 4.2.1).
+#[derive(Drop)]
+pub struct Schedule<B> {
+    /// The live instances.
+    pub table: Table<Process<B>>,
+    /// Who waits for which event.
+    pub lists: WaitLists,
+    /// When waits end by time.
+    pub deadlines: TimedQueue,
+    /// The waits that end in the next delta notification phase.
+    pub zero: ReadySet,
+    /// The runnable instances.
+    pub ready: ReadySet,
+    /// The active instances, the top last.
+    pub stack: Vec<u32>,
+    /// Room for those that an event wakes.
+    pub woken: Vec<u32>,
+}
