@@ -1,5 +1,5 @@
 -- What a construct keeps that has no fault.
-use Rattle.std.proofs.Common.{◌≡◌, ℕ, List, [], ◌∷◌, Option, Some, None, refl}
+use Rattle.std.proofs.Common.{◌≡◌, Option, Some, None, refl}
 use Rattle.std.specs.Prelude.{option_map}
 use Rattle.model_faults.specs.Sites.{Site}
 use Rattle.model_faults.specs.Names.{unknown_name, wrong_kind}

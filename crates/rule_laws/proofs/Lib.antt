@@ -1,3 +1,4 @@
 pub mod NamesMet
 pub mod Kept
 pub mod Typed
+pub mod Coded

@@ -1,15 +1,13 @@
 -- Names of a construct that breaks no rule are known, and are what is needed.
-use Rattle.std.proofs.Common.{◌≡◌, ℕ, Bool, true, false, not, List, [], ◌∷◌, Option, Some, None, refl, sym, ◌∙◌, ap}
+use Rattle.std.proofs.Common.{◌≡◌, ℕ, Bool, true, false, not, List, [], ◌∷◌, Option, Some, None, refl}
 use Rattle.std.specs.Prelude.{is_some, option_map}
 use Rattle.std.specs.List.{AllByRecursion}
-use Rattle.std.specs.Option.{option_or}
 use Rattle.model_tree.specs.Tree as tree
-use Rattle.model_tree.specs.declared.faults.Fault.{Fault}
 use Rattle.model_scopes.specs.Scopes.{Scope, meaning_of, is_known}
 use Rattle.model_scopes.specs.declared.meanings.Meaning.{Meaning}
 use Rattle.model_faults.specs.Sites.{Site, sites}
 use Rattle.model_faults.specs.Names.{Used, first, name_if, uses, meets, unknown_use, unknown_beside, unknown_name, is_unmet, wrong_use, wrong_beside, wrong_kind}
-use Rattle.model_faults.specs.Passes.{Rule, fault_by, fault_at, fault_of, doubles, constructs, reaches, passes, first_fault}
+use Rattle.model_faults.specs.Passes.{fault_by, fault_at, constructs, passes, first_fault}
 use Rattle.model_faults.proofs.Firsts.{or_none, all_none, each_none}
 use Rattle.rule_laws.specs.Met.{IsMet, UsesAreMet, AllAreMet}
 

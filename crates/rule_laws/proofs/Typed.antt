@@ -1,14 +1,13 @@
 -- Where no part of an expression has a fault and all types are known, the expression stands for what is needed.
-use Rattle.std.proofs.Common.{◌≡◌, ℕ, Bool, true, false, cond, not, ◌&&◌, ◌||◌, List, [], ◌∷◌, ◌++◌, Option, Some, None, refl, sym, ap, ◌∙◌, subst, true≢false}
+use Rattle.std.proofs.Common.{◌≡◌, ℕ, Bool, true, false, not, ◌&&◌, ◌||◌, List, [], ◌∷◌, ◌++◌, Option, Some, None, refl, sym, ◌∙◌, subst, true≢false}
 use Rattle.std.specs.Prelude.{is_some, is_none, option_map, option_and_then, nat_lt, if◌then◌else◌}
-use Rattle.std.specs.Option.{option_or}
 use Rattle.model_tree.specs.Tree as tree
 use Rattle.model_tree.specs.Lines.{first_line}
 use Rattle.model_scopes.specs.Meanings.{is_width}
 use Rattle.model_scopes.specs.Members.{row_of, value_member}
 use Rattle.model_scopes.specs.Scopes.{Scope, meaning_of}
 use Rattle.model_scopes.specs.Operators.{option_if, both, seen_as, is_integer, operands, given, unary_type, conversion_type, becomes_vector, concat_type, digit_type, digit_count, is_within, digits_of, slice_in, slice_type}
-use Rattle.model_scopes.specs.Types.{value_of, type_seen, value_if, object_if, places, is_port, is_below, at_number, is_integer_type, at_computed, is_time_literal, seen_member, member_seen, is_array, element_type, element_seen, seen_of, type_of}
+use Rattle.model_scopes.specs.Types.{value_of, type_seen, value_if, object_if, places, is_port, is_below, at_number, is_integer_type, at_computed, is_time_literal, seen_member, member_seen, is_array, element_seen, seen_of, type_of}
 use Rattle.model_scopes.specs.declared.meanings.ExpressionType.{ExpressionType}
 use Rattle.model_scopes.specs.declared.meanings.ExpressionType.TheVariants as t
 use Rattle.model_scopes.specs.declared.meanings.Meaning.{Meaning}
@@ -22,12 +21,12 @@ use Rattle.model_faults.specs.declared.needs.Need.{Need}
 use Rattle.model_faults.specs.declared.needs.Need.TheVariants as need_of
 use Rattle.model_faults.specs.Sites as part
 use Rattle.model_faults.specs.Sites.{Site, site, channel_site, expression_site, has_index, sites_as}
-use Rattle.model_faults.specs.Names.{first, name_if, uses, meets, is_value, is_memory, row_lacks, unknown_in_row, unknown_member, wrong_in_row, wrong_member, is_no_value, Head, broken, named, computed, named_head, computed_head, object_name, head_of, unknown_of_head, wrong_of_head, wrong_use, is_static, is_wrong_place, wrong_place, unknown_use, unknown_beside, wrong_beside}
-use Rattle.model_faults.specs.Values.{fails, refuses, refuse, element_differs, expression_differs, place_differs, is_beyond, wide_expression, is_past, wide_place, late_expression}
+use Rattle.model_faults.specs.Names.{first, name_if, meets, is_value, is_memory, row_lacks, unknown_in_row, wrong_in_row, is_no_value, named, named_head, computed_head, object_name, head_of, unknown_of_head, wrong_of_head, wrong_use, is_static, is_wrong_place, wrong_place}
+use Rattle.model_faults.specs.Values.{fails, refuses, refuse, element_differs, place_differs, is_beyond, is_past, wide_place}
 use Rattle.model_faults.specs.Passes.{constructs, fault_at, fault_of}
 use Rattle.model_faults.proofs.Firsts.{or_none, first_append}
 use Rattle.rule_laws.specs.Known.{is_type_known, TypesAreKnown}
-use Rattle.rule_laws.proofs.Kept.{Keeps, keeps}
+use Rattle.rule_laws.proofs.Kept.{keeps}
 use Rattle.rule_laws.proofs.NamesMet.{site_met}
 
 -- truth values

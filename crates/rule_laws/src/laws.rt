@@ -1,10 +1,25 @@
 //! Laws of models without a first fault.
-ghost use Rattle.std.specs.Prelude.{◌≡◌, None};
-ghost use Rattle.model_tree.specs.Tree.{Model};
-ghost use Rattle.model_faults.specs.Passes.{first_fault};
+ghost use Rattle.std.specs.Prelude.{◌≡◌, None, true, is_some};
+ghost use Rattle.model_tree.specs.Tree.{Expression, Model};
+ghost use Rattle.model_scopes.specs.Scopes.{Scope};
+ghost use Rattle.model_scopes.specs.Types.{type_of};
+ghost use Rattle.model_faults.specs.Sites.{expression_sites};
+ghost use Rattle.model_faults.specs.Passes.{constructs, fault_of, first_fault};
+ghost use Rattle.code_of_model.specs.Terms.{term_of};
+ghost use Rattle.rule_laws.specs.Known.{TypesAreKnown};
 ghost use Rattle.rule_laws.specs.Met.{AllAreMet};
 
 /// Where a model has no first fault, each name that is used is declared, and is what the construct needs.
 pub fn uses_are_met()
     ensures { (m : Model) → first_fault m ≡ None → AllAreMet m }
+{}
+
+/// Where all declared types are known, an expression no part of which has a fault has a type: what has none is told by a rule.
+pub fn sound_expressions_have_types()
+    ensures { (s : Scope) (e : Expression) → TypesAreKnown s → fault_of constructs (expression_sites s e) ≡ None → is_some (type_of s e) ≡ true }
+{}
+
+/// An expression that has a type has code.
+pub fn typed_expressions_have_code()
+    ensures { (s : Scope) (e : Expression) → is_some (type_of s e) ≡ true → is_some (term_of s e) ≡ true }
 {}
