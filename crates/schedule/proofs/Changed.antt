@@ -16,7 +16,7 @@ use Rattle.timed_queue.specs.Timed.{Timed}
 use Rattle.ready_set.specs.Ready.{Ready, with_member, without_member}
 use Rattle.wait_lists.specs.Waits as lists
 use Rattle.schedule.specs.Seen.{Seen, seen}
-use Rattle.schedule.specs.Moves.{Changes, HasPlaces, unwaited}
+use Rattle.schedule.specs.Moves.{Changes}
 use Rattle.schedule.specs.declared.parts.Schedule.{Schedule}
 
 -- sets

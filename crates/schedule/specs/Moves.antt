@@ -57,10 +57,6 @@ module _ {B : Type 0} where
   abbrev pub fired : Ev → Seen B → Seen B
   fired e x = met_if (is_woken e x) (struck_by e x)
 
-  -- no wait, no time-out
-  abbrev pub unwaited : Seen B → Seen B
-  unwaited s = record s { wait = None; time = None; zero = false }
-
   -- where there is room for all live instances among the runnable ones, and only live ones are runnable
   pub record HasPlaces (s : Schedule B) : Type 0 where
     pub live : (p : ℕ) → set.contains s.ready.members p ≡ true → map.contains_key s.table.live p ≡ true

@@ -7,6 +7,5 @@ mod parts;
 mod waking;
 
 pub use making::empty;
-pub use moves::{join, meet, stop_waiting};
 pub use parts::{Process, Schedule};
 pub use waking::{fire, is_active, wake};

@@ -2,7 +2,7 @@ ghost use Rattle.std.specs.Prelude.{◌≡◌, ◌<◌, true, false, Some, None}
 ghost use Rattle.std.specs.FinMap as map;
 ghost use Rattle.std.specs.FinSet as set;
 ghost use Rattle.schedule.specs.Seen.{seen};
-ghost use Rattle.schedule.specs.Moves.{heard, heard_as, hears_at, heard_seen, met, unwaited, Changes, HasPlaces};
+ghost use Rattle.schedule.specs.Moves.{heard, heard_as, hears_at, heard_seen, met, Changes, HasPlaces};
 
 use super::parts::{Process, Schedule};
 use instance_table::{Deadline, Instance, Waiting};
@@ -41,14 +41,6 @@ fn end_time<B>(s: &mut Schedule<B>, p: u32)
 {
     s.deadlines.clear(p);
     s.zero.remove(p);
-}
-
-/// Ends the wait of an instance.
-pub fn stop_waiting<B>(s: &mut Schedule<B>, p: u32)
-    ensures { Changes p unwaited s.old s.new }
-{
-    s.lists.leave(p);
-    end_time(s, p);
 }
 
 /// Makes a live instance runnable.
