@@ -13,7 +13,7 @@ use Rattle.flat_design.specs.declared.design.Design.{Design}
 use Rattle.worked_runs.specs.Body.{Body, end, does, branch, guarded, tried, vec_of, own_event, item, named, number, binary, assign, say, say_value, wait_for, wait_on, control, control_self, throw_at, throw_at_self, call}
 use Rattle.worked_runs.specs.Build.{design_of, exception, variable, thread, method, procedure}
 use Rattle.worked_runs.specs.Rows.{byte}
-use Rattle.worked_control.specs.Targets.{acts, says, later, fires, fires_g, suspending, after_a_while}
+use Rattle.worked_control.specs.Targets.{acts, says, later, fires, fires_g, after_a_while}
 
 -- a thread controls itself inside a guard; a method does so
 abbrev pub thread_does : Statement → Body → Design

@@ -1,6 +1,6 @@
 -- The models of the runs of process control: a thread k controls a process t. Items are numbered by their places in the text,
 -- and processes by their serials: t is the item 2 and has the serial 0; k is the item 5 and has the serial 3; others follow.
-use Rattle.std.specs.Prelude.{ℕ, List, [], ◌∷◌, ◌++◌, Option, Some, None, codes, true, false}
+use Rattle.std.specs.Prelude.{ℕ, List, [], ◌∷◌, Some, None, codes, true, false}
 use Rattle.model_tree.specs.declared.items.ProcessKind.TheVariants as process
 use Rattle.model_tree.specs.declared.statements.Control.TheVariants as control_of
 use Rattle.model_tree.specs.declared.expressions.BinaryOp.TheVariants as op
@@ -10,12 +10,11 @@ use Rattle.flat_design.specs.declared.value_types.ValueType.TheVariants as type
 use Rattle.flat_design.specs.declared.names.PayloadField.TheVariants as field
 use Rattle.flat_design.specs.declared.code.Await.TheVariants as await
 use Rattle.flat_design.specs.declared.code.Destination.TheVariants as destination
-use Rattle.flat_design.specs.declared.code.Local.{Local}
 use Rattle.flat_design.specs.declared.code.Statement.{Statement}
 use Rattle.flat_design.specs.declared.code.Statement.TheVariants as kept
 use Rattle.flat_design.specs.declared.design.Design.{Design}
-use Rattle.worked_runs.specs.Body.{Body, end, does, tried, guarded, vec_of, own_event, item, local, named, number, moment, binary, store, assign, say, say_value, wait_for, wait_on, control, control_self, throw_at, notify}
-use Rattle.worked_runs.specs.Build.{design_of, event, variable, exception, thread, thread_with, method, process_of, procedure, local_of, inout, function_with, instance, initiator, target, hop}
+use Rattle.worked_runs.specs.Body.{Body, end, does, tried, guarded, vec_of, own_event, item, local, named, number, moment, binary, assign, say, say_value, wait_for, wait_on, control, control_self, throw_at, notify}
+use Rattle.worked_runs.specs.Build.{design_of, event, variable, exception, thread, method, process_of, procedure, local_of, inout, function_with, instance, initiator, target, hop}
 use Rattle.worked_runs.specs.Rows.{byte, integer}
 
 -- a method that runs at an event of t and says so

@@ -1,5 +1,5 @@
 -- The models of the runs of notifications. Items are numbered by their places in the text, and processes by their serials.
-use Rattle.std.specs.Prelude.{ℕ, ◌^◌, ◌-◌, List, [], ◌∷◌, codes, true}
+use Rattle.std.specs.Prelude.{ℕ, ◌^◌, ◌-◌, [], ◌∷◌, codes, true}
 use Rattle.model_tree.specs.declared.items.ProcessKind.TheVariants as process
 use Rattle.event_core.specs.declared.event.Ev.TheVariants as ev
 use Rattle.flat_design.specs.declared.code.Statement.{Statement}

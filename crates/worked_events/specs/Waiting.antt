@@ -10,7 +10,7 @@ use Rattle.flat_design.specs.declared.code.Await.TheVariants as await
 use Rattle.flat_design.specs.declared.code.Statement.{Statement}
 use Rattle.flat_design.specs.declared.code.Statement.TheVariants as kept
 use Rattle.flat_design.specs.declared.design.Design.{Design}
-use Rattle.worked_runs.specs.Body.{Body, end, does, branch, vec_of, own_event, item, named, number, moment, binary, assign, say, say_value, wait_for, wait_on, notify}
+use Rattle.worked_runs.specs.Body.{end, does, branch, vec_of, own_event, item, named, number, moment, binary, assign, say, say_value, wait_for, wait_on, notify}
 use Rattle.worked_runs.specs.Build.{design_of, event, variable, thread, method, process_of}
 use Rattle.worked_runs.specs.Rows.{byte}
 

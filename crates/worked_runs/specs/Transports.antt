@@ -1,11 +1,10 @@
 -- The models of the worked runs of spawned instances, payloads, transport calls and quantum keepers.
-use Rattle.std.specs.Prelude.{ℕ, List, [], ◌∷◌, ◌++◌, Option, Some, None, codes, true, false}
+use Rattle.std.specs.Prelude.{ℕ, List, [], ◌∷◌, ◌++◌, Some, None, codes, true, false}
 use Rattle.model_tree.specs.declared.items.ProcessKind.TheVariants as process
 use Rattle.model_tree.specs.declared.expressions.BinaryOp.TheVariants as op
 use Rattle.model_tree.specs.declared.statements.Control.TheVariants as control_of
 use Rattle.flat_design.specs.declared.value_types.ValueType.TheVariants as type
 use Rattle.flat_design.specs.declared.names.Member.TheVariants as member
-use Rattle.flat_design.specs.declared.names.NameUse.{NameUse}
 use Rattle.flat_design.specs.declared.names.PayloadField.{PayloadField}
 use Rattle.flat_design.specs.declared.names.PayloadField.TheVariants as field
 use Rattle.flat_design.specs.declared.names.PayloadBytes.TheVariants as bytes_of

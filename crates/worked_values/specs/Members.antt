@@ -12,7 +12,7 @@ use Rattle.flat_design.specs.declared.code.Statement.TheVariants as kept
 use Rattle.flat_design.specs.declared.terms.Expr.{PayloadByte'}
 use Rattle.flat_design.specs.declared.terms.Expr.TheVariants as expr
 use Rattle.flat_design.specs.declared.design.Design.{Design}
-use Rattle.worked_runs.specs.Body.{Body, end, does, boxed, item, named, number, moment, binary, store, channel, say_value, write, wait_for, wait_delta}
+use Rattle.worked_runs.specs.Body.{end, does, boxed, item, named, number, moment, binary, store, channel, say_value, write, wait_for, wait_delta}
 use Rattle.worked_runs.specs.Build.{design_of, signal, fifo, variable, keeper, thread}
 use Rattle.worked_runs.specs.Rows.{byte}
 
