@@ -1,0 +1,10 @@
+pub mod Fine
+pub mod Wakes
+pub mod Moves
+pub mod Controls
+pub mod Ends
+pub mod New
+pub mod Forms
+pub mod Statements
+pub mod Steps
+pub mod Runs
