@@ -1,6 +1,6 @@
 use super::{choice_list, commands, name_all};
 use flat_design::{
-    Code, CodeId, Design, Object, ObjectForm, Objects, SignalPart, ValueType, Visible, VisibleId,
+    Code, Design, Object, ObjectForm, Objects, SignalPart, ValueType, Visible, VisibleId,
     default_value,
 };
 use logic_values::{Digit, Text, Value};
@@ -135,7 +135,7 @@ fn small_design(alloc: Global) -> Result<Design, AllocError> {
         period: Time(10),
         high: Time(5),
         start: Time(0),
-        code: CodeId(0),
+        code: 0,
     };
     add_signal(alloc, &mut design, b"clk", 0, ValueType::Bool, clock)?;
     for (name, value_type) in [
@@ -259,7 +259,7 @@ fn scripts_say_what_they_say(rt: HostRuntime) {
     ];
     for (text, wanted) in cases {
         let all = outcome(alloc, text, &design).expect(&rt, "memory");
-        assert_eq!(rt; all.as_slice(), wanted);
+        assert_eq!(rt; all.as_slice(), *wanted);
     }
     for (count, line) in [(4096, 0), (4097, 8193)] {
         let text = runs(alloc, count).expect(&rt, "memory");
@@ -285,7 +285,7 @@ fn scripts_say_what_they_say(rt: HostRuntime) {
     ];
     for (text, wanted) in choices {
         let list = choice_list(alloc, text).expect(&rt, "a list");
-        assert_eq!(rt; list.as_slice(), wanted);
+        assert_eq!(rt; list.as_slice(), *wanted);
     }
     for (text, wanted) in [
         ("\n", 1),
