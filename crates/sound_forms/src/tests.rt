@@ -11,6 +11,9 @@ fn make_shelf(alloc: Global) -> Result<SoundShelf, AllocError> {
         let bytes = Vec::from_slice(alloc, text.as_bytes())?;
         files.push(SoundFile::new(name, bytes))?;
     }
+    if files.len() > 3 {
+        return Err(AllocError);
+    }
     Ok(SoundShelf::new(files))
 }
 
