@@ -1,19 +1,17 @@
 -- What one part's change is, told serial by serial.
-use Rattle.std.proofs.Common.{◌≡◌, ◌≢◌, ◌≤◌, ◌<◌, ◌+◌, ◌-◌, ℕ, Bool, true, false, cond, not, ◌&&◌, ◌||◌, List, Option, Some, None, refl, sym, ap, ◌∙◌, arith, subst, true≢false, ⊎_elim}
-use Rattle.std.specs.Prelude.{if◌then◌else◌, is_some, option_map}
+use Rattle.std.proofs.Common.{◌≡◌, ◌≢◌, ℕ, true, false, not, ◌&&◌, ◌||◌, Some, None, refl, sym, ap, ◌∙◌}
+use Rattle.std.specs.Prelude.{is_some, option_map}
 use Rattle.numbered_slots.specs.Numbered.{with_value}
 use Rattle.instance_table.specs.declared.instances.Instance.{Instance as Entry}
 use Rattle.schedule.specs.declared.parts.Process.{Process}
-use Rattle.std.proofs.lemmas.Bool.{cases_eq}
-use Rattle.std.specs.Ordering.{nat_cmp, eq_by_cmp}
+use Rattle.std.specs.Ordering.{nat_cmp}
 use Rattle.std.specs.Cmp.{nat_cmp_total}
 use Rattle.std.specs.FinMap as map
 use Rattle.std.specs.FinSet as set
-use Rattle.map_lemmas.specs.Updated.{updated}
 use Rattle.map_lemmas.proofs.MapLemmas.{ties_itself, ties_no_other, get-updated_same, get-updated_other, get-remove_same, get-remove_other, get-insert_same, get-insert_other, len-insert_there}
 use Rattle.timed_queue.specs.Timed as timed
 use Rattle.timed_queue.specs.Timed.{Timed}
-use Rattle.ready_set.specs.Ready.{Ready, with_member, without_member}
+use Rattle.ready_set.specs.Ready.{Ready, without_member}
 use Rattle.wait_lists.specs.Waits as lists
 use Rattle.schedule.specs.Seen.{Seen, seen}
 use Rattle.schedule.specs.Moves.{Changes}

@@ -1,11 +1,11 @@
 -- A schedule without an instance.
-use Rattle.std.proofs.Common.{◌≡◌, ◌≤◌, ◌<◌, ◌-◌, ◌^◌, ℕ, true, false, Option, Some, None, [], refl, sym, ap, ◌∙◌, arith, subst, true≢false}
-use Rattle.std.specs.Prelude.{is_some, vec_len, vec_capacity, option_map}
+use Rattle.std.proofs.Common.{◌≡◌, ℕ, false, None, [], sym, ap, ◌∙◌, arith, subst, true≢false}
+use Rattle.std.specs.Prelude.{is_some, option_map}
 use Rattle.std.specs.Ordering.{nat_cmp}
 use Rattle.std.specs.FinMap as map
 use Rattle.std.specs.FinSet as set
-use Rattle.schedule.specs.Seen.{Seen, seen, is_on, as_instance, shown_at}
-use Rattle.schedule.specs.Sound.{IsNobody, Fits, FitsAs, IsSound, IsOnce}
+use Rattle.schedule.specs.Seen.{seen, is_on, as_instance, shown_at}
+use Rattle.schedule.specs.Sound.{IsNobody, FitsAs, IsSound, IsOnce}
 use Rattle.schedule.specs.declared.parts.Schedule.{Schedule}
 
 module _ {B : Type 0} (s : Schedule B)

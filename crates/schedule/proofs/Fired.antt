@@ -1,8 +1,7 @@
 -- An event goes over all serials.
-use Rattle.std.proofs.Common.{◌≡◌, ◌≤◌, ◌<◌, ◌+◌, ◌-◌, ◌^◌, ◌==◌, ◌||◌, ℕ, Bool, true, false, cond, List, [], ◌∷◌, ◌++◌, Option, Some, None, option_map, refl, sym, ap, ◌∙◌, arith, true≢false, subst}
-use Rattle.std.specs.Prelude.{if◌then◌else◌, is_some, vec_capacity, count_by}
+use Rattle.std.proofs.Common.{◌≡◌, ◌≤◌, ◌<◌, ◌+◌, ◌-◌, ◌^◌, ◌==◌, ◌||◌, ℕ, Bool, true, false, cond, List, [], ◌∷◌, ◌++◌, option_map, refl, sym, ap, ◌∙◌, arith, subst}
+use Rattle.std.specs.Prelude.{is_some, vec_capacity, count_by}
 use Rattle.std.specs.Global.{Vec}
-use Rattle.std.specs.List.{list_any}
 use Rattle.std.proofs.lemmas.List.Sums.{sum_by-cons}
 use Rattle.std.specs.FinMap as map
 use Rattle.std.specs.FinSet as set
@@ -10,7 +9,7 @@ use Rattle.event_core.specs.declared.event.Ev.{Ev}
 use Rattle.instance_table.specs.declared.instances.Instance.{Instance as Entry}
 use Rattle.wait_lists.specs.Waits as lists
 use Rattle.wake_laws.specs.Woken.{after_event, joins_by}
-use Rattle.schedule.specs.Seen.{Seen, seen, is_on, shown_in}
+use Rattle.schedule.specs.Seen.{seen, is_on, shown_in}
 use Rattle.schedule.specs.Sound.{Fits, IsSound, IsOnce}
 use Rattle.schedule.specs.Moves.{met_if, struck_by, is_woken, fired, MeetsAll, Rouses}
 use Rattle.schedule.specs.declared.parts.Process.{Process}

@@ -1,25 +1,20 @@
 -- An event, told by what is seen of each serial.
-use Rattle.std.proofs.Common.{◌≡◌, ◌≢◌, ◌≤◌, ◌<◌, ◌+◌, ◌-◌, ◌^◌, ◌==◌, ◌&&◌, ◌||◌, not, ℕ, Bool, true, false, cond, List, [], ◌∷◌, ◌++◌, filter, length, Option, Some, None, option_map, refl, sym, ap, ◌∙◌, arith, true≢false, ⊎_elim, subst, ne_eqb}
-use Rattle.std.specs.Prelude.{if◌then◌else◌, is_some, is_none, vec_len, vec_capacity, count_by, Vec}
-use Rattle.std.specs.List.{list_any}
+use Rattle.std.proofs.Common.{◌≡◌, ◌==◌, ◌&&◌, ◌||◌, not, ℕ, Bool, true, false, List, [], ◌∷◌, Option, Some, None, option_map, refl, sym, ap, ◌∙◌, true≢false, ⊎_elim, subst, ne_eqb}
+use Rattle.std.specs.Prelude.{if◌then◌else◌, is_some, is_none}
 use Rattle.std.proofs.lemmas.Bool.{cases_eq}
-use Rattle.std.proofs.lemmas.List.Sums.{sum_by-cons}
-use Rattle.std.specs.FinMap as map
-use Rattle.std.specs.FinSet as set
 use Rattle.event_core.specs.declared.event.Ev.{Ev}
 use Rattle.event_core.specs.declared.event.Ev.TheVariants as ev
 use Rattle.event_core.specs.Ev.{same_event}
 use Rattle.instance_table.specs.declared.instances.Instance.{Instance as Entry}
 use Rattle.instance_table.specs.declared.instances.Waiting.{Waiting}
 use Rattle.instance_table.specs.declared.instances.Waiting.TheVariants as waiting
-use Rattle.instance_table.specs.declared.instances.Deadline.TheVariants as due
 use Rattle.wait_lists.specs.Waits as lists
-use Rattle.sim_model.specs.Configuration.{Instance, Wait, waits_for_nothing, waits_statically, waits_for_any, waits_for_all}
+use Rattle.sim_model.specs.Configuration.{Instance, waits_for_all}
 use Rattle.sim_model.specs.Waits.{is_among, struck}
-use Rattle.wake_laws.specs.Woken.{is_deaf, roused, after_wake, joins, after_last, after_named, after_event, is_empty, ends_wait, joins_by, if_there}
-use Rattle.schedule.specs.Seen.{Seen, seen, listed, wait_of, deadline_of, as_instance, shown_in}
-use Rattle.schedule.specs.Sound.{Agrees, IsKept, IsNobody, Fits, FitsAs}
-use Rattle.schedule.specs.Moves.{met, met_if, struck_by, is_woken, fired}
+use Rattle.wake_laws.specs.Woken.{after_wake, joins, after_last, after_named, after_event, is_empty, ends_wait, joins_by, if_there}
+use Rattle.schedule.specs.Seen.{Seen, listed, wait_of, as_instance, shown_in}
+use Rattle.schedule.specs.Sound.{Agrees, IsKept, Fits, FitsAs}
+use Rattle.schedule.specs.Moves.{met_if, fired}
 use Rattle.schedule.specs.declared.parts.Process.{Process}
 use Rattle.schedule.proofs.Rousing.{or-false, or-true, roused_seen, shown_after, fits_after, ready_after, body_after, becomes}
 

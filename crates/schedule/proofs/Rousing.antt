@@ -1,19 +1,17 @@
 -- A wake, told by what is seen of one serial.
-use Rattle.std.proofs.Common.{◌≡◌, ◌≢◌, ◌≤◌, ◌<◌, ◌+◌, ◌-◌, ◌^◌, ◌==◌, ◌&&◌, ◌||◌, not, ℕ, Bool, true, false, List, Option, Some, None, option_map, refl, sym, ap, ◌∙◌, arith, true≢false, ⊎_elim, eq-eqb, ne_eqb, subst}
-use Rattle.std.specs.Prelude.{if◌then◌else◌, is_some, vec_len, vec_capacity, [], ◌∷◌}
-use Rattle.std.specs.List.{list_any}
+use Rattle.std.proofs.Common.{◌≡◌, ◌≢◌, ◌≤◌, ◌<◌, ◌-◌, ◌^◌, ◌&&◌, ◌||◌, not, ℕ, Bool, true, false, Option, Some, None, option_map, refl, sym, ap, ◌∙◌, arith, true≢false, ⊎_elim, eq-eqb, ne_eqb, subst}
+use Rattle.std.specs.Prelude.{if◌then◌else◌, is_some, vec_capacity}
 use Rattle.std.proofs.lemmas.Bool.{cases_eq}
 use Rattle.std.specs.FinMap as map
 use Rattle.std.specs.FinSet as set
 use Rattle.instance_table.specs.declared.instances.Instance.{Instance as Entry}
 use Rattle.instance_table.specs.declared.instances.Waiting.TheVariants as waiting
 use Rattle.instance_table.specs.declared.instances.Deadline.TheVariants as due
-use Rattle.wait_lists.specs.Waits as lists
 use Rattle.sim_model.specs.Configuration.{Instance, waits_for_nothing, no_deadline}
 use Rattle.sim_model.specs.Waits.{freed}
-use Rattle.wake_laws.specs.Woken.{is_deaf, roused, after_wake, joins, if_there, at_only, joins_only}
+use Rattle.wake_laws.specs.Woken.{roused, after_wake, joins, if_there, at_only, joins_only}
 use Rattle.schedule.specs.Seen.{Seen, seen, is_on, as_instance, shown_in, shown_at, body_at}
-use Rattle.schedule.specs.Sound.{Agrees, IsKept, IsNobody, Fits, FitsAs, IsSound, IsOnce}
+use Rattle.schedule.specs.Sound.{IsKept, Fits, FitsAs, IsSound, IsOnce}
 use Rattle.schedule.specs.Moves.{heard, is_heard, met_by, met, Changes, HasPlaces, Rouses}
 use Rattle.schedule.specs.declared.parts.Process.{Process}
 use Rattle.schedule.specs.declared.parts.Schedule.{Schedule}

@@ -1,8 +1,7 @@
 -- What holds of a schedule: its parts agree.
-use Rattle.std.specs.Prelude.{◌≡◌, ◌≢◌, ◌≤◌, ◌<◌, ◌+◌, ◌-◌, ◌^◌, ℕ, Bool, true, false, List, [], ◌∷◌, Option, Some, None, vec_len, vec_capacity, length, ⊤}
+use Rattle.std.specs.Prelude.{◌≡◌, ◌≤◌, ◌<◌, ◌+◌, ◌-◌, ◌^◌, ℕ, Bool, true, false, List, [], ◌∷◌, Option, Some, None, vec_capacity, ⊤}
 use Rattle.std.specs.FinMap as map
 use Rattle.std.specs.FinSet as set
-use Rattle.std.specs.List.{list_any}
 use Rattle.sim_time.specs.declared.moments.Time.{Time}
 use Rattle.event_core.specs.declared.event.Ev.{Ev}
 use Rattle.instance_table.specs.declared.instances.Instance.{Instance as Entry}

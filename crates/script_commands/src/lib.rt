@@ -8,8 +8,6 @@ mod naming;
 mod numbers;
 mod paths;
 mod reading;
-#[cfg(test)]
-mod tests;
 mod values;
 
 pub use choices::choice_list;

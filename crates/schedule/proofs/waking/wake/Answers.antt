@@ -1,4 +1,4 @@
-use Rattle.std.proofs.Common.{◌≡◌, Bool, true, false, not, Option, Some, None, refl, sym, ap, ◌∙◌, true≢false}
+use Rattle.std.proofs.Common.{◌≡◌, true, false, Option, Some, None, refl, sym, ap, ◌∙◌, true≢false}
 use Rattle.instance_table.specs.declared.instances.Instance.{Instance as Entry}
 use Rattle.schedule.specs.declared.parts.Process.{Process}
 use Rattle.schedule.specs.Seen.{is_on}
