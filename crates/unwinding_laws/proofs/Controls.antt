@@ -1,5 +1,5 @@
 -- Control calls in a sound design.
-use Rattle.std.proofs.Common.{◌≡◌, ◌≢◌, ◌+◌, ◌<◌, ◌||◌, ◌&&◌, ◌==◌, ℕ, Bool, true, false, cond, not, List, [], ◌∷◌, ◌++◌, drop, slice_get, Option, Some, None, refl, sym, ap, ◌∙◌, subst, arith, true≢false, ⊎_elim}
+use Rattle.std.proofs.Common.{◌≡◌, ◌<◌, ◌||◌, ◌&&◌, ℕ, Bool, true, false, cond, not, List, [], ◌∷◌, ◌++◌, Option, Some, None, refl, sym, ap, ◌∙◌, subst, arith, true≢false, ⊎_elim}
 use Rattle.std.specs.Prelude.{Result, Ok, Err}
 use Rattle.std.specs.Result.{IfOk}
 use Rattle.std.proofs.lemmas.Bool.{cases_eq}
@@ -10,10 +10,10 @@ use Rattle.model_tree.specs.declared.statements.Control.TheVariants as control
 use Rattle.flat_design.specs.declared.faults.RunFault.{RunFault}
 use Rattle.sim_model.specs.Residual.{Residual, goal, has_goal, in_nb}
 use Rattle.sim_model.specs.Unwinding.{unw, catches, raise, left_by_unw, left_by_raise}
-use Rattle.sim_model.specs.Configuration.{Config, Instance, Processes, change, change_instance, instance_at, with_residual, with_runnable, arena}
+use Rattle.sim_model.specs.Configuration.{Config, Instance, change, change_instance, instance_at, with_residual, with_runnable, arena}
 use Rattle.sim_model.specs.Waits.{holds, without, freed, leaves_stack}
 use Rattle.sim_model.specs.Calls.{with_left, with_entry, thrown}
-use Rattle.sim_model.specs.Control.{is_top, is_below_top, is_thread, with_kept, yields, suspended, suspends, resumes, disables, pushed, pushed_unless_top, unwinds, ends_or_restarts, injected, throws_at, controlled_by, unless_ended, control_call, throw_call}
+use Rattle.sim_model.specs.Control.{is_top, is_below_top, is_thread, with_kept, yields, suspends, resumes, disables, pushed, pushed_unless_top, unwinds, injected, throws_at, controlled_by, unless_ended, control_call, throw_call}
 use Rattle.sim_model.specs.Clean.{times}
 use Rattle.sim_model.specs.declared.plain.Goal.{Goal}
 use Rattle.sim_model.specs.declared.plain.Goal.TheVariants as goal_of
@@ -22,9 +22,9 @@ use Rattle.clean_laws.proofs.Times.{times-here, times-other}
 use Rattle.clean_laws.proofs.Changes.{change-here}
 use Rattle.clean_laws.proofs.Fits.{is-false}
 use Rattle.clean_laws.proofs.Stacks.{and-left, top-is, off-stack}
-use Rattle.goal_laws.specs.Standing.{OfBody, IsOrdinary, IsStanding}
+use Rattle.goal_laws.specs.Standing.{OfBody, IsStanding}
 use Rattle.goal_laws.proofs.Kept.{goalless-ordinary, unw-unwinding, raise-standing}
-use Rattle.unwinding_laws.proofs.Fine.{Fine, AllFine, Same, fine-at, moved-fine, stack-fine, same-fine, residual-fine}
+use Rattle.unwinding_laws.proofs.Fine.{Fine, fine-at, moved-fine, stack-fine, same-fine, residual-fine}
 use Rattle.unwinding_laws.proofs.Moves.{Sound, sound-if, ok-if, same-sound, residual-sound, leaves-sound, top-active}
 
 and_right : (a b : Bool) → (a && b) ≡ true → b ≡ true
@@ -55,10 +55,12 @@ module _ (missing : Construct → Bool) where
       let up = stack-fine c.design c.processes c.processes.runnable stack (λ p n. pushed_more q p c.processes.stack n) h.1 in
       let here = times-here q c.processes.stack in
       let changed = moved-fine c.design (record { runnable = c.processes.runnable; stack = stack; instances = c.processes.instances }) q (λ j. record j { residual = x }) c.processes.runnable stack (λ p apart n. n)
-            (λ j there f. residual-fine c.design j (record j { residual = x }) (times q stack) (times q stack) x refl refl refl
-              (subst (λ (k : Instance). IsStanding c.design k.home x) (same_Some i j (sym at ∙ there)) standing) (λ g. omega (arith, here)) f) up in
-      (h.0, moved-fine c.design (record { runnable = c.processes.runnable; stack = stack; instances = change c.processes.instances q (λ j. record j { residual = x }) }) q (λ j. record (freed j) { kept = false; trigger = None }) (without c.processes.runnable q) stack (λ p apart n. n)
-        (λ j there f. same-fine c.design j (record (freed j) { kept = false; trigger = None }) (times q stack) (times q stack) (record { home = refl; code = refl; residual = refl }) (λ n. n) f) changed)
+      (λ j there f. residual-fine c.design j (record j { residual = x }) (times q stack) (times q stack) x refl refl refl
+      (subst (λ (k : Instance). IsStanding c.design k.home x) (same_Some i j (sym at ∙ there)) standing) (λ g. omega (arith, here)) f) up in (
+        h.0,
+        moved-fine c.design (record { runnable = c.processes.runnable; stack = stack; instances = change c.processes.instances q (λ j. record j { residual = x }) }) q (λ j. record (freed j) { kept = false; trigger = None }) (without c.processes.runnable q) stack (λ p apart n. n)
+            (λ j there f. same-fine c.design j (record (freed j) { kept = false; trigger = None }) (times q stack) (times q stack) (record { home = refl; code = refl; residual = refl }) (λ n. n) f) changed,
+      )
 
   -- ---- flags
 
@@ -75,7 +77,7 @@ module _ (missing : Construct → Bool) where
         let t = top-is d q (and-left (is_top d q) _ is) in
         let none = is_not (has_goal i.residual) (and_right (not (in_nb i.residual)) _ (and_right (is_thread i.kind) _ (and_right (is_top d q) _ is))) in
         leaves-sound missing d q t.0 t.1 (λ j. record j { kept = true }) (λ j there. refl) (λ j there. refl)
-          (λ j there f. (f.standing, ap (λ (k : Instance). has_goal k.residual) (same_Some j (record i { suspended = true }) (sym there ∙ change-here c.processes.instances q _ i at)) ∙ none)) flagged
+        (λ j there f. (f.standing, ap (λ (k : Instance). has_goal k.residual) (same_Some j (record i { suspended = true }) (sym there ∙ change-here c.processes.instances q _ i at)) ∙ none)) flagged
 
     yields_or : (b : Bool) → yields (change_instance c q (λ j. record j { suspended = true })) q i ≡ b
         → Sound missing (cond b (leaves_stack (with_kept (change_instance c q (λ j. record j { suspended = true })) q)) (change_instance c q (λ j. record j { suspended = true })))
@@ -136,17 +138,17 @@ module _ (missing : Construct → Bool) where
     pub thrown-sound : (r : Residual) (e : ℕ) → i.residual ≡ r → has_goal r ≡ false → 0 < times q c.processes.stack → IfOk (thrown c q r e) (Sound missing)
     thrown-sound r e same none active =
         ok-if missing (catches r e) (Ok (with_left (with_residual c q (raise (arena c) r e goal_of.Thrown)) (left_by_raise r e))) _
-          (left-sound (left_by_raise r e) (with_residual c q (raise (arena c) r e goal_of.Thrown))
-            (residual-sound missing c q i (raise (arena c) r e goal_of.Thrown) at
-              (raise-standing c.design e goal_of.Thrown i.home r (goalless-ordinary c.design i.home r (subst (IsStanding c.design i.home) same fine_here.standing) none)) (λ g. active) h)) tt
+        (left-sound (left_by_raise r e) (with_residual c q (raise (arena c) r e goal_of.Thrown))
+        (residual-sound missing c q i (raise (arena c) r e goal_of.Thrown) at
+        (raise-standing c.design e goal_of.Thrown i.home r (goalless-ordinary c.design i.home r (subst (IsStanding c.design i.home) same fine_here.standing) none)) (λ g. active) h)) tt
 
     injected_sound : (e : ℕ) → has_goal i.residual ≡ false → IfOk (injected c q i e) (Sound missing)
     injected_sound e none =
         ok-if missing (not (is_thread i.kind) || not i.started) (Ok c) _ h
         (ok-if missing (catches i.residual e) (Ok (with_left (pushed (with_residual c q (raise (arena c) i.residual e goal_of.Injected)) q) (left_by_raise i.residual e))) _
-          (left-sound (left_by_raise i.residual e) (pushed (with_residual c q (raise (arena c) i.residual e goal_of.Injected)) q)
-            (pushed_with-sound c q i (raise (arena c) i.residual e goal_of.Injected) at
-              (raise-standing c.design e goal_of.Injected i.home i.residual (goalless-ordinary c.design i.home i.residual fine_here.standing none)) h)) tt)
+        (left-sound (left_by_raise i.residual e) (pushed (with_residual c q (raise (arena c) i.residual e goal_of.Injected)) q)
+        (pushed_with-sound c q i (raise (arena c) i.residual e goal_of.Injected) at
+        (raise-standing c.design e goal_of.Injected i.home i.residual (goalless-ordinary c.design i.home i.residual fine_here.standing none)) h)) tt)
 
     self_or : (g : Bool) (e : ℕ) → has_goal i.residual ≡ g → is_top c q ≡ true → IfOk (cond g (Ok c) (thrown c q i.residual e)) (Sound missing)
     self_or true e is top = h

@@ -1,5 +1,5 @@
 -- The ends of bodies and of unwindings in a sound design.
-use Rattle.std.proofs.Common.{◌≡◌, ◌+◌, ◌<◌, ℕ, Bool, true, false, cond, List, ◌∷◌, Option, Some, None, refl, sym, ap, ◌∙◌, subst}
+use Rattle.std.proofs.Common.{◌≡◌, ℕ, Bool, true, false, List, ◌∷◌, Some, None, refl, sym, ap, ◌∙◌, subst}
 use Rattle.std.proofs.lemmas.Option.{same_Some}
 use Rattle.logic_values.specs.declared.kinds.Value.{Value}
 use Rattle.event_core.specs.declared.event.Ev.TheVariants as ev
@@ -10,8 +10,8 @@ use Rattle.flat_design.specs.Code.{body_at, block_at}
 use Rattle.flat_design.specs.Sound.{IsHomeOf}
 use Rattle.flat_design.specs.declared.code.CodeBody.{CodeBody}
 use Rattle.flat_design.specs.declared.design.Design.{Design}
-use Rattle.sim_model.specs.Residual.{Residual, skip, begun, entered, entered_in, put, has_goal, next_of, reaches}
-use Rattle.sim_model.specs.Configuration.{Config, Instance, change_instance, instance_at, with_residual, arena}
+use Rattle.sim_model.specs.Residual.{Residual, skip, begun, entered_in, put, has_goal, next_of, reaches}
+use Rattle.sim_model.specs.Configuration.{Config, Instance, change_instance, instance_at, arena}
 use Rattle.sim_model.specs.Waits.{fire, leaves_stack}
 use Rattle.sim_model.specs.Storing.{passes}
 use Rattle.sim_model.specs.Control.{ended_instance, ends, begins, stays_kept, restarts, goes_on, reaches_goal, idles, done_by}
@@ -24,10 +24,10 @@ use Rattle.goal_laws.specs.Standing.{code_of, OfBody, IsOrdinary, IsStanding}
 use Rattle.goal_laws.proofs.Blocks.{body-block}
 use Rattle.goal_laws.proofs.Kept.{ordinary-standing, statements-ordinary}
 use Rattle.goal_laws.proofs.Places.{past-standing}
-use Rattle.goal_laws.proofs.Tight.{IsTight, goal-gone, ordinary-goalless}
-use Rattle.unwinding_laws.proofs.Fine.{Fine, fine-at, moved-fine, residual-fine}
+use Rattle.goal_laws.proofs.Tight.{IsTight, goal-gone}
+use Rattle.unwinding_laws.proofs.Fine.{fine-at, moved-fine, residual-fine}
 use Rattle.unwinding_laws.proofs.Wakes.{fire-keeps}
-use Rattle.unwinding_laws.proofs.Moves.{Sound, sound-if, fire-sound, same-sound, residual-sound, leaves-sound, top-active}
+use Rattle.unwinding_laws.proofs.Moves.{Sound, sound-if, fire-sound, residual-sound, leaves-sound, top-active}
 
 -- a body that begins stands in itself
 pub begun-ordinary : (d : Design) (home f : ℕ) (args : List Value) (b : CodeBody) → body_at (code_of d) f ≡ Some b → IsHomeOf d home b → IsOrdinary (OfBody d) d home (begun (code_of d) f args)
@@ -42,19 +42,21 @@ module _ (missing : Construct → Bool) where
         (leaves-sound missing c p rest top ended_instance (λ i at. refl) (λ i at. refl) (λ i at f. (tt, refl)) s)
 
     pub begins-sound : (i j : Instance) → instance_at c p ≡ Some j → j.code ≡ i.code → Sound missing (begins c p i)
-    begins-sound i j at same =
-        (s.0, moved-fine c.design c.processes p _ c.processes.runnable c.processes.stack (λ q apart n. n)
+    begins-sound i j at same = (
+      s.0,
+      moved-fine c.design c.processes p _ c.processes.runnable c.processes.stack (λ q apart n. n)
           (λ k there f.
-            let e = same_Some k j (sym there ∙ at) in
-            let found : body_at (code_of c.design) i.code ≡ Some f.body = ap (body_at (code_of c.design)) (sym (ap (λ (x : Instance). x.code) e ∙ same)) ∙ f.found in
-            let ord = begun-ordinary c.design k.home i.code i.arguments f.body found f.home_of in
-            residual-fine c.design k _ (times p c.processes.stack) (times p c.processes.stack) (begun (arena c) i.code i.arguments) refl refl refl (ordinary-standing c.design k.home _ ord) (λ g. top-active missing c p rest top) f) s.1)
+          let e = same_Some k j (sym there ∙ at) in
+          let found : body_at (code_of c.design) i.code ≡ Some f.body = ap (body_at (code_of c.design)) (sym (ap (λ (x : Instance). x.code) e ∙ same)) ∙ f.found in
+          let ord = begun-ordinary c.design k.home i.code i.arguments f.body found f.home_of in
+          residual-fine c.design k _ (times p c.processes.stack) (times p c.processes.stack) (begun (arena c) i.code i.arguments) refl refl refl (ordinary-standing c.design k.home _ ord) (λ g. top-active missing c p rest top) f) s.1,
+    )
 
     -- one without a goal leaves the stack and is kept
     pub kept-sound : (i : Instance) → instance_at c p ≡ Some i → has_goal i.residual ≡ false → Sound missing (stays_kept c p)
     kept-sound i at none =
         leaves-sound missing c p rest top (λ j. record j { kept = true }) (λ j there. refl) (λ j there. refl)
-          (λ j there f. (f.standing, ap (λ (k : Instance). has_goal k.residual) (same_Some j i (sym there ∙ at)) ∙ none)) s
+        (λ j there f. (f.standing, ap (λ (k : Instance). has_goal k.residual) (same_Some j i (sym there ∙ at)) ∙ none)) s
 
     idles-sound : (i : Instance) → Sound missing (idles c p i)
     idles-sound i = leaves-sound missing c p rest top _ (λ j at. refl) (λ j at. refl) (λ j at f. (tt, refl)) s
@@ -64,9 +66,11 @@ module _ (missing : Construct → Bool) where
     done-sound i process.Method = idles-sound i
 
     unbegun-sound : Sound missing (change_instance c p (λ j. record j { residual = skip; started = false }))
-    unbegun-sound =
-        (s.0, moved-fine c.design c.processes p _ c.processes.runnable c.processes.stack (λ q apart n. n)
-          (λ k there f. residual-fine c.design k _ (times p c.processes.stack) (times p c.processes.stack) skip refl refl refl tt (λ g. top-active missing c p rest top) f) s.1)
+    unbegun-sound = (
+      s.0,
+      moved-fine c.design c.processes p _ c.processes.runnable c.processes.stack (λ q apart n. n)
+          (λ k there f. residual-fine c.design k _ (times p c.processes.stack) (times p c.processes.stack) skip refl refl refl tt (λ g. top-active missing c p rest top) f) s.1,
+    )
 
   module _ (c : Config) (p : ℕ) (rest : List ℕ) (top : c.processes.stack ≡ p ∷ rest) (s : Sound missing c) (i : Instance) (at : instance_at c p ≡ Some i) where
     restarts-sound : Sound missing (restarts c p i)
@@ -77,8 +81,8 @@ module _ (missing : Construct → Bool) where
         let stack = (fire-leaves before (ev.Restarted p)).stack ∙ top in
         let twin = (fire-keeps before (ev.Restarted p)).2 p (record i { residual = skip; started = false }) (change-here c.processes.instances p _ i at) in
         sound-if missing i.suspended (stays_kept d p) (begins d p i)
-          (kept-sound d p rest stack sound twin.0 twin.1 (ap has_goal twin.2.residual))
-          (begins-sound d p rest stack sound i twin.0 twin.1 twin.2.code)
+        (kept-sound d p rest stack sound twin.0 twin.1 (ap has_goal twin.2.residual))
+        (begins-sound d p rest stack sound i twin.0 twin.1 twin.2.code)
 
     module _ (r : Residual) (is : i.residual ≡ r) where
       standing_here : IsStanding c.design i.home r
@@ -90,8 +94,8 @@ module _ (missing : Construct → Bool) where
       goes_on-sound : (k : Goal) → IsTight r → next_of r ≡ reaches k → Sound missing (goes_on c p i r)
       goes_on-sound k tight next =
           sound-if missing i.suspended (stays_kept (passes c p r) p) (passes c p r)
-            (kept-sound (passes c p r) p rest top passes-sound (record i { residual = put r skip }) (change-here c.processes.instances p _ i at) (goal-gone c.design i.home r k standing_here tight next))
-            passes-sound
+          (kept-sound (passes c p r) p rest top passes-sound (record i { residual = put r skip }) (change-here c.processes.instances p _ i at) (goal-gone c.design i.home r k standing_here tight next))
+          passes-sound
 
       pub goal-sound : (k : Goal) → IsTight r → next_of r ≡ reaches k → Sound missing (reaches_goal c p i r k)
       goal-sound goal_of.End tight next = ends-sound c p rest top s

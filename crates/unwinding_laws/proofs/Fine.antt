@@ -1,9 +1,7 @@
 -- What each instance of a run has to be: its body is one of the design, what is left of it stands there, and a goal is only on
 -- the stack; and that instances keep to it while one of them moves.
-use Rattle.std.proofs.Common.{◌≡◌, ◌≢◌, ◌+◌, ◌<◌, ◌≤◌, ◌==◌, ℕ, zero, suc, Bool, true, false, cond, List, [], ◌∷◌, ◌++◌, drop, slice_get, slice_set, Option, Some, None, refl, sym, ap, ◌∙◌, subst, arith, true≢false, ⊎_elim}
+use Rattle.std.proofs.Common.{◌≡◌, ◌≢◌, ◌<◌, ℕ, true, List, slice_get, Option, Some, None, refl, sym, ap, ◌∙◌, subst, ⊎_elim}
 use Rattle.std.proofs.lemmas.Bool.{cases_eq}
-use Rattle.std.proofs.lemmas.Option.{none-some, same_Some}
-use Rattle.std.proofs.lemmas.List.Sums.{sum_by-cons}
 use Rattle.flat_design.specs.Code.{body_at}
 use Rattle.flat_design.specs.Sound.{IsHomeOf}
 use Rattle.flat_design.specs.declared.code.CodeBody.{CodeBody}

@@ -1,5 +1,5 @@
 -- One statement of the instance on top of the stack, in a sound design.
-use Rattle.std.proofs.Common.{◌≡◌, ◌≢◌, ◌+◌, ◌<◌, ◌==◌, ℕ, suc, Bool, true, false, cond, List, [], ◌∷◌, ◌++◌, length, slice_get, Option, Some, None, refl, sym, ap, ◌∙◌, subst, arith, true≢false, ⊎_elim}
+use Rattle.std.proofs.Common.{◌≡◌, ◌<◌, ℕ, suc, Bool, true, false, List, [], ◌∷◌, ◌++◌, length, slice_get, Option, Some, None, refl, sym, ap, ◌∙◌, subst, true≢false, ⊎_elim}
 use Rattle.std.specs.Prelude.{Result, Ok, Err}
 use Rattle.std.specs.Result.{IfOk}
 use Rattle.std.proofs.lemmas.Bool.{cases_eq}
@@ -10,8 +10,7 @@ use Rattle.event_core.specs.declared.event.Ev.TheVariants as ev
 use Rattle.event_core.specs.declared.notifications.When.TheVariants as when
 use Rattle.signal_channel.specs.declared.signal.Signal.{Signal}
 use Rattle.signal_channel.specs.declared.signal.WriterConflict.{WriterConflict}
-use Rattle.fifo_sync.specs.Fifos.{Queued, free}
-use Rattle.fifo_sync.specs.Locks.{is_unlocked, is_owner, is_used_up}
+use Rattle.fifo_sync.specs.Fifos.{Queued}
 use Rattle.transport_phases.specs.History.{Entry}
 use Rattle.transport_phases.specs.declared.phases.Rule.{Rule}
 use Rattle.quantum_keeper.specs.declared.keeper.Keeper.{Keeper}
@@ -20,8 +19,7 @@ use Rattle.model_tree.specs.declared.statements.Control.{Control}
 use Rattle.flat_design.specs.Code as code
 use Rattle.flat_design.specs.Code.{Term, DestinationTerm, AwaitTerm, ArgumentTerm, SpawnTerm, ChannelTerm, Statement, statement_at, body_at}
 use Rattle.flat_design.specs.Denotes.{denoted_at}
-use Rattle.flat_design.specs.Blocking.{DoesNotBlock, IsPlain, Takes}
-use Rattle.flat_design.specs.Sound.{IsHomeOf, SoundDesign}
+use Rattle.flat_design.specs.Blocking.{DoesNotBlock, IsPlain}
 use Rattle.flat_design.specs.declared.value_types.ValueType.{ValueType}
 use Rattle.flat_design.specs.declared.names.NameUse.{NameUse}
 use Rattle.flat_design.specs.declared.names.NameUse.TheVariants as name_use
@@ -32,15 +30,14 @@ use Rattle.flat_design.specs.declared.design.ChannelId.{ChannelId}
 use Rattle.flat_design.specs.declared.design.ChannelId.TheVariants as channel
 use Rattle.flat_design.specs.declared.design.Denoted.{Denoted}
 use Rattle.flat_design.specs.declared.design.Denoted.TheVariants as denoted
-use Rattle.flat_design.specs.declared.design.Hop.{Hop}
 use Rattle.flat_design.specs.declared.faults.RunFault.{RunFault}
-use Rattle.sim_model.specs.Values.{on_ok, truth}
-use Rattle.sim_model.specs.Residual.{Residual, Frame, skip, one, guard, try_, followed, block, entered, put, has_goal, next_of, statement}
+use Rattle.sim_model.specs.Values.{on_ok}
+use Rattle.sim_model.specs.Residual.{Residual, Frame, skip, guard, try_, followed, block, entered, put, has_goal, next_of, statement}
 use Rattle.sim_model.specs.Unwinding.{returned}
-use Rattle.sim_model.specs.Configuration.{Config, Instance, Processes, Wait, Deadline, waits_for_any, no_deadline, arena, change_instance, instance_at, with_residual, with_runnable}
-use Rattle.sim_model.specs.Reading.{Here, here, denotes, channel_here, channel_of}
+use Rattle.sim_model.specs.Configuration.{Config, Instance, Wait, Deadline, arena, instance_at, with_residual}
+use Rattle.sim_model.specs.Reading.{Here, here, denotes}
 use Rattle.sim_model.specs.Storing.{passes, set_denoted, set_name, stored, stored_if, set_memory, chosen, looped, do_var, do_assign, do_print, do_if, do_while}
-use Rattle.sim_model.specs.Waits.{fire, notify, waits}
+use Rattle.sim_model.specs.Waits.{notify, waits}
 use Rattle.sim_model.specs.Waiting.{on_event, event_number, notified_now, do_wait, do_next_trigger, do_notify, do_notify_delta, do_notify_after, do_cancel, do_stop}
 use Rattle.sim_model.specs.Channels.{blocks, written_unless, write_signal, write_fifo, write_channel, channel_in, do_write, with_fifo, read_value, read_fifo, do_read, nb_read_value, nb_read_fifo, do_nb_read, nb_write_fifo, do_nb_write, answered, lock_mutex, lock_at, do_lock, trylock_mutex, trylock_at, do_trylock, unlock_mutex, unlock_at, do_unlock, sem_wait_value, sem_wait_at, do_sem_wait, sem_trywait_value, sem_trywait_at, do_sem_trywait, post_value, post_at, do_post}
 use Rattle.sim_model.specs.Calls.{enters, with_entry, thrown, do_call, do_return, given_back, call_ends, do_guard, do_try, new_instance, added, runnable_unless, handle_stored, spawns, do_spawn}
@@ -51,13 +48,13 @@ use Rattle.sim_model.specs.Clean.{times}
 use Rattle.sim_model.specs.declared.plain.Via.{Via}
 use Rattle.clean_laws.proofs.Changes.{change-here, last-here, last-other}
 use Rattle.clean_laws.proofs.Fits.{is-false}
-use Rattle.goal_laws.specs.Standing.{code_of, OfBody, OfUnwindBlock, IsOrdinary, IsStanding, place_of}
+use Rattle.goal_laws.specs.Standing.{OfBody, OfUnwindBlock, IsOrdinary, IsStanding, place_of}
 use Rattle.goal_laws.proofs.Blocks.{IsClosed, closed-body, closed-unwind}
 use Rattle.goal_laws.proofs.Kept.{goalless-ordinary, returned-standing}
 use Rattle.goal_laws.proofs.Places.{InPlace, next-standing, put-standing, past-ordinary, past-standing}
 use Rattle.goal_laws.proofs.Tight.{ordinary-goalless}
-use Rattle.unwinding_laws.proofs.Fine.{Fine, FineAt, AllFine, fine-at}
-use Rattle.unwinding_laws.proofs.Moves.{Sound, if-ok, sound-if, ok-if, fire-sound, trigger-sound, local-sound, residual-sound, leaves-sound, top-active}
+use Rattle.unwinding_laws.proofs.Fine.{Fine, FineAt, fine-at}
+use Rattle.unwinding_laws.proofs.Moves.{Sound, if-ok, sound-if, fire-sound, trigger-sound, local-sound, residual-sound, leaves-sound, top-active}
 use Rattle.unwinding_laws.proofs.Controls.{control-sound, throw-sound, thrown-sound}
 use Rattle.unwinding_laws.proofs.New.{if-new, else-new, while-new, guard-new, try-new, call-new, blocking-new, nonblocking-new, takes-no_fifo}
 
@@ -200,8 +197,8 @@ module _ (missing : Construct → Bool) where
     put-sound : (new : Residual) → ((P : ℕ → ℕ → Type 0) → IsClosed c.design P → P place n → IsOrdinary P c.design place new) → Sound missing (with_residual c p (put r new))
     put-sound new ordinary =
         residual-sound missing c p i (put r new) at
-          (put-standing c.design i.home r new n standing next (ordinary (OfBody c.design) (closed-body c.design) placed.of_body) (λ g. ordinary (OfUnwindBlock c.design) (closed-unwind c.design) (placed.of_unwind g)))
-          (λ g. active) s
+        (put-standing c.design i.home r new n standing next (ordinary (OfBody c.design) (closed-body c.design) placed.of_body) (λ g. ordinary (OfUnwindBlock c.design) (closed-unwind c.design) (placed.of_unwind g)))
+        (λ g. active) s
 
     returned-sound : (v : Option Value) → Sound missing (with_residual c p (returned v r))
     returned-sound v = residual-sound missing c p i (returned v r) at (returned-standing v c.design i.home r standing) (λ g. active) s
@@ -216,15 +213,17 @@ module _ (missing : Construct → Bool) where
     waits-sound : has_goal r ≡ false → (w : Wait) (t : Deadline) → Sound missing (waits (passes c p r) p w t)
     waits-sound none w t =
         leaves-sound missing (passes c p r) p rest top _ (λ j there. refl) (λ j there. refl)
-          (λ j there f. (f.standing,
-            ap (λ (k : Instance). has_goal k.residual) (same_Some j (record i { residual = put r skip }) (sym there ∙ change-here c.processes.instances p _ i at))
-            ∙ ordinary-goalless (OfBody c.design) c.design i.home (put r skip) (past-ordinary (OfBody c.design) c.design i.home r (goalless-ordinary c.design i.home r standing none)))) passed
+        (λ j there f. (
+          f.standing,
+          ap (λ (k : Instance). has_goal k.residual) (same_Some j (record i { residual = put r skip }) (sym there ∙ change-here c.processes.instances p _ i at))
+              ∙ ordinary-goalless (OfBody c.design) c.design i.home (put r skip) (past-ordinary (OfBody c.design) c.design i.home r (goalless-ordinary c.design i.home r standing none)),
+        )) passed
 
     blocked-sound : has_goal r ≡ false → (e : Ev) → Sound missing (blocks c p r e)
     blocked-sound none e =
         leaves-sound missing (with_residual c p r) p rest top _ (λ j there. refl) (λ j there. refl)
-          (λ j there f. (f.standing, ap (λ (k : Instance). has_goal k.residual) (same_Some j (record i { residual = r }) (sym there ∙ change-here c.processes.instances p _ i at)) ∙ none))
-          (residual-sound missing c p i r at standing (λ g. active) s)
+        (λ j there f. (f.standing, ap (λ (k : Instance). has_goal k.residual) (same_Some j (record i { residual = r }) (sym there ∙ change-here c.processes.instances p _ i at)) ∙ none))
+        (residual-sound missing c p i r at standing (λ g. active) s)
 
     abbrev h : Here
     h = here c p i r
@@ -416,12 +415,14 @@ module _ (missing : Construct → Bool) where
       -- ---- spawned instances, and calls over hops
 
       added_sound : (e : Config) (new : Instance) → ((t : ℕ) → Fine e.design new t) → Sound missing e → Sound missing (added e new)
-      added_sound e new f good =
-          (good.0, λ q. ⊎_elim
+      added_sound e new f good = (
+        good.0,
+        λ q. ⊎_elim
             (λ same. subst (λ m. FineAt e.design (slice_get (e.processes.instances ++ new ∷ []) m) (times m e.processes.stack)) (sym same)
-              (subst (λ o. FineAt e.design o (times (length e.processes.instances) e.processes.stack)) (sym (last-here e.processes.instances new)) (f (times (length e.processes.instances) e.processes.stack))))
+            (subst (λ o. FineAt e.design o (times (length e.processes.instances) e.processes.stack)) (sym (last-here e.processes.instances new)) (f (times (length e.processes.instances) e.processes.stack))))
             (λ apart. subst (λ o. FineAt e.design o (times q e.processes.stack)) (sym (last-other e.processes.instances new q apart)) (good.1 q))
-            (cases_eq q (length e.processes.instances)))
+            (cases_eq q (length e.processes.instances)),
+      )
 
       unless_runnable : (b : Bool) (q : ℕ) (e : Config) → Sound missing e → Sound missing (runnable_unless b q e)
       unless_runnable true q e good = good
@@ -449,13 +450,13 @@ module _ (missing : Construct → Bool) where
       handler_sound x found not hop e args via None ordinary = s
       handler_sound x found not hop e args via (Some f) ordinary =
           residual-sound missing (with_entry c hop e) p i (put r (entered (arena c) f args (Some n) (Some via))) at
-            (put-standing c.design i.home r (entered (arena c) f args (Some n) (Some via)) n standing next (ordinary f refl) (λ g. absurd (not (below x found g).1))) (λ g. active) s
+          (put-standing c.design i.home r (entered (arena c) f args (Some n) (Some via)) n standing next (ordinary f refl) (λ g. absurd (not (below x found g).1))) (λ g. active) s
 
       b_judged : (socket : ℕ) (m d : NameUse) → statement_at (arena c) n ≡ Some (code.b_transport socket m d) → (hop t : ℕ) (e : Entry) (args : List Value) (b : Option Rule)
           → IfOk (on_ok (judged_by c hop e t b) (λ y. Ok (enters_handler y p r n (blocking_handler (slice_get c.design.hops hop)) args (record { hop = hop; forward = true; blocking = true; payload = t })))) (Sound missing)
       b_judged socket m d found hop t e args None =
           handler_sound (code.b_transport socket m d) found (λ x. x) hop e args (record { hop = hop; forward = true; blocking = true; payload = t }) (blocking_handler (slice_get c.design.hops hop))
-            (λ f is_. blocking-new missing c.design s.0 place n f hop args t is_)
+          (λ f is_. blocking-new missing c.design s.0 place n f hop args t is_)
       b_judged socket m d found hop t e args (Some q) = tt
 
       b_transport_sound : (socket : ℕ) (m d : NameUse) → statement_at (arena c) n ≡ Some (code.b_transport socket m d) → (end : Option (ℕ × Bool)) → IfOk (b_transport_on c p r h n m d end) (Sound missing)
@@ -469,7 +470,7 @@ module _ (missing : Construct → Bool) where
           → IfOk (on_ok (judged_by c hop e t b) (λ z. Ok (enters_handler z p r n (nonblocking_handler forward (slice_get c.design.hops hop)) args (record { hop = hop; forward = forward; blocking = false; payload = t })))) (Sound missing)
       nb_judged y socket m phase d found hop forward t e args None =
           handler_sound (code.nb_transport y socket m phase d) found (λ x. x) hop e args (record { hop = hop; forward = forward; blocking = false; payload = t }) (nonblocking_handler forward (slice_get c.design.hops hop))
-            (λ f is_. nonblocking-new missing c.design s.0 place n f hop forward args t is_)
+          (λ f is_. nonblocking-new missing c.design s.0 place n f hop forward args t is_)
       nb_judged y socket m phase d found hop forward t e args (Some q) = tt
 
       nb_transport_sound : (y : Option Target) (socket : ℕ) (m phase d : NameUse) → statement_at (arena c) n ≡ Some (code.nb_transport y socket m phase d) → (end : Option (ℕ × Bool)) → IfOk (nb_transport_on c p r h n m phase d end) (Sound missing)

@@ -1,5 +1,5 @@
 -- The moves of instances in a sound design.
-use Rattle.std.proofs.Common.{◌≡◌, ◌≢◌, ◌+◌, ◌<◌, ◌≤◌, ℕ, Bool, true, false, cond, List, [], ◌∷◌, ◌++◌, drop, slice_get, Option, Some, None, refl, sym, ap, ◌∙◌, subst, arith, true≢false}
+use Rattle.std.proofs.Common.{◌≡◌, ◌≢◌, ◌<◌, ℕ, Bool, true, false, cond, List, ◌∷◌, drop, Option, Some, refl, sym, ap, ◌∙◌, subst, arith, true≢false}
 use Rattle.std.specs.Prelude.{Result, Ok, Err}
 use Rattle.std.specs.Result.{IfOk}
 use Rattle.std.proofs.lemmas.Option.{same_Some}
@@ -7,11 +7,10 @@ use Rattle.logic_values.specs.declared.kinds.Value.{Value}
 use Rattle.event_core.specs.declared.event.Ev.{Ev}
 use Rattle.model_tree.specs.declared.constructs.Construct.{Construct}
 use Rattle.flat_design.specs.Sound.{SoundDesign}
-use Rattle.flat_design.specs.declared.design.Design.{Design}
 use Rattle.flat_design.specs.declared.faults.RunFault.{RunFault}
 use Rattle.sim_model.specs.Values.{on_ok}
 use Rattle.sim_model.specs.Residual.{Residual, in_innermost, has_goal}
-use Rattle.sim_model.specs.Configuration.{Config, Instance, Processes, Trigger, change, change_instance, instance_at, with_residual}
+use Rattle.sim_model.specs.Configuration.{Config, Instance, Trigger, change_instance, instance_at, with_residual}
 use Rattle.sim_model.specs.Waits.{fire, leaves_stack}
 use Rattle.sim_model.specs.Storing.{with_local, set_local}
 use Rattle.sim_model.specs.Clean.{times}
@@ -19,7 +18,7 @@ use Rattle.clean_laws.proofs.Times.{times-here, times-other}
 use Rattle.goal_laws.specs.Standing.{IsStanding}
 use Rattle.goal_laws.proofs.Kept.{local-standing}
 use Rattle.goal_laws.proofs.Tight.{goal-local}
-use Rattle.unwinding_laws.proofs.Fine.{Fine, AllFine, Same, fine-at, moved-fine, same-fine, residual-fine}
+use Rattle.unwinding_laws.proofs.Fine.{Fine, AllFine, Same, moved-fine, same-fine, residual-fine}
 use Rattle.unwinding_laws.proofs.Wakes.{fire-keeps}
 
 module _ (missing : Construct → Bool) where
@@ -48,26 +47,32 @@ module _ (missing : Construct → Bool) where
   -- ---- instances that stay where they are
 
   pub same-sound : (c : Config) (p : ℕ) (f : Instance → Instance) → ((i : Instance) → Same i (f i)) → Sound c → Sound (change_instance c p f)
-  same-sound c p f same h =
-      (h.0, moved-fine c.design c.processes p f c.processes.runnable c.processes.stack (λ q apart n. n)
-        (λ i at fine. same-fine c.design i (f i) (times p c.processes.stack) (times p c.processes.stack) (same i) (λ n. n) fine) h.1)
+  same-sound c p f same h = (
+    h.0,
+    moved-fine c.design c.processes p f c.processes.runnable c.processes.stack (λ q apart n. n)
+        (λ i at fine. same-fine c.design i (f i) (times p c.processes.stack) (times p c.processes.stack) (same i) (λ n. n) fine) h.1,
+  )
 
   pub trigger-sound : (c : Config) (p : ℕ) (t : Option Trigger) → Sound c → Sound (change_instance c p (λ i. record i { trigger = t }))
   trigger-sound c p t h = same-sound c p _ (λ i. record { home = refl; code = refl; residual = refl }) h
 
   pub local-sound : (c : Config) (p n : ℕ) (v : Value) → Sound c → Sound (set_local c p n v)
-  local-sound c p n v h =
-      (h.0, moved-fine c.design c.processes p _ c.processes.runnable c.processes.stack (λ q apart m. m)
+  local-sound c p n v h = (
+    h.0,
+    moved-fine c.design c.processes p _ c.processes.runnable c.processes.stack (λ q apart m. m)
         (λ i at f. residual-fine c.design i _ (times p c.processes.stack) (times p c.processes.stack) (in_innermost (with_local n v) i.residual) refl refl refl
-          (local-standing n v c.design i.home i.residual f.standing) (λ g. f.active (sym (goal-local (with_local n v) i.residual) ∙ g)) f) h.1)
+        (local-standing n v c.design i.home i.residual f.standing) (λ g. f.active (sym (goal-local (with_local n v) i.residual) ∙ g)) f) h.1,
+  )
 
   -- ---- the residual of an instance of which more is known
 
   pub residual-sound : (c : Config) (p : ℕ) (i : Instance) (x : Residual) → instance_at c p ≡ Some i → IsStanding c.design i.home x → (has_goal x ≡ true → 0 < times p c.processes.stack) → Sound c → Sound (with_residual c p x)
-  residual-sound c p i x at standing active h =
-      (h.0, moved-fine c.design c.processes p _ c.processes.runnable c.processes.stack (λ q apart m. m)
+  residual-sound c p i x at standing active h = (
+    h.0,
+    moved-fine c.design c.processes p _ c.processes.runnable c.processes.stack (λ q apart m. m)
         (λ j there f. residual-fine c.design j _ (times p c.processes.stack) (times p c.processes.stack) x refl refl refl
-          (subst (λ (k : Instance). IsStanding c.design k.home x) (same_Some i j (sym at ∙ there)) standing) active f) h.1)
+        (subst (λ (k : Instance). IsStanding c.design k.home x) (same_Some i j (sym at ∙ there)) standing) active f) h.1,
+  )
 
   -- ---- the instance on top leaves the stack
 
@@ -81,10 +86,12 @@ module _ (missing : Construct → Bool) where
       → ((i : Instance) → instance_at c p ≡ Some i → (f i).home ≡ i.home) → ((i : Instance) → instance_at c p ≡ Some i → (f i).code ≡ i.code)
       → ((i : Instance) → instance_at c p ≡ Some i → Fine c.design i (times p c.processes.stack) → IsStanding c.design i.home (f i).residual × (has_goal (f i).residual ≡ false))
       → Sound c → Sound (leaves_stack (change_instance c p f))
-  leaves-sound c p rest top f home code standing h =
-      (h.0, moved-fine c.design c.processes p f c.processes.runnable (drop 1 c.processes.stack) (λ q apart n. others_stay p q c.processes.stack rest top apart n)
+  leaves-sound c p rest top f home code standing h = (
+    h.0,
+    moved-fine c.design c.processes p f c.processes.runnable (drop 1 c.processes.stack) (λ q apart n. others_stay p q c.processes.stack rest top apart n)
         (λ i at fine. let st = standing i at fine in
-          residual-fine c.design i (f i) (times p c.processes.stack) (times p (drop 1 c.processes.stack)) (f i).residual (home i at) (code i at) refl st.0 (λ g. absurd (true≢false (sym g ∙ st.1))) fine) h.1)
+        residual-fine c.design i (f i) (times p c.processes.stack) (times p (drop 1 c.processes.stack)) (f i).residual (home i at) (code i at) refl st.0 (λ g. absurd (true≢false (sym g ∙ st.1))) fine) h.1,
+  )
 
   -- on top it stands on the stack
   pub top-active : (c : Config) (p : ℕ) (rest : List ℕ) → c.processes.stack ≡ p ∷ rest → 0 < times p c.processes.stack

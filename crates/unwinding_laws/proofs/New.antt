@@ -1,15 +1,15 @@
 -- What a statement puts in its own place stands where the statement stands.
-use Rattle.std.proofs.Common.{◌≡◌, ◌+◌, ◌<◌, ℕ, zero, suc, Bool, true, false, cond, List, [], ◌∷◌, map, length, slice_get, unwrap_or, option_map, Contains, Option, Some, None, refl, sym, ap, ◌∙◌, subst, arith}
-use Rattle.std.specs.Prelude.{Result, Ok, Err}
+use Rattle.std.proofs.Common.{◌≡◌, ℕ, zero, suc, Bool, true, false, List, [], ◌∷◌, map, slice_get, unwrap_or, option_map, Contains, Option, Some, None, refl, sym, ap, ◌∙◌, subst, arith}
+use Rattle.std.specs.Prelude.{Result, Ok}
 use Rattle.std.proofs.lemmas.Option.{none-some, same_Some}
 use Rattle.logic_values.specs.declared.kinds.Value.{Value}
 use Rattle.model_tree.specs.declared.constructs.Construct.{Construct}
 use Rattle.flat_design.specs.Code as code
 use Rattle.flat_design.specs.Code.{Arena, Term, ArgumentTerm, Statement, block_at, statement_at, body_at}
-use Rattle.flat_design.specs.Typed.{EachOf, IsFunctionHere, ChannelOffers}
-use Rattle.flat_design.specs.Reach.{inner_blocks, listed}
+use Rattle.flat_design.specs.Typed.{EachOf, ChannelOffers}
+use Rattle.flat_design.specs.Reach.{inner_blocks}
 use Rattle.flat_design.specs.Blocking.{ChannelTakes, PortTakes, Takes}
-use Rattle.flat_design.specs.Sound.{IsHomeOf, SoundDesign, ChannelFits, HandlerFits, IsHandler}
+use Rattle.flat_design.specs.Sound.{IsHomeOf, SoundDesign, ChannelFits, HandlerFits}
 use Rattle.flat_design.specs.declared.code.CodeBody.{CodeBody}
 use Rattle.flat_design.specs.declared.code.Handler.{Handler}
 use Rattle.flat_design.specs.declared.code.Store.{Store as Target}
@@ -23,13 +23,13 @@ use Rattle.flat_design.specs.declared.design.PortPart.{PortPart}
 use Rattle.flat_design.specs.declared.design.Hop.{Hop}
 use Rattle.flat_design.specs.declared.design.Design.{Design}
 use Rattle.flat_design.specs.declared.faults.RunFault.{RunFault}
-use Rattle.sim_model.specs.Residual.{Residual, skip, one, guard, try_, followed, block, entered, entered_in}
+use Rattle.sim_model.specs.Residual.{guard, try_, followed, block, entered, entered_in}
 use Rattle.sim_model.specs.Reading.{channel_or, port_channel, channel_of, far_home, home_of_via}
 use Rattle.sim_model.specs.Transport.{blocking_handler, nonblocking_handler}
 use Rattle.sim_model.specs.Clean.{EachInBlock, EachInHandlers}
 use Rattle.sim_model.specs.declared.plain.Via.{Via}
-use Rattle.goal_laws.specs.Standing.{code_of, IsInBody, OfBody, OfUnwindBlock, IsOrdinary}
-use Rattle.goal_laws.proofs.Blocks.{IsClosed, closed-body, body-block}
+use Rattle.goal_laws.specs.Standing.{code_of, OfBody, IsOrdinary}
+use Rattle.goal_laws.proofs.Blocks.{IsClosed, body-block}
 use Rattle.goal_laws.proofs.Kept.{followed-ordinary, statements-ordinary}
 
 -- ---- what is closed, at a statement in its place
@@ -53,14 +53,16 @@ module _ (P : ℕ → ℕ → Type 0) (d : Design) (closed : IsClosed d P) (home
 
   pub guard-new : (b u g : ℕ) → statement_at (code_of d) n ≡ Some (code.guard b u) → IsOrdinary P d home (guard (block (code_of d) b) g u)
   guard-new b u g at =
-      let body = closed.of_body home n here (code.guard b u) at in
-      (block_ordinary (code.guard b u) b at (zero, omega arith, refl),
-       record { function = body.function; body = body.body; block = b; found = body.found; home_of = body.home_of; stands = body.stands })
+      let body = closed.of_body home n here (code.guard b u) at in (
+        block_ordinary (code.guard b u) b at (zero, omega arith, refl),
+        record { function = body.function; body = body.body; block = b; found = body.found; home_of = body.home_of; stands = body.stands },
+      )
 
   pub try-new : (b : ℕ) (handlers : List Handler) → statement_at (code_of d) n ≡ Some (code.try_ b handlers) → IsOrdinary P d home (try_ (block (code_of d) b) handlers)
-  try-new b handlers at =
-      (block_ordinary (code.try_ b handlers) b at (zero, omega arith, refl),
-       handlers_each (P home) (code_of d) handlers (λ j c. let within = c.1 in closed.inner home n j (code.try_ b handlers) here at (suc c.0, omega (arith, within), c.2)))
+  try-new b handlers at = (
+    block_ordinary (code.try_ b handlers) b at (zero, omega arith, refl),
+    handlers_each (P home) (code_of d) handlers (λ j c. let within = c.1 in closed.inner home n j (code.try_ b handlers) here at (suc c.0, omega (arith, within), c.2)),
+  )
 
   pub call-new : (missing : Construct → Bool) → SoundDesign missing d → (x : Option Target) (f : ℕ) (arguments : List ArgumentTerm) (args : List Value) (call : Option ℕ) → statement_at (code_of d) n ≡ Some (code.call x f arguments)
       → IsOrdinary P d home (entered (code_of d) f args call None)

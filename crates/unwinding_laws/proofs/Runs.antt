@@ -1,11 +1,11 @@
 -- Every run of a sound design keeps goals on the stack, and below them unwind blocks alone.
-use Rattle.std.proofs.Common.{◌≡◌, ◌+◌, ◌<◌, ℕ, zero, suc, List, [], ◌∷◌, slice_get, Option, Some, None, refl, sym, ap, ◌∙◌, subst}
+use Rattle.std.proofs.Common.{◌≡◌, ℕ, zero, suc, List, [], ◌∷◌, Option, Some, None, refl, subst}
 use Rattle.std.proofs.lemmas.Option.{none-some, same_Some}
 use Rattle.model_tree.specs.declared.constructs.Construct.{Construct}
 use Rattle.std.specs.Prelude.{Bool}
 use Rattle.flat_design.specs.Sound.{SoundDesign}
 use Rattle.flat_design.specs.declared.design.Design.{Design}
-use Rattle.sim_model.specs.Residual.{Residual, Frame, skip, one, seq, owing, guard, try_, frame, shell, run, goal}
+use Rattle.sim_model.specs.Residual.{Residual, skip, one, seq, owing, guard, try_, frame, shell, run, goal}
 use Rattle.sim_model.specs.Reading.{home_of_via}
 use Rattle.sim_model.specs.Configuration.{Config, arena, start}
 use Rattle.sim_model.specs.Steps.{Outcome, went, faulted, takes, ended, step, taking}
@@ -13,7 +13,7 @@ use Rattle.sim_model.specs.Runs.{took, and_then, after}
 use Rattle.sim_model.specs.declared.plain.Command.{Command}
 use Rattle.run_laws.specs.Shapes.{IsNormal, IsUnwound, IsShaped}
 use Rattle.run_laws.proofs.ShapeLemmas.{shaped-goals, shaped-one}
-use Rattle.goal_laws.specs.Standing.{OfBody, OfUnwindBlock, IsOrdinary, IsUnwinding, IsStanding}
+use Rattle.goal_laws.specs.Standing.{OfUnwindBlock, IsOrdinary, IsUnwinding, IsStanding}
 use Rattle.goal_laws.proofs.Places.{standing-below}
 use Rattle.unwinding_laws.specs.Goals.{CleanGoals}
 use Rattle.unwinding_laws.proofs.Fine.{fine-at}

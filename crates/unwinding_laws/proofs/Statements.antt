@@ -1,6 +1,6 @@
 -- One step of the instance on top of the stack, in a sound design.
-use Rattle.std.proofs.Common.{◌≡◌, ℕ, Bool, true, false, List, [], ◌∷◌, Option, Some, None, refl, sym, ap, ◌∙◌, subst}
-use Rattle.std.specs.Prelude.{Result, Ok, Err}
+use Rattle.std.proofs.Common.{◌≡◌, ℕ, Bool, List, ◌∷◌, Option, Some, None, refl}
+use Rattle.std.specs.Prelude.{Result}
 use Rattle.std.specs.Result.{IfOk}
 use Rattle.model_tree.specs.declared.constructs.Construct.{Construct}
 use Rattle.flat_design.specs.Code as code
@@ -8,11 +8,10 @@ use Rattle.flat_design.specs.Code.{Statement, statement_at}
 use Rattle.flat_design.specs.declared.faults.RunFault.{RunFault}
 use Rattle.sim_model.specs.Residual as residual
 use Rattle.sim_model.specs.Residual.{Residual, Frame, Next, skip, put, settle, fall, next_of}
-use Rattle.sim_model.specs.Configuration.{Config, Instance, arena, change_instance, instance_at}
+use Rattle.sim_model.specs.Configuration.{Config, Instance, arena, instance_at}
 use Rattle.sim_model.specs.Reading.{Here, here}
 use Rattle.sim_model.specs.Storing.{passes}
-use Rattle.sim_model.specs.Statements.{do_statement, via_ends, hands_back, handed_back, calling_statement, on_statement, do_next, settled_in, step_by, statement_step}
-use Rattle.sim_model.specs.Clean.{times}
+use Rattle.sim_model.specs.Statements.{via_ends, hands_back, handed_back, calling_statement, on_statement, do_next, settled_in, step_by, statement_step}
 use Rattle.sim_model.specs.declared.plain.Via.{Via}
 use Rattle.clean_laws.proofs.Changes.{change-here}
 use Rattle.goal_laws.proofs.Kept.{settle-standing}
@@ -54,8 +53,8 @@ module _ (missing : Construct → Bool) where
   step_sound c p rest top s (Some i) at =
       let r = settle (arena c) i.residual in
       next_sound (settled_in c p i.residual) p rest top
-        (residual-sound missing c p i r at (settle-standing c.design i.home i.residual (fine-at c.design c.processes p i at s.1).standing) (λ g. top-active missing c p rest top) s)
-        (record i { residual = r }) (change-here c.processes.instances p _ i at) r refl (settle-tight (arena c) i.residual) (next_of r) refl
+      (residual-sound missing c p i r at (settle-standing c.design i.home i.residual (fine-at c.design c.processes p i at s.1).standing) (λ g. top-active missing c p rest top) s)
+      (record i { residual = r }) (change-here c.processes.instances p _ i at) r refl (settle-tight (arena c) i.residual) (next_of r) refl
 
   pub statement-sound : (c : Config) (p : ℕ) (rest : List ℕ) → c.processes.stack ≡ p ∷ rest → Sound missing c → IfOk (statement_step c p) (Sound missing)
   statement-sound c p rest top s = step_sound c p rest top s (instance_at c p) refl

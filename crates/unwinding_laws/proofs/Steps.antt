@@ -1,5 +1,5 @@
 -- Each step and each taking keeps instances as they have to be, in a sound design.
-use Rattle.std.proofs.Common.{◌≡◌, ◌≢◌, ◌+◌, ◌<◌, ◌==◌, ℕ, zero, suc, Bool, true, false, cond, List, [], ◌∷◌, ◌++◌, map, slice_get, Option, Some, None, option_map, refl, sym, ap, ◌∙◌, subst, arith, true≢false}
+use Rattle.std.proofs.Common.{◌≡◌, ◌+◌, ◌==◌, ℕ, suc, Bool, true, false, cond, List, [], ◌∷◌, ◌++◌, map, slice_get, Option, Some, None, option_map, refl, sym, ap, subst, arith, true≢false}
 use Rattle.std.specs.Prelude.{Result, Ok, Err}
 use Rattle.std.specs.Result.{IfOk}
 use Rattle.std.proofs.lemmas.Option.{none-some, same_Some, slice_get-map}
@@ -11,8 +11,7 @@ use Rattle.signal_channel.specs.declared.signal.Signal.{Signal}
 use Rattle.signal_channel.specs.declared.signal.Changed.{Changed}
 use Rattle.fifo_sync.specs.Fifos.{Queued}
 use Rattle.model_tree.specs.declared.constructs.Construct.{Construct}
-use Rattle.flat_design.specs.Code.{body_at}
-use Rattle.flat_design.specs.Sound.{SoundDesign, ProcessFits}
+use Rattle.flat_design.specs.Sound.{SoundDesign}
 use Rattle.flat_design.specs.declared.design.SignalPart.{SignalPart}
 use Rattle.flat_design.specs.declared.design.ResolvedPart.{ResolvedPart}
 use Rattle.flat_design.specs.declared.design.FifoPart.{FifoPart}
@@ -23,21 +22,20 @@ use Rattle.flat_design.specs.declared.design.VisibleId.TheVariants as visible_id
 use Rattle.flat_design.specs.declared.design.Design.{Design}
 use Rattle.flat_design.specs.declared.faults.RunFault.{RunFault}
 use Rattle.sim_model.specs.Values.{on_ok, time_within}
-use Rattle.sim_model.specs.Residual.{has_goal}
-use Rattle.sim_model.specs.Configuration.{Config, Instance, Processes, Deadline, no_deadline, Told, turn, change_instance, instance_at, with_runnable, with_stack, with_told, first_instance, start}
+use Rattle.sim_model.specs.Configuration.{Config, Instance, Deadline, Told, turn, change_instance, instance_at, with_runnable, with_stack, with_told, first_instance, start}
 use Rattle.sim_model.specs.Waits.{freed, without, holds, fire_all}
 use Rattle.sim_model.specs.Control.{begins}
 use Rattle.sim_model.specs.Statements.{statement_step}
-use Rattle.sim_model.specs.Phases.{was_some, notified_if, announced, announce_signals, announce_resolved, announce_fifos, update_phase, update_step, due_events, due_instances, without_pending, without_deadline, fire_due, delta_phase, delta_step, initialize_each, initialization, now_becomes, run_over, timed_at, timed_step, fired_at, phase_at, is_past, is_at, is_due_at, is_delta, is_zero_timeout, earliest}
-use Rattle.sim_model.specs.Steps.{Outcome, went, faulted, takes, ended, as_outcome, shows, sets, sets_visible, run_begun, begin_run, carry_out, next_command, evaluate, step_in, step, turn_line, begins_unless_begun, instance_taken, taken_if, taking}
+use Rattle.sim_model.specs.Phases.{was_some, notified_if, announced, announce_signals, announce_resolved, announce_fifos, update_phase, update_step, due_events, due_instances, without_pending, without_deadline, fire_due, initialize_each, now_becomes, run_over, timed_at, is_past, is_at, is_due_at, is_delta, is_zero_timeout, earliest}
+use Rattle.sim_model.specs.Steps.{Outcome, went, faulted, takes, ended, as_outcome, shows, sets, sets_visible, run_begun, begin_run, carry_out, next_command, evaluate, step_in, step, turn_line, instance_taken, taken_if, taking}
 use Rattle.sim_model.specs.Clean.{times}
 use Rattle.sim_model.specs.declared.plain.Phase.{Phase}
 use Rattle.sim_model.specs.declared.plain.Phase.TheVariants as phase
 use Rattle.sim_model.specs.declared.plain.Command.{Command}
 use Rattle.sim_model.specs.declared.plain.Command.TheVariants as command
 use Rattle.clean_laws.proofs.Changes.{change-here}
-use Rattle.unwinding_laws.proofs.Fine.{Fine, FineAt, AllFine, Same, fine-at, stack-fine}
-use Rattle.unwinding_laws.proofs.Wakes.{Keeps, keeps-all, keeps-then, keeps-change, fire_all-keeps, wake_all-keeps, timeless-fine}
+use Rattle.unwinding_laws.proofs.Fine.{FineAt, AllFine, Same, stack-fine}
+use Rattle.unwinding_laws.proofs.Wakes.{keeps-then, fire_all-keeps, wake_all-keeps, timeless-fine}
 use Rattle.unwinding_laws.proofs.Moves.{Sound, sound-if, same-sound}
 use Rattle.unwinding_laws.proofs.Ends.{begins-sound}
 use Rattle.unwinding_laws.proofs.Statements.{statement-sound}
@@ -94,8 +92,8 @@ module _ (missing : Construct → Bool) where
   initialize_sound p [] c s = s
   initialize_sound p (x ∷ xs) c s =
       sound-if missing x.dont_initialize (initialize_each (suc p) xs c) (initialize_each (suc p) xs (with_runnable (change_instance c p freed) (c.processes.runnable ++ p ∷ [])))
-        (initialize_sound (suc p) xs c s)
-        (initialize_sound (suc p) xs (with_runnable (change_instance c p freed) (c.processes.runnable ++ p ∷ [])) (same-sound missing c p freed (λ i. record { home = refl; code = refl; residual = refl }) s))
+      (initialize_sound (suc p) xs c s)
+      (initialize_sound (suc p) xs (with_runnable (change_instance c p freed) (c.processes.runnable ++ p ∷ [])) (same-sound missing c p freed (λ i. record { home = refl; code = refl; residual = refl }) s))
 
   now_sound : (c : Config) (t : ℕ) → Sound missing c → Sound missing (now_becomes c t)
   now_sound c t s = sound-if missing (t == c.cycle.now) c _ s s
@@ -178,7 +176,7 @@ module _ (missing : Construct → Bool) where
       let d = with_told (with_stack (with_runnable c (without c.processes.runnable p)) (p ∷ [])) (turn (turn_line c.cycle.now i.path p)) in
       let good = alone_sound c p (turn (turn_line c.cycle.now i.path p)) empty s in
       sound-if missing i.started d (begins (change_instance d p (λ j. record j { trigger = None })) p i) good
-        (begins-sound missing (change_instance d p (λ j. record j { trigger = None })) p [] refl (same-sound missing d p _ (λ j. record { home = refl; code = refl; residual = refl }) good) i (record i { trigger = None }) (change-here d.processes.instances p _ i at) refl)
+      (begins-sound missing (change_instance d p (λ j. record j { trigger = None })) p [] refl (same-sound missing d p _ (λ j. record { home = refl; code = refl; residual = refl }) good) i (record i { trigger = None }) (change-here d.processes.instances p _ i at) refl)
 
   taken_if_sound : (c d : Config) (p : ℕ) (b : Bool) → c.processes.stack ≡ [] → Sound missing c → taken_if c p b ≡ Some d → Sound missing d
   taken_if_sound c d p true empty s to = subst (Sound missing) (same_Some (instance_taken c p (instance_at c p)) d to) (taken_sound c p (instance_at c p) refl empty s)

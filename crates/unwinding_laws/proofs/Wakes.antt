@@ -1,5 +1,5 @@
 -- Wakes and events change no body, no home, no residual and no stack.
-use Rattle.std.proofs.Common.{◌≡◌, ◌≢◌, ◌+◌, ◌<◌, ◌||◌, ℕ, zero, suc, Bool, true, false, cond, List, [], ◌∷◌, slice_get, map, Option, Some, None, option_map, refl, sym, ap, ◌∙◌, subst, ⊎_elim}
+use Rattle.std.proofs.Common.{◌≡◌, ◌||◌, ℕ, suc, Bool, true, false, cond, List, [], ◌∷◌, slice_get, map, Option, Some, None, option_map, refl, sym, ◌∙◌, subst, ⊎_elim}
 use Rattle.std.proofs.lemmas.Bool.{cases_eq}
 use Rattle.std.proofs.lemmas.Option.{slice_get-map}
 use Rattle.event_core.specs.declared.event.Ev.{Ev}
@@ -26,9 +26,11 @@ pub keeps-all : (c : Config) → Keeps c c
 keeps-all c = (refl, (λ fine. fine), λ q i at. (i, at, record { home = refl; code = refl; residual = refl }))
 
 pub keeps-then : (c d e : Config) → Keeps c d → Keeps d e → Keeps c e
-keeps-then c d e one two =
-    (two.0 ∙ one.0, (λ fine. subst (λ x. AllFine x e.processes) one.0 (two.1 (subst (λ x. AllFine x d.processes) (sym one.0) (one.1 fine)))),
-     λ q i at. let j = one.2 q i at in let k = two.2 q j.0 j.1 in (k.0, k.1, same_then i j.0 k.0 j.2 k.2))
+keeps-then c d e one two = (
+  two.0 ∙ one.0,
+  (λ fine. subst (λ x. AllFine x e.processes) one.0 (two.1 (subst (λ x. AllFine x d.processes) (sym one.0) (one.1 fine)))),
+  λ q i at. let j = one.2 q i at in let k = two.2 q j.0 j.1 in (k.0, k.1, same_then i j.0 k.0 j.2 k.2),
+)
 
 keeps_if : (b : Bool) (c d e : Config) → Keeps c d → Keeps c e → Keeps c (cond b d e)
 keeps_if true c d e one two = one
@@ -36,12 +38,14 @@ keeps_if false c d e one two = two
 
 -- an instance with the same body, home and residual in its place
 pub keeps-change : (c : Config) (p : ℕ) (f : Instance → Instance) (runnable : List ℕ) → ((i : Instance) → Same i (f i)) → Keeps c (with_runnable (change_instance c p f) runnable)
-keeps-change c p f runnable same =
-    (refl, (λ fine. moved-fine c.design c.processes p f runnable c.processes.stack (λ q apart n. n) (λ i at h. same-fine c.design i (f i) (times p c.processes.stack) (times p c.processes.stack) (same i) (λ n. n) h) fine),
-     λ q i at. ⊎_elim
-       (λ e. (f i, subst (λ n. slice_get (change c.processes.instances p f) n ≡ Some (f i)) (sym e) (change-here c.processes.instances p f i (subst (λ n. instance_at c n ≡ Some i) e at)), same i))
-       (λ apart. (i, change-other c.processes.instances p q f apart ∙ at, record { home = refl; code = refl; residual = refl }))
-       (cases_eq q p))
+keeps-change c p f runnable same = (
+  refl,
+  (λ fine. moved-fine c.design c.processes p f runnable c.processes.stack (λ q apart n. n) (λ i at h. same-fine c.design i (f i) (times p c.processes.stack) (times p c.processes.stack) (same i) (λ n. n) h) fine),
+  λ q i at. ⊎_elim
+      (λ e. (f i, subst (λ n. slice_get (change c.processes.instances p f) n ≡ Some (f i)) (sym e) (change-here c.processes.instances p f i (subst (λ n. instance_at c n ≡ Some i) e at)), same i))
+      (λ apart. (i, change-other c.processes.instances p q f apart ∙ at, record { home = refl; code = refl; residual = refl }))
+      (cases_eq q p),
+)
 
 woken_keeps : (c : Config) (p : ℕ) (i : Instance) → Keeps c (woken c p i)
 woken_keeps c p i =
