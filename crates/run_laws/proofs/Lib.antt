@@ -3,3 +3,4 @@ pub mod Splits
 pub mod Ends
 pub mod ShapeLemmas
 pub mod MarkLemmas
+pub mod GuardLemmas

@@ -191,14 +191,14 @@ unwound_still (shell r x) s h none is = unwound_still r s h none is
 unwound_still (run g r) s h none is = true≢false none
 unwound_still (goal r k) s h none is = h
 
-before_statement : (n : Next) (k : _) (s : ℕ) → before_goal n k ≡ statement s → n ≡ statement s
+pub before_statement : (n : Next) (k : _) (s : ℕ) → before_goal n k ≡ statement s → n ≡ statement s
 before_statement (statement t) k s is = is
 before_statement (leaves x) k s is = is
 before_statement done k s is = is
 before_statement (reaches j) k s is = is
 before_statement nothing k s is = cc
 
-frame_statement : (n : Next) (x : Frame) (s : ℕ) → in_frame n x ≡ statement s → n ≡ statement s
+pub frame_statement : (n : Next) (x : Frame) (s : ℕ) → in_frame n x ≡ statement s → n ≡ statement s
 frame_statement (statement t) x s is = is
 frame_statement (leaves y) x s is = is
 frame_statement done x s is = is
