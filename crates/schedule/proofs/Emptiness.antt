@@ -38,10 +38,11 @@ module _ {B : Type 0} (s : Schedule B)
     each = λ p. subst (λ o. FitsAs o (seen s p)) (sym (nobody_at p)) (nobody_seen p);
     active = λ p is. absurd (true≢false (sym is ∙ nobody_on p));
     once = subst IsOnce (sym stack) tt;
-    free = λ p x is some. absurd (true≢false (sym is ∙ nobody_on p));
+    busy = λ p x is some. absurd (true≢false (sym is ∙ nobody_on p));
     stack_room = let none = none_live in omega (arith, none);
     ready_room = let none = none_live in omega (arith, none);
-    woken_room = let none : map.len s.lists.room ≡ 0 = ap map.len room ∙ map.len-empty nat_cmp _ in omega (arith, none);
+    woken_room = let none = none_live in omega (arith, none);
+    due_room = let none = none_live in omega (arith, none);
     nobody_woken = woken;
     below = λ p is. absurd (true≢false (sym is ∙ ap is_some (nobody_at p)));
     serials = omega (arith, next);

@@ -1,5 +1,5 @@
 -- An event goes over all serials.
-use Rattle.std.proofs.Common.{◌≡◌, ◌≤◌, ◌<◌, ◌+◌, ◌-◌, ◌^◌, ◌==◌, ◌||◌, ℕ, Bool, true, false, cond, List, [], ◌∷◌, ◌++◌, option_map, refl, sym, ap, ◌∙◌, arith, subst}
+use Rattle.std.proofs.Common.{◌≡◌, ◌≤◌, ◌<◌, ◌+◌, ◌-◌, ◌^◌, ◌==◌, ◌||◌, ℕ, Bool, true, false, cond, List, [], ◌∷◌, ◌++◌, option_map, refl, sym, ap, ◌∙◌, arith, subst, true≢false, Option, None, Some, length}
 use Rattle.std.specs.Prelude.{is_some, vec_capacity, count_by}
 use Rattle.std.specs.Global.{Vec}
 use Rattle.std.proofs.lemmas.List.Sums.{sum_by-cons}
@@ -10,10 +10,11 @@ use Rattle.instance_table.specs.declared.instances.Instance.{Instance as Entry}
 use Rattle.wait_lists.specs.Waits as lists
 use Rattle.wake_laws.specs.Woken.{after_event, joins_by}
 use Rattle.schedule.specs.Seen.{seen, is_on, shown_in}
-use Rattle.schedule.specs.Sound.{Fits, IsSound, IsOnce}
+use Rattle.schedule.specs.Sound.{IsBusy, Fits, FitsAs, IsSound, IsOnce}
 use Rattle.schedule.specs.Moves.{met_if, struck_by, is_woken, fired, MeetsAll, Rouses}
 use Rattle.schedule.specs.declared.parts.Process.{Process}
 use Rattle.schedule.specs.declared.parts.Schedule.{Schedule}
+use Rattle.wait_lists.proofs.LawLemmas.{len-le}
 use Rattle.schedule.proofs.Firing.{FiresAs, fires_as}
 
 -- what stands once in a list is on it, and what does not stand there is not
@@ -52,13 +53,14 @@ module _ {B : Type 0} (s : Schedule B) (sound : IsSound s) (e : Ev) (w : lists.W
   at_last q = all.each q ∙ ap (λ b. met_if b (seen (record s { lists = w; woken = v }) q)) (listed_on q) ∙ ap (met_if (is_woken e (seen s q))) (struck_seen q)
 
   fact : (q : ℕ) → FiresAs e (is_on s.stack.items q) (seen s q) (fired e (seen s q))
-  fact q = fires_as e (is_on s.stack.items q) (seen s q) (sound.each q) (λ z busy some. (sound.free q z busy some).0)
+  fact q = fires_as e (is_on s.stack.items q) (seen s q) (sound.each q) (λ z busy some. (sound.busy q z busy some).free.wait)
 
   pub event_rouses : Rouses (λ q. after_event e) (λ q. joins_by e) s t
   event_rouses = record {
     shown = λ q. ap shown_in (at_last q) ∙ (fact q).shown;
     ready = λ q. ap (λ x. x.ready) (at_last q) ∙ (fact q).ready;
     bodies = λ q. ap (λ x. option_map (λ (z : Entry (Process B)). z.body.body) x.entry) (at_last q) ∙ (fact q).body;
+    due = all.due;
     stack = all.stack;
     next = all.next;
   }
@@ -71,13 +73,34 @@ module _ {B : Type 0} (s : Schedule B) (sound : IsSound s) (e : Ev) (w : lists.W
     each = λ q. subst Fits (sym (at_last q)) (fact q).fits;
     active = λ q is. there q ∙ sound.active q (ap (λ u. is_on u.items q) (sym all.stack) ∙ is);
     once = subst (λ u. IsOnce u.items) (sym all.stack) sound.once;
-    free = λ q x is some.
-        let busy = ap (λ u. is_on u.items q) (sym all.stack) ∙ is in
-        sound.free q x busy (sym (ap (λ z. z.entry) (at_last q) ∙ (fact q).busy busy) ∙ some);
+    busy = λ q x is some.
+        let on = ap (λ u. is_on u.items q) (sym all.stack) ∙ is in
+        let same = at_last q ∙ (fact q).busy on in
+        subst (IsBusy x) (sym same) (sound.busy q x on (sym (ap (λ z. z.entry) same) ∙ some));
     stack_room = subst (λ u. map.len t.table.live ≤ vec_capacity u) (sym all.stack) (subst (λ n. n ≤ vec_capacity s.stack) (sym all.count) sound.stack_room);
     ready_room = let room = sound.ready_room in let count = all.count in let places = all.places in omega (arith, room, count, places);
-    woken_room = let room = sound.woken_room in let rooms = all.rooms ∙ ap (λ u. map.len u.room) kept in let spare = all.room ∙ capacity in omega (arith, room, rooms, spare);
+    woken_room = let room = sound.woken_room in let count = all.count in let spare = all.room ∙ capacity in omega (arith, room, count, spare);
+    due_room = subst (λ u. map.len t.table.live ≤ vec_capacity u) (sym all.due) (subst (λ n. n ≤ vec_capacity s.due) (sym all.count) sound.due_room);
     nobody_woken = all.nobody;
     below = λ q is. subst (λ n. q < n) (sym all.next) (sound.below q (sym (there q) ∙ is));
     serials = subst (λ n. n < 2 ^ 32 - 1) (sym all.next) sound.serials;
   }
+
+-- there is room for those that an event wakes
+module _ {B : Type 0} (s : Schedule B) (sound : IsSound s) (e : Ev) where
+  who_has_room : (p : ℕ) → map.contains_key s.lists.room p ≡ true → map.contains_key s.table.live p ≡ true
+  who_has_room p has = by (map.get s.table.live p) refl
+    where
+      by : (o : Option (Entry (Process B))) → map.get s.table.live p ≡ o → map.contains_key s.table.live p ≡ true
+      by None none = absurd (true≢false (sym has ∙ (subst (λ o. FitsAs o (seen s p)) none (sound.each p)).has_room))
+      by (Some x) some = ap is_some some
+
+  pub room_for_woken : ((w : lists.Waits) (x : Ev) → map.len (lists.waits_naming w x) ≤ map.len w.waits) → ((w : lists.Waits) → lists.AllHaveRoom w → map.len w.waits ≤ map.len w.room)
+      → lists.AllHaveRoom s.lists → length s.woken.items + map.len (lists.waits_naming s.lists e) ≤ vec_capacity s.woken
+  room_for_woken waiting room has =
+      let few = waiting s.lists e in
+      let fewer = room s.lists has in
+      let live = len-le s.lists.room s.table.live who_has_room in
+      let places = sound.woken_room in
+      let none : length s.woken.items ≡ 0 = ap length sound.nobody_woken in
+      omega (arith, few, fewer, live, places, none)

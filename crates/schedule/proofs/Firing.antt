@@ -70,7 +70,7 @@ module _ {B : Type 0} (e : Ev) where
     pub fits : Fits y
     pub body : option_map (λ (z : Entry (Process B)). z.body.body) y.entry ≡ option_map (λ (z : Entry (Process B)). z.body.body) x.entry
     pub there : is_some y.entry ≡ is_some x.entry
-    pub busy : active ≡ true → y.entry ≡ x.entry
+    pub busy : active ≡ true → y ≡ x
 
   module _ (active : Bool) (x : Seen B) (fits : Fits x) where
     -- it stays as it is
@@ -81,7 +81,7 @@ module _ {B : Type 0} (e : Ev) where
       fits = subst Fits (sym same) fits;
       body = ap (λ y. option_map (λ (z : Entry (Process B)). z.body.body) y.entry) same;
       there = ap (λ y. is_some y.entry) same;
-      busy = λ is. ap (λ y. y.entry) same;
+      busy = λ is. same;
     }
 
     module _ (z : Entry (Process B)) (at : x.entry ≡ Some z) where
@@ -108,17 +108,17 @@ module _ {B : Type 0} (e : Ev) where
       }
 
       -- a wait for all of which something is left
-      shortened : (c : Ev) (cs : List Ev) → z.wait ≡ waiting.All → IsKept z x → fired e x ≡ record x { wait = Some (lists.AllOf (c ∷ cs)) }
+      shortened : (c : Ev) (cs : List Ev) → active ≡ false → z.wait ≡ waiting.All → IsKept z x → fired e x ≡ record x { wait = Some (lists.AllOf (c ∷ cs)) }
           → after_event e active i ≡ record i { wait = waits_for_all (c ∷ cs) } → joins_by e active i ≡ false → FiresAs active x (fired e x)
-      shortened c cs all k same after joined = record {
+      shortened c cs resting all k same after joined = record {
         shown = ap shown_in same ∙ ap (option_map (λ u. as_instance u (Some (lists.AllOf (c ∷ cs))))) at
             ∙ ap (λ w. Some (record i { wait = wait_of w (Some (lists.AllOf (c ∷ cs))) })) all ∙ sym (ap (option_map (after_event e active)) shown_z ∙ ap Some after);
         ready = ap (λ y. y.ready) same ∙ sym (ap (λ b. x.ready || b) (ap (if_there (joins_by e active)) shown_z ∙ joined) ∙ or-false x.ready);
         fits = subst Fits (sym same) (subst (λ o. FitsAs o (record x { wait = Some (lists.AllOf (c ∷ cs)) })) (sym at)
-            (record { wait = subst (λ w. Agrees w z.body.sensitive (Some (lists.AllOf (c ∷ cs)))) (sym all) refl; muted = k.muted; has_room = k.has_room; time = k.time; zero = k.zero }));
+            (record { wait = subst (λ w. Agrees w z.body.sensitive (Some (lists.AllOf (c ∷ cs)))) (sym all) refl; muted = k.muted; has_room = k.has_room; time = k.time; zero = k.zero; runs = k.runs; kept = k.kept }));
         body = ap (λ y. option_map (λ (u : Entry (Process B)). u.body.body) y.entry) same;
         there = ap (λ y. is_some y.entry) same;
-        busy = λ is. ap (λ y. y.entry) same;
+        busy = λ is. absurd (true≢false (sym is ∙ resting));
       }
 
       -- it hears, and is not active
@@ -158,7 +158,7 @@ module _ {B : Type 0} (e : Ev) where
             by_left [] none among = woken_now on resting (all_heard x (lists.AllOf (a ∷ rest)) is (left true among ∙ ap lists.all_of none))
                 (after ∙ ap (λ b. if b then after_last active i (struck e (a ∷ rest)) else i) among ∙ ap (after_last active i) none)
                 (joined ∙ ap (λ b. (b && is_empty (struck e (a ∷ rest))) && joins active i) among ∙ ap (λ xs. is_empty xs && joins active i) none)
-            by_left (c ∷ cs) some among = shortened c cs all k (some_heard x (lists.AllOf (a ∷ rest)) (lists.AllOf (c ∷ cs)) is (left true among ∙ ap lists.all_of some))
+            by_left (c ∷ cs) some among = shortened c cs resting all k (some_heard x (lists.AllOf (a ∷ rest)) (lists.AllOf (c ∷ cs)) is (left true among ∙ ap lists.all_of some))
                 (after ∙ ap (λ b. if b then after_last active i (struck e (a ∷ rest)) else i) among ∙ ap (after_last active i) some)
                 (joined ∙ ap (λ b. (b && is_empty (struck e (a ∷ rest))) && joins active i) among ∙ ap (λ xs. is_empty xs && joins active i) some)
 

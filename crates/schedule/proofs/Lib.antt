@@ -1,7 +1,8 @@
-mod Changed
-mod Places
+pub mod Changed
+pub mod Places
 mod Rousing
 mod Emptiness
 mod Meeting
 mod Firing
 mod Fired
+pub mod Sounding

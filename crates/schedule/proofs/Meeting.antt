@@ -71,9 +71,9 @@ module _ {B : Type 0} where
     one_met m split capacity ch places = record {
       each = λ q. ⊎_elim (here q) (there q) (cases_eq q p);
       stack = ch.stack ∙ m.stack;
+      due = ch.due ∙ m.due;
       next = ch.next ∙ m.next;
       count = ch.count ∙ m.count;
-      rooms = ch.rooms ∙ m.rooms;
       places = ch.places ∙ m.places;
       room = capacity ∙ m.room;
       still = places;
@@ -94,9 +94,9 @@ module _ {B : Type 0} where
   all_met s t m none = record {
     each = λ q. ap (λ xs. met_if (is_on xs q) (seen t q)) (sym none) ∙ m.each q;
     stack = m.stack;
+    due = m.due;
     next = m.next;
     count = m.count;
-    rooms = m.rooms;
     places = m.places;
     nobody = none;
     room = m.room;

@@ -95,9 +95,9 @@ module _ {B : Type 0} (s : Schedule B) (p : ℕ) (places : HasPlaces s) (lives :
     others = λ q apart. ap (λ b. record (seen s q) { ready = b }) (ap (λ x. set.contains x.members q) has ∙ member_other s.ready.members p q apart);
     stack = refl;
     woken = refl;
+    due = refl;
     next = refl;
     count = refl;
-    rooms = refl;
     places = places_stay (set.contains s.ready.members p) r refl has;
   }
 

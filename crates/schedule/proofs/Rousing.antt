@@ -11,7 +11,7 @@ use Rattle.sim_model.specs.Configuration.{Instance, waits_for_nothing, no_deadli
 use Rattle.sim_model.specs.Waits.{freed}
 use Rattle.wake_laws.specs.Woken.{roused, after_wake, joins, if_there, at_only, joins_only}
 use Rattle.schedule.specs.Seen.{Seen, seen, is_on, as_instance, shown_in, shown_at, body_at}
-use Rattle.schedule.specs.Sound.{IsKept, Fits, FitsAs, IsSound, IsOnce}
+use Rattle.schedule.specs.Sound.{IsKept, IsBusy, Fits, FitsAs, IsSound, IsOnce}
 use Rattle.schedule.specs.Moves.{heard, is_heard, met_by, met, Changes, HasPlaces, Rouses}
 use Rattle.schedule.specs.declared.parts.Process.{Process}
 use Rattle.schedule.specs.declared.parts.Schedule.{Schedule}
@@ -90,8 +90,24 @@ module _ {B : Type 0} where
     pub fits_after : Fits x → Fits (roused_seen x)
     fits_after fits = subst Fits (sym becomes) (kept_after (subst (λ o. FitsAs o x) at fits))
       where
+        run_after : (k : IsKept y x) (held : Bool) → y.suspended ≡ held → (x.ready || not held) ≡ true → held ≡ false
+        run_after k true is runs = sym is ∙ (k.runs (sym (or-false x.ready) ∙ runs)).1
+        run_after k false is runs = refl
+
+        keep_after : (k : IsKept y x) (held : Bool) → y.suspended ≡ held → (held || y.kept) ≡ true → held ≡ true
+        keep_after k true is keeps = refl
+        keep_after k false is keeps = sym is ∙ (k.kept keeps).1
+
         kept_after : IsKept y x → Fits after
-        kept_after k = record { wait = refl; muted = k.muted; has_room = k.has_room; time = refl; zero = refl }
+        kept_after k = record {
+          wait = refl;
+          muted = k.muted;
+          has_room = k.has_room;
+          time = refl;
+          zero = refl;
+          runs = λ is. (record { wait = refl; deadline = refl }, run_after k y.suspended refl is);
+          kept = λ is. (record { wait = refl; deadline = refl }, keep_after k y.suspended refl is);
+        }
 
     pub ready_after : (roused_seen x).ready ≡ (x.ready || joins false (as_instance y x.wait))
     ready_after = ap (λ z. z.ready) becomes ∙ sym (ap (λ b. x.ready || (not b && not y.suspended)) on)
@@ -128,8 +144,9 @@ module _ {B : Type 0} where
     woken_by : (t : Schedule B) → ((q : ℕ) → q ≢ p → seen t q ≡ seen s q)
         → shown_at t p ≡ option_map (after_wake (is_on s.stack.items p)) (shown_at s p)
         → set.contains t.ready.members p ≡ (set.contains s.ready.members p || if_there (joins (is_on s.stack.items p)) (shown_at s p))
-        → body_at t p ≡ body_at s p → t.stack ≡ s.stack → t.table.next ≡ s.table.next → Woken t
-    woken_by t others shown ready body stack next = record {
+        → body_at t p ≡ body_at s p → t.due ≡ s.due → t.stack ≡ s.stack → t.table.next ≡ s.table.next → Woken t
+    woken_by t others shown ready body due stack next = record {
+      due = due;
       shown = λ q. ⊎_elim
           (λ same. subst (λ n. shown_at t n ≡ option_map (at_only p after_wake n (is_on s.stack.items n)) (shown_at s n)) (sym same) (shown ∙ sym (shown_here p (is_on s.stack.items p) (shown_at s p))))
           (λ apart. ap shown_in (others q apart) ∙ sym (shown_only p q (is_on s.stack.items q) (shown_at s q) apart))
@@ -151,7 +168,7 @@ module _ {B : Type 0} where
     unheard deaf = woken_by s (λ q apart. refl)
         (sym (deaf_shown (is_on s.stack.items p) (seen s p) (map.get s.table.live p) refl deaf))
         (sym (ap (λ b. set.contains s.ready.members p || b) (deaf_joins (is_on s.stack.items p) (seen s p) (map.get s.table.live p) refl deaf) ∙ or-false (set.contains s.ready.members p)))
-        refl refl refl
+        refl refl refl refl
 
     -- an instance that hears
     module _ (t : Schedule B) (y : Entry (Process B)) (at : map.get s.table.live p ≡ Some y) (on : y.disabled ≡ false) (resting : is_on s.stack.items p ≡ false) (ch : Changes p roused_seen s t) where
@@ -163,7 +180,7 @@ module _ {B : Type 0} where
           ∙ sym (ap (λ b. set.contains s.ready.members p || if_there (joins b) (shown_at s p)) resting
           ∙ ap (λ o. set.contains s.ready.members p || if_there (joins false) (option_map (λ e. as_instance e (seen s p).wait) o)) at))
           (ap (λ x. option_map (λ (e : Entry (Process B)). e.body.body) x.entry) ch.here ∙ body_after (seen s p) y at on)
-          ch.stack ch.next
+          ch.due ch.stack ch.next
 
       there : (q : ℕ) → map.contains_key t.table.live q ≡ map.contains_key s.table.live q
       there q = ⊎_elim
@@ -180,13 +197,14 @@ module _ {B : Type 0} where
             (cases_eq q p);
         active = λ q is. there q ∙ sound.active q (ap (λ v. is_on v.items q) (sym ch.stack) ∙ is);
         once = subst (λ v. IsOnce v.items) (sym ch.stack) sound.once;
-        free = λ q x is some. sound.free q x (ap (λ v. is_on v.items q) (sym ch.stack) ∙ is) (⊎_elim
+        busy = λ q x is some. ⊎_elim
             (λ same. absurd (true≢false (sym (ap (λ v. is_on v.items q) (sym ch.stack) ∙ is) ∙ ap (is_on s.stack.items) same ∙ resting)))
-            (λ apart. sym (ap (λ z. z.entry) (ch.others q apart)) ∙ some)
-            (cases_eq q p));
+            (λ apart. subst (IsBusy x) (sym (ch.others q apart)) (sound.busy q x (ap (λ v. is_on v.items q) (sym ch.stack) ∙ is) (sym (ap (λ z. z.entry) (ch.others q apart)) ∙ some)))
+            (cases_eq q p);
         stack_room = subst (λ v. map.len t.table.live ≤ vec_capacity v) (sym ch.stack) (subst (λ n. n ≤ vec_capacity s.stack) (sym ch.count) sound.stack_room);
         ready_room = let room = sound.ready_room in let count = ch.count in let places = ch.places in omega (arith, room, count, places);
-        woken_room = subst (λ v. map.len t.lists.room ≤ vec_capacity v) (sym ch.woken) (subst (λ n. n ≤ vec_capacity s.woken) (sym ch.rooms) sound.woken_room);
+        woken_room = subst (λ v. map.len t.table.live ≤ vec_capacity v) (sym ch.woken) (subst (λ n. n ≤ vec_capacity s.woken) (sym ch.count) sound.woken_room);
+        due_room = subst (λ v. map.len t.table.live ≤ vec_capacity v) (sym ch.due) (subst (λ n. n ≤ vec_capacity s.due) (sym ch.count) sound.due_room);
         nobody_woken = ap (λ v. v.items) ch.woken ∙ sound.nobody_woken;
         below = λ q is. subst (λ n. q < n) (sym ch.next) (sound.below q (sym (there q) ∙ is));
         serials = subst (λ n. n < 2 ^ 32 - 1) (sym ch.next) sound.serials;

@@ -37,13 +37,27 @@ IsOnce [] = ⊤
 IsOnce (p ∷ ps) = (is_on ps p ≡ false) × IsOnce ps
 
 module _ {B : Type 0} where
-  -- of a live instance
+  -- it waits for nothing
+  pub record IsFree (x : Entry (Process B)) : Type 0 where
+    pub wait : x.wait ≡ waiting.None
+    pub deadline : x.deadline ≡ due.None
+
+  -- of a live instance: what is runnable, or kept till it is resumed, waits for nothing; the former is not suspended, the
+  -- latter is
   pub record IsKept (x : Entry (Process B)) (s : Seen B) : Type 0 where
     pub wait : Agrees x.wait x.body.sensitive s.wait
     pub muted : s.muted ≡ x.disabled
     pub has_room : s.has_room ≡ true
     pub time : s.time ≡ time_of x.deadline
     pub zero : s.zero ≡ is_zero x.deadline
+    pub runs : s.ready ≡ true → IsFree x × (x.suspended ≡ false)
+    pub kept : x.kept ≡ true → IsFree x × (x.suspended ≡ true)
+
+  -- of an active instance: it waits for nothing, and is neither runnable nor kept
+  pub record IsBusy (x : Entry (Process B)) (s : Seen B) : Type 0 where
+    pub free : IsFree x
+    pub ready : s.ready ≡ false
+    pub kept : x.kept ≡ false
 
   -- of a serial that no live instance has
   pub record IsNobody (s : Seen B) : Type 0 where
@@ -65,12 +79,13 @@ module _ {B : Type 0} where
     pub each : (p : ℕ) → Fits (seen s p)
     pub active : (p : ℕ) → is_on s.stack.items p ≡ true → map.contains_key s.table.live p ≡ true
     pub once : IsOnce s.stack.items
-    -- what is active waits for nothing
-    pub free : (p : ℕ) (x : Entry (Process B)) → is_on s.stack.items p ≡ true → map.get s.table.live p ≡ Some x → (x.wait ≡ waiting.None) × (x.deadline ≡ due.None)
-    -- there is room for every live instance on the stack, among the runnable ones, and among those that one event wakes
+    pub busy : (p : ℕ) (x : Entry (Process B)) → is_on s.stack.items p ≡ true → map.get s.table.live p ≡ Some x → IsBusy x (seen s p)
+    -- there is room for every live instance on the stack, among the runnable ones, among those that one event wakes, and among
+    -- those whose time is over
     pub stack_room : map.len s.table.live ≤ vec_capacity s.stack
     pub ready_room : map.len s.table.live ≤ set.len s.ready.members + s.ready.spare
-    pub woken_room : map.len s.lists.room ≤ vec_capacity s.woken
+    pub woken_room : map.len s.table.live ≤ vec_capacity s.woken
+    pub due_room : map.len s.table.live ≤ vec_capacity s.due
     pub nobody_woken : s.woken.items ≡ []
     -- serials are below the next one, and fit
     pub below : (p : ℕ) → map.contains_key s.table.live p ≡ true → p < s.table.next

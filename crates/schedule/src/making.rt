@@ -23,5 +23,6 @@ pub fn empty<B>(alloc: Global) -> Schedule<B>
         ready: ReadySet::new(alloc),
         stack: Vec::new(alloc),
         woken: Vec::new(alloc),
+        due: Vec::new(alloc),
     }
 }

@@ -36,7 +36,7 @@ fn hear<B>(x: &mut Instance<Process<B>>) -> Heard
 }
 
 /// Ends the time-outs of an instance.
-fn end_time<B>(s: &mut Schedule<B>, p: u32)
+pub fn end_time<B>(s: &mut Schedule<B>, p: u32)
     ensures { Changes p (λ x. record x { time = None; zero = false }) s.old s.new }
 {
     s.deadlines.clear(p);

@@ -1,9 +1,29 @@
 use event_core::Ev;
-use instance_table::Table;
+use instance_table::{Deadline, Table};
 use plain_lists::Items;
 use ready_set::ReadySet;
 use timed_queue::TimedQueue;
 use wait_lists::WaitLists;
+
+/// Which events an instance waits for.
+#[derive(Drop)]
+pub enum Wait {
+    /// Any of its static sensitivity (IEEE 1666-2011, 5.2.4).
+    Static,
+    /// Any of these (IEEE 1666-2011, 5.2.17); with none, no event ends the wait.
+    Any(Items<Ev>),
+    /// All of these (IEEE 1666-2011, 5.8).
+    All(Items<Ev>),
+}
+
+/// How an instance waits: for which events, and until when.
+#[derive(Drop)]
+pub struct Trigger {
+    /// The events.
+    pub wait: Wait,
+    /// When the wait ends by time.
+    pub deadline: Deadline,
+}
 
 /// What is kept of a process beside its marks: its static sensitivity, and what the caller keeps for it.
 #[derive(Drop)]
@@ -32,4 +52,6 @@ pub struct Schedule<B> {
     pub stack: Vec<u32>,
     /// Room for those that an event wakes.
     pub woken: Vec<u32>,
+    /// Those whose time is over, and who have not met their wakes yet.
+    pub due: Vec<u32>,
 }
