@@ -44,6 +44,7 @@ module _ {B : Type 0} (s : Schedule B)
     woken_room = let none = none_live in omega (arith, none);
     due_room = let none = none_live in omega (arith, none);
     nobody_woken = woken;
+    few = let none = none_live in omega (arith, none);
     below = λ p is. absurd (true≢false (sym is ∙ ap is_some (nobody_at p)));
     serials = omega (arith, next);
   }

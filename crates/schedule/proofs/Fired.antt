@@ -6,6 +6,7 @@ use Rattle.std.proofs.lemmas.List.Sums.{sum_by-cons}
 use Rattle.std.specs.FinMap as map
 use Rattle.std.specs.FinSet as set
 use Rattle.event_core.specs.declared.event.Ev.{Ev}
+use Rattle.instance_table.specs.declared.TheConstants.{MAX_LIVE}
 use Rattle.instance_table.specs.declared.instances.Instance.{Instance as Entry}
 use Rattle.wait_lists.specs.Waits as lists
 use Rattle.wake_laws.specs.Woken.{after_event, joins_by}
@@ -82,6 +83,7 @@ module _ {B : Type 0} (s : Schedule B) (sound : IsSound s) (e : Ev) (w : lists.W
     woken_room = let room = sound.woken_room in let count = all.count in let spare = all.room ∙ capacity in omega (arith, room, count, spare);
     due_room = subst (λ u. map.len t.table.live ≤ vec_capacity u) (sym all.due) (subst (λ n. n ≤ vec_capacity s.due) (sym all.count) sound.due_room);
     nobody_woken = all.nobody;
+    few = subst (λ n. n ≤ MAX_LIVE) (sym all.count) sound.few;
     below = λ q is. subst (λ n. q < n) (sym all.next) (sound.below q (sym (there q) ∙ is));
     serials = subst (λ n. n < 2 ^ 32 - 1) (sym all.next) sound.serials;
   }

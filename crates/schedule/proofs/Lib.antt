@@ -1,6 +1,6 @@
 pub mod Changed
 pub mod Places
-mod Rousing
+pub mod Rousing
 mod Emptiness
 mod Meeting
 mod Firing

@@ -4,6 +4,7 @@ use Rattle.std.specs.Prelude.{if◌then◌else◌, is_some, vec_capacity}
 use Rattle.std.proofs.lemmas.Bool.{cases_eq}
 use Rattle.std.specs.FinMap as map
 use Rattle.std.specs.FinSet as set
+use Rattle.instance_table.specs.declared.TheConstants.{MAX_LIVE}
 use Rattle.instance_table.specs.declared.instances.Instance.{Instance as Entry}
 use Rattle.instance_table.specs.declared.instances.Waiting.TheVariants as waiting
 use Rattle.instance_table.specs.declared.instances.Deadline.TheVariants as due
@@ -206,6 +207,7 @@ module _ {B : Type 0} where
         woken_room = subst (λ v. map.len t.table.live ≤ vec_capacity v) (sym ch.woken) (subst (λ n. n ≤ vec_capacity s.woken) (sym ch.count) sound.woken_room);
         due_room = subst (λ v. map.len t.table.live ≤ vec_capacity v) (sym ch.due) (subst (λ n. n ≤ vec_capacity s.due) (sym ch.count) sound.due_room);
         nobody_woken = ap (λ v. v.items) ch.woken ∙ sound.nobody_woken;
+        few = subst (λ n. n ≤ MAX_LIVE) (sym ch.count) sound.few;
         below = λ q is. subst (λ n. q < n) (sym ch.next) (sound.below q (sym (there q) ∙ is));
         serials = subst (λ n. n < 2 ^ 32 - 1) (sym ch.next) sound.serials;
       }

@@ -5,6 +5,7 @@ use Rattle.std.specs.Global.{Vec}
 use Rattle.std.proofs.lemmas.Bool.{cases_eq}
 use Rattle.std.proofs.lemmas.List.Folds.{list_any-append}
 use Rattle.std.specs.FinMap as map
+use Rattle.instance_table.specs.declared.TheConstants.{MAX_LIVE}
 use Rattle.instance_table.specs.declared.instances.Instance.{Instance as Entry}
 use Rattle.sim_model.specs.Configuration.{Instance}
 use Rattle.schedule.specs.Seen.{Seen, seen, is_on, shown_in, body_at}
@@ -36,6 +37,7 @@ module _ {B : Type 0} (s t : Schedule B) (p : ℕ) (f : Seen B → Seen B) (ch :
     woken_room = subst (λ v. map.len t.table.live ≤ vec_capacity v) (sym ch.woken) (subst (λ n. n ≤ vec_capacity s.woken) (sym ch.count) sound.woken_room);
     due_room = subst (λ v. map.len t.table.live ≤ vec_capacity v) (sym ch.due) (subst (λ n. n ≤ vec_capacity s.due) (sym ch.count) sound.due_room);
     nobody_woken = ap (λ v. v.items) ch.woken ∙ sound.nobody_woken;
+    few = subst (λ n. n ≤ MAX_LIVE) (sym ch.count) sound.few;
     below = λ q is. subst (λ n. q < n) (sym ch.next) (sound.below q (sym (there_still there q) ∙ is));
     serials = subst (λ n. n < 2 ^ 32 - 1) (sym ch.next) sound.serials;
   }
@@ -57,6 +59,12 @@ module _ {B : Type 0} (s t : Schedule B) (p : ℕ) (f : Seen B → Seen B) (ch :
     due = ch.due;
     next = ch.next;
   }
+
+-- ---- room alone
+
+module _ {B : Type 0} (s t : Schedule B) (p : ℕ) (ch : Changes p (λ x. x) s t) where
+  pub same_sound : IsSound s → IsSound t
+  same_sound sound = sound_still s t p (λ x. x) ch sound (sound.each p) refl (λ x on some. sound.busy p x on some)
 
 -- ---- the stack
 
@@ -137,6 +145,7 @@ module _ {B : Type 0} (s : Schedule B) (sound : IsSound s) (p : ℕ) where
       woken_room = sound.woken_room;
       due_room = sound.due_room;
       nobody_woken = sound.nobody_woken;
+      few = sound.few;
       below = sound.below;
       serials = sound.serials;
     }
@@ -171,6 +180,7 @@ module _ {B : Type 0} (s : Schedule B) (sound : IsSound s) (p : ℕ) where
       woken_room = sound.woken_room;
       due_room = sound.due_room;
       nobody_woken = sound.nobody_woken;
+      few = sound.few;
       below = sound.below;
       serials = sound.serials;
     }

@@ -9,6 +9,7 @@ use Rattle.instance_table.specs.declared.instances.Waiting.{Waiting}
 use Rattle.instance_table.specs.declared.instances.Waiting.TheVariants as waiting
 use Rattle.instance_table.specs.declared.instances.Deadline.{Deadline as Kept}
 use Rattle.instance_table.specs.declared.instances.Deadline.TheVariants as due
+use Rattle.instance_table.specs.declared.TheConstants.{MAX_LIVE}
 use Rattle.wait_lists.specs.Waits as lists
 use Rattle.schedule.specs.Seen.{Seen, seen, listed, is_on}
 use Rattle.schedule.specs.declared.parts.Process.{Process}
@@ -87,6 +88,8 @@ module _ {B : Type 0} where
     pub woken_room : map.len s.table.live ≤ vec_capacity s.woken
     pub due_room : map.len s.table.live ≤ vec_capacity s.due
     pub nobody_woken : s.woken.items ≡ []
+    -- no more are live than may be
+    pub few : map.len s.table.live ≤ MAX_LIVE
     -- serials are below the next one, and fit
     pub below : (p : ℕ) → map.contains_key s.table.live p ≡ true → p < s.table.next
     pub serials : s.table.next < 2 ^ 32 - 1

@@ -55,7 +55,9 @@ pub fn put_time<B>(s: &mut Schedule<B>, p: u32, d: Deadline)
     requires below { p < 2 ^ 32 - 1 }
     requires times { 0 < s.old.deadlines.spare }
     requires zeros { 0 < s.old.zero.spare }
-    ensures { Changes p (λ x. record x { time = time_of d; zero = is_zero d }) s.old s.new }
+    ensures changes { Changes p (λ x. record x { time = time_of d; zero = is_zero d }) s.old s.new }
+    ensures lists { s.new.lists ≡ s.old.lists }
+    ensures table { s.new.table ≡ s.old.table }
 {
     s.deadlines.clear(p);
     s.zero.remove(p);

@@ -10,14 +10,14 @@ insert-requires-clause-room g c = inr (more_zero c.args.s.now c.args.p _ c.remov
 pub set-requires : goal.set-requires
 set-requires g c = inr (more_times c.args.s.now c.args.p _ c.clear.ensures c.requires.times)
 
-pub returns-in-None : goal.returns-in-None
-returns-in-None g c = told_as c.args.p _ _ c.args.s.now _ (ended_time c.args.s.now c.args.p _ _ c.clear.ensures c.remove.ensures.left)
+pub returns-in-None-clause-changes : goal.returns-in-None-clause-changes
+returns-in-None-clause-changes g c = told_as c.args.p _ _ c.args.s.now _ (ended_time c.args.s.now c.args.p _ _ c.clear.ensures c.remove.ensures.left)
     (ap (λ d. record (seen c.args.s.now c.args.p) { time = time_of d; zero = is_zero d }) (sym c.in-None.is))
 
-pub returns-in-Delta : goal.returns-in-Delta
-returns-in-Delta g c = told_as c.args.p _ _ c.args.s.now _ (then_changes c.args.p _ _ c.args.s.now _ _ (ended_time c.args.s.now c.args.p _ _ c.clear.ensures c.remove.ensures.left) (put_zero _ c.args.p _ c.insert.ensures))
+pub returns-in-Delta-clause-changes : goal.returns-in-Delta-clause-changes
+returns-in-Delta-clause-changes g c = told_as c.args.p _ _ c.args.s.now _ (then_changes c.args.p _ _ c.args.s.now _ _ (ended_time c.args.s.now c.args.p _ _ c.clear.ensures c.remove.ensures.left) (put_zero _ c.args.p _ c.insert.ensures))
     (ap (λ d. record (seen c.args.s.now c.args.p) { time = time_of d; zero = is_zero d }) (sym c.in-Delta.is))
 
-pub returns-in-At : goal.returns-in-At
-returns-in-At g c = told_as c.args.p _ _ c.args.s.now _ (then_changes c.args.p _ _ c.args.s.now _ _ (ended_time c.args.s.now c.args.p _ _ c.clear.ensures c.remove.ensures.left) (put_deadline _ c.args.p _ _ c.set.ensures))
+pub returns-in-At-clause-changes : goal.returns-in-At-clause-changes
+returns-in-At-clause-changes g c = told_as c.args.p _ _ c.args.s.now _ (then_changes c.args.p _ _ c.args.s.now _ _ (ended_time c.args.s.now c.args.p _ _ c.clear.ensures c.remove.ensures.left) (put_deadline _ c.args.p _ _ c.set.ensures))
     (ap (λ d. record (seen c.args.s.now c.args.p) { time = time_of d; zero = is_zero d }) (sym c.in-At.is))

@@ -1,0 +1,7 @@
+mod Single
+mod Finish
+mod Ending
+mod Room
+mod Moving
+mod OtherBody
+mod Adding

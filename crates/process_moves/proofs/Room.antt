@@ -1,0 +1,68 @@
+-- There is room on the stack for one that is not on it.
+use Rattle.std.proofs.Common.{◌≡◌, ◌≤◌, ◌<◌, ◌-◌, ◌+◌, ◌==◌, ◌||◌, ℕ, Bool, true, false, cond, List, [], ◌∷◌, ◌++◌, take, length, refl, sym, ap, ◌∙◌, arith, true≢false, ⊎_elim, ne_eqb}
+use Rattle.std.specs.Prelude.{count_by, vec_capacity}
+use Rattle.std.proofs.lemmas.Bool.{cases_eq}
+use Rattle.std.proofs.Math.Seq.{take-append_seam}
+use Rattle.std.proofs.lemmas.List.{length-append}
+use Rattle.std.proofs.lemmas.List.Sums.{sum_by-cons}
+use Rattle.std.specs.FinMap as map
+use Rattle.wait_lists.proofs.Counted.{length-le_keys}
+use Rattle.schedule.specs.Seen.{is_on}
+use Rattle.schedule.specs.Sound.{IsSound, IsOnce}
+use Rattle.schedule.specs.declared.parts.Schedule.{Schedule}
+use Rattle.schedule.proofs.Sounding.{on_last, once_more}
+
+-- the list without its last
+pub front : (below : List ℕ) (p n : ℕ) → n ≡ length (below ++ p ∷ []) → take (n - 1) (below ++ p ∷ []) ≡ below
+front below p n is = ap (λ k. take k (below ++ p ∷ [])) (let long = length-append below (p ∷ []) in omega (arith, is, long)) ∙ take-append_seam below (p ∷ [])
+
+times-cons : (q x : ℕ) (xs : List ℕ) → count_by (λ y. y == q) (x ∷ xs) ≡ cond (x == q) 1 0 + count_by (λ y. y == q) xs
+times-cons q x xs = sum_by-cons (λ y. cond (y == q) 1 0) x xs
+
+same : (x q : ℕ) → (x == q) ≡ true → x ≡ q
+same x q eq = ⊎_elim (λ here. here) (λ apart. absurd (true≢false (sym eq ∙ ne_eqb x q apart))) (cases_eq x q)
+
+zero_more : (n : ℕ) → 0 + n ≡ n
+zero_more n = omega arith
+
+counted_front : (q x : ℕ) (xs : List ℕ) → IsOnce (x ∷ xs) → count_by (λ y. y == q) xs ≡ cond (is_on xs q) 1 0 → (b : Bool) → (x == q) ≡ b
+    → cond (x == q) 1 0 + count_by (λ y. y == q) xs ≡ cond ((x == q) || is_on xs q) 1 0
+counted_front q x xs once rest true is = ap (λ b. cond b 1 0 + count_by (λ y. y == q) xs) is
+    ∙ ap (λ n. 1 + n) (rest ∙ ap (λ b. cond b 1 0) (ap (is_on xs) (sym (same x q is)) ∙ once.0))
+    ∙ sym (ap (λ b. cond (b || is_on xs q) 1 0) is)
+counted_front q x xs once rest false is = ap (λ b. cond b 1 0 + count_by (λ y. y == q) xs) is ∙ zero_more (count_by (λ y. y == q) xs) ∙ rest ∙ sym (ap (λ b. cond (b || is_on xs q) 1 0) is)
+
+counted_once : (q : ℕ) (xs : List ℕ) → IsOnce xs → count_by (λ y. y == q) xs ≡ cond (is_on xs q) 1 0
+counted_once q [] once = refl
+counted_once q (x ∷ xs) once = times-cons q x xs ∙ counted_front q x xs once (counted_once q xs once.1) (x == q) refl
+
+few : (b : Bool) (n : ℕ) → n ≡ cond b 1 0 → n ≤ 1
+few true n is = omega (arith, is)
+few false n is = omega (arith, is)
+
+some : (b : Bool) (n : ℕ) → n ≡ cond b 1 0 → 1 ≤ n → b ≡ true
+some true n is le = refl
+some false n is le = absurd (omega (arith, is, le))
+
+module _ {B : Type 0} (s : Schedule B) (sound : IsSound s) (p : ℕ) (lives : map.contains_key s.table.live p ≡ true) (off : is_on s.stack.items p ≡ false) where
+  once : IsOnce (s.stack.items ++ p ∷ [])
+  once = once_more s.stack.items p sound.once off
+
+  lives_on : (q : ℕ) → is_on (s.stack.items ++ p ∷ []) q ≡ true → map.contains_key s.table.live q ≡ true
+  lives_on q on = ⊎_elim
+      (λ same. ap (map.contains_key s.table.live) (sym same) ∙ lives)
+      (λ apart. sound.active q (sym (on_last s.stack.items p q ∙ ap (λ b. is_on s.stack.items q || b) (ne_eqb p q apart) ∙ or-nothing (is_on s.stack.items q)) ∙ on))
+      (cases_eq p q)
+    where
+      or-nothing : (b : Bool) → (b || false) ≡ b
+      or-nothing true = refl
+      or-nothing false = refl
+
+  pub stack_has_room : length s.stack.items < vec_capacity s.stack
+  stack_has_room =
+      let many = length-le_keys s.table.live (s.stack.items ++ p ∷ [])
+      (λ q. few (is_on (s.stack.items ++ p ∷ []) q) _ (counted_once q (s.stack.items ++ p ∷ []) once))
+      (λ q le. lives_on q (some (is_on (s.stack.items ++ p ∷ []) q) _ (counted_once q (s.stack.items ++ p ∷ []) once) le)) in
+      let long = length-append s.stack.items (p ∷ []) in
+      let room = sound.stack_room in
+      omega (arith, many, long, room)
