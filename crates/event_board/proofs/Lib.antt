@@ -1,0 +1,3 @@
+pub mod Changed
+pub mod Taken
+pub mod Earliest
