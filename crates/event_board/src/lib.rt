@@ -2,7 +2,7 @@
 //! (IEEE 1666-2011, 4.2.1.4, 4.2.1.5 and 5.10).
 #![tactic(auto)]
 
-ghost use Rattle.std.specs.Prelude.{◌≡◌, ◌++◌, ◌+◌, ◌≤◌, IfOk, count_by, map, option_map, replicate, vec_len, vec_capacity};
+ghost use Rattle.std.specs.Prelude.{◌≡◌, ◌++◌, ◌+◌, ◌≤◌, IfOk, count_by, length, map, option_map, replicate, vec_len, vec_capacity};
 
 mod kept;
 #[cfg(test)]
@@ -69,6 +69,13 @@ impl EventBoard {
             times,
             size: n,
         })
+    }
+
+    /// How many events there are.
+    pub fn len(&self) -> u32
+        ensures { result ≡ length self.now }
+    {
+        self.size
     }
 
     /// Notifies an event. An earlier pending notification stays, a later one is overridden, and after an immediate
