@@ -1,1 +1,1 @@
-mod Wakes
+pub mod Wakes
