@@ -1,13 +1,13 @@
 -- Each move of a schedule beside the same move of the processes of a configuration.
 use Rattle.std.proofs.Common.{◌≡◌, ◌≢◌, ◌≤◌, ◌<◌, ◌+◌, ◌==◌, ◌&&◌, ◌||◌, not, ℕ, zero, suc, Bool, true, false, List, [], ◌∷◌, ◌++◌, drop, length, slice_get, reverse, Option, Some, None, option_map, refl, sym, ap, ◌∙◌, subst, arith, true≢false, ⊎_elim}
-use Rattle.std.specs.Prelude.{if◌then◌else◌}
+use Rattle.std.specs.Prelude.{if◌then◌else◌, is_some, unwrap_or}
 use Rattle.std.proofs.lemmas.Bool.{cases_eq}
 use Rattle.std.proofs.lemmas.List.{reverse-append, length-append}
 use Rattle.std.proofs.lemmas.List.Folds.{list_any-append}
 use Rattle.std.proofs.lemmas.Option.{slice_get_past}
 use Rattle.std.specs.FinMap as map
 use Rattle.std.specs.FinSet as set
-use Rattle.sim_model.specs.Configuration.{Config, Instance, Processes, Wait, waits_for_nothing, waits_statically, waits_for_any, waits_for_all, change}
+use Rattle.sim_model.specs.Configuration.{Config, Instance, Processes, Wait, waits_for_nothing, waits_statically, waits_for_any, waits_for_all, no_deadline, change}
 use Rattle.event_core.specs.declared.event.Ev.{Ev}
 use Rattle.sim_model.specs.Waits.{holds, is_active, freed, is_among, struck}
 use Rattle.wake_laws.specs.Woken as woken
@@ -45,17 +45,33 @@ module _ {B : Type 0} (Shows : B → Beside → Type 0) where
     pub ends : (i : Instance) → (g i).ended ≡ i.ended
     pub shows : (b : B) (i : Instance) → Shows b (beside i) → Shows b (beside (g i))
 
-  tells_by : (f g : Instance → Instance) → Agrees f g → (o p : Option Instance) (b c : Option B) (i : Instance) (e : Bool) → i.ended ≡ e → p ≡ option_map f o → c ≡ b
+  -- of an instance that has ended it keeps that no time ends a wait
+  abbrev pub KeepsOver : (Instance → Instance) → Instance → Type 0
+  KeepsOver g i = i.ended ≡ true → i.deadline ≡ no_deadline → (g i).deadline ≡ no_deadline
+
+  tells_by : (f g : Instance → Instance) → Agrees f g → (o p : Option Instance) (b c : Option B) (i : Instance) (e : Bool) → i.ended ≡ e → KeepsOver g i → p ≡ option_map f o → c ≡ b
       → TellsBy Shows e o b i → TellsBy Shows e p c (g i)
-  tells_by f g agrees o p b c i true is moved same none = moved ∙ ap (option_map f) none
-  tells_by f g agrees o p b c i false is moved same lives = record {
+  tells_by f g agrees o p b c i true is over moved same none = (moved ∙ ap (option_map f) none.0, over is none.1)
+  tells_by f g agrees o p b c i false is over moved same lives = record {
     shown = moved ∙ ap (option_map f) lives.shown ∙ ap Some (sym (agrees.bares i));
     kept = (lives.kept.0, (same ∙ lives.kept.1.0, agrees.shows lives.kept.0 i lives.kept.1.1));
   }
 
-  pub tells_after : (f g : Instance → Instance) → Agrees f g → (o p : Option Instance) (b c : Option B) (i : Option Instance) → p ≡ option_map f o → c ≡ b → Tells Shows o b i → Tells Shows p c (option_map g i)
-  tells_after f g agrees o p b c None moved same none = moved ∙ ap (option_map f) none
-  tells_after f g agrees o p b c (Some i) moved same tells = subst (λ e. TellsBy Shows e p c (g i)) (sym (agrees.ends i)) (tells_by f g agrees o p b c i i.ended refl moved same tells)
+  abbrev pub KeepsOverAt : (Instance → Instance) → Option Instance → Type 0
+  KeepsOverAt g o = (i : Instance) → o ≡ Some i → KeepsOver g i
+
+  pub tells_after : (f g : Instance → Instance) → Agrees f g → (o p : Option Instance) (b c : Option B) (i : Option Instance) → KeepsOverAt g i → p ≡ option_map f o → c ≡ b → Tells Shows o b i → Tells Shows p c (option_map g i)
+  tells_after f g agrees o p b c None over moved same none = moved ∙ ap (option_map f) none
+  tells_after f g agrees o p b c (Some i) over moved same tells = subst (λ e. TellsBy Shows e p c (g i)) (sym (agrees.ends i)) (tells_by f g agrees o p b c i i.ended refl (over i refl) moved same tells)
+
+  -- what shows has not ended
+  lives_by : (o : Option Instance) (b : Option B) (i : Instance) (e : Bool) → i.ended ≡ e → is_some o ≡ true → TellsBy Shows e o b i → i.ended ≡ false
+  lives_by o b i true is some none = absurd (true≢false (sym some ∙ ap is_some none.0))
+  lives_by o b i false is some lives = is
+
+  pub lives_that_shows : (o : Option Instance) (b : Option B) (i : Option Instance) → is_some o ≡ true → Tells Shows o b i → (j : Instance) → i ≡ Some j → j.ended ≡ false
+  lives_that_shows o b None some none j at = absurd (true≢false (sym some ∙ ap is_some none))
+  lives_that_shows o b (Some i) some tells j at = subst (λ k. k.ended ≡ false) (ap (λ z. unwrap_or z i) at) (lives_by o b i i.ended refl some tells)
 
   module _ (s t : Schedule B) (x : Processes) (stands : StandsForProcesses Shows s x) where
     -- the schedule shows the same, and so does what is kept
@@ -71,13 +87,14 @@ module _ {B : Type 0} (Shows : B → Beside → Type 0) where
     }
 
     -- one instance moves
-    module _ (p : ℕ) (f g : Instance → Instance) (agrees : Agrees f g) (runs : Bool) (how : List ℕ → List ℕ → Type 0) (moves : MovesOne p f runs how s t) (y : Processes)
+    module _ (p : ℕ) (f g : Instance → Instance) (agrees : Agrees f g) (runs : Bool) (how : List ℕ → List ℕ → Type 0) (moves : MovesOne p f runs how s t) (lives : is_some (shown_at s p) ≡ true) (y : Processes)
         (changed : y.instances ≡ change x.instances p g) (runs_now : holds y.runnable p ≡ runs) (runs_others : (q : ℕ) → q ≢ p → holds y.runnable q ≡ holds x.runnable q) where
       each_moved : (q : ℕ) → Tells Shows (shown_at t q) (body_at t q) (slice_get y.instances q)
       each_moved q = subst (λ is. Tells Shows (shown_at t q) (body_at t q) (slice_get is q)) (sym changed) (⊎_elim
           (λ same. subst (λ n. Tells Shows (shown_at t n) (body_at t n) (slice_get (change x.instances p g) n)) (sym same)
           (subst (Tells Shows (shown_at t p) (body_at t p)) (sym (change-here x.instances p g))
-          (tells_after f g agrees (shown_at s p) (shown_at t p) (body_at s p) (body_at t p) (slice_get x.instances p) moves.here (moves.bodies p) (stands.each p))))
+          (tells_after f g agrees (shown_at s p) (shown_at t p) (body_at s p) (body_at t p) (slice_get x.instances p) (λ i at ended over. absurd (true≢false (sym ended ∙ lives_that_shows (shown_at s p) (body_at s p) (slice_get x.instances p) lives (stands.each p) i at)))
+          moves.here (moves.bodies p) (stands.each p))))
           (λ apart. subst (Tells Shows (shown_at t q) (body_at t q)) (sym (change-other x.instances p q g apart))
           (subst (λ o. Tells Shows o (body_at t q) (slice_get x.instances q)) (sym (moves.others q apart)) (subst (λ b. Tells Shows (shown_at s q) b (slice_get x.instances q)) (sym (moves.bodies q)) (stands.each q))))
           (cases_eq q p))
@@ -104,10 +121,10 @@ module _ {B : Type 0} (Shows : B → Beside → Type 0) where
     stack_joined p joined = ap (λ xs. p ∷ xs) stands.stack ∙ sym (ap reverse joined ∙ reverse-append s.stack.items (p ∷ []))
 
     -- another body for an instance
-    module _ (p : ℕ) (b : B) (g : Instance → Instance) (puts : PutsBody p b s t) (bares : (i : Instance) → bare (g i) ≡ bare i) (ends : (i : Instance) → (g i).ended ≡ i.ended)
+    module _ (p : ℕ) (b : B) (g : Instance → Instance) (puts : PutsBody p b s t) (bares : (i : Instance) → bare (g i) ≡ bare i) (ends : (i : Instance) → (g i).ended ≡ i.ended) (over : (i : Instance) → i.deadline ≡ no_deadline → (g i).deadline ≡ no_deadline)
         (shows : (a : B) (i : Instance) → body_at s p ≡ Some a → slice_get x.instances p ≡ Some i → Shows a (beside i) → Shows b (beside (g i))) where
       put_by : (i : Instance) (e : Bool) → slice_get x.instances p ≡ Some i → i.ended ≡ e → TellsBy Shows e (shown_at s p) (body_at s p) i → TellsBy Shows e (shown_at t p) (body_at t p) (g i)
-      put_by i true at is none = puts.shown p ∙ none
+      put_by i true at is none = (puts.shown p ∙ none.0, over i none.1)
       put_by i false at is lives = record {
         shown = puts.shown p ∙ lives.shown ∙ ap Some (sym (bares i));
         kept = (b, (puts.body, shows lives.kept.0 i lives.kept.1.0 at lives.kept.1.1));
@@ -131,10 +148,10 @@ module _ {B : Type 0} (Shows : B → Beside → Type 0) where
       }
 
     -- an instance ends, and leaves the stack
-    module _ (p : ℕ) (g : Instance → Instance) (ends : Ends p s t) (over : (i : Instance) → (g i).ended ≡ true) where
+    module _ (p : ℕ) (g : Instance → Instance) (ends : Ends p s t) (over : (i : Instance) → ((g i).ended ≡ true) × ((g i).deadline ≡ no_deadline)) where
       gone_here : (o : Option Instance) → Tells Shows (shown_at t p) (body_at t p) (option_map g o)
       gone_here None = ends.here
-      gone_here (Some i) = subst (λ e. TellsBy Shows e (shown_at t p) (body_at t p) (g i)) (sym (over i)) ends.here
+      gone_here (Some i) = subst (λ e. TellsBy Shows e (shown_at t p) (body_at t p) (g i)) (sym (over i).0) (ends.here, (over i).1)
 
       pub ended_stands : StandsForProcesses Shows t (record x { instances = change x.instances p g; stack = drop 1 x.stack })
       ended_stands = record {
@@ -194,6 +211,7 @@ module _ {B : Type 0} (Shows : B → Beside → Type 0) where
     pub ends : (q : ℕ) (a : Bool) (i : Instance) → (f q a i).ended ≡ i.ended
     pub besides : (q : ℕ) (a : Bool) (i : Instance) → beside (f q a i) ≡ beside i
     pub joins : (q : ℕ) (a : Bool) (i : Instance) → joining q a (bare i) ≡ joining q a i
+    pub over : (q : ℕ) (a : Bool) (i : Instance) → i.deadline ≡ no_deadline → (f q a i).deadline ≡ no_deadline
     pub joins_no_ended : (q : ℕ) (a : Bool) (i : Instance) → i.ended ≡ true → joining q a i ≡ false
 
   module _ (f : ℕ → Bool → Instance → Instance) (joining : ℕ → Bool → Instance → Bool) (rousing : Rousing f joining) (s t : Schedule B) (c d : Config)
@@ -202,7 +220,7 @@ module _ {B : Type 0} (Shows : B → Beside → Type 0) where
     active_same q = sym (on_reversed s.stack.items q) ∙ ap (λ xs. is_on xs q) (sym stands.stack)
 
     joined_by : (q : ℕ) (a : Bool) (i : Instance) (e : Bool) → i.ended ≡ e → TellsBy Shows e (shown_at s q) (body_at s q) i → if_there (joining q a) (shown_at s q) ≡ joining q a i
-    joined_by q a i true is none = ap (if_there (joining q a)) none ∙ sym (rousing.joins_no_ended q a i is)
+    joined_by q a i true is none = ap (if_there (joining q a)) none.0 ∙ sym (rousing.joins_no_ended q a i is)
     joined_by q a i false is lives = ap (if_there (joining q a)) lives.shown ∙ rousing.joins q a i
 
     joined_there : (q : ℕ) (a : Bool) (o : Option Instance) → Tells Shows (shown_at s q) (body_at s q) o → if_there (joining q a) (shown_at s q) ≡ if_there (joining q a) o
@@ -212,7 +230,7 @@ module _ {B : Type 0} (Shows : B → Beside → Type 0) where
     roused_tells : (q : ℕ) → Tells Shows (shown_at t q) (body_at t q) (slice_get d.processes.instances q)
     roused_tells q = subst (Tells Shows (shown_at t q) (body_at t q)) (sym (does.instances q))
         (tells_after (f q (is_active c q)) (f q (is_active c q)) (record { bares = rousing.bares q (is_active c q); ends = rousing.ends q (is_active c q); shows = λ b i h. subst (Shows b) (sym (rousing.besides q (is_active c q) i)) h })
-        (shown_at s q) (shown_at t q) (body_at s q) (body_at t q) (slice_get c.processes.instances q)
+        (shown_at s q) (shown_at t q) (body_at s q) (body_at t q) (slice_get c.processes.instances q) (λ i at ended over. rousing.over q (is_active c q) i over)
         (moves.shown q ∙ ap (λ a. option_map (f q a) (shown_at s q)) (active_same q)) (moves.bodies q) (stands.each q))
 
     pub roused_stands : StandsForProcesses Shows t d.processes
@@ -272,6 +290,30 @@ module _ {A : Type 0} (h : Instance → A) (kept_same : (i : Instance) → h (re
   only_same : (p q : ℕ) (a : Bool) (i : Instance) → h (at_only p after_wake q a i) ≡ h i
   only_same p q a i = if_same h (q == p) (after_wake a i) i (h i) (wake_same a i) refl
 
+-- what has no time for its wait gets none
+if_kept : (b : Bool) (x y : Instance) → x.deadline ≡ no_deadline → y.deadline ≡ no_deadline → (if b then x else y).deadline ≡ no_deadline
+if_kept true x y is other = is
+if_kept false x y is other = other
+
+roused_over : (i : Instance) → (roused i).deadline ≡ no_deadline
+roused_over i = if_kept i.suspended (record (freed i) { kept = true }) (freed i) refl refl
+
+wake_over : (a : Bool) (i : Instance) → i.deadline ≡ no_deadline → (after_wake a i).deadline ≡ no_deadline
+wake_over a i none = if_kept (is_deaf a i) i (roused i) none (roused_over i)
+
+last_over : (a : Bool) (i : Instance) (es : List Ev) → i.deadline ≡ no_deadline → (after_last a i es).deadline ≡ no_deadline
+last_over a i [] none = wake_over a i none
+last_over a i (e ∷ es) none = none
+
+named_over : (e : Ev) (a : Bool) (i : Instance) (w : Wait) → i.deadline ≡ no_deadline → (after_named e a i w).deadline ≡ no_deadline
+named_over e a i waits_for_nothing none = none
+named_over e a i waits_statically none = if_kept (is_among e i.static) (after_wake a i) i (wake_over a i none) none
+named_over e a i (waits_for_any es) none = if_kept (is_among e es) (after_wake a i) i (wake_over a i none) none
+named_over e a i (waits_for_all es) none = if_kept (is_among e es) (after_last a i (struck e es)) i (last_over a i (struck e es) none) none
+
+event_over : (e : Ev) (a : Bool) (i : Instance) → i.deadline ≡ no_deadline → (after_event e a i).deadline ≡ no_deadline
+event_over e a i none = if_kept i.disabled i (after_named e a i i.wait) none (named_over e a i i.wait none)
+
 -- the bare instance moves alike
 bare-wake : (a : Bool) (i : Instance) → bare (after_wake a i) ≡ after_wake a (bare i)
 bare-wake a i = if_both bare (is_deaf a i) i (roused i) (bare i) (roused (bare i)) refl (bare-roused i)
@@ -309,6 +351,7 @@ module _ {B : Type 0} (Shows : B → Beside → Type 0) where
     ends = only_same (λ i. i.ended) (λ i. refl) (λ i. refl) (λ i es. refl) p;
     besides = only_same beside (λ i. refl) (λ i. refl) (λ i es. refl) p;
     joins = λ q a i. refl;
+    over = λ q a i none. if_kept (q == p) (after_wake a i) i (wake_over a i none) none;
     joins_no_ended = λ q a i is. ap (λ b. (q == p) && b) (no_joining a i is) ∙ and-false (q == p);
   }
 
@@ -318,5 +361,6 @@ module _ {B : Type 0} (Shows : B → Beside → Type 0) where
     ends = λ q. event_same (λ i. i.ended) (λ i. refl) (λ i. refl) (λ i es. refl) e;
     besides = λ q. event_same beside (λ i. refl) (λ i. refl) (λ i es. refl) e;
     joins = λ q a i. ap (λ b. b && joins a i) (ends_same e i i.wait);
+    over = λ q a i none. event_over e a i none;
     joins_no_ended = λ q a i is. ap (λ b. ends_wait e i i.wait && b) (no_joining a i is) ∙ and-false (ends_wait e i i.wait);
   }

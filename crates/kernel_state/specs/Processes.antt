@@ -4,7 +4,7 @@ use Rattle.std.specs.Prelude.{◌≡◌, ℕ, Bool, true, false, List, length, r
 use Rattle.std.specs.FinSet as set
 use Rattle.logic_values.specs.declared.kinds.Value.{Value}
 use Rattle.sim_model.specs.Residual.{Residual}
-use Rattle.sim_model.specs.Configuration.{Trigger, Instance, Processes}
+use Rattle.sim_model.specs.Configuration.{Trigger, Instance, Processes, no_deadline}
 use Rattle.sim_model.specs.Waits.{holds}
 use Rattle.schedule.specs.Seen.{bare, shown_at, body_at}
 use Rattle.schedule.specs.declared.parts.Schedule.{Schedule}
@@ -29,9 +29,9 @@ module _ {B : Type 0} (Shows : B → Beside → Type 0) where
     pub shown : o ≡ Some (bare i)
     pub kept : (body : B) × ((b ≡ Some body) × Shows body (beside i))
 
-  -- of an instance that has ended nothing is kept
+  -- of an instance that has ended nothing is kept, and no time ends a wait of it
   abbrev pub TellsBy : Bool → Option Instance → Option B → Instance → Type 0
-  TellsBy true o b i = o ≡ None
+  TellsBy true o b i = (o ≡ None) × (i.deadline ≡ no_deadline)
   TellsBy false o b i = IsLive o b i
 
   abbrev pub Tells : Option Instance → Option B → Option Instance → Type 0

@@ -1,3 +1,2 @@
 //! The state of a run: the parts that keep a configuration.
 #![tactic(auto)]
-
