@@ -5,3 +5,6 @@ mod Room
 mod Moving
 mod OtherBody
 mod Adding
+mod Overs
+mod Takings
+mod Waking

@@ -5,6 +5,7 @@ use Rattle.std.proofs.lemmas.Bool.{cases_eq}
 use Rattle.std.proofs.Math.Seq.{take-append_seam}
 use Rattle.std.proofs.lemmas.List.{length-append}
 use Rattle.std.proofs.lemmas.List.Sums.{sum_by-cons}
+use Rattle.std.specs.Ordering.{nat_cmp}
 use Rattle.std.specs.FinMap as map
 use Rattle.wait_lists.proofs.Counted.{length-le_keys}
 use Rattle.schedule.specs.Seen.{is_on}
@@ -44,25 +45,26 @@ some : (b : Bool) (n : ℕ) → n ≡ cond b 1 0 → 1 ≤ n → b ≡ true
 some true n is le = refl
 some false n is le = absurd (omega (arith, is, le))
 
+or-nothing : (b : Bool) → (b || false) ≡ b
+or-nothing true = refl
+or-nothing false = refl
+
+-- a list without doubles of keys of a map has no more than these, and less where there is one more
+module _ {X : Type 0} (m : map.FinMap nat_cmp X) where
+  pub list_within : (xs : List ℕ) → IsOnce xs → ((q : ℕ) → is_on xs q ≡ true → map.contains_key m q ≡ true) → length xs ≤ map.len m
+  list_within xs once there = length-le_keys m xs
+      (λ q. few (is_on xs q) _ (counted_once q xs once))
+      (λ q le. there q (some (is_on xs q) _ (counted_once q xs once) le))
+
+  pub list_has_room : (xs : List ℕ) (p : ℕ) → IsOnce xs → ((q : ℕ) → is_on xs q ≡ true → map.contains_key m q ≡ true) → map.contains_key m p ≡ true → is_on xs p ≡ false → length xs < map.len m
+  list_has_room xs p once there lives off =
+      let many = list_within (xs ++ p ∷ []) (once_more xs p once off) (λ q on. ⊎_elim
+      (λ same. ap (map.contains_key m) (sym same) ∙ lives)
+      (λ apart. there q (sym (on_last xs p q ∙ ap (λ b. is_on xs q || b) (ne_eqb p q apart) ∙ or-nothing (is_on xs q)) ∙ on))
+      (cases_eq p q)) in
+      let long = length-append xs (p ∷ []) in
+      omega (arith, many, long)
+
 module _ {B : Type 0} (s : Schedule B) (sound : IsSound s) (p : ℕ) (lives : map.contains_key s.table.live p ≡ true) (off : is_on s.stack.items p ≡ false) where
-  once : IsOnce (s.stack.items ++ p ∷ [])
-  once = once_more s.stack.items p sound.once off
-
-  lives_on : (q : ℕ) → is_on (s.stack.items ++ p ∷ []) q ≡ true → map.contains_key s.table.live q ≡ true
-  lives_on q on = ⊎_elim
-      (λ same. ap (map.contains_key s.table.live) (sym same) ∙ lives)
-      (λ apart. sound.active q (sym (on_last s.stack.items p q ∙ ap (λ b. is_on s.stack.items q || b) (ne_eqb p q apart) ∙ or-nothing (is_on s.stack.items q)) ∙ on))
-      (cases_eq p q)
-    where
-      or-nothing : (b : Bool) → (b || false) ≡ b
-      or-nothing true = refl
-      or-nothing false = refl
-
   pub stack_has_room : length s.stack.items < vec_capacity s.stack
-  stack_has_room =
-      let many = length-le_keys s.table.live (s.stack.items ++ p ∷ [])
-      (λ q. few (is_on (s.stack.items ++ p ∷ []) q) _ (counted_once q (s.stack.items ++ p ∷ []) once))
-      (λ q le. lives_on q (some (is_on (s.stack.items ++ p ∷ []) q) _ (counted_once q (s.stack.items ++ p ∷ []) once) le)) in
-      let long = length-append s.stack.items (p ∷ []) in
-      let room = sound.stack_room in
-      omega (arith, many, long, room)
+  stack_has_room = let less = list_has_room s.table.live s.stack.items p sound.once sound.active lives off in let room = sound.stack_room in omega (arith, less, room)

@@ -5,11 +5,13 @@
 mod bodies;
 mod control;
 mod spawning;
+mod time;
 mod turns;
 mod waits;
 
 pub use bodies::{bodies_are_the_callers, body};
 pub use control::{disable, end, push, resume, stay_kept, suspend};
 pub use spawning::spawn;
+pub use time::{earliest, take_due, take_zero, wake_due};
 pub use turns::{begin, initialize, take, top};
 pub use waits::{rest, wait};

@@ -32,7 +32,7 @@ on_front q x xs b false here is rest =
     let same = sym (counted-cons q x xs ∙ ap (λ c. cond c 1 0 + count_by (λ y. y == q) xs) here) ∙ is in
     ap (λ c. c || is_on xs q) here ∙ rest (omega (arith, same))
 
-on_counted : (q : ℕ) (xs : List ℕ) (b : Bool) → count_by (λ y. y == q) xs ≡ cond b 1 0 → is_on xs q ≡ b
+pub on_counted : (q : ℕ) (xs : List ℕ) (b : Bool) → count_by (λ y. y == q) xs ≡ cond b 1 0 → is_on xs q ≡ b
 on_counted q [] true is = absurd (omega (arith, is))
 on_counted q [] false is = refl
 on_counted q (x ∷ xs) b is = on_front q x xs b (x == q) refl is (λ less. on_counted q xs b less)

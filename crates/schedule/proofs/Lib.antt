@@ -4,5 +4,5 @@ pub mod Rousing
 mod Emptiness
 mod Meeting
 mod Firing
-mod Fired
+pub mod Fired
 pub mod Sounding
