@@ -1,0 +1,12 @@
+//! What is left of a process's body: the open calls with their local variables, and inside them what is still to be carried
+//! out. It stands for a residual, and each call makes of it what the definitions of a run make of that residual.
+#![tactic(auto)]
+
+mod changes;
+mod frames;
+mod landing;
+mod layers;
+mod sought;
+mod unwinding;
+
+pub use layers::{Frame, Next};
