@@ -4,3 +4,5 @@ pub mod Lands
 pub mod Rooms
 pub mod Seeking
 pub mod Leaving
+pub mod Putting
+pub mod Keeping

@@ -1,10 +1,12 @@
 -- The residual that layers stand for, the outermost first. Guards have no numbers here: each is 0.
-use Rattle.std.specs.Prelude.{ℕ, Bool, true, false, List, [], ◌∷◌, Option, Some, None, drop}
+use Rattle.std.specs.Prelude.{◌≡◌, ℕ, List, [], ◌∷◌, ◌++◌, Option, Some, None, drop}
 use Rattle.flat_design.specs.Code.{Arena, block_at}
 use Rattle.sim_model.specs.Residual as residual
 use Rattle.sim_model.specs.Residual.{Residual, Frame, skip, one, seq, owing, guard, try_, frame, shell, run, goal, followed}
 use Rattle.body_code.specs.Depths.{handlers_of}
 use Rattle.body_code.specs.declared.around.Cursor.{Cursor}
+use Rattle.body_code.specs.declared.around.Around.{Around}
+use Rattle.body_code.specs.declared.around.Around.TheVariants as enclosing
 use Rattle.process_state.specs.declared.layers.Frame.{Frame as Kept}
 use Rattle.process_state.specs.declared.layers.Layer.{Layer}
 use Rattle.process_state.specs.declared.layers.Layer.TheVariants as layer
@@ -93,16 +95,6 @@ abbrev pub begins : Arena → Option Comes → Residual
 begins a None = skip
 begins a (Some c) = landed a c
 
--- a statement begins
-abbrev pub IsBegun : Comes → Type 0
-IsBegun comes.Nothing = ⊥
-IsBegun comes.Leave = ⊥
-IsBegun comes.Done = ⊥
-IsBegun (comes.Goal k) = ⊥
-IsBegun (comes.Statement s) = Unit {0}
-IsBegun (comes.InBlock s c) = Unit {0}
-IsBegun (comes.InUnwind s c) = Unit {0}
-
 abbrev pub frame_ends : Option ℕ → Comes
 frame_ends None = comes.Done
 frame_ends (Some s) = comes.Leave
@@ -118,3 +110,33 @@ end_shown (layer.Shell x) = None
 end_shown layer.Run = None
 end_shown (layer.Goal k) = Some (comes.Goal k)
 end_shown layer.Gone = None
+
+-- the innermost of the layers shows this end
+abbrev pub EndsWith : List Layer → Comes → Type 0
+EndsWith ls c = (front : List Layer) × (l : Layer) × (ls ≡ front ++ l ∷ []) × (end_shown l ≡ Some c)
+
+abbrev pub EndsIn : List Layer → Comes → Type 0
+EndsIn ls comes.Nothing = Unit {0}
+EndsIn ls comes.Leave = EndsWith ls comes.Leave
+EndsIn ls comes.Done = EndsWith ls comes.Done
+EndsIn ls (comes.Goal k) = EndsWith ls (comes.Goal k)
+EndsIn ls (comes.Statement s) = Unit {0}
+EndsIn ls (comes.InBlock s c) = Unit {0}
+EndsIn ls (comes.InUnwind s c) = Unit {0}
+
+-- the layers that a statement puts around its block
+abbrev pub layers_around : Around → ℕ → List Layer
+layers_around enclosing.Nothing s = []
+layers_around enclosing.Loop s = layer.Again s ∷ []
+layers_around (enclosing.Guard u) s = layer.Guard u ∷ []
+layers_around enclosing.Try s = layer.Try s ∷ []
+
+-- a statement begins
+abbrev pub IsBegun : Comes → Type 0
+IsBegun comes.Nothing = ⊥
+IsBegun comes.Leave = ⊥
+IsBegun comes.Done = ⊥
+IsBegun (comes.Goal k) = ⊥
+IsBegun (comes.Statement s) = Unit {0}
+IsBegun (comes.InBlock s c) = Unit {0}
+IsBegun (comes.InUnwind s c) = Unit {0}

@@ -3,3 +3,4 @@ pub mod Room
 pub mod Sought
 pub mod Unwound
 pub mod Changed
+pub mod Bodies

@@ -3,9 +3,10 @@ ghost use Rattle.std.specs.Prelude.{◌≡◌, ℕ, ◌+◌, ◌-◌, ◌<◌, �
 ghost use Rattle.logic_values.specs.declared.kinds.Value.{Value as Kept};
 ghost use Rattle.flat_design.specs.Code.{Arena};
 ghost use Rattle.process_state.specs.Changed.{IsAnswered, IsFrameSet, IsSet};
+ghost use Rattle.process_state.specs.Layers.{end_shown, EndsWith};
 ghost use Rattle.process_state.specs.Room.{own_or, own_room, room_of_own};
 
-use crate::layers::{Frame, Layer};
+use crate::layers::{Comes, Frame, Layer};
 use logic_values::Value;
 
 /// The vector of the local variables of the body's own call, where a layer is that call.
@@ -111,5 +112,37 @@ pub(crate) fn set_local_in(layer: &mut Layer, number: usize, value: Value)
         Layer::Run => {}
         Layer::Goal(_) => {}
         Layer::Gone => {}
+    }
+}
+
+/// The call of a layer that shows its end.
+fn frame_of(layer: Layer) -> Frame
+    requires { end_shown layer ≡ Some Comes.Leave }
+    ensures { layer ≡ Layer.Frame result }
+{
+    match layer {
+        Layer::Rest(_) => unreachable!(),
+        Layer::Again(_) => unreachable!(),
+        Layer::Owed(_) => unreachable!(),
+        Layer::Guard(_) => unreachable!(),
+        Layer::Try(_) => unreachable!(),
+        Layer::Frame(frame) => frame,
+        Layer::Shell(_) => unreachable!(),
+        Layer::Run => unreachable!(),
+        Layer::Goal(_) => unreachable!(),
+        Layer::Gone => unreachable!(),
+    }
+}
+
+/// Takes the innermost layer away, which is a call that shows its end.
+pub(crate) fn take_frame(layers: &mut Vec<Layer>) -> Frame
+    requires { EndsWith layers.old.items Comes.Leave }
+    ensures items { layers.old.items ≡ layers.new.items ++ Layer.Frame result ∷ [] }
+    ensures ends { end_shown (Layer.Frame result) ≡ Some Comes.Leave }
+    ensures capacity { vec_capacity layers.new ≡ vec_capacity layers.old }
+{
+    match layers.pop() {
+        Some(layer) => frame_of(layer),
+        None => unreachable!(),
     }
 }

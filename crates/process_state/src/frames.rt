@@ -5,12 +5,12 @@ ghost use Rattle.flat_design.specs.Code.{arena_of, body_at};
 ghost use Rattle.sim_model.specs.Residual as residual;
 ghost use Rattle.sim_model.specs.Residual.{first_locals};
 ghost use Rattle.body_code.specs.Depths.{locals_at, depth_of};
-ghost use Rattle.process_state.specs.Layers.{landed, layers_of, statement_of};
+ghost use Rattle.process_state.specs.Layers.{landed, layers_around, layers_of, statement_of};
 ghost use Rattle.process_state.specs.Room.{Fits, body_depth, begun_in, locals_with};
 
 use crate::landing::first_of;
 use crate::layers::{Comes, Layer};
-use body_code::{Cursor, Program};
+use body_code::{Around, Cursor, Program};
 use flat_design::{BlockId, CodeId, Local, StmtId, default_value};
 use logic_values::Value;
 
@@ -123,5 +123,19 @@ pub(crate) fn add_layers(layers: &mut Vec<Layer>, comes: Comes) -> Option<StmtId
             place(layers, Layer::Rest(rest));
             Some(statement)
         }
+    }
+}
+
+/// Adds the layer that a statement puts around its block.
+pub(crate) fn add_around(layers: &mut Vec<Layer>, around: Around, statement: StmtId)
+    requires { vec_len layers.old + length (layers_around around statement) ≤ vec_capacity layers.old }
+    ensures items { layers.new.items ≡ layers.old.items ++ layers_around around statement }
+    ensures capacity { vec_capacity layers.old ≤ vec_capacity layers.new }
+{
+    match around {
+        Around::Nothing => {}
+        Around::Loop => place(layers, Layer::Again(statement)),
+        Around::Guard(unwind) => place(layers, Layer::Guard(unwind)),
+        Around::Try => place(layers, Layer::Try(statement)),
     }
 }

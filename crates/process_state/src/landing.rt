@@ -2,7 +2,7 @@
 ghost use Rattle.std.specs.Prelude.{◌≡◌, ℕ, ◌+◌, ◌≤◌, ◌++◌, List, length, take, None, Some, IfSome, Contains};
 ghost use Rattle.flat_design.specs.Code.{arena_of, block_at};
 ghost use Rattle.sim_model.specs.Residual as residual;
-ghost use Rattle.process_state.specs.Layers.{around, inside, standing, landed, layers_of, statement_of, begins, shown, shown_by, rest_at, first_then, frame_ends, end_shown, IsBegun};
+ghost use Rattle.process_state.specs.Layers.{around, inside, standing, landed, layers_of, statement_of, begins, shown, shown_by, rest_at, first_then, frame_ends, end_shown, IsBegun, EndsIn};
 ghost use Rattle.process_state.specs.Room.{Fits, FitsIf, FitsLayer};
 
 use crate::layers::{Comes, Landing, Layer};
@@ -59,6 +59,7 @@ fn first_in(program: &Program, layer: &Layer) -> Option<Comes>
     requires { end_shown layer.now ≡ None }
     ensures value { residual.settle (arena_of program.now.code) (around (arena_of program.now.code) layer.now residual.skip) ≡ begins (arena_of program.now.code) result }
     ensures begun { IfSome result IsBegun }
+    ensures few { IfSome result (λ c. length (layers_of c) ≤ 2) }
     ensures room { (most t i : ℕ) → FitsLayer (arena_of program.now.code) program.now.depths.items most t i layer.now → FitsIf (arena_of program.now.code) program.now.depths.items most t i result }
 {
     match layer {
@@ -92,6 +93,8 @@ pub(crate) fn land(program: &Program, layers: &[Layer], statement: Option<StmtId
     ensures settled { residual.settle (arena_of program.now.code) (inside (arena_of program.now.code) layers.now (standing statement)) ≡ inside (arena_of program.now.code) (take result.stand layers.now) (landed (arena_of program.now.code) result.comes) }
     ensures shows { shown (residual.next_of (residual.settle (arena_of program.now.code) (inside (arena_of program.now.code) layers.now (standing statement)))) ≡ shown_by result.comes }
     ensures few { result.stand ≤ length layers.now }
+    ensures grows { result.stand + length (layers_of result.comes) ≤ length layers.now + 1 }
+    ensures ends { EndsIn (take result.stand layers.now) result.comes }
     ensures room { (most : ℕ) → Fits (arena_of program.now.code) program.now.depths.items most 1 0 layers.now statement → Fits (arena_of program.now.code) program.now.depths.items most 1 0 (take result.stand layers.now ++ layers_of result.comes) (statement_of result.comes) }
 {
     let mut stand = layers.len();

@@ -2,6 +2,7 @@
 //! out. It stands for a residual, and each call makes of it what the definitions of a run make of that residual.
 #![tactic(auto)]
 
+mod body;
 mod changes;
 mod frames;
 mod landing;
@@ -9,4 +10,5 @@ mod layers;
 mod sought;
 mod unwinding;
 
+pub use body::Body;
 pub use layers::{Frame, Next};

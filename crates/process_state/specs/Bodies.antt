@@ -1,0 +1,57 @@
+-- What a body stands for, and what is true of each body.
+use Rattle.std.specs.Prelude.{◌≡◌, ℕ, ◌+◌, ◌≤◌, List, ◌∷◌, [], ◌++◌, Option, Some, None}
+use Rattle.std.specs.Vec.{vec_capacity}
+use Rattle.flat_design.specs.Code.{Arena, arena_of, body_at}
+use Rattle.sim_model.specs.Residual as residual
+use Rattle.sim_model.specs.Residual.{Residual, followed, guard, try_, settle, next_of}
+use Rattle.body_code.specs.Depths.{handlers_of}
+use Rattle.body_code.specs.declared.program.Program.{Program}
+use Rattle.body_code.specs.declared.around.Around.{Around}
+use Rattle.body_code.specs.declared.around.Around.TheVariants as around
+use Rattle.process_state.specs.declared.body.Body.{Body}
+use Rattle.process_state.specs.Layers.{inside, standing}
+use Rattle.process_state.specs.Room.{Fits, own_room, locals_with, body_depth}
+
+-- the residual that a body stands for, over the code that it is used with; and what it settles to
+abbrev pub left_of : Arena → Body → Residual
+left_of a b = inside a b.layers.items (standing b.statement)
+
+abbrev pub left_in : Program → Body → Residual
+left_in p b = left_of (arena_of p.code) b
+
+abbrev pub settled_in : Program → Body → Residual
+settled_in p b = settle (arena_of p.code) (left_in p b)
+
+-- A body has room for all that may come inside its layers, for its own local variables when it begins again, and for its
+-- first layers then.
+pub record IsSound (p : Program) (b : Body) : Type 0 where
+  pub room : Fits (arena_of p.code) p.depths.items (vec_capacity b.layers) 1 0 b.layers.items b.statement
+  pub own : locals_with (arena_of p.code) b.code b.arguments.items ≤ own_room (vec_capacity b.spare) b.layers.items
+  pub first : body_depth p.depths.items (body_at (arena_of p.code) b.code) + 3 ≤ vec_capacity b.layers
+
+-- a body keeps the number of its code and its first arguments
+pub record Keeps (old new : Body) : Type 0 where
+  pub code : new.code ≡ old.code
+  pub arguments : new.arguments.items ≡ old.arguments.items
+
+-- what comes next is a statement; a goal
+abbrev pub IsStatement : residual.Next → Type 0
+IsStatement (residual.statement s) = Unit {0}
+IsStatement (residual.leaves x) = ⊥
+IsStatement residual.done = ⊥
+IsStatement (residual.reaches k) = ⊥
+IsStatement residual.nothing = ⊥
+
+abbrev pub IsGoal : residual.Next → Type 0
+IsGoal (residual.statement s) = ⊥
+IsGoal (residual.leaves x) = ⊥
+IsGoal residual.done = ⊥
+IsGoal (residual.reaches k) = Unit {0}
+IsGoal residual.nothing = ⊥
+
+-- what a statement puts around its block: a loop follows its block again
+abbrev pub enclosed : Arena → ℕ → Around → Residual → Residual
+enclosed a s around.Nothing r = r
+enclosed a s around.Loop r = followed r (s ∷ [])
+enclosed a s (around.Guard u) r = guard r 0 u
+enclosed a s around.Try r = try_ r (handlers_of a s)

@@ -1,0 +1,173 @@
+//! Bodies.
+ghost use Rattle.std.specs.Prelude.{◌≡◌, ℕ, ◌+◌, ◌<◌, ◌≤◌, List, [], length, slice_get, Option, Some, None, option_map, true, false, IsOk, IfOk, OnOk, OnErr, IfErr, Contains, vec_capacity, is_some};
+ghost use Rattle.logic_values.specs.declared.kinds.Value.{Value as Kept};
+ghost use Rattle.flat_design.specs.Code.{Arena, arena_of, body_at};
+ghost use Rattle.sim_model.specs.Residual as residual;
+ghost use Rattle.sim_model.specs.Residual.{next_of, put, skip, entered, begun, block, goal, in_innermost, has_goal, in_nb, innermost, within, open_frames};
+ghost use Rattle.sim_model.specs.Unwinding.{unw, returned, raise, catches, left_by_unw, left_by_raise};
+ghost use Rattle.sim_model.specs.Storing.{with_local};
+ghost use Rattle.sim_model.specs.Reading.{locals_of};
+ghost use Rattle.body_code.specs.Depths.{blocks_of};
+ghost use Rattle.body_code.specs.Around.{around_at};
+ghost use Rattle.body_code.specs.declared.program.Program.{Program as Whole};
+ghost use Rattle.process_state.specs.Layers.{call_of, shown, shown_by, statement_of, EndsIn};
+ghost use Rattle.process_state.specs.Room.{locals_with, body_depth};
+ghost use Rattle.process_state.specs.Bodies.{left_of, left_in, settled_in, IsSound, Keeps, IsStatement, IsGoal, enclosed};
+
+use crate::changes::{drop_layer, keep_layers, set_answer, set_local_in, take_frame};
+use crate::frames::{add_around, add_layers, block_begins, body_begins};
+use crate::landing::land;
+use crate::layers::{Comes, Frame, Layer, Next, Sought};
+use crate::sought::last;
+use crate::unwinding::unwind_from;
+use body_code::Program;
+use flat_design::{BlockId, CodeId, StmtId};
+use logic_values::Value;
+use sim_model::Goal;
+
+/// What is left of a body, with the number of its code and its first arguments, which a restart begins it with. It is used
+/// with the code that it was started with.
+#[derive(Drop)]
+pub struct Body {
+    /// The number of its code.
+    code: CodeId,
+    /// Its first arguments.
+    arguments: Vec<Value>,
+    /// What stands around what is left, the outermost first.
+    layers: Vec<Layer>,
+    /// The statement inside all layers, where there is one.
+    statement: Option<StmtId>,
+    /// A vector for the body's own local variables, while they are not in use.
+    spare: Vec<Value>,
+}
+
+impl Body {
+    /// Lets finished parts fall away, and tells what comes then.
+    fn settle_to(&mut self, program: &Program) -> Comes
+        requires { IsSound program.now self.old }
+        ensures left { left_in program.now self.new ≡ settled_in program.now self.old }
+        ensures shows { shown (next_of (settled_in program.now self.old)) ≡ shown_by result }
+        ensures statement { self.new.statement ≡ statement_of result }
+        ensures ends { EndsIn self.new.layers.items result }
+        ensures sound { IsSound program.now self.new }
+        ensures kept { Keeps self.old self.new }
+    {
+        let landing = land(program, self.layers.as_slice(), self.statement);
+        keep_layers(&mut self.layers, &mut self.spare, landing.stand);
+        self.statement = add_layers(&mut self.layers, landing.comes);
+        landing.comes
+    }
+
+    /// Lets finished parts fall away.
+    pub fn settle(&mut self, program: &Program)
+        requires { IsSound program.now self.old }
+        ensures left { left_in program.now self.new ≡ settled_in program.now self.old }
+        ensures sound { IsSound program.now self.new }
+        ensures kept { Keeps self.old self.new }
+    {
+        let _ = self.settle_to(program);
+    }
+
+    /// What comes next once finished parts have fallen away. The body is not changed.
+    pub fn next(&self, program: &Program) -> Next
+        ensures { result ≡ shown (next_of (settled_in program.now self.now)) }
+    {
+        let landing = land(program, self.layers.as_slice(), self.statement);
+        next_shown(landing.comes)
+    }
+
+    /// The statement in place is past.
+    pub fn past(&mut self, program: &Program)
+        requires sound { IsSound program.now self.old }
+        requires statement { IsStatement (next_of (settled_in program.now self.old)) }
+        ensures left { left_in program.now self.new ≡ put (settled_in program.now self.old) skip }
+        ensures sound { IsSound program.now self.new }
+        ensures kept { Keeps self.old self.new }
+    {
+        let _ = self.settle_to(program);
+        self.statement = None;
+    }
+
+    /// The statement in place goes on with one of its blocks, and with what it puts around that.
+    pub fn into(&mut self, program: &Program, block: BlockId)
+        requires sound { IsSound program.now self.old }
+        requires statement { IsStatement (next_of (settled_in program.now self.old)) }
+        requires inner { (s : ℕ) → next_of (settled_in program.now self.old) ≡ residual.statement s → Contains (blocks_of (arena_of program.now.code) s) block }
+        ensures left { (s : ℕ) → next_of (settled_in program.now self.old) ≡ residual.statement s → left_in program.now self.new ≡ put (settled_in program.now self.old) (enclosed (arena_of program.now.code) s (around_at (arena_of program.now.code) s) (residual.block (arena_of program.now.code) block)) }
+        ensures sound { IsSound program.now self.new }
+        ensures kept { Keeps self.old self.new }
+    {
+        let _ = self.settle_to(program);
+        if let Some(statement) = self.statement {
+            add_around(&mut self.layers, program.around(statement), statement);
+            let comes = block_begins(program, block);
+            self.statement = add_layers(&mut self.layers, comes);
+        }
+    }
+
+    /// A call ends: its frame is taken away.
+    pub fn leave(&mut self, program: &Program) -> Frame
+        requires sound { IsSound program.now self.old }
+        requires leaves { shown (next_of (settled_in program.now self.old)) ≡ Next.Leave }
+        ensures frame { next_of (settled_in program.now self.old) ≡ residual.leaves (call_of result) }
+        ensures left { left_in program.now self.new ≡ put (settled_in program.now self.old) skip }
+        ensures sound { IsSound program.now self.new }
+        ensures kept { Keeps self.old self.new }
+    {
+        let _ = self.settle_to(program);
+        take_frame(&mut self.layers)
+    }
+
+    /// The goal of an unwinding is reached: the body goes on behind it.
+    pub fn go_on(&mut self, program: &Program)
+        requires sound { IsSound program.now self.old }
+        requires reaches { IsGoal (next_of (settled_in program.now self.old)) }
+        ensures left { left_in program.now self.new ≡ put (settled_in program.now self.old) skip }
+        ensures sound { IsSound program.now self.new }
+        ensures kept { Keeps self.old self.new }
+    {
+        let _ = self.settle_to(program);
+        drop_layer(&mut self.layers, &mut self.spare);
+    }
+
+    /// A return: it ends the innermost call, which keeps the answer, or the innermost unwind block, which drops it.
+    pub fn answer(&mut self, program: &Program, answer: Option<Value>)
+        requires { IsSound program.now self.old }
+        ensures left { left_in program.now self.new ≡ returned answer (settled_in program.now self.old) }
+        ensures sound { IsSound program.now self.new }
+        ensures kept { Keeps self.old self.new }
+    {
+        let _ = self.settle_to(program);
+        if let Some(place) = last(self.layers.as_slice(), Sought::Exit) {
+            keep_layers(&mut self.layers, &mut self.spare, place + 1);
+            set_answer(&mut self.layers[place], answer);
+            self.statement = None;
+        }
+    }
+
+    /// Another value for a local variable of the innermost call.
+    pub fn set_local(&mut self, number: usize, value: Value)
+        ensures left { (a : Arena) → left_of a self.new ≡ in_innermost (with_local number value) (left_of a self.old) }
+        ensures sound { (p : Whole) → IsSound p self.old → IsSound p self.new }
+        ensures kept { Keeps self.old self.new }
+    {
+        if let Some(place) = last(self.layers.as_slice(), Sought::Call) {
+            set_local_in(&mut self.layers[place], number, value);
+        }
+    }
+}
+
+/// What shows of what comes.
+fn next_shown(comes: Comes) -> Next
+    ensures { result ≡ shown_by comes }
+{
+    match comes {
+        Comes::Nothing => Next::Nothing,
+        Comes::Leave => Next::Leave,
+        Comes::Done => Next::Done,
+        Comes::Goal(goal) => Next::Goal(goal),
+        Comes::Statement(statement) => Next::Statement(statement),
+        Comes::InBlock(statement, _) => Next::Statement(statement),
+        Comes::InUnwind(statement, _) => Next::Statement(statement),
+    }
+}
