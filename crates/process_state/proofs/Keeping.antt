@@ -5,12 +5,15 @@ use Rattle.std.proofs.lemmas.List.{take-append-drop}
 use Rattle.std.specs.Vec.{vec_capacity}
 use Rattle.logic_values.specs.declared.kinds.Value.{Value}
 use Rattle.flat_design.specs.Code.{Arena}
+use Rattle.sim_model.specs.Residual.{Frame}
 use Rattle.process_state.specs.declared.layers.Frame.{Frame as Kept}
 use Rattle.process_state.specs.declared.layers.Layer.{Layer}
 use Rattle.process_state.specs.declared.layers.Layer.TheVariants as layer
 use Rattle.process_state.specs.declared.layers.Comes.{Comes}
 use Rattle.process_state.specs.declared.layers.Comes.TheVariants as comes
-use Rattle.process_state.specs.Layers.{layers_of, statement_of}
+use Rattle.body_code.specs.declared.around.Around.{Around}
+use Rattle.body_code.specs.declared.around.Around.TheVariants as enclosing
+use Rattle.process_state.specs.Layers.{layers_of, layers_around, statement_of}
 use Rattle.process_state.specs.Room.{FitsBlocks, FitsStatement, FitsLayer, FitsAll, Fits, kept_inside, kept_along, own_or, own_room, room_of_own}
 use Rattle.process_state.specs.Changed.{IsSet, IsFrameSet, IsFrameOf, IsShellOf, IsAnswered}
 use Rattle.process_state.proofs.Rooms.{all_split, nothing_fits, layer_place, kept_small}
@@ -76,7 +79,7 @@ same_layer l m e = let P : Layer → Type 0 = λ n. SameRoom l n in subst P (sym
 
 frame_room : (k : ℕ) (v : Value) (x y : Kept) → IsFrameSet k v x y → (n : ℕ) → room_of_own y.call (vec_capacity y.locals) n ≡ room_of_own x.call (vec_capacity x.locals) n
 frame_room k v x y s n =
-    ap (λ o. room_of_own o (vec_capacity y.locals) n) (ap (λ (z : Rattle.sim_model.specs.Residual.Frame). z.call) s.0) ∙ ap (λ m. room_of_own x.call m n) s.1
+    ap (λ o. room_of_own o (vec_capacity y.locals) n) (ap (λ (z : Frame). z.call) s.0) ∙ ap (λ m. room_of_own x.call m n) s.1
 
 pub set_room : (k : ℕ) (v : Value) (l m : Layer) → IsSet k v l m → SameRoom l m
 set_room k v (layer.Rest c) m s = same_layer (layer.Rest c) m s
@@ -179,3 +182,16 @@ all_place a depths most t i (l ∷ ls) small p h =
 
 pub fits_taken : (a : Arena) (depths : List ℕ) (most : ℕ) (ls : List Layer) (n : ℕ) (o : Option ℕ) → 1 ≤ most → Fits a depths most 1 0 ls o → Fits a depths most 1 0 (take n ls) None
 fits_taken a depths most ls n o one_ h = let w = fits_front a depths most ls n o h in (w, all_place a depths most 1 0 (take n ls) (omega arith) (omega (arith, one_)) w)
+
+-- nor has what a statement puts around its block
+pub own_around : (spare : ℕ) (ls : List Layer) (w : Around) (s : ℕ) → own_room spare (ls ++ layers_around w s) ≡ own_room spare ls
+own_around spare [] enclosing.Nothing s = refl
+own_around spare [] enclosing.Loop s = refl
+own_around spare [] (enclosing.Guard u) s = refl
+own_around spare [] enclosing.Try s = refl
+own_around spare (l ∷ ls) w s = ap (own_or l) (own_around spare ls w s)
+
+pub taken_at : (ls : List Layer) (i : ℕ) (d : Layer) → get_or (take (suc i) ls) i d ≡ get_or ls i d
+taken_at [] i d = refl
+taken_at (l ∷ ls) zero d = refl
+taken_at (l ∷ ls) (suc i) d = taken_at ls i d

@@ -6,3 +6,4 @@ pub mod Seeking
 pub mod Leaving
 pub mod Putting
 pub mod Keeping
+pub mod Stepping
