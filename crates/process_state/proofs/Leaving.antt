@@ -8,7 +8,7 @@ use Rattle.sim_model.specs.Unwinding.{left_by_unw, left_via}
 use Rattle.sim_model.specs.declared.plain.Via.{Via}
 use Rattle.process_state.specs.declared.layers.Layer.{Layer}
 use Rattle.process_state.specs.declared.layers.Layer.TheVariants as layer
-use Rattle.process_state.specs.Layers.{around, inside, rest_at}
+use Rattle.process_state.specs.Layers.{around, inside, standing, rest_at}
 use Rattle.process_state.specs.Unwound.{left_at}
 use Rattle.process_state.proofs.Lands.{unfold_last}
 
@@ -57,3 +57,10 @@ module _ (a : Arena) (ls : List Layer) (place n number more : ℕ) (l : Layer) (
 
   pub left_not : None ≡ left_at l → slice_get (left_by_unw (inside a ls skip)) number ≡ slice_get (left_by_unw (inside a (take n ls) skip)) more
   left_not same = left_step None same
+
+left_of_leaf : (o : Option ℕ) → left_by_unw (standing o) ≡ []
+left_of_leaf None = refl
+left_of_leaf (Some s) = refl
+
+pub left_standing : (a : Arena) (ls : List Layer) (o : Option ℕ) → left_by_unw (inside a ls (standing o)) ≡ left_by_unw (inside a ls skip)
+left_standing a ls o = left_inside a ls (standing o) ∙ ap (λ vs. vs ++ left_by_unw (inside a ls skip)) (left_of_leaf o)

@@ -7,3 +7,4 @@ pub mod Leaving
 pub mod Putting
 pub mod Keeping
 pub mod Stepping
+pub mod Unwinds

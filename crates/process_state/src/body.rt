@@ -1,50 +1,47 @@
 //! Bodies.
-ghost use Rattle.std.specs.Prelude.{◌≡◌, ℕ, ◌+◌, ◌<◌, ◌≤◌, List, [], length, slice_get, Option, Some, None, option_map, true, false, IsOk, IfOk, OnOk, OnErr, IfErr, Contains, vec_capacity, is_some};
-ghost use Rattle.logic_values.specs.declared.kinds.Value.{Value as Kept};
-ghost use Rattle.flat_design.specs.Code.{Arena, arena_of, body_at};
+ghost use Rattle.std.specs.Prelude.{◌≡◌, ℕ, ◌+◌, ◌≤◌, length, Contains, vec_capacity};
+ghost use Rattle.flat_design.specs.Code.{Arena, arena_of};
 ghost use Rattle.sim_model.specs.Residual as residual;
-ghost use Rattle.sim_model.specs.Residual.{next_of, put, skip, entered, begun, block, goal, in_innermost, has_goal, in_nb, innermost, within, open_frames};
-ghost use Rattle.sim_model.specs.Unwinding.{unw, returned, raise, catches, left_by_unw, left_by_raise};
+ghost use Rattle.sim_model.specs.Residual.{next_of, put, skip, in_innermost};
+ghost use Rattle.sim_model.specs.Unwinding.{returned};
 ghost use Rattle.sim_model.specs.Storing.{with_local};
-ghost use Rattle.sim_model.specs.Reading.{locals_of};
 ghost use Rattle.body_code.specs.Depths.{blocks_of};
 ghost use Rattle.body_code.specs.Around.{around_at};
 ghost use Rattle.body_code.specs.declared.program.Program.{Program as Whole};
 ghost use Rattle.process_state.specs.Layers.{call_of, shown, shown_by, statement_of, EndsIn};
-ghost use Rattle.process_state.specs.Room.{locals_with, body_depth};
 ghost use Rattle.process_state.specs.Bodies.{left_of, left_in, settled_in, IsSound, Keeps, IsStatement, IsGoal, enclosed};
 
 use crate::changes::{drop_layer, keep_layers, set_answer, set_local_in, take_frame};
-use crate::frames::{add_around, add_layers, block_begins, body_begins};
+use crate::frames::{add_around, add_layers, block_begins};
 use crate::landing::land;
 use crate::layers::{Comes, Frame, Layer, Next, Sought};
 use crate::sought::last;
-use crate::unwinding::unwind_from;
 use body_code::Program;
 use flat_design::{BlockId, CodeId, StmtId};
 use logic_values::Value;
-use sim_model::Goal;
 
 /// What is left of a body, with the number of its code and its first arguments, which a restart begins it with. It is used
 /// with the code that it was started with.
 #[derive(Drop)]
 pub struct Body {
     /// The number of its code.
-    code: CodeId,
+    pub(crate) code: CodeId,
     /// Its first arguments.
-    arguments: Vec<Value>,
+    pub(crate) arguments: Vec<Value>,
     /// What stands around what is left, the outermost first.
-    layers: Vec<Layer>,
+    pub(crate) layers: Vec<Layer>,
     /// The statement inside all layers, where there is one.
-    statement: Option<StmtId>,
+    pub(crate) statement: Option<StmtId>,
     /// A vector for the body's own local variables, while they are not in use.
-    spare: Vec<Value>,
+    pub(crate) spare: Vec<Value>,
 }
 
 impl Body {
     /// Lets finished parts fall away, and tells what comes then.
-    fn settle_to(&mut self, program: &Program) -> Comes
+    pub(crate) fn settle_to(&mut self, program: &Program) -> Comes
         requires { IsSound program.now self.old }
+        ensures grows { length self.new.layers.items ≤ length self.old.layers.items + 1 }
+        ensures room { vec_capacity self.old.layers ≤ vec_capacity self.new.layers }
         ensures left { left_in program.now self.new ≡ settled_in program.now self.old }
         ensures shows { shown (next_of (settled_in program.now self.old)) ≡ shown_by result }
         ensures statement { self.new.statement ≡ statement_of result }

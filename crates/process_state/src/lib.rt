@@ -8,6 +8,7 @@ mod frames;
 mod landing;
 mod layers;
 mod sought;
+mod unwind;
 mod unwinding;
 
 pub use body::Body;

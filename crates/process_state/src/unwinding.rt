@@ -1,15 +1,17 @@
 //! What an unwinding makes of layers.
-ghost use Rattle.std.specs.Prelude.{◌≡◌, ℕ, ◌+◌, ◌<◌, ◌≤◌, ◌++◌, ◌∷◌, [], List, length, map, take, drop, vec_len, vec_capacity, Some, None, IfSome, slice_get};
+ghost use Rattle.std.specs.Prelude.{◌≡◌, ℕ, ◌+◌, ◌<◌, ◌≤◌, ◌++◌, ◌∷◌, [], List, length, map, take, drop, vec_len, vec_capacity, true, Some, None, slice_get};
 ghost use Rattle.flat_design.specs.Code.{Arena, arena_of};
 ghost use Rattle.sim_model.specs.Residual as residual;
-ghost use Rattle.sim_model.specs.Unwinding.{left_by_unw};
+ghost use Rattle.sim_model.specs.Unwinding.{left_by_unw, handles};
+ghost use Rattle.body_code.specs.Depths.{handlers_of};
+ghost use Rattle.process_state.specs.Sought.{is_handling};
 ghost use Rattle.process_state.specs.Layers.{inside};
 ghost use Rattle.process_state.specs.Unwound.{unwound, handler_in, left_at};
 
-use crate::layers::{Layer};
+use crate::layers::Layer;
 use body_code::Program;
-use flat_design::{BlockId, NameId};
-use sim_model::Via;
+use flat_design::{BlockId, NameId, StmtId};
+use sim_model::{Goal, Via};
 use std::mem;
 
 /// A layer that is being unwound: a guard owes its unwind block, and what is not yet carried out is gone.
@@ -44,21 +46,44 @@ pub(crate) fn unwind_from(layers: &mut Vec<Layer>, from: usize)
     }
 }
 
-/// The block of the handler of a `try` for an exception, if it has one.
-pub(crate) fn handler_in(program: &Program, layer: &Layer, name: NameId) -> Option<BlockId>
-    ensures { result ≡ handler_in (arena_of program.now.code) name layer.now }
+/// Unwinds the layers from a place on, and puts a goal around them.
+pub(crate) fn begin_unwinding(layers: &mut Vec<Layer>, from: usize, end: Goal)
+    requires few { from ≤ vec_len layers.old }
+    requires room { vec_len layers.old < vec_capacity layers.old }
+    ensures items { layers.new.items ≡ take from layers.old.items ++ Layer.Goal end ∷ map unwound (drop from layers.old.items) }
+    ensures capacity { vec_capacity layers.new ≡ vec_capacity layers.old }
+{
+    unwind_from(layers, from);
+    let _ = layers.insert(from, Layer::Goal(end));
+}
+
+/// The block of the handler of a `try` for an exception that it has a handler for.
+pub(crate) fn handler_in(program: &Program, layer: &Layer, name: NameId) -> BlockId
+    requires { is_handling (arena_of program.now.code) name layer.now ≡ true }
+    ensures { handler_in (arena_of program.now.code) name layer.now ≡ Some result }
 {
     match layer {
-        Layer::Rest(_) => None,
-        Layer::Again(_) => None,
-        Layer::Owed(_) => None,
-        Layer::Guard(_) => None,
-        Layer::Try(statement) => program.handler(*statement, name),
-        Layer::Frame(_) => None,
-        Layer::Shell(_) => None,
-        Layer::Run => None,
-        Layer::Goal(_) => None,
-        Layer::Gone => None,
+        Layer::Rest(_) => unreachable!(),
+        Layer::Again(_) => unreachable!(),
+        Layer::Owed(_) => unreachable!(),
+        Layer::Guard(_) => unreachable!(),
+        Layer::Try(statement) => handler_of(program, *statement, name),
+        Layer::Frame(_) => unreachable!(),
+        Layer::Shell(_) => unreachable!(),
+        Layer::Run => unreachable!(),
+        Layer::Goal(_) => unreachable!(),
+        Layer::Gone => unreachable!(),
+    }
+}
+
+/// The block of the handler of the `try` that this statement is.
+fn handler_of(program: &Program, statement: StmtId, name: NameId) -> BlockId
+    requires { handles (handlers_of (arena_of program.now.code) statement) name ≡ true }
+    ensures { handler_in (arena_of program.now.code) name (Layer.Try statement) ≡ Some result }
+{
+    match program.handler(statement, name) {
+        Some(block) => block,
+        None => unreachable!(),
     }
 }
 

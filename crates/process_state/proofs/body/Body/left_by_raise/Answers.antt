@@ -1,0 +1,30 @@
+use Rattle.std.proofs.Common.{◌≡◌, ℕ, ◌+◌, suc, List, drop, subst, sym, ap, ◌∙◌, arith}
+use Rattle.std.specs.Prelude.{slice_get}
+use Rattle.flat_design.specs.Code.{arena_of}
+use Rattle.sim_model.specs.Residual.{skip}
+use Rattle.sim_model.specs.Unwinding.{left_by_unw}
+use Rattle.process_state.specs.declared.layers.Layer.{Layer}
+use Rattle.process_state.specs.Layers.{inside, standing}
+use Rattle.process_state.specs.Sought.{is_handling, LastIs, NoneIs}
+use Rattle.process_state.proofs.Leaving.{left_standing}
+use Rattle.process_state.proofs.Unwinds.{left_raise_last, left_raise_none}
+use Rattle.process_state.proofs.body.Body.left_by_raise.Goals as goal
+
+pub returns-in-Some : goal.returns-in-Some
+returns-in-Some c =
+    let a = arena_of c.args.program.now.code in
+    let b = c.args.self.now in
+    let i = c.in-Some.place in
+    let next : i + 1 ≡ suc i = omega arith in
+    let P : List Layer → Type 0 = λ ks. LastIs (is_handling a c.args.name) ks i in
+    c.left_by.ensures a
+    ∙ ap (λ ks. slice_get (left_by_unw (inside a ks skip)) c.args.number) (c.split_at.ensures.back ∙ ap (drop (i + 1)) c.as_slice-in-Some.ensures.value)
+    ∙ ap (λ n. slice_get (left_by_unw (inside a (drop n b.layers.items) skip)) c.args.number) next
+    ∙ ap (λ vs. slice_get vs c.args.number) (sym (left_raise_last a b.layers.items b.statement c.args.name i (subst P c.as_slice.ensures.value c.in-Some.ensures.last) ∙ left_standing a (drop (suc i) b.layers.items) b.statement))
+
+pub returns-in-None : goal.returns-in-None
+returns-in-None c =
+    let a = arena_of c.args.program.now.code in
+    let b = c.args.self.now in
+    let P : List Layer → Type 0 = λ ks. NoneIs (is_handling a c.args.name) ks in
+    sym (ap (λ vs. slice_get vs c.args.number) (left_raise_none a b.layers.items b.statement c.args.name (subst P c.as_slice.ensures.value c.in-None.ensures.last)))

@@ -1,0 +1,11 @@
+use Rattle.std.proofs.Common.{◌≡◌, sym, ap, ◌∙◌}
+use Rattle.std.specs.Prelude.{slice_get}
+use Rattle.sim_model.specs.Residual.{skip}
+use Rattle.sim_model.specs.Unwinding.{left_by_unw}
+use Rattle.process_state.specs.Layers.{inside}
+use Rattle.process_state.proofs.Leaving.{left_standing}
+use Rattle.process_state.proofs.body.Body.left_by_unwind.Goals as goal
+
+pub returns : goal.returns
+returns c = λ a.
+    c.left_by.ensures a ∙ ap (λ ks. slice_get (left_by_unw (inside a ks skip)) c.args.number) c.as_slice.ensures.value ∙ ap (λ vs. slice_get vs c.args.number) (sym (left_standing a c.args.self.now.layers.items c.args.self.now.statement))

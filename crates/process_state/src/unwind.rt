@@ -1,0 +1,74 @@
+//! Unwinding of a body: what a kill, a reset or an exception makes of what is left.
+ghost use Rattle.std.specs.Prelude.{◌≡◌, ◌≤◌, true, false, slice_get};
+ghost use Rattle.flat_design.specs.Code.{Arena, arena_of};
+ghost use Rattle.sim_model.specs.Residual.{goal, has_goal};
+ghost use Rattle.sim_model.specs.Unwinding as spec;
+ghost use Rattle.body_code.specs.declared.program.Program.{Program as Whole};
+ghost use Rattle.process_state.specs.Bodies.{left_of, left_in, IsSound, Keeps};
+
+use crate::body::Body;
+use crate::layers::Layer;
+use crate::sought::last_try;
+use crate::unwinding::{begin_unwinding, handler_in, left_by};
+use body_code::{Cursor, Program};
+use flat_design::NameId;
+use sim_model::{Goal, Via};
+
+impl Body {
+    /// Unwinds all that is left, before this goal: the unwind blocks of its guards are owed, the innermost first (IEEE
+    /// 1666-2011, 5.6.6). It takes no memory.
+    pub fn unwind(&mut self, end: Goal)
+        requires sound { (p : Whole) × IsSound p self.old }
+        requires free { (a : Arena) → has_goal (left_of a self.old) ≡ false }
+        ensures left { (a : Arena) → left_of a self.new ≡ goal (spec.unw (left_of a self.old)) end }
+        ensures sound { (p : Whole) → IsSound p self.old → IsSound p self.new }
+        ensures kept { Keeps self.old self.new }
+    {
+        begin_unwinding(&mut self.layers, 0, end);
+        self.statement = None;
+    }
+
+    /// Raises an exception: what is inside the innermost `try` that has a handler for it is unwound, before this goal, and
+    /// the handler follows (IEEE 1666-2011, 5.6.7). The answer is whether there is such a `try`; without one nothing changes.
+    /// It takes no memory.
+    pub fn raise(&mut self, program: &Program, name: NameId, end: Goal) -> bool
+        requires sound { IsSound program.now self.old }
+        requires free { has_goal (left_in program.now self.old) ≡ false }
+        ensures caught { result ≡ spec.catches (left_in program.now self.old) name }
+        ensures left { result ≡ true → left_in program.now self.new ≡ spec.raise (arena_of program.now.code) (left_in program.now self.old) name end }
+        ensures refused { result ≡ false → left_in program.now self.new ≡ left_in program.now self.old }
+        ensures sound { IsSound program.now self.new }
+        ensures kept { Keeps self.old self.new }
+    {
+        match last_try(program, self.layers.as_slice(), name) {
+            Some(place) => {
+                let block = handler_in(program, &self.layers[place], name);
+                begin_unwinding(&mut self.layers, place + 1, end);
+                self.layers[place] = Layer::Rest(Cursor { block, place: 0 });
+                self.statement = None;
+                true
+            }
+            None => false,
+        }
+    }
+
+    /// The transport call of this number among those that `unwind` would leave, the innermost first.
+    pub fn left_by_unwind(&self, number: usize) -> Option<Via>
+        ensures { (a : Arena) → result ≡ slice_get (spec.left_by_unw (left_of a self.now)) number }
+    {
+        left_by(self.layers.as_slice(), number)
+    }
+
+    /// The transport call of this number among those that `raise` would leave, the innermost first.
+    pub fn left_by_raise(&self, program: &Program, name: NameId, number: usize) -> Option<Via>
+        ensures { result ≡ slice_get (spec.left_by_raise (left_in program.now self.now) name) number }
+    {
+        match last_try(program, self.layers.as_slice(), name) {
+            Some(place) => {
+                let (_, inner) = self.layers.as_slice().split_at(place + 1);
+                left_by(inner, number)
+            }
+            None => None,
+        }
+    }
+}
