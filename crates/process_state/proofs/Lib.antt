@@ -8,3 +8,4 @@ pub mod Putting
 pub mod Keeping
 pub mod Stepping
 pub mod Unwinds
+pub mod Shows

@@ -1,9 +1,11 @@
 -- What a body stands for, and what is true of each body.
 use Rattle.std.specs.Prelude.{◌≡◌, ℕ, ◌+◌, ◌≤◌, List, ◌∷◌, [], ◌++◌, Option, Some, None}
 use Rattle.std.specs.Vec.{vec_capacity}
+use Rattle.logic_values.specs.declared.kinds.Value.{Value}
+use Rattle.sim_model.specs.declared.plain.Via.{Via}
 use Rattle.flat_design.specs.Code.{Arena, arena_of, body_at}
 use Rattle.sim_model.specs.Residual as residual
-use Rattle.sim_model.specs.Residual.{Residual, followed, guard, try_, settle, next_of}
+use Rattle.sim_model.specs.Residual.{Residual, Frame, followed, guard, try_, settle, next_of}
 use Rattle.body_code.specs.Depths.{handlers_of}
 use Rattle.body_code.specs.declared.program.Program.{Program}
 use Rattle.body_code.specs.declared.around.Around.{Around}
@@ -55,3 +57,16 @@ enclosed a s around.Nothing r = r
 enclosed a s around.Loop r = followed r (s ∷ [])
 enclosed a s (around.Guard u) r = guard r 0 u
 enclosed a s around.Try r = try_ r (handlers_of a s)
+
+-- what a call tells, where there is one
+abbrev pub via_of : Option Frame → Option Via
+via_of None = None
+via_of (Some x) = x.via
+
+abbrev pub answer_of : Option Frame → Option Value
+answer_of None = None
+answer_of (Some x) = x.answer
+
+abbrev pub body_of : Option Frame → Option ℕ
+body_of None = None
+body_of (Some x) = Some x.body

@@ -76,6 +76,10 @@ statement_of (comes.InUnwind s c) = Some s
 abbrev pub landed : Arena → Comes → Residual
 landed a c = inside a (layers_of c) (standing (statement_of c))
 
+-- r is these layers, with what has begun inside them
+abbrev pub IsStandingOf : Arena → Residual → List Layer → Type 0
+IsStandingOf a r ls = (c : Comes) × (r ≡ inside a ls (landed a c))
+
 abbrev pub shown_by : Comes → Next
 shown_by comes.Nothing = next.Nothing
 shown_by comes.Leave = next.Leave

@@ -1,7 +1,7 @@
 -- Layers of a kind, and the innermost of them.
 use Rattle.std.specs.Prelude.{◌≡◌, ℕ, zero, suc, Bool, true, false, not, List, [], ◌∷◌, Option, Some, None, is_some}
 use Rattle.flat_design.specs.Code.{Arena}
-use Rattle.sim_model.specs.Residual.{Frame, is_nonblocking}
+use Rattle.sim_model.specs.Residual.{Frame, is_nonblocking, counted_call}
 use Rattle.sim_model.specs.Unwinding.{handles}
 use Rattle.sim_model.specs.declared.plain.Via.{Via}
 use Rattle.body_code.specs.Depths.{handlers_of}
@@ -35,6 +35,19 @@ via_in (layer.Shell x) = x.via
 via_in layer.Run = None
 via_in (layer.Goal k) = None
 via_in layer.Gone = None
+
+-- how many calls a layer is, the body not counted
+abbrev pub calls_in : Layer → ℕ
+calls_in (layer.Rest c) = 0
+calls_in (layer.Again s) = 0
+calls_in (layer.Owed u) = 0
+calls_in (layer.Guard u) = 0
+calls_in (layer.Try s) = 0
+calls_in (layer.Frame x) = counted_call x.call
+calls_in (layer.Shell x) = counted_call x.call
+calls_in layer.Run = 0
+calls_in (layer.Goal k) = 0
+calls_in layer.Gone = 0
 
 -- a return ends the innermost call that is not being unwound, or the innermost unwind block
 abbrev pub is_exit : Layer → Bool

@@ -7,6 +7,7 @@ mod changes;
 mod frames;
 mod landing;
 mod layers;
+mod shown;
 mod sought;
 mod unwind;
 mod unwinding;

@@ -1,0 +1,12 @@
+use Rattle.std.proofs.Common.{◌≡◌, List, sym, ap, ◌∙◌, subst}
+use Rattle.flat_design.specs.Code.{arena_of}
+use Rattle.sim_model.specs.Unwinding as unwinding
+use Rattle.process_state.specs.Layers.{landed}
+use Rattle.process_state.proofs.Shows.{caught, catches_landed}
+use Rattle.process_state.proofs.body.Body.catches.Goals as goal
+
+pub returns : goal.returns
+returns c =
+    let a = arena_of c.args.program.now.code in
+    let w = c.standing.ensures in
+    c.is_some.ensures ∙ caught a c.standing.result.now (landed a w.0) c.last_try.result c.args.name (catches_landed a w.0 c.args.name) c.last_try.ensures.last ∙ ap (λ r. unwinding.catches r c.args.name) (sym w.1)
