@@ -1,0 +1,63 @@
+-- What a kernel stands for: a configuration, part by part.
+use Rattle.std.specs.Prelude.{◌≡◌, ◌≤◌, ◌<◌, ◌+◌, ◌^◌, ℕ, Bool, true, false, List, [], ◌∷◌, ◌++◌, slice_get, option_map, Option, Some, None}
+use Rattle.std.specs.Fmt.{decimal}
+use Rattle.std.specs.FinMap as map
+use Rattle.flat_design.specs.Code.{Arena, arena_of, body_at}
+use Rattle.flat_design.specs.declared.design.Design.{Design}
+use Rattle.sim_model.specs.Configuration as model
+use Rattle.sim_model.specs.Configuration.{Config, path_of, below}
+use Rattle.sim_model.specs.Calls.{body_name, home_path}
+use Rattle.body_model.specs.Strip.{strip}
+use Rattle.body_code.specs.declared.program.Program.{Program}
+use Rattle.process_state.specs.Bodies.{left_in}
+use Rattle.process_state.specs.Bodies as bodies
+use Rattle.schedule.specs.Seen.{body_at as kept_at, deadline_of}
+use Rattle.schedule.specs.Sound as schedules
+use Rattle.schedule.specs.declared.parts.Trigger.{Trigger}
+use Rattle.process_moves.specs.Moved.{wait_as}
+use Rattle.kernel_state.specs.Processes.{Beside, StandsForProcesses}
+use Rattle.kernel_state.specs.declared.kernel.PathOf.{PathOf}
+use Rattle.kernel_state.specs.declared.kernel.PathOf.TheVariants as path_by
+use Rattle.kernel_state.specs.declared.kernel.Kept.{Kept}
+use Rattle.kernel_state.specs.declared.kernel.Cycle.{Cycle}
+use Rattle.kernel_state.specs.declared.kernel.Kernel.{Kernel}
+
+-- the design, with its code
+abbrev pub whole_design : Kernel → Design
+whole_design k = record k.design { code = k.program.code }
+
+-- the path of an instance: that of an object, or that of a spawned one
+abbrev pub path_in : Design → ℕ → ℕ → PathOf → List ℕ
+path_in d home code (path_by.Object n) = path_of d n
+path_in d home code (path_by.Spawned n) = below (home_path d (slice_get d.instances home)) (body_name (body_at (arena_of d.code) code) ++ 95 ∷ decimal n)
+
+abbrev pub trigger_of : Trigger → model.Trigger
+trigger_of t = record { wait = wait_as t.wait; deadline = deadline_of t.deadline }
+
+-- what is kept of an instance beside its waits and marks shows the rest of it; the guards of a body have no numbers
+pub record Shows (d : Design) (program : Program) (kept : Kept) (i : Beside) : Type 0 where
+  pub home : i.home ≡ kept.home
+  pub path : i.path ≡ path_in d kept.home kept.body.code kept.path
+  pub code : i.code ≡ kept.body.code
+  pub arguments : i.arguments ≡ kept.body.arguments.items
+  pub residual : strip i.residual ≡ left_in program kept.body
+  pub trigger : i.trigger ≡ option_map trigger_of kept.trigger
+
+abbrev pub cycle_of : Cycle → model.Cycle
+cycle_of x = record { phase = x.phase; begun = x.begun; now = x.now.0; end = option_map (λ t. t.0) x.end; stop_asked = x.stop_asked; stopped = x.stopped }
+
+-- The script and what was seen of the run, the trace, are not kept.
+pub record StandsFor (k : Kernel) (c : Config) : Type 0 where
+  pub design : c.design ≡ whole_design k
+  pub cycle : c.cycle ≡ cycle_of k.cycle
+  pub processes : StandsForProcesses (Shows (whole_design k) k.program) k.schedule c.processes
+  pub events : c.events ≡ k.events
+  pub variables : c.store.variables ≡ k.variables.items
+  pub memories : c.store.memories ≡ k.memories.items
+
+-- What holds of a kernel whatever it stands for.
+pub record IsSound (k : Kernel) : Type 0 where
+  pub schedule : schedules.IsSound k.schedule
+  pub bodies : (p : ℕ) (kept : Kept) → kept_at k.schedule p ≡ Some kept → bodies.IsSound k.program kept.body
+  pub nobody_due : k.schedule.due.items ≡ []
+  pub serials : k.schedule.table.next ≤ 2 ^ 16 + k.made

@@ -1,0 +1,71 @@
+//! The kernel: the parts that keep a configuration.
+use body_code::Program;
+use event_board::EventBoard;
+use flat_design::Design;
+use logic_values::Value;
+use plain_lists::Bytes;
+use process_state::Body;
+use schedule::{Schedule, Trigger};
+use sim_model::Phase;
+use sim_time::Time;
+
+/// What the path of an instance is made of.
+#[derive(Clone, Copy, Debug, PartialEq, Eq)]
+pub enum PathOf {
+    /// It is that of an object, by its number.
+    Object(u32),
+    /// It is made of the path of the instance of a module, the name of the body and this serial.
+    Spawned(u32),
+}
+
+/// What is kept of an instance beside its waits and marks.
+#[derive(Drop)]
+pub struct Kept {
+    /// The number, among the instances of modules, of the one that it is in.
+    pub home: u32,
+    /// Its path.
+    pub path: PathOf,
+    /// Its body: the code, the first arguments and what is left.
+    pub body: Body,
+    /// How it waits after its return, where a next trigger was set (IEEE 1666-2011, 5.2.18).
+    pub trigger: Option<Trigger>,
+}
+
+/// Where a run stands in the scheduler's cycle (IEEE 1666-2011, 4.2.1).
+#[derive(Clone, Copy)]
+pub struct Cycle {
+    /// The phase that comes next.
+    pub phase: Phase,
+    /// Whether a run has begun.
+    pub begun: bool,
+    /// The simulated time.
+    pub now: Time,
+    /// When the run ends, where it has an end.
+    pub end: Option<Time>,
+    /// Whether the model asked to stop since the run began.
+    pub stop_asked: bool,
+    /// Whether the session is stopped.
+    pub stopped: bool,
+}
+
+/// The parts that keep a configuration, but for the script and what was seen of the run.
+#[derive(Drop)]
+pub struct Kernel {
+    /// The design; its code is in `program`.
+    pub design: Design,
+    /// The code of the design.
+    pub program: Program,
+    /// Where the run stands.
+    pub cycle: Cycle,
+    /// The processes.
+    pub schedule: Schedule<Kept>,
+    /// What is pending for each event of the design's objects.
+    pub events: EventBoard,
+    /// The variables of instances of modules.
+    pub variables: Vec<Value>,
+    /// The bytes of memories.
+    pub memories: Vec<Bytes>,
+    /// How many steps were made that may have given a number: serials, payload numbers, counts of holders and values of
+    /// semaphores rise by no more than this does.
+    pub made: u32,
+}
