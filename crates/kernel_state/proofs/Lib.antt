@@ -1,1 +1,2 @@
-mod ProcessFrames
+pub mod ProcessFrames
+pub mod Frames

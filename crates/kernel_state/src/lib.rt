@@ -2,5 +2,7 @@
 #![tactic(auto)]
 
 mod kernel;
+mod moves;
 
 pub use kernel::{Cycle, Kept, Kernel, PathOf};
+pub use moves::{fire, notify, pass, set_variable, wait, wake};

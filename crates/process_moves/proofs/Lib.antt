@@ -3,7 +3,7 @@ mod Finish
 mod Ending
 mod Room
 mod Moving
-mod OtherBody
+pub mod OtherBody
 mod Adding
 mod Overs
 mod Takings

@@ -15,7 +15,7 @@ use Rattle.wake_laws.specs.Woken.{is_deaf, roused, after_wake, joins, after_last
 -- ---- one element of a list changed
 
 module _ {A : Type 0} where
-  set-here : (xs : List A) (p : ℕ) (x y : A) → slice_get xs p ≡ Some x → slice_get (slice_set xs p y) p ≡ Some y
+  pub set-here : (xs : List A) (p : ℕ) (x y : A) → slice_get xs p ≡ Some x → slice_get (slice_set xs p y) p ≡ Some y
   set-here [] p x y at = absurd (none-some x at)
   set-here (z ∷ xs) zero x y at = refl
   set-here (z ∷ xs) (suc p) x y at = set-here xs p x y at

@@ -1,0 +1,237 @@
+-- A part moves, and the kernel stands for the configuration in which that part moved.
+use Rattle.std.proofs.Common.{◌≡◌, ◌≢◌, ◌≤◌, ◌+◌, ◌^◌, ◌==◌, ◌||◌, ℕ, zero, suc, Bool, true, false, List, [], ◌∷◌, ◌++◌, drop, length, slice_get, slice_set, Option, Some, None, option_map, refl, sym, ap, ◌∙◌, subst, arith, true≢false, ⊎_elim}
+use Rattle.std.specs.Prelude.{is_some}
+use Rattle.std.proofs.lemmas.Bool.{cases_eq}
+use Rattle.std.specs.FinMap as map
+use Rattle.std.specs.FinSet as set
+use Rattle.event_core.specs.declared.event.Ev.{Ev}
+use Rattle.event_core.specs.declared.notifications.Pending.{Pending}
+use Rattle.logic_values.specs.declared.kinds.Value.{Value}
+use Rattle.instance_table.specs.declared.instances.Instance.{Instance as Entry}
+use Rattle.flat_design.specs.Code.{arena_of}
+use Rattle.sim_model.specs.Residual.{Residual, settle}
+use Rattle.sim_model.specs.Configuration as model
+use Rattle.sim_model.specs.Configuration.{Config, Instance, Processes, Trace, changed_at, change, change_instance, instance_at, with_residual, with_marks, arena}
+use Rattle.sim_model.specs.Waits.{holds, fire, wake, waits, leaves_stack}
+use Rattle.sim_model.specs.Statements.{settled_in}
+use Rattle.body_model.specs.Strip.{strip}
+use Rattle.body_model.proofs.Strips.{strip-settle}
+use Rattle.numbered_slots.specs.Numbered.{with_value}
+use Rattle.wake_laws.specs.Woken.{after_wake, joins, after_event, joins_by, at_only, joins_only}
+use Rattle.process_moves.proofs.OtherBody.{puts_body, puts_sound}
+use Rattle.schedule.proofs.Sounding.{on_top}
+use Rattle.wake_laws.proofs.Wakes.{set-here, change-here, change-other, wake_rouses, fire_rouses}
+use Rattle.process_state.specs.Bodies as bodies
+use Rattle.process_state.specs.Bodies.{left_in}
+use Rattle.process_state.specs.declared.body.Body.{Body}
+use Rattle.schedule.specs.Seen.{seen, shown_at, is_on, as_instance, deadline_of}
+use Rattle.schedule.specs.Seen.{body_at as kept_at}
+use Rattle.schedule.specs.Sound as schedules
+use Rattle.schedule.specs.Moves.{MovesOne, Rouses}
+use Rattle.schedule.specs.declared.parts.Process.{Process}
+use Rattle.schedule.specs.declared.parts.Schedule.{Schedule}
+use Rattle.schedule.specs.declared.parts.Trigger.{Trigger}
+use Rattle.process_moves.specs.Moved.{IsTop, same_stack, leaves_top, joins_top, Stays, Ends, Spawns, PutsBody, wait_as, waits_as}
+use Rattle.kernel_state.specs.Processes.{Beside, beside, TellsBy, Tells, StandsForProcesses}
+use Rattle.kernel_state.specs.Kernel.{Shows, StandsFor, IsSound, whole_design, path_in}
+use Rattle.kernel_state.specs.Moves.{Moves, Steps, stepped}
+use Rattle.kernel_state.specs.declared.kernel.Kept.{Kept}
+use Rattle.kernel_state.specs.declared.kernel.Kernel.{Kernel}
+use Rattle.kernel_state.proofs.ProcessFrames.{Agrees, stays, moved_with, stack_same, stack_left, stack_joined, put_stands, roused_stands, rousing_wake, rousing_event}
+
+abbrev unwrap : Option Kept → Kept → Kept
+unwrap None x = x
+unwrap (Some x) y = x
+
+-- an element changed twice
+set-twice : {A : Type 0} (xs : List A) (n : ℕ) (a b : A) → slice_set (slice_set xs n a) n b ≡ slice_set xs n b
+set-twice [] n a b = refl
+set-twice (x ∷ xs) zero a b = refl
+set-twice (x ∷ xs) (suc n) a b = ap (λ ys. x ∷ ys) (set-twice xs n a b)
+
+change-twice_by : {A : Type 0} (xs : List A) (n : ℕ) (f g : A → A) (o : Option A) → slice_get xs n ≡ o → change (change xs n f) n g ≡ change xs n (λ a. g (f a))
+change-twice_by xs n f g None none = ap (λ o. change (changed_at xs n f o) n g) none ∙ ap (changed_at xs n g) none ∙ sym (ap (changed_at xs n (λ a. g (f a))) none)
+change-twice_by xs n f g (Some a) some = ap (λ o. change (changed_at xs n f o) n g) some
+    ∙ ap (changed_at (slice_set xs n (f a)) n g) (set-here xs n a (f a) some) ∙ set-twice xs n (f a) (g (f a)) ∙ sym (ap (changed_at xs n (λ a. g (f a))) some)
+
+pub change-twice : {A : Type 0} (xs : List A) (n : ℕ) (f g : A → A) → change (change xs n f) n g ≡ change xs n (λ a. g (f a))
+change-twice xs n f g = change-twice_by xs n f g (slice_get xs n) refl
+
+-- ---- one part
+
+module _ (k : Kernel) (c : Config) (h : StandsFor k c) where
+  pub processes_move : (s : Schedule Kept) (x : Processes) → StandsForProcesses (Shows (whole_design k) k.program) s x → StandsFor (record k { schedule = s }) (record c { processes = x })
+  processes_move s x stands = record {
+    design = h.design;
+    cycle = h.cycle;
+    processes = stands;
+    events = h.events;
+    variables = h.variables;
+    memories = h.memories;
+  }
+
+  -- what was seen of the run is not kept
+  pub trace_moves : (t : Trace) → StandsFor k (record c { trace = t })
+  trace_moves t = record {
+    design = h.design;
+    cycle = h.cycle;
+    processes = h.processes;
+    events = h.events;
+    variables = h.variables;
+    memories = h.memories;
+  }
+
+-- ---- soundness
+
+module _ (k : Kernel) (sound : IsSound k) where
+  pub schedule_sound : (s : Schedule Kept) → schedules.IsSound s → ((q : ℕ) → kept_at s q ≡ kept_at k.schedule q) → s.due.items ≡ k.schedule.due.items → s.table.next ≡ k.schedule.table.next → IsSound (record k { schedule = s })
+  schedule_sound s fine same due next = record {
+    schedule = fine;
+    bodies = λ p kept at. sound.bodies p kept (sym (same p) ∙ at);
+    nobody_due = due ∙ sound.nobody_due;
+    serials = subst (λ n. n ≤ 2 ^ 16 + k.made) (sym next) sound.serials;
+  }
+
+-- ---- the body of an instance
+
+module _ (k : Kernel) (p : ℕ) (kept : Kept) (b : Body) (at : kept_at k.schedule p ≡ Some kept) (s : Schedule Kept) (puts : PutsBody p (record kept { body = b }) k.schedule s) (keeps : bodies.Keeps kept.body b) where
+  pub body_sound : IsSound k → schedules.IsSound s → bodies.IsSound k.program b → IsSound (record k { schedule = s })
+  body_sound sound fine body_fine = record {
+    schedule = fine;
+    bodies = λ q other found. ⊎_elim
+        (λ same. subst (λ v. bodies.IsSound k.program v.body) (ap (λ o. unwrap o kept) (sym (puts.body) ∙ ap (kept_at s) (sym same) ∙ found)) body_fine)
+        (λ apart. sound.bodies q other (sym (puts.bodies q apart) ∙ found))
+        (cases_eq q p);
+    nobody_due = ap (λ v. v.items) puts.due ∙ sound.nobody_due;
+    serials = subst (λ n. n ≤ 2 ^ 16 + k.made) (sym puts.next) sound.serials;
+  }
+
+  -- the residual of the instance becomes what its body stands for
+  pub residual_moves : (c : Config) → StandsFor k c → (n : Residual) → strip n ≡ left_in k.program b → StandsFor (record k { schedule = s }) (with_residual c p n)
+  residual_moves c h n is = processes_move k c h s (record c.processes { instances = change c.processes.instances p (λ i. record i { residual = n }) })
+      (put_stands (Shows (whole_design k) k.program) k.schedule s c.processes h.processes p (record kept { body = b }) (λ i. record i { residual = n }) puts (λ i. refl) (λ i. refl) (λ i none. none) shows)
+    where
+      shows : (a : Kept) (i : Instance) → kept_at k.schedule p ≡ Some a → slice_get c.processes.instances p ≡ Some i → Shows (whole_design k) k.program a (beside i)
+          → Shows (whole_design k) k.program (record kept { body = b }) (beside (record i { residual = n }))
+      shows a i found there old =
+          let same : a ≡ kept = ap (λ o. unwrap o kept) (sym found ∙ at) in
+          let o = subst (λ v. Shows (whole_design k) k.program v (beside i)) same old in
+          record {
+            home = o.home;
+            path = subst (λ f. i.path ≡ path_in (whole_design k) kept.home f kept.path) (sym keeps.code) o.path;
+            code = o.code ∙ sym keeps.code;
+            arguments = o.arguments ∙ sym keeps.arguments;
+            residual = is;
+            trigger = o.trigger;
+          }
+
+-- ---- what a body stood for
+
+module _ (k : Kernel) (p : ℕ) (x : Entry (Process Kept)) (at : map.get k.schedule.table.live p ≡ Some x) where
+  was : kept_at k.schedule p ≡ Some x.body.body
+  was = ap (option_map (λ (z : Entry (Process Kept)). z.body.body)) at
+
+  pub old_body_sound : IsSound k → bodies.IsSound k.program x.body.body.body
+  old_body_sound sound = sound.bodies p x.body.body was
+
+  -- what the body stood for
+  pub left_before : (c : Config) (i : Instance) → StandsFor k c → instance_at c p ≡ Some i → strip i.residual ≡ left_in k.program x.body.body.body
+  left_before c i h there = (shown_before c i h there).residual
+    where
+      shown_before : (c : Config) (i : Instance) → StandsFor k c → instance_at c p ≡ Some i → Shows (whole_design k) k.program x.body.body (beside i)
+      shown_before c i h there = by i.ended refl (subst (Tells (Shows (whole_design k) k.program) (shown_at k.schedule p) (kept_at k.schedule p)) there (h.processes.each p))
+        where
+          by : (e : Bool) → i.ended ≡ e → TellsBy (Shows (whole_design k) k.program) i.ended (shown_at k.schedule p) (kept_at k.schedule p) i → Shows (whole_design k) k.program x.body.body (beside i)
+          by e is tells = live_shows e (subst (λ b. TellsBy (Shows (whole_design k) k.program) b (shown_at k.schedule p) (kept_at k.schedule p) i) is tells)
+            where
+              live_shows : (e : Bool) → TellsBy (Shows (whole_design k) k.program) e (shown_at k.schedule p) (kept_at k.schedule p) i → Shows (whole_design k) k.program x.body.body (beside i)
+              live_shows true none = absurd (true≢false (ap is_some (sym (ap (option_map (λ (z : Entry (Process Kept)). as_instance z (seen k.schedule p).wait)) at) ∙ none.0)))
+              live_shows false lives = subst (λ v. Shows (whole_design k) k.program v (beside i)) (ap (λ o. unwrap o x.body.body) (sym lives.kept.1.0 ∙ was)) lives.kept.1.1
+
+  -- and what it stands for settled, in the words of the configuration
+  pub settled_before : (c : Config) (i : Instance) → StandsFor k c → instance_at c p ≡ Some i → strip (settle (arena c) i.residual) ≡ bodies.settled_in k.program x.body.body.body
+  settled_before c i h there = strip-settle (arena c) i.residual ∙ ap (settle (arena c)) (left_before c i h there) ∙ ap (λ d. settle (arena_of d.code) (left_in k.program x.body.body.body)) h.design
+
+-- ---- the first move of a step: another residual in place of the settled one
+
+module _ (k : Kernel) (p : ℕ) (x : Entry (Process Kept)) (b : Body) (at : map.get k.schedule.table.live p ≡ Some x) (keeps : bodies.Keeps x.body.body.body b) where
+  abbrev pub with_body : Schedule Kept
+  with_body = record k.schedule { table = with_value k.schedule.table p (record x { body = record x.body { body = record x.body.body { body = b } } }) }
+
+  puts : PutsBody p (record x.body.body { body = b }) k.schedule with_body
+  puts = puts_body k.schedule p x (record x.body.body { body = b }) at
+
+  pub one_body_sound : IsSound k → bodies.IsSound k.program b → IsSound (record k { schedule = with_body })
+  one_body_sound sound fine = body_sound k p x.body.body b (was k p x at) with_body puts keeps sound (puts_sound k.schedule p x (record x.body.body { body = b }) at sound.schedule) fine
+
+  -- over the configuration in which finished parts fell away
+  pub steps_to : (c : Config) (i : Instance) → StandsFor k c → instance_at c p ≡ Some i → (n : Residual) → strip n ≡ left_in k.program b
+      → StandsFor (record k { schedule = with_body }) (with_residual (settled_in c p i.residual) p n)
+  steps_to c i h there n is =
+      subst (λ is. StandsFor (record k { schedule = with_body }) (record (with_residual c p n) { processes = record c.processes { instances = is }; trace = (settled_in c p i.residual).trace }))
+      (sym (change-twice c.processes.instances p (λ j. record j { residual = settle (arena c) i.residual }) (λ j. record j { residual = n })))
+      (trace_moves (record k { schedule = with_body }) (with_residual c p n) (residual_moves k p x.body.body b (was k p x at) with_body puts keeps c h n is) (settled_in c p i.residual).trace)
+
+-- ---- events and wakes
+
+module _ (k : Kernel) (sound : IsSound k) (s : Schedule Kept) (fine : schedules.IsSound s) where
+  module _ (e : Ev) (r : Rouses (λ q. after_event e) (λ q. joins_by e) k.schedule s) where
+    pub fired_sound : IsSound (record k { schedule = s })
+    fired_sound = schedule_sound k sound s fine r.bodies (ap (λ v. v.items) r.due) r.next
+
+    pub fired_moves : Moves k (record k { schedule = s }) (λ c. fire c e)
+    fired_moves c h = subst (StandsFor (record k { schedule = s })) (sym (fire_rouses c e).others)
+        (processes_move k c h s (record c.processes { runnable = (fire c e).processes.runnable; instances = (fire c e).processes.instances })
+        (subst (StandsForProcesses (Shows (whole_design k) k.program) s) (ap (λ d. d.processes) (fire_rouses c e).others)
+        (roused_stands (Shows (whole_design k) k.program) (λ q. after_event e) (λ q. joins_by e) (rousing_event (Shows (whole_design k) k.program) e) k.schedule s c (fire c e) r (fire_rouses c e) h.processes)))
+
+  module _ (p : ℕ) (r : Rouses (at_only p after_wake) (joins_only p joins) k.schedule s) where
+    pub woken_sound : IsSound (record k { schedule = s })
+    woken_sound = schedule_sound k sound s fine r.bodies (ap (λ v. v.items) r.due) r.next
+
+    pub woken_moves : Moves k (record k { schedule = s }) (λ c. wake c p)
+    woken_moves c h = subst (StandsFor (record k { schedule = s })) (sym (wake_rouses c p).others)
+        (processes_move k c h s (record c.processes { runnable = (wake c p).processes.runnable; instances = (wake c p).processes.instances })
+        (subst (StandsForProcesses (Shows (whole_design k) k.program) s) (ap (λ d. d.processes) (wake_rouses c p).others)
+        (roused_stands (Shows (whole_design k) k.program) (at_only p after_wake) (joins_only p joins) (rousing_wake (Shows (whole_design k) k.program) p) k.schedule s c (wake c p) r (wake_rouses c p) h.processes)))
+
+-- ---- a wait of the instance on top
+
+module _ (k : Kernel) (p : ℕ) (sound : IsSound k) (top : IsTop p k.schedule.stack.items) where
+  on_now : is_on k.schedule.stack.items p ≡ true
+  on_now = ap (λ xs. is_on xs p) top.1 ∙ on_top top.0 p
+
+  pub lives_on_top : map.contains_key k.schedule.table.live p ≡ true
+  lives_on_top = sound.schedule.active p on_now
+
+  shows_on_top : is_some (shown_at k.schedule p) ≡ true
+  shows_on_top = by (map.get k.schedule.table.live p) refl lives_on_top
+    where
+      by : (o : Option (Entry (Process Kept))) → map.get k.schedule.table.live p ≡ o → is_some o ≡ true → is_some (shown_at k.schedule p) ≡ true
+      by None none is = absurd (true≢false (sym is))
+      by (Some z) some is = ap (λ o. is_some (option_map (λ (x : Entry (Process Kept)). as_instance x (seen k.schedule p).wait) o)) some
+
+  not_ready : set.contains k.schedule.ready.members p ≡ false
+  not_ready = by (map.get k.schedule.table.live p) refl lives_on_top
+    where
+      by : (o : Option (Entry (Process Kept))) → map.get k.schedule.table.live p ≡ o → is_some o ≡ true → set.contains k.schedule.ready.members p ≡ false
+      by None none is = absurd (true≢false (sym is))
+      by (Some z) some is = (sound.schedule.busy p z on_now some).ready
+
+  module _ (s : Schedule Kept) (fine : schedules.IsSound s) where
+    pub stays_sound : Stays k.schedule s → IsSound (record k { schedule = s })
+    stays_sound st = schedule_sound k sound s fine st.bodies st.due st.next
+
+    pub stays_moves : Stays k.schedule s → Moves k (record k { schedule = s }) (λ c. c)
+    stays_moves st c h = processes_move k c h s c.processes (stays (Shows (whole_design k) k.program) k.schedule s c.processes h.processes st)
+
+    module _ (t : Trigger) (m : MovesOne p (waits_as t) false (leaves_top p) k.schedule s) where
+      pub waits_sound : IsSound (record k { schedule = s })
+      waits_sound = schedule_sound k sound s fine m.bodies (ap (λ v. v.items) m.due) m.next
+
+      pub waits_moves : Moves k (record k { schedule = s }) (λ c. waits c p (wait_as t.wait) (deadline_of t.deadline))
+      waits_moves c h = processes_move k c h s (record c.processes { instances = change c.processes.instances p (λ i. record i { wait = wait_as t.wait; deadline = deadline_of t.deadline }); stack = drop 1 c.processes.stack })
+          (moved_with (Shows (whole_design k) k.program) k.schedule s c.processes h.processes p (waits_as t) (λ i. record i { wait = wait_as t.wait; deadline = deadline_of t.deadline })
+          (record { bares = λ i. refl; ends = λ i. refl; shows = λ b i told. told }) false (leaves_top p) m shows_on_top
+          (record c.processes { instances = change c.processes.instances p (λ i. record i { wait = wait_as t.wait; deadline = deadline_of t.deadline }); stack = drop 1 c.processes.stack })
+          refl (sym (h.processes.ready p) ∙ not_ready) (λ q apart. refl) (stack_left (Shows (whole_design k) k.program) k.schedule s c.processes h.processes p m.stack))

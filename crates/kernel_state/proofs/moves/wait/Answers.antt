@@ -1,0 +1,14 @@
+use Rattle.kernel_state.proofs.Frames.{stays_moves, stays_sound, waits_moves, waits_sound}
+use Rattle.kernel_state.proofs.moves.wait.Goals as goal
+
+pub returns-in-Ok-clause-moves : goal.returns-in-Ok-clause-moves
+returns-in-Ok-clause-moves c = waits_moves c.args.k.now c.args.p c.requires.sound c.requires.top c.wait.new.s c.wait.ensures.sound c.args.t.now c.in-Ok.ensures.moves
+
+pub returns-in-Ok-clause-sound : goal.returns-in-Ok-clause-sound
+returns-in-Ok-clause-sound c = waits_sound c.args.k.now c.args.p c.requires.sound c.requires.top c.wait.new.s c.wait.ensures.sound c.args.t.now c.in-Ok.ensures.moves
+
+pub returns-in-Err-clause-stays : goal.returns-in-Err-clause-stays
+returns-in-Err-clause-stays c = stays_moves c.args.k.now c.args.p c.requires.sound c.requires.top c.wait.new.s c.wait.ensures.sound c.in-Err.ensures.stays
+
+pub returns-in-Err-clause-sound : goal.returns-in-Err-clause-sound
+returns-in-Err-clause-sound c = stays_sound c.args.k.now c.args.p c.requires.sound c.requires.top c.wait.new.s c.wait.ensures.sound c.in-Err.ensures.stays

@@ -1,0 +1,41 @@
+-- What a move of a kernel is: it carries the configuration that the kernel stands for to another.
+use Rattle.std.specs.Prelude.{◌≡◌, ℕ, true, Option, Some, None, slice_get}
+use Rattle.std.specs.FinMap as map
+use Rattle.sim_model.specs.Residual as residual
+use Rattle.sim_model.specs.Residual.{Residual, settle, next_of}
+use Rattle.sim_model.specs.Configuration.{Config, Instance, instance_at, arena}
+use Rattle.sim_model.specs.Statements.{settled_in}
+use Rattle.process_state.specs.Bodies as bodies
+use Rattle.schedule.specs.Seen.{body_at as kept_at}
+use Rattle.process_moves.specs.Moved.{IsTop}
+use Rattle.kernel_state.specs.Kernel.{StandsFor}
+use Rattle.kernel_state.specs.declared.kernel.Kept.{Kept}
+use Rattle.kernel_state.specs.declared.kernel.Kernel.{Kernel}
+
+-- whatever configuration the kernel stood for, it stands for what the definition makes of it
+abbrev pub Moves : Kernel → Kernel → (Config → Config) → Type 0
+Moves old new f = (c : Config) → StandsFor old c → StandsFor new (f c)
+
+-- The first move of a step of an instance: finished parts of its body fall away, and then the definition makes something of the
+-- configuration, of the instance and of what is left.
+abbrev pub stepped : (Config → ℕ → Instance → Residual → Config) → Config → ℕ → Instance → Config
+stepped f c p i = f (settled_in c p i.residual) p (record i { residual = settle (arena c) i.residual }) (settle (arena c) i.residual)
+
+abbrev pub Steps : Kernel → Kernel → ℕ → (Config → ℕ → Instance → Residual → Config) → Type 0
+Steps old new p f = (c : Config) (i : Instance) → StandsFor old c → instance_at c p ≡ Some i → StandsFor new (stepped f c p i)
+
+-- there is an instance of this serial that has not ended
+abbrev pub Lives : Kernel → ℕ → Type 0
+Lives k p = map.contains_key k.schedule.table.live p ≡ true
+
+-- what is kept of an instance passes the test
+abbrev pub KeptAt : Kernel → ℕ → (Kept → Type 0) → Type 0
+KeptAt k p P = (kept : Kept) → kept_at k.schedule p ≡ Some kept → P kept
+
+-- a statement comes next in its body
+abbrev pub HasStatement : Kernel → ℕ → Type 0
+HasStatement k p = KeptAt k p (λ kept. bodies.IsStatement (next_of (bodies.settled_in k.program kept.body)))
+
+-- it is the active one on top
+abbrev pub IsOnTop : Kernel → ℕ → Type 0
+IsOnTop k p = IsTop p k.schedule.stack.items

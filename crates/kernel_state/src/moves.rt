@@ -1,0 +1,81 @@
+//! Moves of the processes: each carries the configuration that the kernel stands for as the definitions of a run do.
+ghost use Rattle.std.specs.Prelude.{◌≡◌, OnOk, OnErr};
+ghost use Rattle.sim_model.specs.Storing as storing;
+ghost use Rattle.sim_model.specs.Waits as waiting;
+ghost use Rattle.schedule.specs.Seen.{deadline_of};
+ghost use Rattle.process_moves.specs.Moved.{wait_as};
+ghost use Rattle.kernel_state.specs.Kernel.{IsSound};
+ghost use Rattle.kernel_state.specs.Moves.{Moves, Steps, Lives, HasStatement, IsOnTop};
+
+use crate::kernel::Kernel;
+use event_core::{Ev, When};
+use logic_values::Value;
+use schedule::{Trigger, fire as fire_processes, wake as wake_process};
+use std::alloc::AllocError;
+
+/// The statement in place of an instance is past.
+pub fn pass(k: &mut Kernel, p: u32)
+    requires sound { IsSound k.old }
+    requires lives { Lives k.old p }
+    requires statement { HasStatement k.old p }
+    ensures steps { Steps k.old k.new p (λ c q i r. storing.passes c q r) }
+    ensures sound { IsSound k.new }
+{
+    match k.schedule.table.get_mut(p) {
+        Some(x) => x.body.body.body.past(&k.program),
+        None => {}
+    }
+}
+
+/// An event fires: each instance that is sensitive to it hears it (IEEE 1666-2011, 5.10).
+pub fn fire(k: &mut Kernel, e: Ev)
+    requires { IsSound k.old }
+    ensures moves { Moves k.old k.new (λ c. waiting.fire c e) }
+    ensures sound { IsSound k.new }
+{
+    fire_processes(&mut k.schedule, e);
+}
+
+/// A wake of one instance.
+pub fn wake(k: &mut Kernel, p: u32)
+    requires { IsSound k.old }
+    ensures moves { Moves k.old k.new (λ c. waiting.wake c p) }
+    ensures sound { IsSound k.new }
+{
+    wake_process(&mut k.schedule, p);
+}
+
+/// The active instance on top waits so, and leaves the stack (IEEE 1666-2011, 5.2.17). Where memory is refused nothing
+/// changes.
+pub fn wait(k: &mut Kernel, p: u32, t: &Trigger) -> Result<(), AllocError>
+    requires sound { IsSound k.old }
+    requires top { IsOnTop k.old p }
+    ensures moves { OnOk result (Moves k.old k.new (λ c. waiting.waits c p (wait_as t.now.wait) (deadline_of t.now.deadline))) }
+    ensures stays { OnErr result (Moves k.old k.new (λ c. c)) }
+    ensures sound { IsSound k.new }
+{
+    match process_moves::wait(&mut k.schedule, p, t) {
+        Ok(()) => Ok(()),
+        Err(_) => Err(AllocError),
+    }
+}
+
+/// A notification of an event of the design's objects. What an immediate one fires is the caller's to fire.
+pub fn notify(k: &mut Kernel, e: u32, w: When)
+    requires { IsSound k.old }
+    ensures moves { Moves k.old k.new (λ c. waiting.notify c e w) }
+    ensures sound { IsSound k.new }
+{
+    k.events.notify(e, w);
+}
+
+/// A variable of an instance of a module gets a value; where there is none of this number nothing changes.
+pub fn set_variable(k: &mut Kernel, n: u32, v: Value)
+    requires { IsSound k.old }
+    ensures moves { Moves k.old k.new (λ c. storing.set_variable c n v) }
+    ensures sound { IsSound k.new }
+{
+    if (n as usize) < k.variables.len() {
+        k.variables[n as usize] = v;
+    }
+}
