@@ -1,0 +1,5 @@
+pub mod Walked
+pub mod Resting
+pub mod Telling
+pub mod Changing
+pub mod Updating

@@ -1,0 +1,4 @@
+pub mod Announced
+pub mod Writers
+pub mod Codes
+pub mod Asked
