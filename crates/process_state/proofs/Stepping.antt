@@ -213,3 +213,7 @@ some_same s t e = cc
 
 pub statement_same : (s t : ℕ) → residual.statement s ≡ residual.statement t → s ≡ t
 statement_same s t e = cc
+
+-- a call is not the body's own
+pub room_of_call : (o : Option ℕ) (s m n : ℕ) → o ≡ Some s → room_of_own o m n ≡ n
+room_of_call o s m n e = ap (λ p. room_of_own p m n) e

@@ -1,5 +1,5 @@
 -- What a body stands for, and what is true of each body.
-use Rattle.std.specs.Prelude.{◌≡◌, ℕ, ◌+◌, ◌≤◌, List, ◌∷◌, [], ◌++◌, Option, Some, None}
+use Rattle.std.specs.Prelude.{◌≡◌, ℕ, ◌+◌, ◌≤◌, ◌∷◌, [], length, Option, Some, None}
 use Rattle.std.specs.Vec.{vec_capacity}
 use Rattle.logic_values.specs.declared.kinds.Value.{Value}
 use Rattle.sim_model.specs.declared.plain.Via.{Via}
@@ -70,3 +70,7 @@ answer_of (Some x) = x.answer
 abbrev pub body_of : Option Frame → Option ℕ
 body_of None = None
 body_of (Some x) = Some x.body
+
+-- room for the layers of a call, once finished parts have fallen away
+abbrev pub HasRoomFor : Program → Body → ℕ → Type 0
+HasRoomFor p b f = length b.layers.items + body_depth p.depths.items (body_at (arena_of p.code) f) + 4 ≤ vec_capacity b.layers

@@ -100,3 +100,12 @@ pub(crate) enum Sought {
     /// An unwinding.
     Goal,
 }
+
+/// Why a call is not entered.
+#[derive(Clone, Copy, Debug, PartialEq, Eq)]
+pub enum EnterStop {
+    /// As many calls are open as may be.
+    TooDeep,
+    /// Memory was refused.
+    NoMemory,
+}

@@ -9,8 +9,9 @@ mod landing;
 mod layers;
 mod shown;
 mod sought;
+mod starting;
 mod unwind;
 mod unwinding;
 
 pub use body::Body;
-pub use layers::{Frame, Next};
+pub use layers::{EnterStop, Frame, Next};

@@ -1,0 +1,195 @@
+//! Bodies that start, begin again and become idle, and calls that are entered.
+ghost use Rattle.std.specs.Prelude.{◌≡◌, ℕ, ◌+◌, ◌<◌, ◌≤◌, ◌++◌, ◌∷◌, [], List, length, Some, OnOk, OnErr, IfOk, IsOk, Err, vec_len, vec_capacity, alloc_error};
+ghost use Rattle.logic_values.specs.declared.kinds.Value.{Value as Kept};
+ghost use Rattle.flat_design.specs.Code.{Arena, arena_of, body_at};
+ghost use Rattle.sim_model.specs.Residual as residual;
+ghost use Rattle.sim_model.specs.Residual.{next_of, put, skip, begun, entered, open_frames, first_locals};
+ghost use Rattle.sim_model.specs.Calls.{frame_limit};
+ghost use Rattle.body_code.specs.Depths.{locals_at};
+ghost use Rattle.body_code.specs.declared.program.Program.{Program as Whole};
+ghost use Rattle.process_state.specs.Layers.{call_of, inside, standing, layers_of, statement_of};
+ghost use Rattle.process_state.specs.Room.{Fits, FitsAll, kept_along, own_room, locals_with, body_depth, begun_in};
+ghost use Rattle.process_state.specs.Bodies.{left_of, left_in, settled_in, IsSound, Keeps, IsStatement, HasRoomFor};
+
+use crate::body::Body;
+use crate::changes::keep_layers;
+use crate::frames::{add_layers, add_locals, body_begins, depth_in, locals_in, many_locals, place};
+use crate::layers::{EnterStop, Frame, Layer};
+use body_code::Program;
+use flat_design::{CodeId, Local, StmtId};
+use logic_values::Value;
+use sim_model::Via;
+use std::alloc::{AllocError, Global};
+use std::mem;
+
+/// As many calls as may be open, the body not counted.
+const FRAME_LIMIT: usize = 64;
+
+/// Begins the body of a call inside layers, and gives its first statement.
+fn begin_call(program: &Program, layers: &mut Vec<Layer>, frame: Frame) -> Option<StmtId>
+    requires { vec_len layers.old + 2 ≤ vec_capacity layers.old }
+    ensures left { inside (arena_of program.now.code) layers.new.items (standing result) ≡ inside (arena_of program.now.code) layers.old.items (residual.frame (begun_in (arena_of program.now.code) (body_at (arena_of program.now.code) frame.body)) (call_of frame)) }
+    ensures room { (most : ℕ) → FitsAll (arena_of program.now.code) program.now.depths.items most 1 0 layers.old.items → length layers.old.items + body_depth program.now.depths.items (body_at (arena_of program.now.code) frame.body) + 3 ≤ most → Fits (arena_of program.now.code) program.now.depths.items most 1 0 layers.new.items result }
+    ensures own { (spare : ℕ) → own_room spare layers.new.items ≡ own_room spare (layers.old.items ++ Layer.Frame frame ∷ []) }
+    ensures capacity { vec_capacity layers.old ≤ vec_capacity layers.new }
+{
+    let comes = body_begins(program, frame.body);
+    place(layers, Layer::Frame(frame));
+    add_layers(layers, comes)
+}
+
+/// The first values of the local variables of a call, in a vector that has room for them.
+fn begin_locals(values: &mut Vec<Value>, arguments: &[Value], locals: &[Local])
+    requires { length (first_locals arguments.now locals.now) ≤ vec_capacity values.old }
+    ensures items { values.new.items ≡ first_locals arguments.now locals.now }
+    ensures capacity { vec_capacity values.old ≤ vec_capacity values.new }
+{
+    values.clear();
+    let _ = values.extend_from_slice(arguments);
+    add_locals(values, locals);
+}
+
+impl Body {
+    /// A body of this code that was not begun, with its first arguments.
+    pub fn start(
+        alloc: Global,
+        program: &Program,
+        code: CodeId,
+        arguments: Vec<Value>,
+    ) -> Result<Body, AllocError>
+        ensures left { IfOk result (λ b. (a : Arena) → left_of a b ≡ skip) }
+        ensures sound { IfOk result (λ b. IsSound program.now b) }
+        ensures kept { IfOk result (λ b. (b.code ≡ code) × (b.arguments.items ≡ arguments.items)) }
+    {
+        let layers = Vec::with_capacity(alloc, depth_in(program, code) + 3)?;
+        let many = many_locals(program, code, arguments.as_slice());
+        let spare = Vec::with_capacity(alloc, many)?;
+        Ok(Body {
+            code,
+            arguments,
+            layers,
+            statement: None,
+            spare,
+        })
+    }
+
+    /// Begins the body with its first arguments. It takes no memory.
+    pub fn restart(&mut self, program: &Program)
+        requires { IsSound program.now self.old }
+        ensures left { left_in program.now self.new ≡ begun (arena_of program.now.code) self.old.code self.old.arguments.items }
+        ensures sound { IsSound program.now self.new }
+        ensures kept { Keeps self.old self.new }
+    {
+        keep_layers(&mut self.layers, &mut self.spare, 0);
+        let none = Vec::new(*self.spare.allocator());
+        let mut locals = mem::replace(&mut self.spare, none);
+        begin_locals(
+            &mut locals,
+            self.arguments.as_slice(),
+            locals_in(program, self.code),
+        );
+        let frame = Frame {
+            body: self.code,
+            locals,
+            answer: None,
+            call: None,
+            via: None,
+        };
+        self.statement = begin_call(program, &mut self.layers, frame);
+    }
+
+    /// Makes the body one that was not begun. It keeps its first arguments, and takes no memory.
+    pub fn idle(&mut self)
+        ensures left { (a : Arena) → left_of a self.new ≡ skip }
+        ensures sound { (p : Whole) → IsSound p self.old → IsSound p self.new }
+        ensures kept { Keeps self.old self.new }
+    {
+        keep_layers(&mut self.layers, &mut self.spare, 0);
+        self.statement = None;
+    }
+
+    /// Makes room for the layers of a call of this code. It is refused where as many calls are open as may be once finished
+    /// parts have fallen away, and where memory is. What is left stays as it is.
+    pub fn reserve(&mut self, program: &Program, function: CodeId) -> Result<(), EnterStop>
+        requires { IsSound program.now self.old }
+        ensures left { (a : Arena) → left_of a self.new ≡ left_of a self.old }
+        ensures ready { OnOk result (HasRoomFor program.now self.new function) }
+        ensures shallow { OnOk result (open_frames (settled_in program.now self.old) < frame_limit) }
+        ensures deep { result ≡ Err EnterStop.TooDeep → frame_limit ≤ open_frames (settled_in program.now self.old) }
+        ensures only { frame_limit ≤ open_frames (settled_in program.now self.old) → result ≡ Err EnterStop.TooDeep }
+        ensures succeeds { HasRoomFor program.now self.old function → open_frames (settled_in program.now self.old) < frame_limit → IsOk result }
+        ensures sound { IsSound program.now self.new }
+        ensures kept { Keeps self.old self.new }
+    {
+        if self.open_calls(program) >= FRAME_LIMIT {
+            return Err(EnterStop::TooDeep);
+        }
+        match self.layers.reserve(depth_in(program, function) + 4) {
+            Ok(()) => Ok(()),
+            Err(_) => Err(EnterStop::NoMemory),
+        }
+    }
+
+    /// The statement in place calls this code with these arguments. It is refused where as many calls are open as may be, and
+    /// where memory is; then what is left stays as it is. After `reserve`, and with a vector that has room for all local
+    /// variables, it takes no memory.
+    pub fn enter(
+        &mut self,
+        program: &Program,
+        function: CodeId,
+        arguments: Vec<Value>,
+        via: Option<Via>,
+    ) -> Result<(), EnterStop>
+        requires sound { IsSound program.now self.old }
+        requires statement { IsStatement (next_of (settled_in program.now self.old)) }
+        ensures entered { OnOk result ((s : ℕ) → next_of (settled_in program.now self.old) ≡ residual.statement s → left_in program.now self.new ≡ put (settled_in program.now self.old) (entered (arena_of program.now.code) function arguments.items (Some s) via)) }
+        ensures refused { OnErr result (left_in program.now self.new ≡ left_in program.now self.old) }
+        ensures shallow { OnOk result (open_frames (settled_in program.now self.old) < frame_limit) }
+        ensures deep { result ≡ Err EnterStop.TooDeep → frame_limit ≤ open_frames (settled_in program.now self.old) }
+        ensures only { frame_limit ≤ open_frames (settled_in program.now self.old) → result ≡ Err EnterStop.TooDeep }
+        ensures succeeds { HasRoomFor program.now self.old function → locals_with (arena_of program.now.code) function arguments.items ≤ vec_capacity arguments → open_frames (settled_in program.now self.old) < frame_limit → IsOk result }
+        ensures sound { IsSound program.now self.new }
+        ensures kept { Keeps self.old self.new }
+    {
+        match self.reserve(program, function) {
+            Ok(()) => {}
+            Err(stop) => return Err(stop),
+        }
+        let mut locals = arguments;
+        let more = many_locals(program, function, locals.as_slice()) - locals.len();
+        match locals.reserve(more) {
+            Ok(()) => {
+                add_locals(&mut locals, locals_in(program, function));
+                self.enter_with(program, function, locals, via);
+                Ok(())
+            }
+            Err(_) => Err(EnterStop::NoMemory),
+        }
+    }
+
+    /// The statement in place calls this code, with these parameters and local variables.
+    fn enter_with(
+        &mut self,
+        program: &Program,
+        function: CodeId,
+        locals: Vec<Value>,
+        via: Option<Via>,
+    )
+        requires sound { IsSound program.now self.old }
+        requires statement { IsStatement (next_of (settled_in program.now self.old)) }
+        requires room { HasRoomFor program.now self.old function }
+        ensures left { (s : ℕ) → next_of (settled_in program.now self.old) ≡ residual.statement s → left_in program.now self.new ≡ put (settled_in program.now self.old) (residual.frame (begun_in (arena_of program.now.code) (body_at (arena_of program.now.code) function)) (record { body = function; locals = locals.items; answer = None; call = Some s; via = via })) }
+        ensures sound { IsSound program.now self.new }
+        ensures kept { Keeps self.old self.new }
+    {
+        let _ = self.settle_to(program);
+        let frame = Frame {
+            body: function,
+            locals,
+            answer: None,
+            call: self.statement,
+            via,
+        };
+        self.statement = begin_call(program, &mut self.layers, frame);
+    }
+}
