@@ -160,4 +160,3 @@ next_inside a (l ∷ ls) r h =
     let e = next_inside a ls r h in
     let P : Next → Type 0 = IsComing in
     next_around a l (inside a ls r) (subst P (sym e) h) ∙ e
-

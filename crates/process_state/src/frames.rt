@@ -58,13 +58,7 @@ pub(crate) fn block_begins(program: &Program, block: BlockId) -> Comes
     ensures few { length (layers_of result) ≤ 1 }
     ensures room { (most t i : ℕ) → i + t + depth_of program.now.depths.items block + 1 ≤ most → Fits (arena_of program.now.code) program.now.depths.items most t i (layers_of result) (statement_of result) }
 {
-    match first_of(
-        program,
-        Cursor {
-            block,
-            place: 0,
-        },
-    ) {
+    match first_of(program, Cursor { block, place: 0 }) {
         Some((statement, rest)) => Comes::InBlock(statement, rest),
         None => Comes::Nothing,
     }

@@ -38,7 +38,7 @@ returns-clause-sound c =
     let x : Frame = record { body = c.args.function; locals = c.args.locals; answer = None; call = b.statement; via = c.args.via } in
     let wide : cap ≤ vec_capacity new = c.begin_call-self.ensures.capacity in
     let owns : own_room spare new.items ≡ own_room spare b.layers.items =
-        c.begin_call-self.ensures.own spare ∙ own_less spare b.layers.items (layer.Frame x) ∙ ap (λ n. own_room n b.layers.items) (room_of_call b.statement w.0 (vec_capacity c.args.locals) spare calls) in
+    c.begin_call-self.ensures.own spare ∙ own_less spare b.layers.items (layer.Frame x) ∙ ap (λ n. own_room n b.layers.items) (room_of_call b.statement w.0 (vec_capacity c.args.locals) spare calls) in
     let fits = c.begin_call-self.ensures.room cap c.settle_to.ensures.sound.room.0 (omega (arith, c.requires.room, c.settle_to.ensures.grows, c.settle_to.ensures.room)) in record {
       room = fits_at_cap a ds cap (vec_capacity new) new.items new.items c.begin_call-self.result c.begin_call-self.result wide refl refl fits;
       own = le_to _ (own_room spare new.items) _ owns c.settle_to.ensures.sound.own;

@@ -58,12 +58,12 @@ returns-in-Some-clause-left c = λ n next.
     let named : s ≡ n = statement_same s n (sym (w.2 ∙ ap residual.statement same) ∙ next) in
     let inner : Residual = enclosed a s v (block a c.args.block) in
     let there : inside a c.add_layers-self.new.layers.items (standing c.add_layers-self.result) ≡ inside a b.layers.items inner =
-        ap (λ ms. inside a ms (standing c.add_layers-self.result)) (c.add_layers-self.ensures.items ∙ ap (λ ks. ks ++ layers_of comes) c.add_around.ensures.items)
-        ∙ ap (λ o. inside a (b.layers.items ++ layers_around v s ++ layers_of comes) (standing o)) c.add_layers-self.ensures.statement
-        ∙ inside_append a (b.layers.items ++ layers_around v s) (layers_of comes) (standing (statement_of comes))
-        ∙ inside_append a b.layers.items (layers_around v s) (landed a comes)
-        ∙ ap (λ q. inside a b.layers.items (inside a (layers_around v s) q)) c.block_begins-comes.ensures.value
-        ∙ ap (inside a b.layers.items) (enclosed_inside a v s (block a c.args.block)) in
+    ap (λ ms. inside a ms (standing c.add_layers-self.result)) (c.add_layers-self.ensures.items ∙ ap (λ ks. ks ++ layers_of comes) c.add_around.ensures.items)
+    ∙ ap (λ o. inside a (b.layers.items ++ layers_around v s ++ layers_of comes) (standing o)) c.add_layers-self.ensures.statement
+    ∙ inside_append a (b.layers.items ++ layers_around v s) (layers_of comes) (standing (statement_of comes))
+    ∙ inside_append a b.layers.items (layers_around v s) (landed a comes)
+    ∙ ap (λ q. inside a b.layers.items (inside a (layers_around v s) q)) c.block_begins-comes.ensures.value
+    ∙ ap (inside a b.layers.items) (enclosed_inside a v s (block a c.args.block)) in
     there
     ∙ sym (put_statement a b.layers.items b.statement s r inner c.settle_to.ensures.left c.in-Some.is)
     ∙ ap (λ x. put r (enclosed a s x (block a c.args.block))) c.around.ensures
@@ -88,7 +88,7 @@ returns-in-Some-clause-sound c =
     let items : c.add_layers-self.new.layers.items ≡ b.layers.items ++ layers_around v s ++ layers_of comes = c.add_layers-self.ensures.items ∙ ap (λ ks. ks ++ layers_of comes) c.add_around.ensures.items in
     let wide : cap ≤ vec_capacity c.add_layers-self.new.layers = omega (arith, c.add_around.ensures.capacity, c.add_layers-self.ensures.capacity) in
     let owns : own_room spare c.add_layers-self.new.layers.items ≡ own_room spare b.layers.items =
-        ap (own_room spare) items ∙ own_comes spare (b.layers.items ++ layers_around v s) comes ∙ own_around spare b.layers.items v s in record {
+    ap (own_room spare) items ∙ own_comes spare (b.layers.items ++ layers_around v s) comes ∙ own_around spare b.layers.items v s in record {
       room = fits_at_cap a ds cap (vec_capacity c.add_layers-self.new.layers) (b.layers.items ++ layers_around v s ++ layers_of comes) c.add_layers-self.new.layers.items (statement_of comes) c.add_layers-self.result wide items c.add_layers-self.ensures.statement fits;
       own = le_to _ (own_room spare c.add_layers-self.new.layers.items) _ owns c.settle_to.ensures.sound.own;
       first = omega (arith, c.settle_to.ensures.sound.first, wide);

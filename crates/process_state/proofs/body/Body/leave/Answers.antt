@@ -37,10 +37,10 @@ returns-clause-sound c =
     let fits = (fits_less a ds cap ms (layer.Frame x) b.statement (subst P c.take_frame.ensures.items c.settle_to.ensures.sound.room)).0 in
     let wide : cap ≤ vec_capacity c.take_frame.new.layers = omega (arith, c.take_frame.ensures.capacity) in
     let owns : own_room spare ms ≡ own_room spare b.layers.items =
-        sym
-        (ap (own_room spare) c.take_frame.ensures.items
-        ∙ own_less spare ms (layer.Frame x)
-        ∙ ap (λ n. own_room n ms) (leave_own a b.layers.items ms b.statement x (settled_in c.args.program.now c.args.self.now) c.settle_to.ensures.left none c.take_frame.ensures.items c.take_frame.ensures.ends spare)) in record {
+    sym
+    (ap (own_room spare) c.take_frame.ensures.items
+    ∙ own_less spare ms (layer.Frame x)
+    ∙ ap (λ n. own_room n ms) (leave_own a b.layers.items ms b.statement x (settled_in c.args.program.now c.args.self.now) c.settle_to.ensures.left none c.take_frame.ensures.items c.take_frame.ensures.ends spare)) in record {
       room = fits_at_cap a ds cap (vec_capacity c.take_frame.new.layers) ms ms None b.statement wide refl none fits;
       own = le_to _ (own_room spare ms) _ owns c.settle_to.ensures.sound.own;
       first = omega (arith, c.settle_to.ensures.sound.first, wide);

@@ -75,7 +75,7 @@ returns-in-Some-clause-sound c =
     let n = no_goal a ls (standing b.statement) c.requires.free in
     let in_list : i < length ls = omega (arith, c.in-Some.ensures.within, ap length c.as_slice.ensures.value) in
     let items : set c.begin_unwinding.new.layers.items i m ≡ take i ls ++ m ∷ ys =
-        ap (λ ks. set ks i m) (c.begin_unwinding.ensures.items ∙ ap (λ n. take n ls ++ layer.Goal c.args.end ∷ map unwound (drop n ls)) next) ∙ set_raised ls ys i m in_list in
+    ap (λ ks. set ks i m) (c.begin_unwinding.ensures.items ∙ ap (λ n. take n ls ++ layer.Goal c.args.end ∷ map unwound (drop n ls)) next) ∙ set_raised ls ys i m in_list in
     let found : handler_in a e (get_or ls i d) ≡ Some h = ap (handler_in a e) (sym c.index.ensures) ∙ c.handler_in-block.ensures in
     let wide : cap ≤ vec_capacity c.begin_unwinding.new.layers = omega (arith, c.begin_unwinding.ensures.capacity) in record {
       room = fits_at_cap a ds cap (vec_capacity c.begin_unwinding.new.layers) (take i ls ++ m ∷ ys) (set c.begin_unwinding.new.layers.items i m) None None wide items refl (raise_fits a ds cap ls i d e h c.args.end b.statement in_list found n c.requires.sound.room);

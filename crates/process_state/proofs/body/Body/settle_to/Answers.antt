@@ -32,10 +32,10 @@ returns-clause-sound c =
     let spare = vec_capacity c.keep_layers.new.spare in
     let P : List Layer → Type 0 = λ ks. Fits a ds cap 1 0 ks c.args.self.now.statement in
     let items : c.add_layers-self.new.layers.items ≡ take stand c.as_slice.result.now ++ layers_of comes =
-        c.add_layers-self.ensures.items ∙ ap (λ ks. ks ++ layers_of comes) (c.keep_layers.ensures.items ∙ ap (take stand) (sym c.as_slice.ensures.value)) in
+    c.add_layers-self.ensures.items ∙ ap (λ ks. ks ++ layers_of comes) (c.keep_layers.ensures.items ∙ ap (take stand) (sym c.as_slice.ensures.value)) in
     let wide : cap ≤ vec_capacity c.add_layers-self.new.layers = omega (arith, c.keep_layers.ensures.capacity, c.add_layers-self.ensures.capacity) in
     let owns : own_room spare c.add_layers-self.new.layers.items ≡ own_room (vec_capacity c.args.self.now.spare) c.args.self.now.layers.items =
-        ap (own_room spare) c.add_layers-self.ensures.items ∙ own_comes spare c.keep_layers.new.layers.items comes ∙ c.keep_layers.ensures.own in record {
+    ap (own_room spare) c.add_layers-self.ensures.items ∙ own_comes spare c.keep_layers.new.layers.items comes ∙ c.keep_layers.ensures.own in record {
       room = fits_at_cap a ds cap (vec_capacity c.add_layers-self.new.layers) (take stand c.as_slice.result.now ++ layers_of comes) c.add_layers-self.new.layers.items (statement_of comes) c.add_layers-self.result wide items c.add_layers-self.ensures.statement (c.land-landing.ensures.room cap (subst P (sym c.as_slice.ensures.value) c.requires.room));
       own = le_to _ (own_room spare c.add_layers-self.new.layers.items) _ owns c.requires.own;
       first = omega (arith, c.requires.first, wide);
