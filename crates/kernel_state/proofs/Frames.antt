@@ -8,14 +8,15 @@ use Rattle.event_core.specs.declared.event.Ev.{Ev}
 use Rattle.event_core.specs.declared.notifications.Pending.{Pending}
 use Rattle.logic_values.specs.declared.kinds.Value.{Value}
 use Rattle.instance_table.specs.declared.instances.Instance.{Instance as Entry}
-use Rattle.flat_design.specs.Code.{arena_of}
-use Rattle.sim_model.specs.Residual.{Residual, settle}
+use Rattle.flat_design.specs.Code.{Arena, arena_of}
+use Rattle.sim_model.specs.Residual.{Residual, settle, in_innermost}
 use Rattle.sim_model.specs.Configuration as model
 use Rattle.sim_model.specs.Configuration.{Config, Instance, Processes, Trace, changed_at, change, change_instance, instance_at, with_residual, with_marks, arena}
 use Rattle.sim_model.specs.Waits.{holds, fire, wake, waits, leaves_stack}
 use Rattle.sim_model.specs.Statements.{settled_in}
+use Rattle.sim_model.specs.Storing.{with_local, set_local}
 use Rattle.body_model.specs.Strip.{strip}
-use Rattle.body_model.proofs.Strips.{strip-settle}
+use Rattle.body_model.proofs.Strips.{strip-settle, strip-in_innermost}
 use Rattle.numbered_slots.specs.Numbered.{with_value}
 use Rattle.wake_laws.specs.Woken.{after_wake, joins, after_event, joins_by, at_only, joins_only}
 use Rattle.process_moves.proofs.OtherBody.{puts_body, puts_sound}
@@ -66,6 +67,7 @@ module _ (k : Kernel) (c : Config) (h : StandsFor k c) where
     cycle = h.cycle;
     processes = stands;
     events = h.events;
+    channels = h.channels;
     variables = h.variables;
     memories = h.memories;
   }
@@ -77,6 +79,7 @@ module _ (k : Kernel) (c : Config) (h : StandsFor k c) where
     cycle = h.cycle;
     processes = h.processes;
     events = h.events;
+    channels = h.channels;
     variables = h.variables;
     memories = h.memories;
   }
@@ -171,6 +174,21 @@ module _ (k : Kernel) (p : ℕ) (x : Entry (Process Kept)) (b : Body) (at : map.
       subst (λ is. StandsFor (record k { schedule = with_body }) (record (with_residual c p n) { processes = record c.processes { instances = is }; trace = (settled_in c p i.residual).trace }))
       (sym (change-twice c.processes.instances p (λ j. record j { residual = settle (arena c) i.residual }) (λ j. record j { residual = n })))
       (trace_moves (record k { schedule = with_body }) (with_residual c p n) (residual_moves k p x.body.body b (was k p x at) with_body puts keeps c h n is) (settled_in c p i.residual).trace)
+
+  -- the residual becomes what a function makes of it
+  pub local_moves : (n : ℕ) (v : Value) → ((a : Arena) → bodies.left_of a b ≡ in_innermost (with_local n v) (bodies.left_of a x.body.body.body)) → Moves k (record k { schedule = with_body }) (λ c. set_local c p n v)
+  local_moves n v left c h = processes_move k c h with_body (record c.processes { instances = change c.processes.instances p (λ i. record i { residual = in_innermost (with_local n v) i.residual }) })
+      (put_stands (Shows (whole_design k) k.program) k.schedule with_body c.processes h.processes p (record x.body.body { body = b }) (λ i. record i { residual = in_innermost (with_local n v) i.residual }) puts (λ i. refl) (λ i. refl) (λ i none. none)
+      (λ a i found there old.
+          let o = subst (λ w. Shows (whole_design k) k.program w (beside i)) (ap (λ o. unwrap o x.body.body) (sym found ∙ was k p x at)) old in
+          record {
+            home = o.home;
+            path = subst (λ f. i.path ≡ path_in (whole_design k) x.body.body.home f x.body.body.path) (sym keeps.code) o.path;
+            code = o.code ∙ sym keeps.code;
+            arguments = o.arguments ∙ sym keeps.arguments;
+            residual = strip-in_innermost (with_local n v) i.residual ∙ ap (in_innermost (with_local n v)) o.residual ∙ sym (left (arena_of k.program.code));
+            trigger = o.trigger;
+          }))
 
 -- ---- events and wakes
 

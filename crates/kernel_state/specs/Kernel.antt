@@ -52,6 +52,7 @@ pub record StandsFor (k : Kernel) (c : Config) : Type 0 where
   pub cycle : c.cycle ≡ cycle_of k.cycle
   pub processes : StandsForProcesses (Shows (whole_design k) k.program) k.schedule c.processes
   pub events : c.events ≡ k.events
+  pub channels : c.channels ≡ k.channels
   pub variables : c.store.variables ≡ k.variables.items
   pub memories : c.store.memories ≡ k.memories.items
 

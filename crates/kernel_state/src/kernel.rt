@@ -1,5 +1,6 @@
 //! The kernel: the parts that keep a configuration.
 use body_code::Program;
+use channel_board::ChannelBoard;
 use event_board::EventBoard;
 use flat_design::Design;
 use logic_values::Value;
@@ -61,6 +62,8 @@ pub struct Kernel {
     pub schedule: Schedule<Kept>,
     /// What is pending for each event of the design's objects.
     pub events: EventBoard,
+    /// The channels.
+    pub channels: ChannelBoard,
     /// The variables of instances of modules.
     pub variables: Vec<Value>,
     /// The bytes of memories.

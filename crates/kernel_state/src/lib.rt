@@ -5,4 +5,4 @@ mod kernel;
 mod moves;
 
 pub use kernel::{Cycle, Kept, Kernel, PathOf};
-pub use moves::{fire, notify, pass, set_variable, wait, wake};
+pub use moves::{fire, notify, pass, set_local, set_variable, settle, wait, wake};

@@ -1,5 +1,6 @@
 //! Moves of the processes: each carries the configuration that the kernel stands for as the definitions of a run do.
 ghost use Rattle.std.specs.Prelude.{◌≡◌, OnOk, OnErr};
+ghost use Rattle.sim_model.specs.Configuration.{with_residual};
 ghost use Rattle.sim_model.specs.Storing as storing;
 ghost use Rattle.sim_model.specs.Waits as waiting;
 ghost use Rattle.schedule.specs.Seen.{deadline_of};
@@ -77,5 +78,31 @@ pub fn set_variable(k: &mut Kernel, n: u32, v: Value)
 {
     if (n as usize) < k.variables.len() {
         k.variables[n as usize] = v;
+    }
+}
+
+/// Finished parts of the body of an instance fall away.
+pub fn settle(k: &mut Kernel, p: u32)
+    requires sound { IsSound k.old }
+    requires lives { Lives k.old p }
+    ensures steps { Steps k.old k.new p (λ c q i r. with_residual c q r) }
+    ensures sound { IsSound k.new }
+{
+    match k.schedule.table.get_mut(p) {
+        Some(x) => x.body.body.body.settle(&k.program),
+        None => {}
+    }
+}
+
+/// Another value for a local variable of the innermost call of an instance.
+pub fn set_local(k: &mut Kernel, p: u32, n: u32, v: Value)
+    requires sound { IsSound k.old }
+    requires lives { Lives k.old p }
+    ensures moves { Moves k.old k.new (λ c. storing.set_local c p n v) }
+    ensures sound { IsSound k.new }
+{
+    match k.schedule.table.get_mut(p) {
+        Some(x) => x.body.body.body.set_local(n as usize, v),
+        None => {}
     }
 }

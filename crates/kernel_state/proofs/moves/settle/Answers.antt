@@ -1,0 +1,17 @@
+use Rattle.std.proofs.Common.{sym, ap, ◌∙◌}
+use Rattle.std.specs.Option.{option_copied_mut}
+use Rattle.sim_model.specs.Residual.{settle}
+use Rattle.sim_model.specs.Configuration.{arena}
+use Rattle.kernel_state.proofs.Frames.{one_body_sound, old_body_sound, steps_to, settled_before}
+use Rattle.kernel_state.proofs.moves.settle.Goals as goal
+
+pub settle-requires : goal.settle-requires
+settle-requires c = old_body_sound c.args.k.now c.args.p c.in-Some.x.now (sym c.get_mut.ensures.value ∙ ap option_copied_mut c.in-Some.is) c.requires.sound
+
+pub returns-in-Some-clause-steps : goal.returns-in-Some-clause-steps
+returns-in-Some-clause-steps c d i h there =
+    steps_to c.args.k.now c.args.p c.in-Some.x.now c.settle.new.self (sym c.get_mut.ensures.value ∙ ap option_copied_mut c.in-Some.is) c.settle.ensures.kept d i h there (settle (arena d) i.residual)
+    (settled_before c.args.k.now c.args.p c.in-Some.x.now (sym c.get_mut.ensures.value ∙ ap option_copied_mut c.in-Some.is) d i h there ∙ sym c.settle.ensures.left)
+
+pub returns-in-Some-clause-sound : goal.returns-in-Some-clause-sound
+returns-in-Some-clause-sound c = one_body_sound c.args.k.now c.args.p c.in-Some.x.now c.settle.new.self (sym c.get_mut.ensures.value ∙ ap option_copied_mut c.in-Some.is) c.settle.ensures.kept c.requires.sound c.settle.ensures.sound
