@@ -9,9 +9,9 @@ use Rattle.event_core.specs.declared.notifications.Pending.{Pending}
 use Rattle.logic_values.specs.declared.kinds.Value.{Value}
 use Rattle.instance_table.specs.declared.instances.Instance.{Instance as Entry}
 use Rattle.flat_design.specs.Code.{Arena, arena_of}
-use Rattle.sim_model.specs.Residual.{Residual, settle, in_innermost}
+use Rattle.sim_model.specs.Residual.{Residual, settle, next_of, in_innermost}
 use Rattle.sim_model.specs.Configuration as model
-use Rattle.sim_model.specs.Configuration.{Config, Instance, Processes, Trace, changed_at, change, change_instance, instance_at, with_residual, with_marks, arena}
+use Rattle.sim_model.specs.Configuration.{Config, Instance, Processes, Channels, Trace, changed_at, change, change_instance, instance_at, with_residual, with_marks, arena}
 use Rattle.sim_model.specs.Waits.{holds, fire, wake, waits, leaves_stack}
 use Rattle.sim_model.specs.Statements.{settled_in}
 use Rattle.sim_model.specs.Storing.{with_local, set_local}
@@ -35,7 +35,7 @@ use Rattle.schedule.specs.declared.parts.Trigger.{Trigger}
 use Rattle.process_moves.specs.Moved.{IsTop, same_stack, leaves_top, joins_top, Stays, Ends, Spawns, PutsBody, wait_as, waits_as}
 use Rattle.kernel_state.specs.Processes.{Beside, beside, TellsBy, Tells, StandsForProcesses}
 use Rattle.kernel_state.specs.Kernel.{Shows, StandsFor, IsSound, whole_design, path_in}
-use Rattle.kernel_state.specs.Moves.{Moves, Steps, stepped}
+use Rattle.kernel_state.specs.Moves.{Moves, Steps, stepped, Lives, HasStatement, KeepsBodies}
 use Rattle.kernel_state.specs.declared.kernel.Kept.{Kept}
 use Rattle.kernel_state.specs.declared.kernel.Kernel.{Kernel}
 use Rattle.kernel_state.proofs.ProcessFrames.{Agrees, stays, moved_with, stack_same, stack_left, stack_joined, put_stands, roused_stands, rousing_wake, rousing_event}
@@ -83,6 +83,22 @@ module _ (k : Kernel) (c : Config) (h : StandsFor k c) where
     variables = h.variables;
     memories = h.memories;
   }
+
+module _ (k : Kernel) (c : Config) (h : StandsFor k c) where
+  pub channels_move : (x : Channels) → StandsFor (record k { channels = x }) (record c { channels = x })
+  channels_move x = record {
+    design = h.design;
+    cycle = h.cycle;
+    processes = h.processes;
+    events = h.events;
+    channels = refl;
+    variables = h.variables;
+    memories = h.memories;
+  }
+
+-- the schedule moves, and the bodies stay
+pub keeps_bodies : (k : Kernel) (s : Schedule Kept) → ((q : ℕ) → kept_at s q ≡ kept_at k.schedule q) → KeepsBodies k (record k { schedule = s })
+keeps_bodies k s same = record { bodies = same; program = refl; design = refl }
 
 -- ---- soundness
 
@@ -253,3 +269,36 @@ module _ (k : Kernel) (p : ℕ) (sound : IsSound k) (top : IsTop p k.schedule.st
           (record { bares = λ i. refl; ends = λ i. refl; shows = λ b i told. told }) false (leaves_top p) m shows_on_top
           (record c.processes { instances = change c.processes.instances p (λ i. record i { wait = wait_as t.wait; deadline = deadline_of t.deadline }); stack = drop 1 c.processes.stack })
           refl (sym (h.processes.ready p) ∙ not_ready) (λ q apart. refl) (stack_left (Shows (whole_design k) k.program) k.schedule s c.processes h.processes p m.stack))
+
+-- ---- what stays with the bodies
+
+module _ (old new : Kernel) (p : ℕ) (keeps : KeepsBodies old new) where
+  there_as : {A B : Type 0} (f : A → B) (o : Option A) → is_some (option_map f o) ≡ is_some o
+  there_as f None = refl
+  there_as f (Some a) = refl
+
+  pub lives_still : Lives old p → Lives new p
+  lives_still lives = sym (there_as (λ (z : Entry (Process Kept)). z.body.body) (map.get new.schedule.table.live p)) ∙ ap is_some (keeps.bodies p) ∙ there_as (λ (z : Entry (Process Kept)). z.body.body) (map.get old.schedule.table.live p) ∙ lives
+
+  pub statement_still : HasStatement old p → HasStatement new p
+  statement_still shows kept at = subst (λ q. bodies.IsStatement (next_of (bodies.settled_in q kept.body))) (sym keeps.program) (shows kept (sym (keeps.bodies p) ∙ at))
+
+-- ---- a wait of which the body is seen to afterwards
+
+module _ (c : Config) (p : ℕ) (i : Instance) (w : model.Wait) (d : model.Deadline) (there : instance_at c p ≡ Some i) where
+  waiting_there : instance_at (waits c p w d) p ≡ Some (record i { wait = w; deadline = d })
+  waiting_there = change-here c.processes.instances p (λ j. record j { wait = w; deadline = d }) ∙ ap (option_map (λ (j : Instance). record j { wait = w; deadline = d })) there
+
+  -- both ways round the instance is the same
+  waits_last : (r n : Residual) → change (change (change c.processes.instances p (λ j. record j { wait = w; deadline = d })) p (λ j. record j { residual = r })) p (λ j. record j { residual = n })
+      ≡ change (change (change c.processes.instances p (λ j. record j { residual = r })) p (λ j. record j { residual = n })) p (λ j. record j { wait = w; deadline = d })
+  waits_last r n = ap (λ is. change is p (λ j. record j { residual = n })) (change-twice c.processes.instances p (λ j. record j { wait = w; deadline = d }) (λ j. record j { residual = r }))
+      ∙ change-twice c.processes.instances p (λ j. record j { wait = w; deadline = d; residual = r }) (λ j. record j { residual = n })
+      ∙ sym (ap (λ is. change is p (λ j. record j { wait = w; deadline = d })) (change-twice c.processes.instances p (λ j. record j { residual = r }) (λ j. record j { residual = n }))
+      ∙ change-twice c.processes.instances p (λ j. record j { residual = n }) (λ j. record j { wait = w; deadline = d }))
+
+  pub waits_then : (k : Kernel) (n : Residual) → StandsFor k (with_residual (settled_in (waits c p w d) p i.residual) p n) → StandsFor k (waits (with_residual (settled_in c p i.residual) p n) p w d)
+  waits_then k n h = subst (λ is. StandsFor k (record (waits (with_residual (settled_in c p i.residual) p n) p w d) { processes = record c.processes { instances = is; stack = drop 1 c.processes.stack } })) (waits_last (settle (arena c) i.residual) n) h
+
+  pub steps_after : (k j : Kernel) (f : Residual → Residual) → Moves k j (λ c. waits c p w d) → (l : Kernel) → Steps j l p (λ c q i r. with_residual c q (f r)) → StandsFor k c → StandsFor l (waits (with_residual (settled_in c p i.residual) p (f (settle (arena c) i.residual))) p w d)
+  steps_after k j f first l next h = waits_then l (f (settle (arena c) i.residual)) (next (waits c p w d) (record i { wait = w; deadline = d }) (first c h) waiting_there)

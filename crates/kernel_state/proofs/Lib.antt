@@ -1,2 +1,3 @@
 pub mod ProcessFrames
 pub mod Frames
+pub mod Fifos

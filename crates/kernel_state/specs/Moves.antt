@@ -39,3 +39,9 @@ HasStatement k p = KeptAt k p (λ kept. bodies.IsStatement (next_of (bodies.sett
 -- it is the active one on top
 abbrev pub IsOnTop : Kernel → ℕ → Type 0
 IsOnTop k p = IsTop p k.schedule.stack.items
+
+-- the bodies stay, and so do the code and the design
+pub record KeepsBodies (old new : Kernel) : Type 0 where
+  pub bodies : (q : ℕ) → kept_at new.schedule q ≡ kept_at old.schedule q
+  pub program : new.program ≡ old.program
+  pub design : new.design ≡ old.design

@@ -3,6 +3,8 @@
 
 mod kernel;
 mod moves;
+mod statements;
 
 pub use kernel::{Cycle, Kept, Kernel, PathOf};
 pub use moves::{fire, notify, pass, set_local, set_variable, settle, wait, wake};
+pub use statements::{block, store_variable, wait_so, write_fifo};

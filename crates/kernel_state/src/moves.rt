@@ -6,7 +6,7 @@ ghost use Rattle.sim_model.specs.Waits as waiting;
 ghost use Rattle.schedule.specs.Seen.{deadline_of};
 ghost use Rattle.process_moves.specs.Moved.{wait_as};
 ghost use Rattle.kernel_state.specs.Kernel.{IsSound};
-ghost use Rattle.kernel_state.specs.Moves.{Moves, Steps, Lives, HasStatement, IsOnTop};
+ghost use Rattle.kernel_state.specs.Moves.{Moves, Steps, Lives, HasStatement, IsOnTop, KeepsBodies};
 
 use crate::kernel::Kernel;
 use event_core::{Ev, When};
@@ -32,6 +32,7 @@ pub fn pass(k: &mut Kernel, p: u32)
 pub fn fire(k: &mut Kernel, e: Ev)
     requires { IsSound k.old }
     ensures moves { Moves k.old k.new (λ c. waiting.fire c e) }
+    ensures kept { KeepsBodies k.old k.new }
     ensures sound { IsSound k.new }
 {
     fire_processes(&mut k.schedule, e);
@@ -41,6 +42,7 @@ pub fn fire(k: &mut Kernel, e: Ev)
 pub fn wake(k: &mut Kernel, p: u32)
     requires { IsSound k.old }
     ensures moves { Moves k.old k.new (λ c. waiting.wake c p) }
+    ensures kept { KeepsBodies k.old k.new }
     ensures sound { IsSound k.new }
 {
     wake_process(&mut k.schedule, p);
@@ -53,6 +55,7 @@ pub fn wait(k: &mut Kernel, p: u32, t: &Trigger) -> Result<(), AllocError>
     requires top { IsOnTop k.old p }
     ensures moves { OnOk result (Moves k.old k.new (λ c. waiting.waits c p (wait_as t.now.wait) (deadline_of t.now.deadline))) }
     ensures stays { OnErr result (Moves k.old k.new (λ c. c)) }
+    ensures kept { KeepsBodies k.old k.new }
     ensures sound { IsSound k.new }
 {
     match process_moves::wait(&mut k.schedule, p, t) {
@@ -65,6 +68,7 @@ pub fn wait(k: &mut Kernel, p: u32, t: &Trigger) -> Result<(), AllocError>
 pub fn notify(k: &mut Kernel, e: u32, w: When)
     requires { IsSound k.old }
     ensures moves { Moves k.old k.new (λ c. waiting.notify c e w) }
+    ensures kept { KeepsBodies k.old k.new }
     ensures sound { IsSound k.new }
 {
     k.events.notify(e, w);
@@ -74,6 +78,7 @@ pub fn notify(k: &mut Kernel, e: u32, w: When)
 pub fn set_variable(k: &mut Kernel, n: u32, v: Value)
     requires { IsSound k.old }
     ensures moves { Moves k.old k.new (λ c. storing.set_variable c n v) }
+    ensures kept { KeepsBodies k.old k.new }
     ensures sound { IsSound k.new }
 {
     if (n as usize) < k.variables.len() {

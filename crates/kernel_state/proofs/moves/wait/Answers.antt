@@ -1,4 +1,4 @@
-use Rattle.kernel_state.proofs.Frames.{stays_moves, stays_sound, waits_moves, waits_sound}
+use Rattle.kernel_state.proofs.Frames.{keeps_bodies, stays_moves, stays_sound, waits_moves, waits_sound}
 use Rattle.kernel_state.proofs.moves.wait.Goals as goal
 
 pub returns-in-Ok-clause-moves : goal.returns-in-Ok-clause-moves
@@ -12,3 +12,9 @@ returns-in-Err-clause-stays c = stays_moves c.args.k.now c.args.p c.requires.sou
 
 pub returns-in-Err-clause-sound : goal.returns-in-Err-clause-sound
 returns-in-Err-clause-sound c = stays_sound c.args.k.now c.args.p c.requires.sound c.requires.top c.wait.new.s c.wait.ensures.sound c.in-Err.ensures.stays
+
+pub returns-in-Ok-clause-kept : goal.returns-in-Ok-clause-kept
+returns-in-Ok-clause-kept c = keeps_bodies c.args.k.now c.wait.new.s c.in-Ok.ensures.moves.bodies
+
+pub returns-in-Err-clause-kept : goal.returns-in-Err-clause-kept
+returns-in-Err-clause-kept c = keeps_bodies c.args.k.now c.wait.new.s c.in-Err.ensures.stays.bodies

@@ -1,0 +1,111 @@
+//! Statements, one of each theme: what can be refused comes first, then the part that moves, then the statement is past.
+ghost use Rattle.std.specs.Prelude.{◌≡◌, ◌<◌, ◌-◌, ◌^◌, OnOk, OnErr, slice_get};
+ghost use Rattle.flat_design.specs.declared.design.ChannelId.TheVariants as channel;
+ghost use Rattle.sim_model.specs.Channels as channels;
+ghost use Rattle.sim_model.specs.Storing.{passes};
+ghost use Rattle.sim_model.specs.Storing as storing;
+ghost use Rattle.sim_model.specs.Waits.{waits};
+ghost use Rattle.schedule.specs.Seen.{deadline_of};
+ghost use Rattle.process_moves.specs.Moved.{wait_as};
+ghost use Rattle.kernel_state.specs.Kernel.{IsSound};
+ghost use Rattle.kernel_state.specs.Moves.{Moves, Steps, Lives, HasStatement, IsOnTop};
+
+use crate::kernel::Kernel;
+use crate::moves::{pass, set_variable, settle, wait};
+use event_core::Ev;
+use instance_table::Deadline;
+use logic_values::Value;
+use plain_lists::Items;
+use schedule::{Trigger, Wait};
+use std::alloc::{AllocError, Global};
+
+/// A value is stored in a variable of an instance of a module.
+pub fn store_variable(k: &mut Kernel, p: u32, n: u32, v: Value)
+    requires sound { IsSound k.old }
+    requires lives { Lives k.old p }
+    requires statement { HasStatement k.old p }
+    ensures steps { Steps k.old k.new p (λ c q i r. storing.set_variable (passes c q r) n v) }
+    ensures sound { IsSound k.new }
+{
+    pass(k, p);
+    set_variable(k, n, v);
+}
+
+/// The instance on top waits so: its statement is past (IEEE 1666-2011, 5.2.17). Where memory is refused nothing changes.
+pub fn wait_so(k: &mut Kernel, p: u32, t: &Trigger) -> Result<(), AllocError>
+    requires sound { IsSound k.old }
+    requires top { IsOnTop k.old p }
+    requires statement { HasStatement k.old p }
+    ensures steps { OnOk result (Steps k.old k.new p (λ c q i r. waits (passes c q r) q (wait_as t.now.wait) (deadline_of t.now.deadline))) }
+    ensures stays { OnErr result (Moves k.old k.new (λ c. c)) }
+    ensures sound { IsSound k.new }
+{
+    match wait(k, p, t) {
+        Ok(()) => {
+            pass(k, p);
+            Ok(())
+        }
+        Err(_) => Err(AllocError),
+    }
+}
+
+/// The instance on top is blocked: the same statement stays, and it waits for an event. Where memory is refused nothing
+/// changes.
+pub fn block(k: &mut Kernel, alloc: Global, p: u32, e: Ev) -> Result<(), AllocError>
+    requires sound { IsSound k.old }
+    requires top { IsOnTop k.old p }
+    ensures steps { OnOk result (Steps k.old k.new p (λ c q i r. channels.blocks c q r e)) }
+    ensures stays { OnErr result (Moves k.old k.new (λ c. c)) }
+    ensures sound { IsSound k.new }
+{
+    let mut events = Items::new(alloc);
+    match events.push(e) {
+        Ok(()) => {}
+        Err(_) => return Err(AllocError),
+    }
+    let t = Trigger {
+        wait: Wait::Any(events),
+        deadline: Deadline::None,
+    };
+    match wait(k, p, &t) {
+        Ok(()) => {
+            settle(k, p);
+            Ok(())
+        }
+        Err(_) => Err(AllocError),
+    }
+}
+
+/// A value is written to a fifo, or the instance on top is blocked till one is read (IEEE 1666-2011, 6.23). `events` is the
+/// fifo's first event. Where memory is refused nothing changes.
+pub fn write_fifo(
+    k: &mut Kernel,
+    alloc: Global,
+    p: u32,
+    n: u32,
+    events: u32,
+    v: Value,
+) -> Result<(), AllocError>
+    requires sound { IsSound k.old }
+    requires top { IsOnTop k.old p }
+    requires statement { HasStatement k.old p }
+    requires event { events < 2 ^ 32 - 1 }
+    ensures steps { OnOk result (Steps k.old k.new p (λ c q i r. channels.write_fifo c q r n (channel.Fifo n events) v (slice_get c.channels.fifos n))) }
+    ensures stays { OnErr result (Moves k.old k.new (λ c. c)) }
+    ensures sound { IsSound k.new }
+{
+    match k.channels.write_fifo(n, v) {
+        Some(true) => {
+            pass(k, p);
+            Ok(())
+        }
+        Some(false) => match block(k, alloc, p, Ev::Fixed(events + 1)) {
+            Ok(()) => Ok(()),
+            Err(_) => Err(AllocError),
+        },
+        None => {
+            pass(k, p);
+            Ok(())
+        }
+    }
+}
