@@ -1,0 +1,11 @@
+pub mod Parts
+pub mod Wakes
+pub mod Controls
+pub mod Values
+pub mod News
+pub mod Forms
+pub mod Ends
+pub mod Statements
+pub mod Steps
+pub mod Runs
+pub mod StackMoves
