@@ -9,3 +9,4 @@ pub mod Statements
 pub mod Steps
 pub mod Runs
 pub mod StackMoves
+pub mod Each

@@ -1,0 +1,5 @@
+pub mod Roots
+pub mod Nested
+pub mod Shaped
+pub mod Kept
+pub mod Runs

@@ -1,0 +1,6 @@
+//! Laws on the marks of guards over whole runs, as functions that do nothing and whose clauses are the laws.
+#![tactic(auto)]
+
+mod nesting;
+
+pub use nesting::marks_are_nested;
