@@ -8,11 +8,15 @@ use Rattle.flat_design.specs.declared.design.Design.{Design}
 use Rattle.sim_model.specs.Configuration.{Config, Instance, first_instance, start}
 use Rattle.sim_model.specs.Runs.{after}
 use Rattle.sim_model.specs.declared.plain.Command.{Command}
+use Rattle.sim_model.specs.Clean.{open_guards, guards_of, Clean}
+use Rattle.clean_laws.proofs.Runs.{clean-after}
 use Rattle.unwinding_laws.proofs.Steps.{start-sound}
+use Rattle.unwinding_laws.proofs.Runs.{goals-after}
 use Rattle.move_laws.proofs.Parts.{parts}
 use Rattle.move_laws.proofs.Runs.{kept-after}
-use Rattle.mark_laws.specs.Nesting.{after_marks, parts_at, numbers_entered, first_numbers}
+use Rattle.mark_laws.specs.Nesting.{after_marks, parts_of, parts_at, numbers_entered, first_numbers}
 use Rattle.mark_laws.proofs.Roots.{IsRooted}
+use Rattle.mark_laws.proofs.Opened.{outside-parts, open-parts, clean-marks}
 use Rattle.mark_laws.proofs.Kept.{Marked, marked-kept, marked-settled, marked-between, marked-taken}
 
 first_rooted : (d : Design) (o : Option ProcessPart) (i : Instance) → option_map (first_instance d) o ≡ Some i → IsRooted i.started i.residual
@@ -43,3 +47,22 @@ module _ (missing : Construct → Bool) (d : Design) (script : List Command) (so
 
   pub numbers-after : numbers_entered last.trace.marks ≡ first_numbers last.trace.next_guard
   numbers-after = marked-after.numbered
+
+  open_after : (p : ℕ) (i : Instance) → slice_get last.processes.instances p ≡ Some i → open_guards p last.trace.marks ≡ guards_of i.residual
+  open_after p i at =
+      open-parts p last.trace.next_guard last.trace.marks (parts_of i.residual) (nested-after p ∙ ap (λ o. Some (parts_at o)) at) numbers-after ∙ outside-parts i.residual
+
+  pub clean-whole : Clean last
+  clean-whole =
+      let goals = goals-after missing d script sound n choices last reached in
+      record {
+        processes = clean-after d script n choices last reached;
+        guards = record {
+          one_goal = goals.one_goal;
+          goal_is_active = goals.goal_is_active;
+          below_goal = goals.below_goal;
+          guards = open_after;
+          one_block = goals.one_block;
+          marks = clean-marks last.trace (λ p. parts_at (slice_get last.processes.instances p)) nested-after numbers-after;
+        };
+      }
