@@ -103,7 +103,7 @@ in-front x (y ∷ xs) ys (inr h) = inr (in-front x xs ys h)
 
 -- ---- what is open was entered, and what runs was begun
 
-abbrev From : ℕ → List Mark → Part → Type 0
+abbrev pub From : ℕ → List Mark → Part → Type 0
 From p ms (unbegun g) = In (enter p g) ms
 From p ms (running g) = In (begin p g) ms
 

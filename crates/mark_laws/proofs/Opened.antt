@@ -152,16 +152,16 @@ lacks_by p g (leave q n ∷ ms) h = lacks_by p g ms h
 lacks_by p g (begin q n ∷ ms) h = lacks_by p g ms h
 lacks_by p g (finish q n ∷ ms) h = lacks_by p g ms h
 
-distinct_by : (p : ℕ) (ms : List Mark) → IsDistinct (numbers_entered ms) → IsDistinct (entered_by p ms)
-distinct_by p [] d = tt
-distinct_by p (enter q n ∷ ms) d = by (q == p) (distinct_by p ms d.1)
+pub distinct-by : (p : ℕ) (ms : List Mark) → IsDistinct (numbers_entered ms) → IsDistinct (entered_by p ms)
+distinct-by p [] d = tt
+distinct-by p (enter q n ∷ ms) d = by (q == p) (distinct-by p ms d.1)
   where
     by : (b : Bool) → IsDistinct (entered_by p ms) → IsDistinct (cond b (n ∷ entered_by p ms) (entered_by p ms))
     by true k = (lacks_by p n ms d.0, k)
     by false k = k
-distinct_by p (leave q n ∷ ms) d = distinct_by p ms d
-distinct_by p (begin q n ∷ ms) d = distinct_by p ms d
-distinct_by p (finish q n ∷ ms) d = distinct_by p ms d
+distinct-by p (leave q n ∷ ms) d = distinct-by p ms d
+distinct-by p (begin q n ∷ ms) d = distinct-by p ms d
+distinct-by p (finish q n ∷ ms) d = distinct-by p ms d
 
 holds_last : (xs : List ℕ) (x n : ℕ) → holds xs n ≡ false → (x == n) ≡ false → holds (xs ++ x ∷ []) n ≡ false
 holds_last [] x n h a = ap (λ b. b || false) a
@@ -184,7 +184,7 @@ first-distinct (suc n) = distinct_last (first_numbers n) n (first-distinct n) (f
 -- ---- the guards that p entered, and neither left nor finished
 
 pub open-parts : (p n : ℕ) (ms : List Mark) (u : List Part) → after_marks p ms [] ≡ Some u → numbers_entered ms ≡ first_numbers n → open_guards p ms ≡ outside u
-open-parts p n ms u h numbers = opens p ms [] u h (distinct_by p ms (subst IsDistinct (sym numbers) (first-distinct n)))
+open-parts p n ms u h numbers = opens p ms [] u h (distinct-by p ms (subst IsDistinct (sym numbers) (first-distinct n)))
 
 -- ---- each number once
 
@@ -254,14 +254,17 @@ module _ (n : ℕ) (ms : List Mark) (u : ℕ → List Part) (fits : (p : ℕ) �
   in_whole : (x m : Mark) (s : IsSplitAt m ms) → In x s.front → In x ms
   in_whole x m s h = subst (In x) (sym s.split) (in-front x s.front (m ∷ s.later) h)
 
-  leave_enters : (p g : ℕ) → In (leave p g) ms → In (enter p g) ms
-  leave_enters p g h = let s = split-in (leave p g) ms h in in_whole (enter p g) (leave p g) s (left-entered s.front s.later p g s.split)
+  pub leave-enters : (p g : ℕ) → In (leave p g) ms → In (enter p g) ms
+  leave-enters p g h = let s = split-in (leave p g) ms h in in_whole (enter p g) (leave p g) s (left-entered s.front s.later p g s.split)
 
-  begin_enters : (p g : ℕ) → In (begin p g) ms → In (enter p g) ms
-  begin_enters p g h = let s = split-in (begin p g) ms h in in_whole (enter p g) (begin p g) s (begun-entered s.front s.later p g s.split)
+  pub begin-enters : (p g : ℕ) → In (begin p g) ms → In (enter p g) ms
+  begin-enters p g h = let s = split-in (begin p g) ms h in in_whole (enter p g) (begin p g) s (begun-entered s.front s.later p g s.split)
 
-  finish_enters : (p g : ℕ) → In (finish p g) ms → In (enter p g) ms
-  finish_enters p g h = let s = split-in (finish p g) ms h in begin_enters p g (in_whole (begin p g) (finish p g) s (finished-begun s.front s.later p g s.split))
+  pub finish-begins : (p g : ℕ) → In (finish p g) ms → In (begin p g) ms
+  finish-begins p g h = let s = split-in (finish p g) ms h in in_whole (begin p g) (finish p g) s (finished-begun s.front s.later p g s.split)
+
+  pub finish-enters : (p g : ℕ) → In (finish p g) ms → In (enter p g) ms
+  finish-enters p g h = let s = split-in (finish p g) ms h in begin-enters p g (in_whole (begin p g) (finish p g) s (finished-begun s.front s.later p g s.split))
 
   -- all marks of a guard are of the one that entered it
   module _ (p g : ℕ) (entered_it : In (enter p g) ms) where
@@ -273,25 +276,25 @@ module _ (n : ℕ) (ms : List Mark) (u : ℕ → List Part) (fits : (p : ℕ) �
 
     ends_mine : (m : Mark) → In m ms → leaves_or_begins g m ≡ true → ends_by p g m ≡ true
     ends_mine (enter q k) h is = is
-    ends_mine (leave q k) h is = let e = eqb-true k g is in is_one q k e (of-one q (leave_enters q g (subst (λ x. In (leave q x) ms) e h)))
-    ends_mine (begin q k) h is = let e = eqb-true k g is in is_one q k e (of-one q (begin_enters q g (subst (λ x. In (begin q x) ms) e h)))
+    ends_mine (leave q k) h is = let e = eqb-true k g is in is_one q k e (of-one q (leave-enters q g (subst (λ x. In (leave q x) ms) e h)))
+    ends_mine (begin q k) h is = let e = eqb-true k g is in is_one q k e (of-one q (begin-enters q g (subst (λ x. In (begin q x) ms) e h)))
     ends_mine (finish q k) h is = is
 
     finishes_mine : (m : Mark) → In m ms → finishes g m ≡ true → finishes_by p g m ≡ true
     finishes_mine (enter q k) h is = is
     finishes_mine (leave q k) h is = is
     finishes_mine (begin q k) h is = is
-    finishes_mine (finish q k) h is = let e = eqb-true k g is in is_one q k e (of-one q (finish_enters q g (subst (λ x. In (finish q x) ms) e h)))
+    finishes_mine (finish q k) h is = let e = eqb-true k g is in is_one q k e (of-one q (finish-enters q g (subst (λ x. In (finish q x) ms) e h)))
 
     and_right : (a b : Bool) → (a && b) ≡ true → b ≡ true
     and_right true b h = h
     and_right false b h = absurd (true≢false (sym h))
 
-    enters_any : (m : Mark) → In m ms → enters_by p g m ≡ true → enters g m ≡ true
-    enters_any (enter q k) h is = and_right (q == p) (k == g) is
-    enters_any (leave q k) h is = is
-    enters_any (begin q k) h is = is
-    enters_any (finish q k) h is = is
+    pub enters-any : (m : Mark) → In m ms → enters_by p g m ≡ true → enters g m ≡ true
+    enters-any (enter q k) h is = and_right (q == p) (k == g) is
+    enters-any (leave q k) h is = is
+    enters-any (begin q k) h is = is
+    enters-any (finish q k) h is = is
 
     begins_ends : (m : Mark) → In m ms → begins_by p g m ≡ true → ends_by p g m ≡ true
     begins_ends (enter q k) h is = is
@@ -302,7 +305,7 @@ module _ (n : ℕ) (ms : List Mark) (u : ℕ → List Part) (fits : (p : ℕ) �
     ends_few : count_by (ends_by p g) ms ≤ 1
     ends_few =
         let a = ends-count p g ms [] (u p) (fits p) in
-        let b = count-more (enters_by p g) (enters g) ms enters_any in
+        let b = count-more (enters_by p g) (enters g) ms enters-any in
         let c = enters-once g in
         omega (arith, a, b, c)
 
@@ -319,15 +322,15 @@ module _ (n : ℕ) (ms : List Mark) (u : ℕ → List Part) (fits : (p : ℕ) �
 
   ends_of : (g : ℕ) (m : Mark) → In m ms → leaves_or_begins g m ≡ true → count_by (leaves_or_begins g) ms ≤ 1
   ends_of g (enter q k) h is = absurd (true≢false (sym is))
-  ends_of g (leave q k) h is = ends-once q g (leave_enters q g (subst (λ x. In (leave q x) ms) (eqb-true k g is) h))
-  ends_of g (begin q k) h is = ends-once q g (begin_enters q g (subst (λ x. In (begin q x) ms) (eqb-true k g is) h))
+  ends_of g (leave q k) h is = ends-once q g (leave-enters q g (subst (λ x. In (leave q x) ms) (eqb-true k g is) h))
+  ends_of g (begin q k) h is = ends-once q g (begin-enters q g (subst (λ x. In (begin q x) ms) (eqb-true k g is) h))
   ends_of g (finish q k) h is = absurd (true≢false (sym is))
 
   finishes_of : (g : ℕ) (m : Mark) → In m ms → finishes g m ≡ true → count_by (finishes g) ms ≤ 1
   finishes_of g (enter q k) h is = absurd (true≢false (sym is))
   finishes_of g (leave q k) h is = absurd (true≢false (sym is))
   finishes_of g (begin q k) h is = absurd (true≢false (sym is))
-  finishes_of g (finish q k) h is = finishes-once q g (finish_enters q g (subst (λ x. In (finish q x) ms) (eqb-true k g is) h))
+  finishes_of g (finish q k) h is = finishes-once q g (finish-enters q g (subst (λ x. In (finish q x) ms) (eqb-true k g is) h))
 
 pub clean-marks : (t : Trace) (u : ℕ → List Part) → ((p : ℕ) → after_marks p t.marks [] ≡ Some (u p)) → numbers_entered t.marks ≡ first_numbers t.next_guard → CleanMarks t
 clean-marks t u fits numbers = record {

@@ -145,24 +145,27 @@ module _ (Q : Parts → Type 0) (between : IsKeptBetween Q) where
   went_kept (Ok d) s = s
   went_kept (Err f) s = tt
 
-  evaluate_kept : (missing : Construct → Bool) (c : Config) (stack runnable : List ℕ) → c.processes.stack ≡ stack → Sound missing c → ((p : ℕ) (rest : List ℕ) → c.processes.stack ≡ p ∷ rest → IsKept p Q × IsSettled p Q) → Kept Q c → IfWent (evaluate c stack runnable) (Kept Q)
-  evaluate_kept missing c (p ∷ rest) runnable top sound moves s = went_kept (statement_step c p) (let m = moves p rest top in statements.statement-kept p Q m.0 missing c rest top sound m.1 s)
-  evaluate_kept missing c [] (q ∷ runnable) top sound moves s = tt
-  evaluate_kept missing c [] [] top sound moves s = update_step_kept c s
+  evaluate_kept : (c : Config) (stack runnable : List ℕ) → c.processes.stack ≡ stack → ((p : ℕ) (rest : List ℕ) → c.processes.stack ≡ p ∷ rest → IfOk (statement_step c p) (Kept Q)) → Kept Q c → IfWent (evaluate c stack runnable) (Kept Q)
+  evaluate_kept c (p ∷ rest) runnable top moves s = went_kept (statement_step c p) (moves p rest top)
+  evaluate_kept c [] (q ∷ runnable) top moves s = tt
+  evaluate_kept c [] [] top moves s = update_step_kept c s
 
-  phase_kept : (missing : Construct → Bool) (c : Config) (ph : Phase) → Sound missing c → ((p : ℕ) (rest : List ℕ) → c.processes.stack ≡ p ∷ rest → IsKept p Q × IsSettled p Q) → Kept Q c → IfWent (step_in c ph) (Kept Q)
-  phase_kept missing c phase.Idle sound moves s = script_kept c c.script s
-  phase_kept missing c phase.Start sound moves s = due_kept is_delta is_zero_timeout (initialize_each 0 c.design.processes (update_phase c)) (initialize_kept 0 c.design.processes (update_phase c) (update_kept c s))
-  phase_kept missing c phase.Evaluate sound moves s = evaluate_kept missing c c.processes.stack c.processes.runnable refl sound moves s
-  phase_kept missing c phase.Notify sound moves s = due_kept is_delta is_zero_timeout c s
-  phase_kept missing c phase.Timed sound moves s = timed_kept c (earliest c) s
+  phase_kept : (c : Config) (ph : Phase) → ((p : ℕ) (rest : List ℕ) → c.processes.stack ≡ p ∷ rest → IfOk (statement_step c p) (Kept Q)) → Kept Q c → IfWent (step_in c ph) (Kept Q)
+  phase_kept c phase.Idle moves s = script_kept c c.script s
+  phase_kept c phase.Start moves s = due_kept is_delta is_zero_timeout (initialize_each 0 c.design.processes (update_phase c)) (initialize_kept 0 c.design.processes (update_phase c) (update_kept c s))
+  phase_kept c phase.Evaluate moves s = evaluate_kept c c.processes.stack c.processes.runnable refl moves s
+  phase_kept c phase.Notify moves s = due_kept is_delta is_zero_timeout c s
+  phase_kept c phase.Timed moves s = timed_kept c (earliest c) s
 
   unless_stopped : (b : Bool) (o : Outcome) → IfWent o (Kept Q) → IfWent (cond b ended o) (Kept Q)
   unless_stopped true o h = tt
   unless_stopped false o h = h
 
+  pub step-by : (c : Config) → ((p : ℕ) (rest : List ℕ) → c.processes.stack ≡ p ∷ rest → IfOk (statement_step c p) (Kept Q)) → Kept Q c → IfWent (step c) (Kept Q)
+  step-by c moves s = unless_stopped c.cycle.stopped (step_in c c.cycle.phase) (phase_kept c c.cycle.phase moves s)
+
   pub step-kept : (missing : Construct → Bool) (c : Config) → Sound missing c → ((p : ℕ) (rest : List ℕ) → c.processes.stack ≡ p ∷ rest → IsKept p Q × IsSettled p Q) → Kept Q c → IfWent (step c) (Kept Q)
-  step-kept missing c sound moves s = unless_stopped c.cycle.stopped (step_in c c.cycle.phase) (phase_kept missing c c.cycle.phase sound moves s)
+  step-kept missing c sound moves s = step-by c (λ p rest top. let m = moves p rest top in statements.statement-kept p Q m.0 missing c rest top sound m.1 s) s
 
   -- ---- a taking, where nothing is on the stack
 
