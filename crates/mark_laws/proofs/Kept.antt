@@ -201,7 +201,7 @@ module _ (p : ℕ) where
         record { rooted = g.rooted; nested = g.nested; numbered = g.numbered };
     unwinds = λ x q i k at stands none outer h. let g = marked_to x q i (goal (unw i.residual) k) at (λ s. unwound-rooted i.started i.residual k s none outer) (unw-parts i.residual) h in
         record { rooted = g.rooted; nested = g.nested; numbered = g.numbered };
-    over = over_marked;
+    over = λ x i r at over f none stays h. over_marked x i r at over f none h;
     begins = begins_marked;
     spawned = λ x new none begun_ lives h. spawned_marked x new none h;
     tries_hop = λ x s hop t e blocking entry unbroken h. record { rooted = h.rooted; nested = h.nested; numbered = h.numbered };

@@ -45,18 +45,18 @@ module _ (p : ℕ) (Q : Parts → Type 0) (moves : IsKept p Q) where
 
   -- the instance on top, where its body is over
   module _ (c : Config) (rest : List ℕ) (top : c.processes.stack ≡ p ∷ rest) (h : Kept Q c) (i : Instance) (r : Residual) (here_at : At (parts c) p i r) where
-    over_leaves : IsOver (next_of r) → (f : Instance → Instance) → ((j : Instance) → (f j).residual ≡ skip) → Kept Q (leaves_stack (change_instance c p f))
-    over_leaves over f none =
+    over_leaves : IsOver (next_of r) → (f : Instance → Instance) → ((j : Instance) → (f j).residual ≡ skip) → ((j : Instance) → j.ended ≡ true → (f j).ended ≡ true) → Kept Q (leaves_stack (change_instance c p f))
+    over_leaves over f none stays =
         moves.leaves (parts (change_instance c p f)) rest top
         (λ j there. ap (λ (k : Instance). has_goal k.residual) (same_Some j (f i) (sym there ∙ change-here c.processes.instances p f i here_at.here)) ∙ ap has_goal (none i))
-        (moves.over (parts c) i r here_at over f none h)
+        (moves.over (parts c) i r here_at over f none stays h)
 
     ends_kept : IsOver (next_of r) → Kept Q (ends c p)
-    ends_kept over = values.fire-kept p Q moves (leaves_stack (change_instance c p ended_instance)) (ev.Terminated p) (over_leaves over ended_instance (λ j. refl))
+    ends_kept over = values.fire-kept p Q moves (leaves_stack (change_instance c p ended_instance)) (ev.Terminated p) (over_leaves over ended_instance (λ j. refl) (λ j e. refl))
 
     pub done-kept : IsOver (next_of r) → (k : ProcessKind) → Kept Q (done_by c p i k)
     done-kept over process.Thread = ends_kept over
-    done-kept over process.Method = over_leaves over _ (λ j. refl)
+    done-kept over process.Method = over_leaves over _ (λ j. refl) (λ j e. e)
 
     passed : MayPass c.design (next_of r) → Kept Q (passes c p r)
     passed may = moves.passes (parts c) i r here_at may h
@@ -65,7 +65,7 @@ module _ (p : ℕ) (Q : Parts → Type 0) (moves : IsKept p Q) where
     restarts_kept over =
         let before = change_instance c p (λ j. record j { residual = skip; started = false }) in
         let d = fire before (ev.Restarted p) in
-        let good : Kept Q d = values.fire-kept p Q moves before (ev.Restarted p) (moves.over (parts c) i r here_at over (λ j. record j { residual = skip; started = false }) (λ j. refl) h) in
+        let good : Kept Q d = values.fire-kept p Q moves before (ev.Restarted p) (moves.over (parts c) i r here_at over (λ j. record j { residual = skip; started = false }) (λ j. refl) (λ j e. e) h) in
         let twin = (fire-keeps before (ev.Restarted p)).2 p (record i { residual = skip; started = false }) (change-here c.processes.instances p _ i here_at.here) in
         kept-if i.suspended (stays_kept d p) (begins d p i)
         (moves.leaves (parts (with_kept d p)) rest ((fire-leaves before (ev.Restarted p)).stack ∙ top)

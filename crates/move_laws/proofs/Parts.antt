@@ -169,7 +169,7 @@ pub record IsKept (p : ℕ) (Q : Parts → Type 0) : Type 0 where
   pub unwinds : (x : Parts) (q : ℕ) (i : Instance) (k : Goal) → slice_get x.instances q ≡ Some i → IsStanding x.design i.home i.residual → has_goal i.residual ≡ false → IsOuter k → Q x
       → Q (record (residual_in x q (residual.goal (unw i.residual) k)) { hops = left_in x.hops (left_by_unw i.residual) })
   -- the body is over; and one that was not begun begins
-  pub over : (x : Parts) (i : Instance) (r : Residual) → At x p i r → IsOver (next_of r) → (f : Instance → Instance) → ((j : Instance) → (f j).residual ≡ skip) → Q x → Q (changed_in x p f)
+  pub over : (x : Parts) (i : Instance) (r : Residual) → At x p i r → IsOver (next_of r) → (f : Instance → Instance) → ((j : Instance) → (f j).residual ≡ skip) → ((j : Instance) → j.ended ≡ true → (f j).ended ≡ true) → Q x → Q (changed_in x p f)
   pub begins : (x : Parts) (q : ℕ) (i : Instance) (f : ℕ) (args : List Value) → slice_get x.instances q ≡ Some i → (i.started ≡ true → i.residual ≡ skip) → Q x
       → Q (changed_in x q (λ j. record j { residual = begun (code_of x.design) f args; started = true }))
   -- a process that is spawned

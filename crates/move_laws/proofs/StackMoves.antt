@@ -72,7 +72,7 @@ module _ (p : ℕ) (rest : List ℕ) (once : times p rest ≡ 0) where
     locals = λ x n v h. h;
     raises = λ x q i r e k at is stands none caught inner h. h;
     unwinds = λ x q i k at stands none outer h. h;
-    over = λ x i r at over f none h. h;
+    over = λ x i r at over f none stays h. h;
     begins = λ x q i f args at left h. h;
     spawned = λ x new none begun lives h. h;
     tries_hop = λ x s hop t e blocking entry unbroken h. h;

@@ -175,7 +175,7 @@ module _ (q : ℕ) where
     locals = λ x n v h. each-change IsIdle x.instances p (λ j. record j { residual = in_innermost (with_local n v) j.residual }) (λ i at k e. local_runs (with_local n v) i.residual ∙ k e) h;
     raises = λ x n i r e k at is stands none caught inner h. idle_here x n i r (raise (code_of x.design) r e k) at is (raise_runs (code_of x.design) e k r) h;
     unwinds = λ x n i k at stands none outer h. idle_here x n i i.residual (goal (unw i.residual) k) at refl (λ f. unw_runs i.residual ∙ f) h;
-    over = λ x i r at over f none h. each-change IsIdle x.instances p f (λ j there k e. ap runs (none j)) h;
+    over = λ x i r at over f none stays h. each-change IsIdle x.instances p f (λ j there k e. ap runs (none j)) h;
     begins = λ x n i f args at left h. each-change IsIdle x.instances n _ (λ j there k e. entered_runs (code_of x.design) f args None None) h;
     spawned = λ x new none begun lives h. each-last IsIdle x.instances new (λ e. ap runs none) h;
     tries_hop = λ x s hop t e blocking entry unbroken h. h;

@@ -30,7 +30,7 @@ module _ (ms : List Mark) where
     locals = λ x n v h. h;
     raises = λ x q i r e k at is stands none caught inner h. h;
     unwinds = λ x q i k at stands none outer h. h;
-    over = λ x i r at over f none h. h;
+    over = λ x i r at over f none stays h. h;
     begins = λ x q i f args at left h. h;
     spawned = λ x new none begun lives h. h;
     tries_hop = λ x s hop t e blocking entry unbroken h. h;
@@ -78,7 +78,7 @@ module _ (q : ℕ) where
     locals = λ x n v h. has_changed x.instances p _ h;
     raises = λ x n i r e k at is stands none caught inner h. has_changed x.instances n _ h;
     unwinds = λ x n i k at stands none outer h. has_changed x.instances n _ h;
-    over = λ x i r at over f none h. has_changed x.instances p f h;
+    over = λ x i r at over f none stays h. has_changed x.instances p f h;
     begins = λ x n i f args at left h. has_changed x.instances n _ h;
     spawned = λ x new none begun lives h. has_more x.instances new h;
     tries_hop = λ x s hop t e blocking entry unbroken h. h;

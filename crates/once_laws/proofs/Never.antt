@@ -76,7 +76,7 @@ module _ (g : ℕ) where
     };
     raises = λ x q i r e k at is stands none caught inner h. record { nowhere = never_here x q i r (raise (code_of x.design) r e k) at is (raise-inside g (code_of x.design) e k r) h; unleft_yet = h.unleft_yet; given = h.given };
     unwinds = λ x q i k at stands none outer h. record { nowhere = never_to x q i (goal (unw i.residual) k) at (λ f. unw-inside g i.residual) h; unleft_yet = h.unleft_yet; given = h.given };
-    over = λ x i r at over f none h. begins_never x p f (λ j. ap (is_inside g) (none j)) h;
+    over = λ x i r at over f none stays h. begins_never x p f (λ j. ap (is_inside g) (none j)) h;
     begins = λ x q i f args at left h. begins_never x q _ (λ j. entered-inside g (code_of x.design) f args None None) h;
     spawned = λ x new none begun lives h. record { nowhere = each-last (λ q (j : Instance). is_inside g j.residual ≡ false) x.instances new (ap (is_inside g) none) h.nowhere; unleft_yet = h.unleft_yet; given = h.given };
     tries_hop = λ x s hop t e blocking entry unbroken h. record { nowhere = h.nowhere; unleft_yet = h.unleft_yet; given = h.given };
