@@ -1,0 +1,6 @@
+//! The bindings of a design: the channels of each port and what each hop joins, or the first fault of a binding.
+#![tactic(auto)]
+
+mod fits;
+mod forms;
+mod rows;
