@@ -1,1 +1,4 @@
 pub mod Lists
+pub mod Ranked
+pub mod RowLemmas
+pub mod Linked

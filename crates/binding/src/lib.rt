@@ -3,4 +3,6 @@
 
 mod fits;
 mod forms;
+mod links;
+mod order;
 mod rows;

@@ -1,0 +1,11 @@
+use Rattle.std.proofs.Common.{◌≡◌, ◌==◌, ℕ, length, take}
+use Rattle.std.specs.Prelude.{filter}
+use Rattle.flat_design.specs.declared.objects.Binding.{Binding}
+use Rattle.binding.specs.Rows.{AreRows}
+use Rattle.binding.proofs.links.by_left.Given as goal
+
+abbrev pub invariant-loop-b : goal.invariant-loop-b
+invariant-loop-b l = record {
+  long : length l.rows ≡ length l.objects.list;
+  rows : AreRows (λ i. filter (λ (b : Binding). b.left == i) (take l.b-index l.objects.binds)) l.rows;
+}
