@@ -2,3 +2,4 @@ pub mod Lists
 pub mod Ranked
 pub mod RowLemmas
 pub mod Linked
+pub mod Channels

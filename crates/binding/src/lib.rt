@@ -1,6 +1,7 @@
 //! The bindings of a design: the channels of each port and what each hop joins, or the first fault of a binding.
 #![tactic(auto)]
 
+mod ends;
 mod fits;
 mod forms;
 mod links;
