@@ -39,7 +39,7 @@ module _ (os : Objects) (formed : AreFormed os) where
       let w = place_of order ordered b.right (right_within os b (All-contains (HasForm os) os.binds b formed.bindings s.0)) in
       (w.0, ordered.falls b k w.0 s.0 (at ∙ ap Some (sym s.1)) w.1, w.1)
 
-  empty_list : {A : Type 0} (xs : List A) → ((x : A) → Contains xs x → ⊥) → xs ≡ []
+  pub empty_list : {A : Type 0} (xs : List A) → ((x : A) → Contains xs x → ⊥) → xs ≡ []
   empty_list [] h = refl
   empty_list (x ∷ xs) h = absurd (h x (head_in x xs))
 

@@ -3,3 +3,4 @@ pub mod Ranked
 pub mod RowLemmas
 pub mod Linked
 pub mod Channels
+pub mod Led

@@ -4,6 +4,7 @@
 mod ends;
 mod fits;
 mod forms;
+mod leading;
 mod links;
 mod order;
 mod rows;
