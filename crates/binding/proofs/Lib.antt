@@ -4,3 +4,6 @@ pub mod RowLemmas
 pub mod Linked
 pub mod Channels
 pub mod Led
+pub mod Sums
+pub mod Marked
+pub mod Followed

@@ -8,3 +8,4 @@ mod leading;
 mod links;
 mod order;
 mod rows;
+mod twice;

@@ -1,0 +1,6 @@
+use Rattle.std.proofs.Common.{◌≡◌, drop}
+use Rattle.binding_rules.specs.Faults.{has_twice}
+use Rattle.binding.proofs.twice.has_twice.Given as goal
+
+abbrev pub invariant-loop-i : goal.invariant-loop-i
+invariant-loop-i l = has_twice l.list ≡ has_twice (drop l.i l.list)
