@@ -7,3 +7,4 @@ pub mod Led
 pub mod Sums
 pub mod Marked
 pub mod Followed
+pub mod Upward

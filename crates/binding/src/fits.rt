@@ -1,7 +1,8 @@
-ghost use Rattle.std.specs.Prelude.{◌≡◌, Some};
+ghost use Rattle.std.specs.Prelude.{◌≡◌};
 ghost use Rattle.binding_rules.specs.Fits as spec;
 
-use flat_design::{LeadsTo, ObjectForm, ValueType};
+use super::forms::form_at;
+use flat_design::{Binding, LeadsTo, ObjectForm, Objects, ValueType};
 
 /// Whether two types of values are the same.
 fn is_same_type(s: ValueType, t: ValueType) -> bool
@@ -147,13 +148,23 @@ fn fits(left: LeadsTo, right: ObjectForm) -> bool
     }
 }
 
+/// Whether a right end fits a port or an export; where there is no such object it does not.
+fn fits_end(left: LeadsTo, right: Option<ObjectForm>) -> bool
+    ensures { result ≡ spec.fits_end left right }
+{
+    match right {
+        None => false,
+        Some(form) => fits(left, form),
+    }
+}
+
 /// Whether the ends of a binding differ in kind; sockets fit by their forms alone.
-pub(crate) fn differs(right: ObjectForm, left: ObjectForm) -> bool
-    ensures { result ≡ spec.differs (Some right) left }
+fn differs(right: Option<ObjectForm>, left: ObjectForm) -> bool
+    ensures { result ≡ spec.differs right left }
 {
     match left {
         ObjectForm::Port { leads_to, .. } | ObjectForm::Export { leads_to } => {
-            !fits(leads_to, right)
+            !fits_end(leads_to, right)
         }
         ObjectForm::Instance { .. }
         | ObjectForm::Signal { .. }
@@ -169,5 +180,15 @@ pub(crate) fn differs(right: ObjectForm, left: ObjectForm) -> bool
         | ObjectForm::Initiator { .. }
         | ObjectForm::Target { .. }
         | ObjectForm::Process { .. } => false,
+    }
+}
+
+/// Whether the ends of this binding differ in kind.
+pub(crate) fn kind_differs(objects: &Objects, b: Binding) -> bool
+    ensures { result ≡ spec.kind_differs objects.now b }
+{
+    match form_at(objects, b.left) {
+        None => false,
+        Some(left) => differs(form_at(objects, b.right), left),
     }
 }

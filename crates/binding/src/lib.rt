@@ -7,5 +7,6 @@ mod forms;
 mod leading;
 mod links;
 mod order;
+mod paths;
 mod rows;
 mod twice;
