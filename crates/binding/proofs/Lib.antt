@@ -8,3 +8,4 @@ pub mod Sums
 pub mod Marked
 pub mod Followed
 pub mod Upward
+pub mod Kept

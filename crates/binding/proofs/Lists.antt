@@ -1,7 +1,7 @@
 -- Lists: the front of two lists, one behind the other, and of what lists lead to.
 use Rattle.std.proofs.Common.{◌≡◌, ◌<◌, ◌≤◌, ◌+◌, ℕ, zero, suc, List, [], ◌∷◌, ◌++◌, length, take, drop, get_or, refl, sym, ap, ◌∙◌, subst, arith}
 use Rattle.std.specs.List.{flat_map, AllByRecursion}
-use Rattle.std.proofs.lemmas.List.{append_assoc, take_all, take_at, take_more, take-append-drop, take-take, flat_map_more}
+use Rattle.std.proofs.lemmas.List.{length-take, append_assoc, take_all, take_at, take_more, take-append-drop, take-take, flat_map_more}
 
 module _ {A : Type 0} where
   -- only the front of a list counts for the front of a longer one
@@ -45,3 +45,9 @@ module _ {A : Type 0} where
   front_known n f g (x ∷ xs) h =
       h.0 (flat_map f xs) ∙ sym (take_back n (g x) (flat_map f xs)) ∙ ap (λ zs. take n (g x ++ zs)) (front_known n f g xs h.1)
       ∙ take_back n (g x) (flat_map g xs)
+
+  -- a front that is shorter than it may be is all
+  pub short_all : (n : ℕ) (xs front : List A) → front ≡ take n xs → length front < n → front ≡ xs
+  short_all n xs front is short =
+      let e = ap (λ (ys : List A). length ys) is ∙ length-take n xs in
+      is ∙ take_all n xs (omega (arith, e, short))

@@ -4,6 +4,9 @@
 mod ends;
 mod fits;
 mod forms;
+mod judge;
+mod kinds;
+mod known;
 mod leading;
 mod links;
 mod order;

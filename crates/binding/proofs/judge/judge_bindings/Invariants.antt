@@ -1,0 +1,6 @@
+use Rattle.std.proofs.Common.{◌≡◌, drop}
+use Rattle.binding_rules.specs.Faults.{bindings_fault}
+use Rattle.binding.proofs.judge.judge_bindings.Given as goal
+
+abbrev pub invariant-loop-b : goal.invariant-loop-b
+invariant-loop-b l = bindings_fault l.objects l.objects.binds ≡ bindings_fault l.objects (drop l.b-index l.objects.binds)

@@ -1,0 +1,6 @@
+use Rattle.std.proofs.Common.{◌≡◌, drop}
+use Rattle.binding_rules.specs.Faults.{objects_fault}
+use Rattle.binding.proofs.judge.judge_objects.Given as goal
+
+abbrev pub invariant-loop-i : goal.invariant-loop-i
+invariant-loop-i l = objects_fault l.objects 0 l.objects.list ≡ objects_fault l.objects l.i (drop l.i l.objects.list)
