@@ -9,3 +9,4 @@ pub mod Marked
 pub mod Followed
 pub mod Upward
 pub mod Kept
+pub mod Whole

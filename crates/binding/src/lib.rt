@@ -1,6 +1,7 @@
 //! The bindings of a design: the channels of each port and what each hop joins, or the first fault of a binding.
 #![tactic(auto)]
 
+mod binds;
 mod ends;
 mod fits;
 mod forms;
@@ -13,3 +14,5 @@ mod order;
 mod paths;
 mod rows;
 mod twice;
+
+pub use binds::bind;
