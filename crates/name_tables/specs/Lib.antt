@@ -1,0 +1,5 @@
+pub mod Tables
+pub mod LocalNames
+pub mod ModuleNames
+pub mod ModelNames
+pub mod Places

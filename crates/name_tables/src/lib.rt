@@ -2,10 +2,23 @@
 //! over all names, and the types that declarations give.
 #![tactic(auto)]
 
+mod lists;
+mod locals;
 mod meanings;
+mod members;
+mod model_names;
+mod module_names;
+mod name_table;
+mod places;
 mod types;
 
+pub use locals::{Locals, Visible};
 pub use meanings::{item_meaning, item_name};
+pub use members::{event_member, has_edges, member_type, row_of, value_member};
+pub use model_names::ModelNames;
+pub use module_names::ModuleNames;
+pub use name_table::NameTable;
+pub use places::Place;
 pub use types::{
     form_type, hands_on, is_width, plain_meaning, port_meaning, port_size, signal_type, takes_over,
     variable_type,
