@@ -6,17 +6,17 @@ use Rattle.std.specs.Vec.{vec_capacity}
 use Rattle.logic_values.specs.declared.kinds.Value.{Value}
 use Rattle.flat_design.specs.Code.{Arena}
 use Rattle.sim_model.specs.Residual.{Frame}
-use Rattle.process_state.specs.declared.layers.Frame.{Frame as Kept}
-use Rattle.process_state.specs.declared.layers.Layer.{Layer}
-use Rattle.process_state.specs.declared.layers.Layer.TheVariants as layer
-use Rattle.process_state.specs.declared.layers.Comes.{Comes}
-use Rattle.process_state.specs.declared.layers.Comes.TheVariants as comes
+use Rattle.body_layers.specs.declared.layers.Frame.{Frame as Kept}
+use Rattle.body_layers.specs.declared.layers.Layer.{Layer}
+use Rattle.body_layers.specs.declared.layers.Layer.TheVariants as layer
+use Rattle.body_layers.specs.declared.layers.Comes.{Comes}
+use Rattle.body_layers.specs.declared.layers.Comes.TheVariants as comes
 use Rattle.body_code.specs.declared.around.Around.{Around}
 use Rattle.body_code.specs.declared.around.Around.TheVariants as enclosing
-use Rattle.process_state.specs.Layers.{layers_of, layers_around, statement_of}
-use Rattle.process_state.specs.Room.{FitsBlocks, FitsStatement, FitsLayer, FitsAll, Fits, kept_inside, kept_along, own_or, own_room, room_of_own}
-use Rattle.process_state.specs.Changed.{IsSet, IsFrameSet, IsFrameOf, IsShellOf, IsAnswered}
-use Rattle.process_state.proofs.Rooms.{all_split, nothing_fits, layer_place, kept_small}
+use Rattle.body_layers.specs.Layers.{layers_of, layers_around, statement_of}
+use Rattle.body_layers.specs.Room.{FitsBlocks, FitsStatement, FitsLayer, FitsAll, Fits, kept_inside, kept_along, own_or, own_room, room_of_own}
+use Rattle.body_layers.specs.Changed.{IsSet, IsFrameSet, IsFrameOf, IsShellOf, IsAnswered}
+use Rattle.body_layers.proofs.Rooms.{all_split, nothing_fits, layer_place, kept_small}
 
 -- more room is enough room
 module _ (a : Arena) (depths : List ℕ) (most more : ℕ) (le : most ≤ more) where

@@ -1,9 +1,3 @@
-pub mod Settling
-pub mod Blocks
-pub mod Lands
-pub mod Rooms
-pub mod Seeking
-pub mod Leaving
 pub mod Putting
 pub mod Keeping
 pub mod Stepping

@@ -7,15 +7,15 @@ use Rattle.sim_model.specs.Residual as residual
 use Rattle.sim_model.specs.Residual.{Residual, Frame, skip, one, seq, frame, shell, run, goal, followed, put, frame_or, goal_or, innermost, in_innermost, changed_if, next_of}
 use Rattle.sim_model.specs.Unwinding.{has_exit, returned}
 use Rattle.sim_model.specs.Storing.{with_local}
-use Rattle.process_state.specs.declared.layers.Frame.{Frame as Kept}
-use Rattle.process_state.specs.declared.layers.Layer.{Layer}
-use Rattle.process_state.specs.declared.layers.Layer.TheVariants as layer
-use Rattle.process_state.specs.declared.layers.Sought.TheVariants as sought
-use Rattle.process_state.specs.Layers.{call_of, around, inside, standing, rest_at}
-use Rattle.process_state.specs.Sought.{frame_in, is_exit, is_sought, NoneIs, LastIs}
-use Rattle.process_state.specs.Changed.{IsSet, IsFrameSet, IsFrameOf, IsShellOf, IsAnswered}
-use Rattle.process_state.proofs.Settling.{IsLeft, around_left}
-use Rattle.process_state.proofs.Seeking.{innermost_around, innermost_last, innermost_none, or_inner, exit_tests, test_last, test_none}
+use Rattle.body_layers.specs.declared.layers.Frame.{Frame as Kept}
+use Rattle.body_layers.specs.declared.layers.Layer.{Layer}
+use Rattle.body_layers.specs.declared.layers.Layer.TheVariants as layer
+use Rattle.body_layers.specs.declared.layers.Sought.TheVariants as sought
+use Rattle.body_layers.specs.Layers.{call_of, around, inside, standing, rest_at}
+use Rattle.body_layers.specs.Sought.{frame_in, is_exit, is_sought, NoneIs, LastIs}
+use Rattle.body_layers.specs.Changed.{IsSet, IsFrameSet, IsFrameOf, IsShellOf, IsAnswered}
+use Rattle.body_layers.proofs.Settling.{IsLeft, around_left}
+use Rattle.body_layers.proofs.Seeking.{innermost_around, innermost_last, innermost_none, or_inner, exit_tests, test_last, test_none}
 
 -- in place of what comes next
 

@@ -4,14 +4,14 @@ use Rattle.std.specs.Prelude.{is_some}
 use Rattle.flat_design.specs.Code.{Arena}
 use Rattle.sim_model.specs.Residual.{Residual, one, followed, innermost, within, in_nb, has_goal, open_frames}
 use Rattle.sim_model.specs.Unwinding.{catches}
-use Rattle.process_state.specs.declared.layers.Layer.{Layer}
-use Rattle.process_state.specs.declared.layers.Layer.TheVariants as layer
-use Rattle.process_state.specs.declared.layers.Comes.{Comes}
-use Rattle.process_state.specs.declared.layers.Comes.TheVariants as comes
-use Rattle.process_state.specs.declared.layers.Sought.TheVariants as sought
-use Rattle.process_state.specs.Layers.{around, inside, standing, landed, rest_at}
-use Rattle.process_state.specs.Sought.{calls_in, is_sought, is_handling, IsLast}
-use Rattle.process_state.proofs.Seeking.{Tests, test_none, test_last, catches_none, catches_last}
+use Rattle.body_layers.specs.declared.layers.Layer.{Layer}
+use Rattle.body_layers.specs.declared.layers.Layer.TheVariants as layer
+use Rattle.body_layers.specs.declared.layers.Comes.{Comes}
+use Rattle.body_layers.specs.declared.layers.Comes.TheVariants as comes
+use Rattle.body_layers.specs.declared.layers.Sought.TheVariants as sought
+use Rattle.body_layers.specs.Layers.{around, inside, standing, landed, rest_at}
+use Rattle.body_layers.specs.Sought.{calls_in, is_sought, is_handling, IsLast}
+use Rattle.body_layers.proofs.Seeking.{Tests, test_none, test_last, catches_none, catches_last}
 
 innermost_followed : (s : ℕ) (ss : List ℕ) → innermost (followed (one s) ss) ≡ None
 innermost_followed s [] = refl

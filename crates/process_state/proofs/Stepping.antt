@@ -11,18 +11,18 @@ use Rattle.body_code.specs.Depths.{blocks_of, blocks_in, depth_of}
 use Rattle.body_code.specs.Around.{around_at, around_if, around_of}
 use Rattle.body_code.specs.declared.around.Around.{Around}
 use Rattle.body_code.specs.declared.around.Around.TheVariants as enclosing
-use Rattle.process_state.specs.declared.layers.Frame.{Frame as Kept}
-use Rattle.process_state.specs.declared.layers.Layer.{Layer}
-use Rattle.process_state.specs.declared.layers.Layer.TheVariants as layer
-use Rattle.process_state.specs.declared.layers.Next.TheVariants as next
-use Rattle.process_state.specs.declared.layers.Comes.{Comes}
-use Rattle.process_state.specs.declared.layers.Comes.TheVariants as comes
-use Rattle.process_state.specs.Layers.{call_of, around, inside, standing, shown, shown_by, statement_of, layers_of, layers_around, landed, frame_ends, end_shown, EndsWith}
-use Rattle.process_state.specs.Room.{FitsBlocks, FitsStatement, FitsLayer, FitsAll, Fits, kept_inside, kept_along, own_or, own_room, room_of_own}
+use Rattle.body_layers.specs.declared.layers.Frame.{Frame as Kept}
+use Rattle.body_layers.specs.declared.layers.Layer.{Layer}
+use Rattle.body_layers.specs.declared.layers.Layer.TheVariants as layer
+use Rattle.body_layers.specs.declared.layers.Next.TheVariants as next
+use Rattle.body_layers.specs.declared.layers.Comes.{Comes}
+use Rattle.body_layers.specs.declared.layers.Comes.TheVariants as comes
+use Rattle.body_layers.specs.Layers.{call_of, around, inside, standing, shown, shown_by, statement_of, layers_of, layers_around, landed, frame_ends, end_shown, EndsWith}
+use Rattle.body_layers.specs.Room.{FitsBlocks, FitsStatement, FitsLayer, FitsAll, Fits, kept_inside, kept_along, own_or, own_room, room_of_own}
 use Rattle.process_state.specs.Bodies.{IsStatement, IsGoal, enclosed}
-use Rattle.process_state.proofs.Settling.{IsLeft, IsComing, next_inside, inside_append}
+use Rattle.body_layers.proofs.Settling.{IsLeft, IsComing, next_inside, inside_append}
 use Rattle.process_state.proofs.Putting.{put_inside}
-use Rattle.process_state.proofs.Rooms.{kept_append, leaf_at, fits_more}
+use Rattle.body_layers.proofs.Rooms.{kept_append, leaf_at, fits_more}
 
 pub le_to : (n x y : ℕ) → x ≡ y → n ≤ y → n ≤ x
 le_to n x y e h = let P : ℕ → Type 0 = λ m. n ≤ m in subst P (sym e) h

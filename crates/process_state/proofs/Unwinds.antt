@@ -11,15 +11,15 @@ use Rattle.sim_model.specs.Residual.{Residual, skip, one, seq, goal, followed, h
 use Rattle.sim_model.specs.declared.plain.Goal.{Goal}
 use Rattle.sim_model.specs.Unwinding.{unw, catches, handles, handler_of, handler_block, handled, raise, left_by_unw, left_by_raise}
 use Rattle.body_code.specs.Depths.{handlers_of, handlers_if, handlers_in, blocks_of, blocks_in, depth_of}
-use Rattle.process_state.specs.declared.layers.Layer.{Layer}
-use Rattle.process_state.specs.declared.layers.Layer.TheVariants as layer
-use Rattle.process_state.specs.declared.layers.Sought.TheVariants as sought
-use Rattle.process_state.specs.Layers.{around, inside, standing, rest_at}
-use Rattle.process_state.specs.Sought.{is_handling, is_sought, is_goal, NoneIs, LastIs}
-use Rattle.process_state.specs.Unwound.{unwound, handler_in}
-use Rattle.process_state.specs.Room.{FitsBlocks, FitsStatement, FitsLayer, FitsAll, Fits, kept_inside, kept_along, own_or, own_room}
-use Rattle.process_state.proofs.Seeking.{goal_tests, catches_around, catches_none, catches_last}
-use Rattle.process_state.proofs.Rooms.{all_split, all_join, leaf_at, kept_append, kept_small, nothing_fits, fits_more}
+use Rattle.body_layers.specs.declared.layers.Layer.{Layer}
+use Rattle.body_layers.specs.declared.layers.Layer.TheVariants as layer
+use Rattle.body_layers.specs.declared.layers.Sought.TheVariants as sought
+use Rattle.body_layers.specs.Layers.{around, inside, standing, rest_at}
+use Rattle.body_layers.specs.Sought.{is_handling, is_sought, is_goal, NoneIs, LastIs}
+use Rattle.body_layers.specs.Unwound.{unwound, handler_in}
+use Rattle.body_layers.specs.Room.{FitsBlocks, FitsStatement, FitsLayer, FitsAll, Fits, kept_inside, kept_along, own_or, own_room}
+use Rattle.body_layers.proofs.Seeking.{goal_tests, catches_around, catches_none, catches_last}
+use Rattle.body_layers.proofs.Rooms.{all_split, all_join, leaf_at, kept_append, kept_small, nothing_fits, fits_more}
 
 -- all is unwound
 

@@ -11,8 +11,8 @@ use Rattle.body_code.specs.declared.program.Program.{Program}
 use Rattle.body_code.specs.declared.around.Around.{Around}
 use Rattle.body_code.specs.declared.around.Around.TheVariants as around
 use Rattle.process_state.specs.declared.body.Body.{Body}
-use Rattle.process_state.specs.Layers.{inside, standing}
-use Rattle.process_state.specs.Room.{Fits, own_room, locals_with, body_depth}
+use Rattle.body_layers.specs.Layers.{inside, standing}
+use Rattle.body_layers.specs.Room.{Fits, own_room, locals_with, body_depth}
 
 -- the residual that a body stands for, over the code that it is used with; and what it settles to
 abbrev pub left_of : Arena → Body → Residual

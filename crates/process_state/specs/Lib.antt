@@ -1,6 +1,1 @@
-pub mod Layers
-pub mod Room
-pub mod Sought
-pub mod Unwound
-pub mod Changed
 pub mod Bodies

@@ -8,15 +8,14 @@ ghost use Rattle.sim_model.specs.Storing.{with_local};
 ghost use Rattle.body_code.specs.Depths.{blocks_of};
 ghost use Rattle.body_code.specs.Around.{around_at};
 ghost use Rattle.body_code.specs.declared.program.Program.{Program as Whole};
-ghost use Rattle.process_state.specs.Layers.{call_of, shown, shown_by, statement_of, EndsIn};
+ghost use Rattle.body_layers.specs.Layers.{call_of, shown, shown_by, statement_of, EndsIn};
 ghost use Rattle.process_state.specs.Bodies.{left_of, left_in, settled_in, IsSound, Keeps, IsStatement, IsGoal, enclosed};
 
-use crate::changes::{drop_layer, keep_layers, set_answer, set_local_in, take_frame};
-use crate::frames::{add_around, add_layers, block_begins};
-use crate::landing::land;
-use crate::layers::{Comes, Frame, Layer, Next, Sought};
-use crate::sought::last;
 use body_code::Program;
+use body_layers::{
+    Comes, Frame, Layer, Next, Sought, add_around, add_layers, block_begins, drop_layer, keep_layers,
+    land, last, next_shown, set_answer, set_local_in, take_frame,
+};
 use flat_design::{BlockId, CodeId, StmtId};
 use logic_values::Value;
 
@@ -151,20 +150,5 @@ impl Body {
         if let Some(place) = last(self.layers.as_slice(), Sought::Call) {
             set_local_in(&mut self.layers[place], number, value);
         }
-    }
-}
-
-/// What shows of what comes.
-fn next_shown(comes: Comes) -> Next
-    ensures { result ≡ shown_by comes }
-{
-    match comes {
-        Comes::Nothing => Next::Nothing,
-        Comes::Leave => Next::Leave,
-        Comes::Done => Next::Done,
-        Comes::Goal(goal) => Next::Goal(goal),
-        Comes::Statement(statement) => Next::Statement(statement),
-        Comes::InBlock(statement, _) => Next::Statement(statement),
-        Comes::InUnwind(statement, _) => Next::Statement(statement),
     }
 }

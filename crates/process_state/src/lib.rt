@@ -3,15 +3,10 @@
 #![tactic(auto)]
 
 mod body;
-mod changes;
-mod frames;
-mod landing;
-mod layers;
 mod shown;
-mod sought;
 mod starting;
 mod unwind;
-mod unwinding;
 
 pub use body::Body;
-pub use layers::{EnterStop, Frame, Next};
+pub use body_layers::{Frame, Next};
+pub use starting::EnterStop;

@@ -5,15 +5,13 @@ ghost use Rattle.sim_model.specs.Residual as residual;
 ghost use Rattle.sim_model.specs.Residual.{Residual};
 ghost use Rattle.sim_model.specs.Unwinding as unwinding;
 ghost use Rattle.sim_model.specs.Reading.{locals_of};
-ghost use Rattle.process_state.specs.Layers.{call_of, inside, IsStandingOf};
-ghost use Rattle.process_state.specs.Sought.{calls_in};
+ghost use Rattle.body_layers.specs.Layers.{call_of, inside, IsStandingOf};
+ghost use Rattle.body_layers.specs.Sought.{calls_in};
 ghost use Rattle.process_state.specs.Bodies.{left_of, left_in, settled_in, via_of, answer_of, body_of};
 
 use crate::body::Body;
-use crate::landing::land;
-use crate::layers::{Frame, Layer, Sought};
-use crate::sought::{frame_in, last, last_try, via_in};
 use body_code::Program;
+use body_layers::{Frame, Layer, Sought, frame_in, land, last, last_try, via_in};
 use flat_design::{CodeId, NameId};
 use logic_values::Value;
 use sim_model::Via;

@@ -7,20 +7,30 @@ ghost use Rattle.sim_model.specs.Residual.{next_of, put, skip, begun, entered, o
 ghost use Rattle.sim_model.specs.Calls.{frame_limit};
 ghost use Rattle.body_code.specs.Depths.{locals_at};
 ghost use Rattle.body_code.specs.declared.program.Program.{Program as Whole};
-ghost use Rattle.process_state.specs.Layers.{call_of, inside, standing, layers_of, statement_of};
-ghost use Rattle.process_state.specs.Room.{Fits, FitsAll, kept_along, own_room, locals_with, body_depth, begun_in};
+ghost use Rattle.body_layers.specs.Layers.{call_of, inside, standing, layers_of, statement_of};
+ghost use Rattle.body_layers.specs.Room.{Fits, FitsAll, kept_along, own_room, locals_with, body_depth, begun_in};
 ghost use Rattle.process_state.specs.Bodies.{left_of, left_in, settled_in, IsSound, Keeps, IsStatement, HasRoomFor};
 
 use crate::body::Body;
-use crate::changes::keep_layers;
-use crate::frames::{add_layers, add_locals, body_begins, depth_in, locals_in, many_locals, place};
-use crate::layers::{EnterStop, Frame, Layer};
 use body_code::Program;
+use body_layers::{
+    Frame, Layer, add_layers, add_locals, body_begins, depth_in, keep_layers, locals_in, many_locals,
+    place,
+};
 use flat_design::{CodeId, Local, StmtId};
 use logic_values::Value;
 use sim_model::Via;
 use std::alloc::{AllocError, Global};
 use std::mem;
+
+/// Why a call is not entered.
+#[derive(Clone, Copy, Debug, PartialEq, Eq)]
+pub enum EnterStop {
+    /// As many calls are open as may be.
+    TooDeep,
+    /// Memory was refused.
+    NoMemory,
+}
 
 /// As many calls as may be open, the body not counted.
 const FRAME_LIMIT: usize = 64;

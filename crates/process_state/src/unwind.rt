@@ -7,10 +7,8 @@ ghost use Rattle.body_code.specs.declared.program.Program.{Program as Whole};
 ghost use Rattle.process_state.specs.Bodies.{left_of, left_in, IsSound, Keeps};
 
 use crate::body::Body;
-use crate::layers::Layer;
-use crate::sought::last_try;
-use crate::unwinding::{begin_unwinding, handler_in, left_by};
 use body_code::{Cursor, Program};
+use body_layers::{Layer, begin_unwinding, handler_in, last_try, left_by};
 use flat_design::NameId;
 use sim_model::{Goal, Via};
 

@@ -1,7 +1,7 @@
 use Rattle.std.proofs.Common.{◌≡◌, ℕ, ◌+◌, ◌≤◌, drop}
 use Rattle.flat_design.specs.Code.{Arena}
 use Rattle.sim_model.specs.Residual.{Residual, open_frames}
-use Rattle.process_state.specs.Layers.{inside}
+use Rattle.body_layers.specs.Layers.{inside}
 use Rattle.process_state.proofs.shown.calls_of.Given as goal
 
 abbrev pub invariant-loop-layer : goal.invariant-loop-layer

@@ -3,12 +3,12 @@ use Rattle.std.specs.Vec.{vec_capacity}
 use Rattle.flat_design.specs.Code.{arena_of}
 use Rattle.sim_model.specs.Residual.{skip}
 use Rattle.sim_model.specs.Unwinding.{returned}
-use Rattle.process_state.specs.declared.layers.Layer.{Layer}
-use Rattle.process_state.specs.declared.layers.Sought.TheVariants as sought
-use Rattle.process_state.specs.Layers.{inside, standing}
-use Rattle.process_state.specs.Sought.{is_sought, LastIs, NoneIs}
-use Rattle.process_state.specs.Room.{Fits, own_room}
-use Rattle.process_state.specs.Changed.{IsAnswered}
+use Rattle.body_layers.specs.declared.layers.Layer.{Layer}
+use Rattle.body_layers.specs.declared.layers.Sought.TheVariants as sought
+use Rattle.body_layers.specs.Layers.{inside, standing}
+use Rattle.body_layers.specs.Sought.{is_sought, LastIs, NoneIs}
+use Rattle.body_layers.specs.Room.{Fits, own_room}
+use Rattle.body_layers.specs.Changed.{IsAnswered}
 use Rattle.process_state.specs.Bodies.{settled_in}
 use Rattle.process_state.proofs.Putting.{returned_last, returned_none}
 use Rattle.process_state.proofs.Keeping.{fits_at_cap, fits_set, fits_taken, own_set, answered_room, taken_at}

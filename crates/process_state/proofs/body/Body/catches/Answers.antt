@@ -1,7 +1,7 @@
 use Rattle.std.proofs.Common.{◌≡◌, List, sym, ap, ◌∙◌, subst}
 use Rattle.flat_design.specs.Code.{arena_of}
 use Rattle.sim_model.specs.Unwinding as unwinding
-use Rattle.process_state.specs.Layers.{landed}
+use Rattle.body_layers.specs.Layers.{landed}
 use Rattle.process_state.proofs.Shows.{caught, catches_landed}
 use Rattle.process_state.proofs.body.Body.catches.Goals as goal
 

@@ -3,12 +3,12 @@ use Rattle.std.specs.Vec.{vec_capacity}
 use Rattle.flat_design.specs.Code.{arena_of, body_at}
 use Rattle.sim_model.specs.Residual as residual
 use Rattle.sim_model.specs.Residual.{Residual, next_of, put}
-use Rattle.process_state.specs.declared.layers.Layer.TheVariants as layer
-use Rattle.process_state.specs.declared.layers.Frame.{Frame}
-use Rattle.process_state.specs.Layers.{inside}
-use Rattle.process_state.specs.Room.{begun_in, own_room, room_of_own}
+use Rattle.body_layers.specs.declared.layers.Layer.TheVariants as layer
+use Rattle.body_layers.specs.declared.layers.Frame.{Frame}
+use Rattle.body_layers.specs.Layers.{inside}
+use Rattle.body_layers.specs.Room.{begun_in, own_room, room_of_own}
 use Rattle.process_state.specs.Bodies.{settled_in}
-use Rattle.process_state.proofs.Rooms.{own_less}
+use Rattle.body_layers.proofs.Rooms.{own_less}
 use Rattle.process_state.proofs.Keeping.{fits_at_cap}
 use Rattle.process_state.proofs.Stepping.{le_to, statement_comes, statement_same, put_statement, room_of_call}
 use Rattle.process_state.proofs.body.Body.enter_with.Goals as goal

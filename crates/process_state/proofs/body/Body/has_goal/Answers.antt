@@ -1,10 +1,10 @@
 use Rattle.std.proofs.Common.{◌≡◌, List, sym, ap, ◌∙◌, subst}
 use Rattle.sim_model.specs.Residual as residual
-use Rattle.process_state.specs.declared.layers.Layer.{Layer}
-use Rattle.process_state.specs.declared.layers.Sought.TheVariants as sought
-use Rattle.process_state.specs.Layers.{standing}
-use Rattle.process_state.specs.Sought.{is_sought, IsLast}
-use Rattle.process_state.proofs.Seeking.{goal_tests}
+use Rattle.body_layers.specs.declared.layers.Layer.{Layer}
+use Rattle.body_layers.specs.declared.layers.Sought.TheVariants as sought
+use Rattle.body_layers.specs.Layers.{standing}
+use Rattle.body_layers.specs.Sought.{is_sought, IsLast}
+use Rattle.body_layers.proofs.Seeking.{goal_tests}
 use Rattle.process_state.proofs.Shows.{tested, goal_standing}
 use Rattle.process_state.proofs.body.Body.has_goal.Goals as goal
 

@@ -6,11 +6,11 @@ use Rattle.sim_model.specs.Residual as residual
 use Rattle.sim_model.specs.Residual.{Residual, next_of, put, block}
 use Rattle.body_code.specs.Depths.{blocks_of}
 use Rattle.body_code.specs.Around.{around_at}
-use Rattle.process_state.specs.declared.layers.Layer.{Layer}
-use Rattle.process_state.specs.Layers.{inside, standing, landed, layers_of, layers_around, statement_of}
-use Rattle.process_state.specs.Room.{Fits, own_room}
+use Rattle.body_layers.specs.declared.layers.Layer.{Layer}
+use Rattle.body_layers.specs.Layers.{inside, standing, landed, layers_of, layers_around, statement_of}
+use Rattle.body_layers.specs.Room.{Fits, own_room}
 use Rattle.process_state.specs.Bodies.{settled_in, enclosed}
-use Rattle.process_state.proofs.Settling.{inside_append}
+use Rattle.body_layers.proofs.Settling.{inside_append}
 use Rattle.process_state.proofs.Keeping.{fits_at_cap, own_comes, own_around}
 use Rattle.process_state.proofs.Stepping.{le_to, statement_comes, put_statement, around_few, enclosed_inside, enclosing_room, enclosing_fits, some_same, statement_same}
 use Rattle.process_state.proofs.body.Body.into.Goals as goal

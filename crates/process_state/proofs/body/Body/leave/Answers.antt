@@ -1,12 +1,12 @@
 use Rattle.std.proofs.Common.{◌≡◌, ℕ, ◌+◌, ◌≤◌, List, [], ◌∷◌, ◌++◌, Option, None, refl, subst, sym, ap, ◌∙◌, arith}
 use Rattle.std.specs.Vec.{vec_capacity}
 use Rattle.flat_design.specs.Code.{arena_of}
-use Rattle.process_state.specs.declared.layers.Layer.{Layer}
-use Rattle.process_state.specs.declared.layers.Layer.TheVariants as layer
-use Rattle.process_state.specs.Layers.{statement_of}
-use Rattle.process_state.specs.Room.{Fits, own_or, own_room}
+use Rattle.body_layers.specs.declared.layers.Layer.{Layer}
+use Rattle.body_layers.specs.declared.layers.Layer.TheVariants as layer
+use Rattle.body_layers.specs.Layers.{statement_of}
+use Rattle.body_layers.specs.Room.{Fits, own_or, own_room}
 use Rattle.process_state.specs.Bodies.{settled_in}
-use Rattle.process_state.proofs.Rooms.{fits_less, own_less}
+use Rattle.body_layers.proofs.Rooms.{fits_less, own_less}
 use Rattle.process_state.proofs.Keeping.{fits_at_cap}
 use Rattle.process_state.proofs.Stepping.{le_to, leave_comes, leave_next, leave_put, leave_own}
 use Rattle.process_state.proofs.body.Body.leave.Goals as goal

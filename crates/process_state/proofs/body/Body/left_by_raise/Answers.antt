@@ -3,10 +3,10 @@ use Rattle.std.specs.Prelude.{slice_get}
 use Rattle.flat_design.specs.Code.{arena_of}
 use Rattle.sim_model.specs.Residual.{skip}
 use Rattle.sim_model.specs.Unwinding.{left_by_unw}
-use Rattle.process_state.specs.declared.layers.Layer.{Layer}
-use Rattle.process_state.specs.Layers.{inside, standing}
-use Rattle.process_state.specs.Sought.{is_handling, LastIs, NoneIs}
-use Rattle.process_state.proofs.Leaving.{left_standing}
+use Rattle.body_layers.specs.declared.layers.Layer.{Layer}
+use Rattle.body_layers.specs.Layers.{inside, standing}
+use Rattle.body_layers.specs.Sought.{is_handling, LastIs, NoneIs}
+use Rattle.body_layers.proofs.Leaving.{left_standing}
 use Rattle.process_state.proofs.Unwinds.{left_raise_last, left_raise_none}
 use Rattle.process_state.proofs.body.Body.left_by_raise.Goals as goal
 

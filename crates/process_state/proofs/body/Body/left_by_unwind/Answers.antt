@@ -2,8 +2,8 @@ use Rattle.std.proofs.Common.{◌≡◌, sym, ap, ◌∙◌}
 use Rattle.std.specs.Prelude.{slice_get}
 use Rattle.sim_model.specs.Residual.{skip}
 use Rattle.sim_model.specs.Unwinding.{left_by_unw}
-use Rattle.process_state.specs.Layers.{inside}
-use Rattle.process_state.proofs.Leaving.{left_standing}
+use Rattle.body_layers.specs.Layers.{inside}
+use Rattle.body_layers.proofs.Leaving.{left_standing}
 use Rattle.process_state.proofs.body.Body.left_by_unwind.Goals as goal
 
 pub returns : goal.returns

@@ -2,13 +2,13 @@ use Rattle.std.proofs.Common.{◌≡◌, ℕ, ◌+◌, ◌≤◌, ◌<◌, suc, 
 use Rattle.std.specs.Vec.{vec_capacity}
 use Rattle.flat_design.specs.Code.{arena_of}
 use Rattle.sim_model.specs.Residual.{skip}
-use Rattle.process_state.specs.declared.layers.Layer.{Layer}
-use Rattle.process_state.specs.declared.layers.Layer.TheVariants as layer
-use Rattle.process_state.specs.Layers.{inside, standing}
-use Rattle.process_state.specs.Sought.{is_handling, NoneIs, LastIs}
-use Rattle.process_state.specs.Room.{Fits, own_room}
-use Rattle.process_state.specs.Unwound.{unwound, handler_in}
-use Rattle.process_state.proofs.Seeking.{catches_last}
+use Rattle.body_layers.specs.declared.layers.Layer.{Layer}
+use Rattle.body_layers.specs.declared.layers.Layer.TheVariants as layer
+use Rattle.body_layers.specs.Layers.{inside, standing}
+use Rattle.body_layers.specs.Sought.{is_handling, NoneIs, LastIs}
+use Rattle.body_layers.specs.Room.{Fits, own_room}
+use Rattle.body_layers.specs.Unwound.{unwound, handler_in}
+use Rattle.body_layers.proofs.Seeking.{catches_last}
 use Rattle.process_state.proofs.Keeping.{fits_at_cap, fits_length}
 use Rattle.process_state.proofs.Stepping.{le_to}
 use Rattle.process_state.proofs.Unwinds.{no_goal, kept_none, last_true, raise_last, raise_fits, set_raised, own_raised, caught_none}

@@ -2,10 +2,10 @@ use Rattle.std.proofs.Common.{◌≡◌, ℕ, ◌+◌, ◌≤◌, List, ◌++◌
 use Rattle.std.specs.Vec.{vec_capacity}
 use Rattle.flat_design.specs.Code.{arena_of}
 use Rattle.sim_model.specs.Residual.{settle}
-use Rattle.process_state.specs.declared.layers.Layer.{Layer}
-use Rattle.process_state.specs.Layers.{inside, standing, landed, layers_of, statement_of}
-use Rattle.process_state.specs.Room.{Fits, own_room}
-use Rattle.process_state.proofs.Settling.{inside_append}
+use Rattle.body_layers.specs.declared.layers.Layer.{Layer}
+use Rattle.body_layers.specs.Layers.{inside, standing, landed, layers_of, statement_of}
+use Rattle.body_layers.specs.Room.{Fits, own_room}
+use Rattle.body_layers.proofs.Settling.{inside_append}
 use Rattle.process_state.proofs.Keeping.{fits_at_cap, own_comes}
 use Rattle.process_state.proofs.Stepping.{le_to}
 use Rattle.process_state.proofs.body.Body.settle_to.Goals as goal

@@ -3,11 +3,11 @@ use Rattle.std.specs.Vec.{vec_capacity}
 use Rattle.flat_design.specs.Code.{arena_of}
 use Rattle.sim_model.specs.Residual as residual
 use Rattle.sim_model.specs.Residual.{skip}
-use Rattle.process_state.specs.declared.layers.Layer.{Layer}
-use Rattle.process_state.specs.declared.layers.Layer.TheVariants as layer
-use Rattle.process_state.specs.Layers.{inside, standing}
-use Rattle.process_state.specs.Room.{Fits, own_room}
-use Rattle.process_state.specs.Unwound.{unwound}
+use Rattle.body_layers.specs.declared.layers.Layer.{Layer}
+use Rattle.body_layers.specs.declared.layers.Layer.TheVariants as layer
+use Rattle.body_layers.specs.Layers.{inside, standing}
+use Rattle.body_layers.specs.Room.{Fits, own_room}
+use Rattle.body_layers.specs.Unwound.{unwound}
 use Rattle.process_state.proofs.Keeping.{fits_at_cap, fits_length}
 use Rattle.process_state.proofs.Stepping.{le_to}
 use Rattle.process_state.proofs.Unwinds.{unw_left, no_goal, kept_none, unwind_fits, own_all_unwound}

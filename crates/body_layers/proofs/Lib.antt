@@ -1,0 +1,6 @@
+pub mod Settling
+pub mod Blocks
+pub mod Lands
+pub mod Rooms
+pub mod Seeking
+pub mod Leaving

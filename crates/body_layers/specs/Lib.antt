@@ -1,0 +1,5 @@
+pub mod Layers
+pub mod Room
+pub mod Sought
+pub mod Unwound
+pub mod Changed
