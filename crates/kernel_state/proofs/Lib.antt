@@ -1,3 +1,4 @@
 pub mod ProcessFrames
 pub mod Frames
 pub mod Fifos
+pub mod Offsprings

@@ -1,3 +1,4 @@
 pub mod Processes
 pub mod Kernel
 pub mod Moves
+pub mod Spawned

@@ -2,9 +2,11 @@
 use body_code::Program;
 use channel_board::ChannelBoard;
 use event_board::EventBoard;
-use flat_design::Design;
+use event_core::Ev;
+use flat_design::{CodeId, Design};
+use instance_table::ProcessKind;
 use logic_values::Value;
-use plain_lists::Bytes;
+use plain_lists::{Bytes, Items};
 use process_state::Body;
 use schedule::{Schedule, Trigger};
 use sim_model::Phase;
@@ -71,4 +73,21 @@ pub struct Kernel {
     /// How many steps were made that may have given a number: serials, payload numbers, counts of holders and values of
     /// semaphores rise by no more than this does.
     pub made: u32,
+}
+
+/// What a spawned instance is made of.
+#[derive(Drop)]
+pub struct Offspring {
+    /// Whether it is a thread or a method.
+    pub kind: ProcessKind,
+    /// The number, among the instances of modules, of the one that it is in.
+    pub home: u32,
+    /// The number of its body.
+    pub code: CodeId,
+    /// Its first arguments.
+    pub arguments: Vec<Value>,
+    /// Its static sensitivity.
+    pub sensitive: Items<Ev>,
+    /// Whether it waits for that, and is not runnable at once.
+    pub waits: bool,
 }

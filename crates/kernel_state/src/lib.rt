@@ -3,8 +3,10 @@
 
 mod kernel;
 mod moves;
+mod spawning;
 mod statements;
 
-pub use kernel::{Cycle, Kept, Kernel, PathOf};
+pub use kernel::{Cycle, Kept, Kernel, Offspring, PathOf};
 pub use moves::{fire, notify, pass, set_local, set_variable, settle, wait, wake};
+pub use spawning::spawn;
 pub use statements::{block, store_variable, wait_so, write_fifo};

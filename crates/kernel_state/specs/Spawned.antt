@@ -1,0 +1,35 @@
+-- A spawned instance.
+use Rattle.std.specs.Prelude.{ℕ, Bool, true, false, List, ◌∷◌, ◌++◌, slice_get, Option, Some, None, if◌then◌else◌}
+use Rattle.std.specs.Fmt.{decimal}
+use Rattle.flat_design.specs.Code.{arena_of, body_at}
+use Rattle.flat_design.specs.declared.design.Design.{Design}
+use Rattle.sim_model.specs.Residual.{skip}
+use Rattle.sim_model.specs.Configuration as model
+use Rattle.sim_model.specs.Configuration.{Config, Instance, below}
+use Rattle.sim_model.specs.Calls.{body_name, home_path, added, runnable_unless}
+use Rattle.schedule.specs.Seen.{kind_of}
+use Rattle.kernel_state.specs.declared.kernel.Offspring.{Offspring}
+
+-- before its body begins, it waits for its static sensitivity or for nothing
+abbrev pub offspring_in : Design → ℕ → Offspring → Instance
+offspring_in d serial o = record {
+  kind = kind_of o.kind;
+  home = o.home;
+  path = below (home_path d (slice_get d.instances o.home)) (body_name (body_at (arena_of d.code) o.code) ++ 95 ∷ decimal serial);
+  static = o.sensitive;
+  code = o.code;
+  arguments = o.arguments.items;
+  residual = skip;
+  started = false;
+  wait = if o.waits then model.waits_statically else model.waits_for_nothing;
+  deadline = model.no_deadline;
+  trigger = None;
+  suspended = false;
+  kept = false;
+  disabled = false;
+  ended = false;
+}
+
+-- the configuration with it under the next serial
+abbrev pub with_offspring : Config → ℕ → Offspring → Config
+with_offspring c serial o = runnable_unless o.waits serial (added c (offspring_in c.design serial o))

@@ -1,0 +1,52 @@
+//! Spawned instances.
+ghost use Rattle.std.specs.Prelude.{◌≡◌, ◌<◌, ◌+◌, ◌^◌, ℕ, Err, IfOk, OnErr, length};
+ghost use Rattle.sim_model.specs.Configuration.{Config};
+ghost use Rattle.sim_model.specs.Calls.{may_spawn};
+ghost use Rattle.flat_design.specs.declared.faults.RunFault.TheVariants as fault;
+ghost use Rattle.kernel_state.specs.Kernel.{StandsFor, IsSound};
+ghost use Rattle.kernel_state.specs.Moves.{Moves};
+ghost use Rattle.kernel_state.specs.Spawned.{with_offspring};
+
+use crate::kernel::{Kept, Kernel, Offspring, PathOf};
+use instance_table::SpawnStop;
+use process_moves::spawn as spawn_process;
+use process_state::Body;
+use std::alloc::Global;
+
+/// A new instance is spawned, and its serial is answered (IEEE 1666-2011, 5.5). It is refused where as many are live as may
+/// be, and where memory is; then nothing changes.
+pub fn spawn(k: &mut Kernel, alloc: Global, o: Offspring) -> Result<u32, SpawnStop>
+    requires sound { IsSound k.old }
+    requires room { k.old.made < 2 ^ 31 + 2 }
+    ensures serial { IfOk result (λ n. (c : Config) → StandsFor k.old c → n ≡ length c.processes.instances) }
+    ensures spawned { IfOk result (λ n. Moves k.old k.new (λ c. with_offspring c n o)) }
+    ensures stays { OnErr result (Moves k.old k.new (λ c. c)) }
+    ensures sound { IsSound k.new }
+{
+    let serial = k.schedule.table.next_serial();
+    let Offspring {
+        kind,
+        home,
+        code,
+        arguments,
+        sensitive,
+        waits,
+    } = o;
+    let body = match Body::start(alloc, &k.program, code, arguments) {
+        Ok(body) => body,
+        Err(_) => return Err(SpawnStop::NoMemory),
+    };
+    let kept = Kept {
+        home,
+        path: PathOf::Spawned(serial),
+        body,
+        trigger: None,
+    };
+    match spawn_process(&mut k.schedule, kind, sensitive, kept, waits) {
+        Ok(serial) => {
+            k.made += 1;
+            Ok(serial)
+        }
+        Err(stop) => Err(stop),
+    }
+}
