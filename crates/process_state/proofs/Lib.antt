@@ -3,3 +3,4 @@ pub mod Keeping
 pub mod Stepping
 pub mod Unwinds
 pub mod Shows
+pub mod Numbers

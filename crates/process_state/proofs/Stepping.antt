@@ -7,6 +7,7 @@ use Rattle.flat_design.specs.Reach.{inner_blocks}
 use Rattle.sim_model.specs.Residual as residual
 use Rattle.sim_model.specs.Residual.{Residual, Frame, skip, one, frame, goal, followed, put, next_of, frame_end, innermost, in_innermost, within, in_nb, has_goal}
 use Rattle.sim_model.specs.Unwinding.{has_exit, returned}
+use Rattle.sim_model.specs.declared.plain.Goal.{Goal}
 use Rattle.body_code.specs.Depths.{blocks_of, blocks_in, depth_of}
 use Rattle.body_code.specs.Around.{around_at, around_if, around_of}
 use Rattle.body_code.specs.declared.around.Around.{Around}
@@ -32,7 +33,7 @@ le_to n x y e h = let P : ℕ → Type 0 = λ m. n ≤ m in subst P (sym e) h
 same_statement : (t s : ℕ) → next.Statement t ≡ next.Statement s → t ≡ s
 same_statement t s e = cc
 
-pub statement_comes : (n : residual.Next) (c : Comes) → IsStatement n → shown n ≡ shown_by c → (s : ℕ) × (statement_of c ≡ Some s) × (n ≡ residual.statement s)
+pub statement_comes : (n : residual.Next) (c : Comes) → IsStatement (shown n) → shown n ≡ shown_by c → (s : ℕ) × (statement_of c ≡ Some s) × (n ≡ residual.statement s)
 statement_comes (residual.statement t) comes.Nothing h e = cc
 statement_comes (residual.statement t) comes.Leave h e = cc
 statement_comes (residual.statement t) comes.Done h e = cc
@@ -54,7 +55,7 @@ leave_comes (comes.Statement s) e = cc
 leave_comes (comes.InBlock s c) e = cc
 leave_comes (comes.InUnwind s c) e = cc
 
-pub goal_comes : (n : residual.Next) (c : Comes) → IsGoal n → shown n ≡ shown_by c → (k : _) × (c ≡ comes.Goal k)
+pub goal_comes : (n : residual.Next) (c : Comes) → IsGoal (shown n) → shown n ≡ shown_by c → (k : _) × (c ≡ comes.Goal k)
 goal_comes (residual.reaches g) comes.Nothing h e = cc
 goal_comes (residual.reaches g) comes.Leave h e = cc
 goal_comes (residual.reaches g) comes.Done h e = cc
@@ -217,3 +218,36 @@ statement_same s t e = cc
 -- a call is not the body's own
 pub room_of_call : (o : Option ℕ) (s m n : ℕ) → o ≡ Some s → room_of_own o m n ≡ n
 room_of_call o s m n e = ap (λ p. room_of_own p m n) e
+
+-- what comes next, by what shows of it
+
+pub shown_statement : (n : residual.Next) (s : ℕ) → shown n ≡ next.Statement s → n ≡ residual.statement s
+shown_statement (residual.statement t) s e = ap residual.statement (same_statement t s e)
+shown_statement (residual.leaves x) s e = cc
+shown_statement residual.done s e = cc
+shown_statement (residual.reaches k) s e = cc
+shown_statement residual.nothing s e = cc
+
+pub shown_goal : (n : residual.Next) (k : Goal) → shown n ≡ next.Goal k → n ≡ residual.reaches k
+shown_goal (residual.statement t) k e = cc
+shown_goal (residual.leaves x) k e = cc
+shown_goal residual.done k e = cc
+shown_goal (residual.reaches g) k e = ap residual.reaches same
+  where
+    same : g ≡ k
+    same = cc
+shown_goal residual.nothing k e = cc
+
+pub shown_done : (n : residual.Next) → shown n ≡ next.Done → n ≡ residual.done
+shown_done (residual.statement t) e = cc
+shown_done (residual.leaves x) e = cc
+shown_done residual.done e = refl
+shown_done (residual.reaches g) e = cc
+shown_done residual.nothing e = cc
+
+pub shown_nothing : (n : residual.Next) → shown n ≡ next.Nothing → n ≡ residual.nothing
+shown_nothing (residual.statement t) e = cc
+shown_nothing (residual.leaves x) e = cc
+shown_nothing residual.done e = cc
+shown_nothing (residual.reaches g) e = cc
+shown_nothing residual.nothing e = refl

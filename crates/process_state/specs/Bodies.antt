@@ -11,7 +11,9 @@ use Rattle.body_code.specs.declared.program.Program.{Program}
 use Rattle.body_code.specs.declared.around.Around.{Around}
 use Rattle.body_code.specs.declared.around.Around.TheVariants as around
 use Rattle.process_state.specs.declared.body.Body.{Body}
-use Rattle.body_layers.specs.Layers.{inside, standing}
+use Rattle.body_layers.specs.declared.layers.Next.{Next}
+use Rattle.body_layers.specs.declared.layers.Next.TheVariants as next
+use Rattle.body_layers.specs.Layers.{inside, standing, shown}
 use Rattle.body_layers.specs.Room.{Fits, own_room, locals_with, body_depth}
 
 -- the residual that a body stands for, over the code that it is used with; and what it settles to
@@ -23,6 +25,10 @@ left_in p b = left_of (arena_of p.code) b
 
 abbrev pub settled_in : Program → Body → Residual
 settled_in p b = settle (arena_of p.code) (left_in p b)
+
+-- what comes next, once finished parts have fallen away
+abbrev pub next_in : Program → Body → Next
+next_in p b = shown (next_of (settled_in p b))
 
 -- A body has room for all that may come inside its layers, for its own local variables when it begins again, and for its
 -- first layers then.
@@ -37,19 +43,19 @@ pub record Keeps (old new : Body) : Type 0 where
   pub arguments : new.arguments.items ≡ old.arguments.items
 
 -- what comes next is a statement; a goal
-abbrev pub IsStatement : residual.Next → Type 0
-IsStatement (residual.statement s) = Unit {0}
-IsStatement (residual.leaves x) = ⊥
-IsStatement residual.done = ⊥
-IsStatement (residual.reaches k) = ⊥
-IsStatement residual.nothing = ⊥
+abbrev pub IsStatement : Next → Type 0
+IsStatement (next.Statement s) = Unit {0}
+IsStatement next.Leave = ⊥
+IsStatement next.Done = ⊥
+IsStatement (next.Goal k) = ⊥
+IsStatement next.Nothing = ⊥
 
-abbrev pub IsGoal : residual.Next → Type 0
-IsGoal (residual.statement s) = ⊥
-IsGoal (residual.leaves x) = ⊥
-IsGoal residual.done = ⊥
-IsGoal (residual.reaches k) = Unit {0}
-IsGoal residual.nothing = ⊥
+abbrev pub IsGoal : Next → Type 0
+IsGoal (next.Statement s) = ⊥
+IsGoal next.Leave = ⊥
+IsGoal next.Done = ⊥
+IsGoal (next.Goal k) = Unit {0}
+IsGoal next.Nothing = ⊥
 
 -- what a statement puts around its block: a loop follows its block again
 abbrev pub enclosed : Arena → ℕ → Around → Residual → Residual

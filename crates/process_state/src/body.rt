@@ -7,9 +7,10 @@ ghost use Rattle.sim_model.specs.Unwinding.{returned};
 ghost use Rattle.sim_model.specs.Storing.{with_local};
 ghost use Rattle.body_code.specs.Depths.{blocks_of};
 ghost use Rattle.body_code.specs.Around.{around_at};
+ghost use Rattle.sim_model.specs.declared.plain.Goal.{Goal as Aim};
 ghost use Rattle.body_code.specs.declared.program.Program.{Program as Whole};
-ghost use Rattle.body_layers.specs.Layers.{call_of, shown, shown_by, statement_of, EndsIn};
-ghost use Rattle.process_state.specs.Bodies.{left_of, left_in, settled_in, IsSound, Keeps, IsStatement, IsGoal, enclosed};
+ghost use Rattle.body_layers.specs.Layers.{call_of, shown_by, statement_of, EndsIn};
+ghost use Rattle.process_state.specs.Bodies.{left_of, left_in, settled_in, next_in, IsSound, Keeps, IsStatement, IsGoal, enclosed};
 
 use body_code::Program;
 use body_layers::{
@@ -42,7 +43,7 @@ impl Body {
         ensures grows { length self.new.layers.items ≤ length self.old.layers.items + 1 }
         ensures room { vec_capacity self.old.layers ≤ vec_capacity self.new.layers }
         ensures left { left_in program.now self.new ≡ settled_in program.now self.old }
-        ensures shows { shown (next_of (settled_in program.now self.old)) ≡ shown_by result }
+        ensures shows { next_in program.now self.old ≡ shown_by result }
         ensures statement { self.new.statement ≡ statement_of result }
         ensures ends { EndsIn self.new.layers.items result }
         ensures sound { IsSound program.now self.new }
@@ -66,7 +67,11 @@ impl Body {
 
     /// What comes next once finished parts have fallen away. The body is not changed.
     pub fn next(&self, program: &Program) -> Next
-        ensures { result ≡ shown (next_of (settled_in program.now self.now)) }
+        ensures value { result ≡ next_in program.now self.now }
+        ensures statement { (s : ℕ) → result ≡ Next.Statement s → next_of (settled_in program.now self.now) ≡ residual.statement s }
+        ensures goal { (k : Aim) → result ≡ Next.Goal k → next_of (settled_in program.now self.now) ≡ residual.reaches k }
+        ensures done { result ≡ Next.Done → next_of (settled_in program.now self.now) ≡ residual.done }
+        ensures nothing { result ≡ Next.Nothing → next_of (settled_in program.now self.now) ≡ residual.nothing }
     {
         let landing = land(program, self.layers.as_slice(), self.statement);
         next_shown(landing.comes)
@@ -75,7 +80,7 @@ impl Body {
     /// The statement in place is past.
     pub fn past(&mut self, program: &Program)
         requires sound { IsSound program.now self.old }
-        requires statement { IsStatement (next_of (settled_in program.now self.old)) }
+        requires statement { IsStatement (next_in program.now self.old) }
         ensures left { left_in program.now self.new ≡ put (settled_in program.now self.old) skip }
         ensures sound { IsSound program.now self.new }
         ensures kept { Keeps self.old self.new }
@@ -85,10 +90,10 @@ impl Body {
     }
 
     /// The statement in place goes on with one of its blocks, and with what it puts around that.
-    pub fn into(&mut self, program: &Program, block: BlockId)
+    pub fn begin_block(&mut self, program: &Program, block: BlockId)
         requires sound { IsSound program.now self.old }
-        requires statement { IsStatement (next_of (settled_in program.now self.old)) }
-        requires inner { (s : ℕ) → next_of (settled_in program.now self.old) ≡ residual.statement s → Contains (blocks_of (arena_of program.now.code) s) block }
+        requires statement { IsStatement (next_in program.now self.old) }
+        requires inner { (s : ℕ) → next_in program.now self.old ≡ Next.Statement s → Contains (blocks_of (arena_of program.now.code) s) block }
         ensures left { (s : ℕ) → next_of (settled_in program.now self.old) ≡ residual.statement s → left_in program.now self.new ≡ put (settled_in program.now self.old) (enclosed (arena_of program.now.code) s (around_at (arena_of program.now.code) s) (residual.block (arena_of program.now.code) block)) }
         ensures sound { IsSound program.now self.new }
         ensures kept { Keeps self.old self.new }
@@ -104,7 +109,7 @@ impl Body {
     /// A call ends: its frame is taken away.
     pub fn leave(&mut self, program: &Program) -> Frame
         requires sound { IsSound program.now self.old }
-        requires leaves { shown (next_of (settled_in program.now self.old)) ≡ Next.Leave }
+        requires leaves { next_in program.now self.old ≡ Next.Leave }
         ensures frame { next_of (settled_in program.now self.old) ≡ residual.leaves (call_of result) }
         ensures left { left_in program.now self.new ≡ put (settled_in program.now self.old) skip }
         ensures sound { IsSound program.now self.new }
@@ -117,7 +122,7 @@ impl Body {
     /// The goal of an unwinding is reached: the body goes on behind it.
     pub fn go_on(&mut self, program: &Program)
         requires sound { IsSound program.now self.old }
-        requires reaches { IsGoal (next_of (settled_in program.now self.old)) }
+        requires reaches { IsGoal (next_in program.now self.old) }
         ensures left { left_in program.now self.new ≡ put (settled_in program.now self.old) skip }
         ensures sound { IsSound program.now self.new }
         ensures kept { Keeps self.old self.new }

@@ -3,10 +3,15 @@
 #![tactic(auto)]
 
 mod body;
+mod laws;
 mod shown;
 mod starting;
 mod unwind;
 
 pub use body::Body;
 pub use body_layers::{Frame, Next};
+pub use laws::stands_without_numbers;
 pub use starting::EnterStop;
+
+#[cfg(test)]
+mod tests;

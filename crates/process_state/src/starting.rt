@@ -9,7 +9,7 @@ ghost use Rattle.body_code.specs.Depths.{locals_at};
 ghost use Rattle.body_code.specs.declared.program.Program.{Program as Whole};
 ghost use Rattle.body_layers.specs.Layers.{call_of, inside, standing, layers_of, statement_of};
 ghost use Rattle.body_layers.specs.Room.{Fits, FitsAll, kept_along, own_room, locals_with, body_depth, begun_in};
-ghost use Rattle.process_state.specs.Bodies.{left_of, left_in, settled_in, IsSound, Keeps, IsStatement, HasRoomFor};
+ghost use Rattle.process_state.specs.Bodies.{left_of, left_in, settled_in, next_in, IsSound, Keeps, IsStatement, HasRoomFor};
 
 use crate::body::Body;
 use body_code::Program;
@@ -151,7 +151,7 @@ impl Body {
         via: Option<Via>,
     ) -> Result<(), EnterStop>
         requires sound { IsSound program.now self.old }
-        requires statement { IsStatement (next_of (settled_in program.now self.old)) }
+        requires statement { IsStatement (next_in program.now self.old) }
         ensures entered { OnOk result ((s : ℕ) → next_of (settled_in program.now self.old) ≡ residual.statement s → left_in program.now self.new ≡ put (settled_in program.now self.old) (entered (arena_of program.now.code) function arguments.items (Some s) via)) }
         ensures refused { OnErr result (left_in program.now self.new ≡ left_in program.now self.old) }
         ensures shallow { OnOk result (open_frames (settled_in program.now self.old) < frame_limit) }
@@ -186,7 +186,7 @@ impl Body {
         via: Option<Via>,
     )
         requires sound { IsSound program.now self.old }
-        requires statement { IsStatement (next_of (settled_in program.now self.old)) }
+        requires statement { IsStatement (next_in program.now self.old) }
         requires room { HasRoomFor program.now self.old function }
         ensures left { (s : ℕ) → next_of (settled_in program.now self.old) ≡ residual.statement s → left_in program.now self.new ≡ put (settled_in program.now self.old) (residual.frame (begun_in (arena_of program.now.code) (body_at (arena_of program.now.code) function)) (record { body = function; locals = locals.items; answer = None; call = Some s; via = via })) }
         ensures sound { IsSound program.now self.new }

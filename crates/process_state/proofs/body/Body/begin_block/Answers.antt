@@ -7,13 +7,13 @@ use Rattle.sim_model.specs.Residual.{Residual, next_of, put, block}
 use Rattle.body_code.specs.Depths.{blocks_of}
 use Rattle.body_code.specs.Around.{around_at}
 use Rattle.body_layers.specs.declared.layers.Layer.{Layer}
-use Rattle.body_layers.specs.Layers.{inside, standing, landed, layers_of, layers_around, statement_of}
+use Rattle.body_layers.specs.Layers.{shown, inside, standing, landed, layers_of, layers_around, statement_of}
 use Rattle.body_layers.specs.Room.{Fits, own_room}
 use Rattle.process_state.specs.Bodies.{settled_in, enclosed}
 use Rattle.body_layers.proofs.Settling.{inside_append}
 use Rattle.process_state.proofs.Keeping.{fits_at_cap, own_comes, own_around}
 use Rattle.process_state.proofs.Stepping.{le_to, statement_comes, put_statement, around_few, enclosed_inside, enclosing_room, enclosing_fits, some_same, statement_same}
-use Rattle.process_state.proofs.body.Body.into.Goals as goal
+use Rattle.process_state.proofs.body.Body.begin_block.Goals as goal
 
 pub add_around-requires : goal.add_around-requires
 add_around-requires c =
@@ -27,7 +27,7 @@ add_around-requires c =
     let same : w.0 ≡ s = some_same w.0 s (sym (c.settle_to.ensures.statement ∙ w.1) ∙ c.in-Some.is) in
     let P : Option ℕ → Type 0 = λ o. Fits a ds cap 1 0 b.layers.items o in
     let h = subst P c.in-Some.is c.settle_to.ensures.sound.room in
-    let room = enclosing_room a ds cap b.layers.items s c.args.block c.around.result (sym c.around.ensures) h (c.requires.inner s (w.2 ∙ ap residual.statement same)) in
+    let room = enclosing_room a ds cap b.layers.items s c.args.block c.around.result (sym c.around.ensures) h (c.requires.inner s (ap shown (w.2 ∙ ap residual.statement same))) in
     omega (arith, room, around_few c.around.result s, b.layers.ok.0)
 
 pub add_layers-self-requires : goal.add_layers-self-requires
@@ -42,7 +42,7 @@ add_layers-self-requires c =
     let same : w.0 ≡ s = some_same w.0 s (sym (c.settle_to.ensures.statement ∙ w.1) ∙ c.in-Some.is) in
     let P : Option ℕ → Type 0 = λ o. Fits a ds cap 1 0 b.layers.items o in
     let h = subst P c.in-Some.is c.settle_to.ensures.sound.room in
-    let room = enclosing_room a ds cap b.layers.items s c.args.block c.around.result (sym c.around.ensures) h (c.requires.inner s (w.2 ∙ ap residual.statement same)) in
+    let room = enclosing_room a ds cap b.layers.items s c.args.block c.around.result (sym c.around.ensures) h (c.requires.inner s (ap shown (w.2 ∙ ap residual.statement same))) in
     omega (arith, room, around_few c.around.result s, length-append b.layers.items (layers_around c.around.result s), ap length c.add_around.ensures.items, c.add_around.ensures.capacity, c.block_begins-comes.ensures.few, b.layers.ok.0, c.add_around.new.layers.ok.0)
 
 pub returns-in-Some-clause-left : goal.returns-in-Some-clause-left
@@ -84,7 +84,7 @@ returns-in-Some-clause-sound c =
     let same : w.0 ≡ s = some_same w.0 s (sym (c.settle_to.ensures.statement ∙ w.1) ∙ c.in-Some.is) in
     let P : Option ℕ → Type 0 = λ o. Fits a ds cap 1 0 b.layers.items o in
     let h = subst P c.in-Some.is c.settle_to.ensures.sound.room in
-    let fits = enclosing_fits a ds cap b.layers.items s c.args.block v (sym c.around.ensures) h (c.requires.inner s (w.2 ∙ ap residual.statement same)) comes (c.block_begins-comes.ensures.room cap) in
+    let fits = enclosing_fits a ds cap b.layers.items s c.args.block v (sym c.around.ensures) h (c.requires.inner s (ap shown (w.2 ∙ ap residual.statement same))) comes (c.block_begins-comes.ensures.room cap) in
     let items : c.add_layers-self.new.layers.items ≡ b.layers.items ++ layers_around v s ++ layers_of comes = c.add_layers-self.ensures.items ∙ ap (λ ks. ks ++ layers_of comes) c.add_around.ensures.items in
     let wide : cap ≤ vec_capacity c.add_layers-self.new.layers = omega (arith, c.add_around.ensures.capacity, c.add_layers-self.ensures.capacity) in
     let owns : own_room spare c.add_layers-self.new.layers.items ≡ own_room spare b.layers.items =

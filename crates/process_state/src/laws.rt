@@ -1,0 +1,10 @@
+ghost use Rattle.std.specs.Prelude.{◌≡◌};
+ghost use Rattle.flat_design.specs.Code.{Arena};
+ghost use Rattle.body_model.specs.Strip.{strip};
+ghost use Rattle.process_state.specs.declared.body.Body.{Body as Kept};
+ghost use Rattle.process_state.specs.Bodies.{left_of};
+
+/// What a body stands for has no numbers of guards.
+pub fn stands_without_numbers()
+    ensures { (a : Arena) (b : Kept) → strip (left_of a b) ≡ left_of a b }
+{}
