@@ -14,8 +14,8 @@ ghost use Rattle.process_state.specs.Bodies.{left_of, left_in, settled_in, next_
 
 use body_code::Program;
 use body_layers::{
-    Comes, Frame, Layer, Next, Sought, add_around, add_layers, block_begins, drop_layer, keep_layers,
-    land, last, next_shown, set_answer, set_local_in, take_frame,
+    Comes, Frame, Layer, Next, Sought, add_around, add_layers, block_begins, drop_layer,
+    keep_layers, land, last, next_shown, set_answer, set_local_in, take_frame,
 };
 use flat_design::{BlockId, CodeId, StmtId};
 use logic_values::Value;

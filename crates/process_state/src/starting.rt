@@ -14,8 +14,8 @@ ghost use Rattle.process_state.specs.Bodies.{left_of, left_in, settled_in, next_
 use crate::body::Body;
 use body_code::Program;
 use body_layers::{
-    Frame, Layer, add_layers, add_locals, body_begins, depth_in, keep_layers, locals_in, many_locals,
-    place,
+    Frame, Layer, add_layers, add_locals, body_begins, depth_in, keep_layers, locals_in,
+    many_locals, place,
 };
 use flat_design::{CodeId, Local, StmtId};
 use logic_values::Value;

@@ -105,23 +105,18 @@ fn a_kill_runs_the_unwind_block(rt: HostRuntime) -> Result<(), Fail> {
 }
 
 #[test]
-fn a_call_hands_its_variables_back(rt: HostRuntime) -> Result<(), Fail> {
+fn a_call_is_left_with_its_variables(rt: HostRuntime) -> Result<(), Fail> {
     let program = sample(rt.alloc())?;
     let mut body = Body::start(rt.alloc(), &program, 0, Vec::new(rt.alloc()))?;
     body.restart(&program);
-    shows(body.next(&program), Next::Statement(1))?;
     body.set_local(0, Value::Bool(true));
+    body.reserve(&program, 1)?;
+    shows(body.next(&program), Next::Statement(1))?;
     body.enter(&program, 1, Vec::new(rt.alloc()), None)?;
     assert_eq!(rt; body.local(&program, 0), Some(Value::Bool(false)));
-    assert_eq!(rt; body.open_calls(&program), 1);
     shows(body.next(&program), Next::Leave)?;
     let frame = body.leave(&program);
     assert_eq!(rt; frame.call, Some(1));
-    assert_eq!(rt; frame.locals.len(), 1);
     assert_eq!(rt; body.local(&program, 0), Some(Value::Bool(true)));
-    body.settle(&program);
-    shows(body.next(&program), Next::Done)?;
-    body.idle();
-    shows(body.next(&program), Next::Nothing)?;
     Ok(())
 }

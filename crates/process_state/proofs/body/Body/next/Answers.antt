@@ -11,7 +11,7 @@ returns-clause-statement c = λ s e.
     let a = arena_of c.args.program.now.code in
     let b = c.args.self.now in
     let from : next_in c.args.program.now b ≡ c.next_shown.result =
-        ap (λ ks. shown (next_of (settle a (inside a ks (standing b.statement))))) (sym c.as_slice.ensures.value) ∙ c.land-landing.ensures.shows ∙ sym c.next_shown.ensures in
+    ap (λ ks. shown (next_of (settle a (inside a ks (standing b.statement))))) (sym c.as_slice.ensures.value) ∙ c.land-landing.ensures.shows ∙ sym c.next_shown.ensures in
     shown_statement (next_of (settled_in c.args.program.now b)) s (from ∙ e)
 
 pub returns-clause-goal : goal.returns-clause-goal
@@ -19,7 +19,7 @@ returns-clause-goal c = λ k e.
     let a = arena_of c.args.program.now.code in
     let b = c.args.self.now in
     let from : next_in c.args.program.now b ≡ c.next_shown.result =
-        ap (λ ks. shown (next_of (settle a (inside a ks (standing b.statement))))) (sym c.as_slice.ensures.value) ∙ c.land-landing.ensures.shows ∙ sym c.next_shown.ensures in
+    ap (λ ks. shown (next_of (settle a (inside a ks (standing b.statement))))) (sym c.as_slice.ensures.value) ∙ c.land-landing.ensures.shows ∙ sym c.next_shown.ensures in
     shown_goal (next_of (settled_in c.args.program.now b)) k (from ∙ e)
 
 pub returns-clause-done : goal.returns-clause-done
@@ -27,7 +27,7 @@ returns-clause-done c = λ e.
     let a = arena_of c.args.program.now.code in
     let b = c.args.self.now in
     let from : next_in c.args.program.now b ≡ c.next_shown.result =
-        ap (λ ks. shown (next_of (settle a (inside a ks (standing b.statement))))) (sym c.as_slice.ensures.value) ∙ c.land-landing.ensures.shows ∙ sym c.next_shown.ensures in
+    ap (λ ks. shown (next_of (settle a (inside a ks (standing b.statement))))) (sym c.as_slice.ensures.value) ∙ c.land-landing.ensures.shows ∙ sym c.next_shown.ensures in
     shown_done (next_of (settled_in c.args.program.now b)) (from ∙ e)
 
 pub returns-clause-nothing : goal.returns-clause-nothing
@@ -35,5 +35,5 @@ returns-clause-nothing c = λ e.
     let a = arena_of c.args.program.now.code in
     let b = c.args.self.now in
     let from : next_in c.args.program.now b ≡ c.next_shown.result =
-        ap (λ ks. shown (next_of (settle a (inside a ks (standing b.statement))))) (sym c.as_slice.ensures.value) ∙ c.land-landing.ensures.shows ∙ sym c.next_shown.ensures in
+    ap (λ ks. shown (next_of (settle a (inside a ks (standing b.statement))))) (sym c.as_slice.ensures.value) ∙ c.land-landing.ensures.shows ∙ sym c.next_shown.ensures in
     shown_nothing (next_of (settled_in c.args.program.now b)) (from ∙ e)
