@@ -1,4 +1,4 @@
-ghost use Rattle.std.specs.Prelude.{◌≡◌, ℕ, None};
+ghost use Rattle.std.specs.Prelude.{◌≡◌, ℕ, [], None};
 ghost use Rattle.schedule.specs.Seen.{shown_at};
 ghost use Rattle.schedule.specs.Sound.{IsSound};
 
@@ -13,6 +13,8 @@ use wait_lists::WaitLists;
 pub fn empty<B>(alloc: Global) -> Schedule<B>
     ensures nobody { (p : ℕ) → shown_at result p ≡ None }
     ensures first { result.table.next ≡ 0 }
+    ensures stack { result.stack.items ≡ [] }
+    ensures due { result.due.items ≡ [] }
     ensures sound { IsSound result }
 {
     Schedule {
