@@ -4,6 +4,8 @@
 mod binds;
 mod ends;
 mod fits;
+#[cfg(test)]
+mod formed;
 mod forms;
 mod judge;
 mod kinds;
@@ -13,6 +15,8 @@ mod links;
 mod order;
 mod paths;
 mod rows;
+#[cfg(test)]
+mod tests;
 mod twice;
 
 pub use binds::bind;

@@ -1,0 +1,102 @@
+-- What is wrong with the instances of a model: a module that has itself among them, or too many objects.
+use Rattle.std.specs.Prelude.{ℕ, zero, suc, ◌+◌, ◌||◌, Bool, true, false, nat_lt, if◌then◌else◌, List, [], ◌∷◌, ◌++◌, length, bytes_eq, option_map, Option, Some, None, Contains}
+use Rattle.std.specs.List.{find, flat_map, list_any}
+use Rattle.std.specs.Option.{option_or}
+use Rattle.model_tree.specs.Tree as tree
+use Rattle.model_tree.specs.declared.faults.Fault.{Fault}
+use Rattle.model_tree.specs.declared.faults.Kind.TheVariants as kind
+use Rattle.flat_design.specs.declared.objects.Object.{Object}
+use Rattle.flat_design.specs.declared.objects.ObjectForm.{ObjectForm}
+use Rattle.flat_design.specs.declared.objects.ObjectForm.TheVariants as form
+use Rattle.object_rules.specs.Forms.{Name, items_of}
+use Rattle.object_rules.specs.Listing.{list_of}
+
+-- an instance: its line, and the name of its module
+pub record Made : Type 0 where
+  pub line : ℕ
+  pub kind : Name
+
+abbrev pub made_by : tree.Item → List Made
+made_by (tree.signal line s) = []
+made_by (tree.resolved line name) = []
+made_by (tree.clock line c) = []
+made_by (tree.fifo line t name size) = []
+made_by (tree.plain line kind name) = []
+made_by (tree.semaphore line name c) = []
+made_by (tree.memory line name size) = []
+made_by (tree.variable line t name c) = []
+made_by (tree.port line i name size) = []
+made_by (tree.export line i name) = []
+made_by (tree.initiator line name role) = []
+made_by (tree.target line name role) = []
+made_by (tree.instance line kind name) = (record { line = line; kind = kind }) ∷ []
+made_by (tree.bind line left right) = []
+made_by (tree.function line f) = []
+made_by (tree.process line p) = []
+
+-- those of a module in text order
+abbrev pub made_in : List tree.Item → List Made
+made_in items = flat_map made_by items
+
+-- a module has an instance of another, in itself or in one of its instances
+pub data Has (ms : List tree.Module) : Name → Name → Type 0 where
+  Directly : (outer : Name) (x : Made) → Contains (made_in (items_of ms outer)) x → Has ms outer x.kind
+  Through : (outer inner : Name) (x : Made) → Contains (made_in (items_of ms outer)) x → Has ms x.kind inner → Has ms outer inner
+
+-- the same within so many instances, one in the other
+unfoldable pub has_within : ℕ → List tree.Module → Name → Name → Bool
+has_within zero ms inner outer = false
+has_within (suc n) ms inner outer = list_any (λ (x : Made). bytes_eq x.kind inner || has_within n ms inner x.kind) (made_in (items_of ms outer))
+
+-- a module that has itself has itself within as many as there are modules
+abbrev pub has : List tree.Module → Name → Name → Bool
+has ms inner outer = has_within (length ms) ms inner outer
+
+-- the first instance in a module that is one of the module itself or has one
+abbrev pub first_of_itself : List tree.Module → tree.Module → Option Made
+first_of_itself ms m = find (λ (x : Made). bytes_eq x.kind m.name || has ms m.name x.kind) (made_in m.items)
+
+abbrev pub cycle_at : List tree.Module → tree.Module → Option Fault
+cycle_at ms m = option_map (λ (x : Made). record { kind = kind.ModuleCycle; line = x.line; name = m.name }) (first_of_itself ms m)
+
+-- of these modules, the first in text order on a cycle, at the line of that instance
+abbrev pub cycle_among : List tree.Module → List tree.Module → Option Fault
+cycle_among ms [] = None
+cycle_among ms (m ∷ more) = option_or (cycle_at ms m) (cycle_among ms more)
+
+abbrev pub cycle_fault : tree.Model → Option Fault
+cycle_fault m = cycle_among m.modules m.modules
+
+-- the bytes of memories together
+abbrev pub bytes_in : ObjectForm → ℕ
+bytes_in (form.Instance m) = 0
+bytes_in (form.Signal kind many t initial) = 0
+bytes_in form.Resolved = 0
+bytes_in (form.Clock period high start code) = 0
+bytes_in (form.Fifo t size) = 0
+bytes_in form.Mutex = 0
+bytes_in form.Event = 0
+bytes_in form.Keeper = 0
+bytes_in (form.Semaphore start) = 0
+bytes_in (form.Memory size) = size
+bytes_in (form.Variable t initial) = 0
+bytes_in (form.Port leads_to size rule) = 0
+bytes_in (form.Export leads_to) = 0
+bytes_in (form.Initiator pass backward) = 0
+bytes_in (form.Target pass blocking forward) = 0
+bytes_in (form.Process kind code dont_initialize) = 0
+
+abbrev pub bytes_of : List Object → ℕ
+bytes_of [] = 0
+bytes_of (o ∷ os) = bytes_in o.form + bytes_of os
+
+-- at most 65,536 objects, and at most 67,108,864 bytes
+abbrev pub are_too_many : List Object → Bool
+are_too_many os = nat_lt 65536 (length os) || nat_lt 67108864 (bytes_of os)
+
+abbrev pub limit_fault : tree.Model → Option Fault
+limit_fault m = if are_too_many (list_of m) then Some (record { kind = kind.TooManyObjects; line = m.top.line; name = m.top.name }) else None
+
+-- of a model that breaks no rule on single modules
+abbrev pub instances_fault : tree.Model → Option Fault
+instances_fault m = option_or (cycle_fault m) (limit_fault m)

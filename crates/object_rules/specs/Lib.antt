@@ -1,0 +1,5 @@
+pub mod Values
+pub mod Forms
+pub mod Listing
+pub mod Faults
+pub mod Written
