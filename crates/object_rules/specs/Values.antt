@@ -4,7 +4,7 @@ use Rattle.sim_time.specs.Times.{picoseconds_in}
 use Rattle.sim_time.specs.declared.moments.Time.{Time}
 use Rattle.logic_values.specs.Digits.{digits}
 use Rattle.logic_values.specs.Integers.{cut_of}
-use Rattle.logic_values.specs.declared.integers.Sign.TheVariants as sign
+use Rattle.logic_values.specs.declared.kinds.Sign.TheVariants as sign
 use Rattle.logic_values.specs.declared.kinds.Digit.{Digit}
 use Rattle.logic_values.specs.declared.kinds.Digit.TheVariants as digit
 use Rattle.logic_values.specs.declared.kinds.Value.{Value}
