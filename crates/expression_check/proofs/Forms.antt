@@ -12,17 +12,17 @@ use Rattle.model_tree.specs.declared.expressions.Conversion.{Conversion}
 use Rattle.model_scopes.specs.Meanings.{is_width}
 use Rattle.model_scopes.specs.Operators.{operands, unary_type, conversion_type, becomes_vector, concat_type, digit_count}
 use Rattle.model_scopes.specs.Scopes.{Scope, meaning_of}
-use Rattle.model_scopes.specs.Types.{type_seen, seen_of}
+use Rattle.model_scopes.specs.Types.{type_seen, seen_of, with_place}
 use Rattle.model_scopes.specs.declared.meanings.Seen.{Seen}
 use Rattle.model_scopes.specs.declared.meanings.Meaning.{Meaning}
 use Rattle.model_faults.specs.declared.needs.Need.{Need}
 use Rattle.model_faults.specs.declared.needs.Need.TheVariants as need_of
 use Rattle.model_faults.specs.Names.{name_if, is_unmet, is_wrong_place, head_of, unknown_of_head, wrong_of_head}
 use Rattle.model_faults.specs.Values.{fails, refuse, refuses, is_beyond, element_differs, place_differs, wide_place}
-use Rattle.model_faults.specs.Sites.{Site, channel_site, sites_as, has_index}
+use Rattle.model_faults.specs.Sites.{Site, channel_site, channel_sites, place_sites, sites_as, has_index}
 use Rattle.model_faults.specs.Passes.{constructs, fault_at, fault_of}
 use Rattle.expression_check.specs.Findings.{told, told_if}
-use Rattle.expression_check.specs.Judged.{at_of, is_wrong_at, differs_at, wide_at, channel_fault, own_fault}
+use Rattle.expression_check.specs.Judged.{at_of, is_wrong_at, differs_at, wide_at, object_at, channel_fault, own_fault}
 use Rattle.expression_check.specs.declared.channels.At.TheVariants as at
 
 pub or_nothing : {A : Type 0} (o : Option A) → option_or o None ≡ o
@@ -145,3 +145,15 @@ module _ (need : Need) (s : Scope) where
   member_sites x name f hf =
       rw hf (ap (λ o. option_or (option_or (told kind.UnknownName (first_line x) (unknown_of_head name (head_of s x))) o) (fault_of constructs (sites_as need_of.Object s x)))
       (sym (or_nothing (told kind.WrongKind (first_line x) (wrong_of_head (has_index need) name (head_of s x))))))
+
+-- the channel of a statement
+
+pub channel_sites_are : (s : Scope) (need : Need) (c : tree.Channel)
+    → option_or (channel_fault s.around need c.line c.name (at_of s c.place) (meaning_of s c.name)) (fault_of constructs (place_sites s c.place)) ≡ fault_of constructs (channel_sites s need c)
+channel_sites_are s need c = ap (λ o. option_or o (fault_of constructs (place_sites s c.place))) (sym (channel_is s need c))
+
+pub channel_at : (s : Scope) (place : tree.Place) (m : Option Meaning) → object_at (at_of s place) m ≡ option_and_then (with_place s place) m
+channel_at s tree.first None = refl
+channel_at s tree.first (Some m) = refl
+channel_at s (tree.place_number n) m = refl
+channel_at s (tree.computed e) m = refl

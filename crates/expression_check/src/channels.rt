@@ -6,9 +6,7 @@ ghost use Rattle.expression_check.specs.Findings.{faults_of};
 ghost use Rattle.expression_check.specs.Judged as spec;
 
 use super::findings::{Finding, told_if};
-use super::needs::is_unmet;
-use super::operators::is_integer;
-use super::types::{is_below, is_integer_type, is_port, places};
+use expression_types::{is_below, is_integer, is_integer_type, is_port, is_unmet, places};
 use model_faults::Need;
 use model_scopes::{ExpressionType, Meaning};
 use model_tree::Kind;

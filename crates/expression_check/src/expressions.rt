@@ -20,7 +20,7 @@ use super::judged::{
     Judged, binary, concat, convert, element, paren, slice, sound_value, time_literal, to_vector,
     unary,
 };
-use super::types::{logic_type, member_seen, object_if, type_seen};
+use expression_types::{logic_type, member_seen, object_if, type_seen};
 use model_faults::Need;
 use model_scopes::ExpressionType;
 use model_tree::{Expression, first_line};

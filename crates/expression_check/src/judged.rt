@@ -12,11 +12,11 @@ ghost use Rattle.expression_check.specs.Findings.{faults_of};
 ghost use Rattle.expression_check.specs.Judged as spec;
 
 use super::findings::{Finding, first_finding, told_if};
-use super::operators::{
-    becomes_vector, concat_type, conversion_type, digit_count, digit_type, given, is_integer,
-    is_within, operands, slice_type, unary_type,
+use expression_types::{
+    becomes_vector, concat_type, conversion_type, digit_count, digit_type, element_seen, given,
+    is_array, is_integer, is_time_literal, is_within, operands, slice_type, type_seen, unary_type,
+    value_if,
 };
-use super::types::{element_seen, is_array, is_time_literal, type_seen, value_if};
 use model_scopes::{ExpressionType, Seen};
 use model_tree::{BinaryOp, Conversion, Expression, Kind, UnaryOp, first_line};
 use name_tables::is_width;

@@ -47,7 +47,7 @@ pub fn type_seen(seen: Seen) -> Option<ExpressionType>
 }
 
 /// A value, where its type is known.
-pub(crate) fn value_if(e: Option<ExpressionType>) -> Seen
+pub fn value_if(e: Option<ExpressionType>) -> Seen
     ensures { result ≡ spec.value_if e }
 {
     match e {
@@ -57,7 +57,7 @@ pub(crate) fn value_if(e: Option<ExpressionType>) -> Seen
 }
 
 /// An object, where it is known.
-pub(crate) fn object_if(meaning: Option<Meaning>) -> Seen
+pub fn object_if(meaning: Option<Meaning>) -> Seen
     ensures { result ≡ spec.object_if meaning }
 {
     match meaning {
@@ -89,7 +89,7 @@ pub fn is_port(meaning: Meaning) -> bool
 }
 
 /// Whether a place that is written is below the size.
-pub(crate) fn is_below(n: u64, size: Option<u64>) -> bool
+pub fn is_below(n: u64, size: Option<u64>) -> bool
     ensures { result ≡ spec.is_below n size }
 {
     match size {
@@ -106,7 +106,7 @@ pub fn is_time_literal(n: u64, unit: Unit) -> bool
 }
 
 /// The type of a logic literal.
-pub(crate) fn logic_type(v: Lv) -> ExpressionType
+pub fn logic_type(v: Lv) -> ExpressionType
     ensures { result ≡ spec.logic_type (digits v) }
 {
     if v.width == 1 {
@@ -128,7 +128,7 @@ fn seen_member(member: Option<ValueMember>) -> Seen
 }
 
 /// What a member of an object stands for by the table.
-pub(crate) fn member_seen(seen: Seen, name: &[u8]) -> Seen
+pub fn member_seen(seen: Seen, name: &[u8]) -> Seen
     ensures { result ≡ spec.member_seen seen name.now }
 {
     match seen {
@@ -141,7 +141,7 @@ pub(crate) fn member_seen(seen: Seen, name: &[u8]) -> Seen
 }
 
 /// Whether an index reaches a byte: of a memory, or of a payload.
-pub(crate) fn is_array(seen: Seen) -> bool
+pub fn is_array(seen: Seen) -> bool
     ensures { result ≡ spec.is_array seen }
 {
     matches!(seen, Seen::Object(Meaning::Memory) | Seen::Bytes(_))
@@ -171,7 +171,7 @@ pub fn is_integer_type(e: Option<ExpressionType>) -> bool
 }
 
 /// What an element stands for.
-pub(crate) fn element_seen(of: Seen, index: Option<ExpressionType>) -> Seen
+pub fn element_seen(of: Seen, index: Option<ExpressionType>) -> Seen
     ensures { result ≡ spec.element_seen of index }
 {
     if is_integer_type(index) {
