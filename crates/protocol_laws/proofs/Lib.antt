@@ -1,0 +1,5 @@
+pub mod Histories
+pub mod Calls
+pub mod Vias
+pub mod Kept
+pub mod Runs

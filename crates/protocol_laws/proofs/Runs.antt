@@ -1,0 +1,67 @@
+-- In every run of a sound design each history is lawful.
+use Rattle.std.proofs.Common.{◌≡◌, ℕ, zero, suc, Bool, List, [], ◌∷◌, slice_get, map, replicate, length, unwrap_or, Option, Some, None, option_map, refl, sym, ap, ◌∙◌, subst}
+use Rattle.std.proofs.lemmas.Option.{none-some, same_Some, slice_get-map}
+use Rattle.model_tree.specs.declared.constructs.Construct.{Construct}
+use Rattle.transport_phases.specs.History.{Entry}
+use Rattle.transport_laws.specs.Lawful.{Lawful}
+use Rattle.transport_laws.proofs.LawfulLemmas.{lawful_empty}
+use Rattle.flat_design.specs.Sound.{SoundDesign}
+use Rattle.flat_design.specs.declared.design.ProcessPart.{ProcessPart}
+use Rattle.flat_design.specs.declared.design.Hop.{Hop}
+use Rattle.flat_design.specs.declared.design.Design.{Design}
+use Rattle.sim_model.specs.Configuration.{Config, Instance, first_instance, start}
+use Rattle.sim_model.specs.Transport.{history}
+use Rattle.sim_model.specs.Runs.{after}
+use Rattle.sim_model.specs.declared.plain.Command.{Command}
+use Rattle.sim_model.specs.declared.plain.Via.{Via}
+use Rattle.unwinding_laws.proofs.Steps.{start-sound}
+use Rattle.move_laws.proofs.Parts.{parts}
+use Rattle.move_laws.proofs.Runs.{kept-after}
+use Rattle.mark_laws.proofs.Fits.{In}
+use Rattle.protocol_laws.proofs.Histories.{Apart}
+use Rattle.protocol_laws.proofs.Vias.{Kinds}
+use Rattle.protocol_laws.proofs.Kept.{vias_at, calls_in, Protocol, protocol-kept, protocol-settled, protocol-between, protocol-taken}
+
+first_calls : (d : Design) (o : Option ProcessPart) → vias_at (option_map (first_instance d) o) ≡ []
+first_calls d None = refl
+first_calls d (Some x) = refl
+
+start_calls : (d : Design) (p : ℕ) → calls_in (map (first_instance d) d.processes) p ≡ []
+start_calls d p = ap vias_at (slice_get-map (first_instance d) d.processes p) ∙ first_calls d (slice_get d.processes p)
+
+first_kinds : (d : Design) (o : Option ProcessPart) (i : Instance) → option_map (first_instance d) o ≡ Some i → Kinds d i.residual
+first_kinds d None i at = absurd (none-some i at)
+first_kinds d (Some x) i at = subst (λ (j : Instance). Kinds d j.residual) (same_Some (first_instance d x) i at) tt
+
+-- before the first command each history is empty
+none_yet : (m n : ℕ) → unwrap_or (slice_get (replicate {A = List Entry} m []) n) [] ≡ []
+none_yet zero n = refl
+none_yet (suc m) zero = refl
+none_yet (suc m) (suc n) = none_yet m n
+
+one_each : (hops : List Hop) (n : ℕ) (x : Hop) → slice_get hops n ≡ Some x → slice_get (replicate {A = List Entry} (length hops) []) n ≡ Some []
+one_each [] n x at = absurd (none-some x at)
+one_each (y ∷ hops) zero x at = refl
+one_each (y ∷ hops) (suc n) x at = one_each hops n x at
+
+nothing_in : (v : Via) (vs : List Via) → vs ≡ [] → In v vs → ⊥
+nothing_in v vs none h = subst (In v) none h
+
+pub start-protocol : (d : Design) (script : List Command) → Protocol (parts (start d script))
+start-protocol d script = record {
+  hopped = record {
+    lawful = λ hop. subst Lawful (sym (none_yet (length d.hops) hop)) lawful_empty;
+    open_ = λ p v h. absurd (nothing_in v (calls_in (map (first_instance d) d.processes) p) (start_calls d p) h);
+    own = λ p. subst Apart (sym (start_calls d p)) tt;
+    across = λ p q v w apart a b. absurd (nothing_in v (calls_in (map (first_instance d) d.processes) p) (start_calls d p) a);
+  };
+  many = λ hop h there. ([], one_each d.hops hop h there);
+  kinds = λ p i at. first_kinds d (slice_get d.processes p) i (sym (slice_get-map (first_instance d) d.processes p) ∙ at);
+}
+
+module _ (missing : Construct → Bool) (d : Design) (script : List Command) (sound : SoundDesign missing d) (n : ℕ) (choices : List ℕ) (last : Config) (reached : after n choices (start d script) ≡ Some last) where
+  pub protocol-after : Protocol (parts last)
+  protocol-after = kept-after missing Protocol protocol-kept protocol-settled protocol-between protocol-taken n choices (start d script) last (start-sound missing d script sound) (start-protocol d script) reached
+
+  pub lawful-after : (hop : ℕ) → Lawful (history last hop)
+  lawful-after hop = protocol-after.hopped.lawful hop
