@@ -3,3 +3,4 @@ pub mod Calls
 pub mod Vias
 pub mod Kept
 pub mod Runs
+pub mod Judged
