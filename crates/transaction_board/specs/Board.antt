@@ -1,0 +1,93 @@
+-- What a board stands for: the transactions and the quantum of a configuration.
+use Rattle.std.specs.Prelude.{◌≡◌, ◌≤◌, ◌+◌, ⊤, ℕ, List, [], ◌∷◌, ◌++◌, Option, Some, None, length, slice_get}
+use Rattle.std.specs.Option.{ForSome}
+use Rattle.std.specs.FinMap as map
+use Rattle.payload_pool.specs.Payloads as pool
+use Rattle.payload_pool.specs.declared.pool.Counted.{Counted}
+use Rattle.transport_phases.specs.Rows.{Rows, IsRegistered}
+use Rattle.transport_phases.specs.History.{Entry, Left, StandsFor}
+use Rattle.sim_model.specs.Payloads.{Payloads, counted_at}
+use Rattle.sim_model.specs.Configuration.{Transactions, Quantum, change}
+use Rattle.sim_model.specs.Transport.{payload_limit}
+use Rattle.sim_model.specs.declared.plain.Via.{Via}
+use Rattle.transaction_board.specs.declared.TransactionBoard.{TransactionBoard}
+
+-- the live payloads agree number by number, and the next number is how many were made
+pub record StandsForPool (p : pool.Payloads) (ps : Payloads) : Type 0 where
+  pub each : (t : ℕ) → map.get p.live t ≡ counted_at ps t
+  pub next : p.next ≡ length ps
+
+-- the rows of a hop are what its history comes to
+abbrev pub StandsForHop : Option Rows → Option (List Entry) → Type 0
+StandsForHop None None = ⊤
+StandsForHop None (Some h) = ⊥
+StandsForHop (Some rows) None = ⊥
+StandsForHop (Some rows) (Some h) = StandsFor rows h
+
+abbrev pub StandsForHops : List Rows → List (List Entry) → Type 0
+StandsForHops rows hs = (n : ℕ) → StandsForHop (slice_get rows n) (slice_get hs n)
+
+pub record AreKept (p : pool.Payloads) (rows : List Rows) (x : Transactions) : Type 0 where
+  pub payloads : StandsForPool p x.pool
+  pub hops : StandsForHops rows x.hops
+
+abbrev pub StandsForTransactions : TransactionBoard → Transactions → Type 0
+StandsForTransactions b x = AreKept b.pool b.hops.items x
+
+-- the keepers and the global quantum
+abbrev pub quantum_of : TransactionBoard → Quantum
+quantum_of b = record { keepers = b.keepers.items; global = b.global.0 }
+
+abbrev pub StandsForQuantum : TransactionBoard → Quantum → Type 0
+StandsForQuantum b x = quantum_of b ≡ x
+
+-- for all transactions that a board stood for, it now stands for what f makes of them
+abbrev pub Moves : TransactionBoard → TransactionBoard → (Transactions → Transactions) → Type 0
+Moves old new f = (x : Transactions) → StandsForTransactions old x → StandsForTransactions new (f x)
+
+abbrev pub SameQuantum : TransactionBoard → TransactionBoard → Type 0
+SameQuantum old new = quantum_of new ≡ quantum_of old
+
+-- n is a bound of how many payloads were made and of how many hold each, and no more are live than may be
+pub record AreWithin (n : ℕ) (p : pool.Payloads) : Type 0 where
+  pub numbers : p.next ≤ n
+  pub counts : (t : ℕ) → ForSome (map.get p.live t) (λ c. c.count ≤ n)
+  pub live : map.len p.live ≤ payload_limit
+
+abbrev pub IsWithin : ℕ → TransactionBoard → Type 0
+IsWithin n b = AreWithin n b.pool
+
+-- what is within a bound stays within it
+abbrev pub StaysWithin : TransactionBoard → TransactionBoard → Type 0
+StaysWithin old new = (n : ℕ) → IsWithin n old → IsWithin n new
+
+-- or is within the next one
+abbrev pub RisesByOne : TransactionBoard → TransactionBoard → Type 0
+RisesByOne old new = (n : ℕ) → IsWithin n old → IsWithin (n + 1) new
+
+-- the transaction can be called on the hop; where there is no hop nothing is kept of it
+abbrev pub IsRegisteredOn : Option Rows → ℕ → Type 0
+IsRegisteredOn None t = ⊤
+IsRegisteredOn (Some rows) t = IsRegistered rows t
+
+abbrev pub IsRegisteredAt : TransactionBoard → ℕ → ℕ → Type 0
+IsRegisteredAt b hop t = IsRegisteredOn (slice_get b.hops.items hop) t
+
+-- all that is said of transactions stays
+pub record SameTransactions (old new : TransactionBoard) : Type 0 where
+  pub stands : (x : Transactions) → StandsForTransactions old x → StandsForTransactions new x
+  pub within : StaysWithin old new
+  pub registered : (hop t : ℕ) → IsRegisteredAt old hop t → IsRegisteredAt new hop t
+
+-- an entry more in the history of a hop
+abbrev pub entered : Transactions → ℕ → Entry → Transactions
+entered x hop e = record x { hops = change x.hops hop (λ h. h ++ e ∷ []) }
+
+-- of the hops alone: for all histories that the rows stood for, they now stand for those with the entry
+abbrev pub Enters : List Rows → List Rows → ℕ → Entry → Type 0
+Enters old new hop e = (hs : List (List Entry)) → StandsForHops old hs → StandsForHops new (change hs hop (λ h. h ++ e ∷ []))
+
+-- transport calls that were left without a return
+abbrev pub left : Transactions → List Via → Transactions
+left x [] = x
+left x (via ∷ more) = left (entered x via.hop (Left via.payload)) more
