@@ -5,7 +5,8 @@ use Rattle.transport_phases.specs.Rows.{Rows}
 use Rattle.transport_phases.specs.History.{Entry}
 use Rattle.sim_model.specs.Payloads.{Payloads}
 use Rattle.sim_model.specs.Configuration.{Transactions}
-use Rattle.transaction_board.specs.Board.{StandsForPool, StandsForHops, AreKept}
+use Rattle.transaction_board.specs.Board.{StandsForPool, AreKept}
+use Rattle.transaction_board.specs.Hops.{StandsForHops}
 
 pub pool_moves : (p q new : pool.Payloads) (rows : List Rows) (x : Transactions) (ps : Payloads) → new ≡ q → StandsForPool q ps → AreKept p rows x
     → AreKept new rows (record x { pool = ps })

@@ -15,9 +15,7 @@ use Rattle.transport_phases.specs.Phases.{verdict, first_broken, return_rules, a
 use Rattle.transport_phases.specs.Rows.{Rows, IsRegistered}
 use Rattle.transport_phases.specs.History.{Entry, Return, StandsFor, broken}
 use Rattle.sim_model.specs.Configuration.{changed_at, change}
-use Rattle.transaction_board.specs.Board.{StandsForHop, StandsForHops, Enters, IsRegisteredOn}
-use Rattle.transaction_board.specs.Hops.{nothing_called}
-use Rattle.transaction_board.specs.Answers.{history_at, Rules}
+use Rattle.transaction_board.specs.Hops.{nothing_called, StandsForHop, StandsForHops, IsRegisteredOn, history_at, Rules, Enters}
 use Rattle.transaction_board.proofs.Lists.{get-set_same, get-set_other, change-here, change-other}
 
 pub fresh_hops : (n : ℕ) → StandsForHops (replicate n nothing_called) (replicate n [])

@@ -14,7 +14,6 @@ use Rattle.sim_model.specs.Configuration.{Config, Transactions}
 use Rattle.sim_model.specs.Reading.{live_payload}
 use Rattle.sim_model.specs.Calls.{with_entry}
 use Rattle.sim_model.specs.Transport.{size_within, may_make, complete_if, judged, judged_return, rule_number, freed_fault}
-use Rattle.transaction_board.specs.Board.{StandsForHops}
 use Rattle.transaction_board.specs.declared.payloads.MakeStop.{MakeStop}
 use Rattle.transaction_board.specs.declared.payloads.MakeStop.TheVariants as stop
 
@@ -43,13 +42,6 @@ Judges answer c hop e t = judged c hop e t ≡ on_ok answer (λ ok. Ok (with_ent
 
 abbrev pub JudgesReturn : Result Unit RunFault → Config → ℕ → Entry → ℕ → Type 0
 JudgesReturn answer c hop e t = judged_return c hop e t ≡ on_ok answer (λ ok. Ok (with_entry c hop e))
-
-abbrev pub history_at : List (List Entry) → ℕ → List Entry
-history_at hs hop = unwrap_or (slice_get hs hop) []
-
--- of the hops alone: which rule the entry breaks
-abbrev pub Rules : List Rows → Result Unit Rule → ℕ → Entry → Type 0
-Rules old answer hop e = (hs : List (List Entry)) → StandsForHops old hs → answer ≡ verdict (broken (history_at hs hop) e)
 
 -- the run fault of a rule that a call breaks, and of one that a return breaks, where the payload was freed or not
 abbrev pub fault_of : ℕ → ℕ → Result Unit Rule → Result Unit RunFault

@@ -4,12 +4,13 @@ use Rattle.std.specs.Option.{ForSome}
 use Rattle.std.specs.FinMap as map
 use Rattle.payload_pool.specs.Payloads as pool
 use Rattle.payload_pool.specs.declared.pool.Counted.{Counted}
-use Rattle.transport_phases.specs.Rows.{Rows, IsRegistered}
-use Rattle.transport_phases.specs.History.{Entry, Left, StandsFor}
+use Rattle.transport_phases.specs.Rows.{Rows}
+use Rattle.transport_phases.specs.History.{Entry, Left}
 use Rattle.sim_model.specs.Payloads.{Payloads, counted_at}
 use Rattle.sim_model.specs.Configuration.{Transactions, Quantum, change}
 use Rattle.sim_model.specs.Transport.{payload_limit}
 use Rattle.sim_model.specs.declared.plain.Via.{Via}
+use Rattle.transaction_board.specs.Hops.{StandsForHops, IsRegisteredOn}
 use Rattle.transaction_board.specs.declared.TransactionBoard.{TransactionBoard}
 
 -- the live payloads agree number by number, and the next number is how many were made
@@ -17,22 +18,12 @@ pub record StandsForPool (p : pool.Payloads) (ps : Payloads) : Type 0 where
   pub each : (t : ℕ) → map.get p.live t ≡ counted_at ps t
   pub next : p.next ≡ length ps
 
--- the rows of a hop are what its history comes to
-abbrev pub StandsForHop : Option Rows → Option (List Entry) → Type 0
-StandsForHop None None = ⊤
-StandsForHop None (Some h) = ⊥
-StandsForHop (Some rows) None = ⊥
-StandsForHop (Some rows) (Some h) = StandsFor rows h
-
-abbrev pub StandsForHops : List Rows → List (List Entry) → Type 0
-StandsForHops rows hs = (n : ℕ) → StandsForHop (slice_get rows n) (slice_get hs n)
-
 pub record AreKept (p : pool.Payloads) (rows : List Rows) (x : Transactions) : Type 0 where
   pub payloads : StandsForPool p x.pool
   pub hops : StandsForHops rows x.hops
 
 abbrev pub StandsForTransactions : TransactionBoard → Transactions → Type 0
-StandsForTransactions b x = AreKept b.pool b.hops.items x
+StandsForTransactions b x = AreKept b.pool b.hops x
 
 -- the keepers and the global quantum
 abbrev pub quantum_of : TransactionBoard → Quantum
@@ -65,13 +56,8 @@ StaysWithin old new = (n : ℕ) → IsWithin n old → IsWithin n new
 abbrev pub RisesByOne : TransactionBoard → TransactionBoard → Type 0
 RisesByOne old new = (n : ℕ) → IsWithin n old → IsWithin (n + 1) new
 
--- the transaction can be called on the hop; where there is no hop nothing is kept of it
-abbrev pub IsRegisteredOn : Option Rows → ℕ → Type 0
-IsRegisteredOn None t = ⊤
-IsRegisteredOn (Some rows) t = IsRegistered rows t
-
 abbrev pub IsRegisteredAt : TransactionBoard → ℕ → ℕ → Type 0
-IsRegisteredAt b hop t = IsRegisteredOn (slice_get b.hops.items hop) t
+IsRegisteredAt b hop t = IsRegisteredOn (slice_get b.hops hop) t
 
 -- all that is said of transactions stays
 pub record SameTransactions (old new : TransactionBoard) : Type 0 where
@@ -82,10 +68,6 @@ pub record SameTransactions (old new : TransactionBoard) : Type 0 where
 -- an entry more in the history of a hop
 abbrev pub entered : Transactions → ℕ → Entry → Transactions
 entered x hop e = record x { hops = change x.hops hop (λ h. h ++ e ∷ []) }
-
--- of the hops alone: for all histories that the rows stood for, they now stand for those with the entry
-abbrev pub Enters : List Rows → List Rows → ℕ → Entry → Type 0
-Enters old new hop e = (hs : List (List Entry)) → StandsForHops old hs → StandsForHops new (change hs hop (λ h. h ++ e ∷ []))
 
 -- transport calls that were left without a return
 abbrev pub left : Transactions → List Via → Transactions

@@ -1,10 +1,9 @@
 // Transport calls and their returns on the hops.
-ghost use Rattle.std.specs.Prelude.{◌≡◌, ◌++◌, ◌∷◌, [], ℕ, Bool, List, OnOk, OnErr, slice_get};
-ghost use Rattle.transport_phases.specs.Phases.{verdict};
-ghost use Rattle.transport_phases.specs.History.{Call, Return, BCall, BReturn, Left, broken};
+ghost use Rattle.std.specs.Prelude.{◌≡◌, Ok, OnOk, OnErr};
+ghost use Rattle.transport_phases.specs.History.{Call, Return, BCall, BReturn, Left};
 ghost use Rattle.sim_model.specs.Configuration.{Config, Transactions};
-ghost use Rattle.transaction_board.specs.Board.{StandsForTransactions, StandsForHops, Moves, SameQuantum, StaysWithin, SameTransactions, IsRegisteredOn, IsRegisteredAt, Enters, entered, left};
-ghost use Rattle.transaction_board.specs.Answers.{complete_in, Judges, JudgesReturn, Rules};
+ghost use Rattle.transaction_board.specs.Board.{StandsForTransactions, Moves, SameQuantum, StaysWithin, IsRegisteredAt, entered, left};
+ghost use Rattle.transaction_board.specs.Answers.{complete_in, Judges, JudgesReturn};
 ghost use Rattle.transaction_board.specs.Answers as spec;
 ghost use Rattle.sim_model.specs.Transport as transport;
 
@@ -13,99 +12,7 @@ use flat_design::RunFault;
 use payload_pool::INCOMPLETE;
 use sim_model::Via;
 use std::alloc::AllocError;
-use transport_phases::{Hop, Path, Rule};
-
-// The judgement of an `nb_transport` call where nothing was called before.
-fn first_call(path: Path, phase: i32, handled: bool) -> Result<(), Rule>
-    ensures { (t : ℕ) (complete : Bool) → result ≡ verdict (broken [] (Call t path phase complete handled)) }
-{
-    match (path, phase) {
-        (Path::Forward, 1) => {
-            if handled {
-                Ok(())
-            } else {
-                Err(Rule::P10)
-            }
-        }
-        (Path::Forward, 4) | (Path::Backward, 2 | 3) => Err(Rule::P5),
-        _ => Err(Rule::P1),
-    }
-}
-
-// An `nb_transport` call on the hop of this number; a hop that is not there is one where nothing was called.
-fn call_on(
-    hops: &mut [Hop],
-    hop: u32,
-    path: Path,
-    t: u32,
-    phase: i32,
-    complete: bool,
-    handled: bool,
-) -> Result<(), Rule>
-    requires { IsRegisteredOn (slice_get hops.old hop) t }
-    ensures answer { Rules hops.old result hop (Call t path phase complete handled) }
-    ensures enters { OnOk result (Enters hops.old hops.new hop (Call t path phase complete handled)) }
-    ensures err { OnErr result (hops.new ≡ hops.old) }
-{
-    if hop as usize >= hops.len() {
-        return first_call(path, phase, handled);
-    }
-    hops[hop as usize].call(path, t, phase, complete, handled)
-}
-
-// The return of an `nb_transport` call on the hop of this number; where nothing was called nothing may be answered.
-fn return_on(
-    hops: &mut [Hop],
-    hop: u32,
-    t: u32,
-    status: i32,
-    phase: i32,
-    complete: bool,
-) -> Result<(), Rule>
-    ensures answer { Rules hops.old result hop (Return t status phase complete) }
-    ensures enters { OnOk result (Enters hops.old hops.new hop (Return t status phase complete)) }
-    ensures err { OnErr result (hops.new ≡ hops.old) }
-{
-    if hop as usize >= hops.len() {
-        return Err(Rule::P7);
-    }
-    hops[hop as usize].returned(t, status, phase, complete)
-}
-
-// A `b_transport` call on the hop of this number.
-fn b_call_on(hops: &mut [Hop], hop: u32, t: u32, handled: bool) -> Result<(), Rule>
-    requires { IsRegisteredOn (slice_get hops.old hop) t }
-    ensures answer { Rules hops.old result hop (BCall t handled) }
-    ensures enters { OnOk result (Enters hops.old hops.new hop (BCall t handled)) }
-    ensures err { OnErr result (hops.new ≡ hops.old) }
-{
-    if hop as usize >= hops.len() {
-        return if handled { Ok(()) } else { Err(Rule::P10) };
-    }
-    hops[hop as usize].b_call(t, handled)
-}
-
-// The return of a `b_transport` call on the hop of this number.
-fn b_return_on(hops: &mut [Hop], hop: u32, t: u32, complete: bool) -> Result<(), Rule>
-    ensures answer { Rules hops.old result hop (BReturn t complete) }
-    ensures enters { OnOk result (Enters hops.old hops.new hop (BReturn t complete)) }
-    ensures err { OnErr result (hops.new ≡ hops.old) }
-{
-    if hop as usize >= hops.len() {
-        return if complete { Ok(()) } else { Err(Rule::P6) };
-    }
-    hops[hop as usize].b_returned(t, complete)
-}
-
-// The open call on the hop of this number was left without a return.
-fn leave_on(hops: &mut [Hop], hop: u32, t: u32)
-    ensures { Enters hops.old hops.new hop (Left t) }
-{
-    if hop as usize >= hops.len() {
-        return;
-    }
-    hops[hop as usize].abandon(t);
-}
+use transport_phases::{Path, Rule};
 
 // The number by which a report names the rule.
 fn rule_number(rule: Rule) -> u8
@@ -183,10 +90,7 @@ impl TransactionBoard {
         ensures quantum { SameQuantum self.old self.new }
         ensures refused { OnErr result (self.new ≡ self.old) }
     {
-        if hop as usize >= self.hops.len() {
-            return Ok(());
-        }
-        self.hops[hop as usize].register(t)
+        self.hops.register(hop, t)
     }
 
     /// Judges an `nb_transport` call of the payload on the hop, forward or backward, and takes it into the history
@@ -210,15 +114,7 @@ impl TransactionBoard {
         ensures refused { OnErr result (self.new ≡ self.old) }
     {
         let complete = self.is_complete(t);
-        let verdict = call_on(
-            self.hops.as_mut_slice(),
-            hop,
-            path,
-            t,
-            phase,
-            complete,
-            handled,
-        );
+        let verdict = self.hops.call(hop, path, t, phase, complete, handled);
         fault_of(hop, t, verdict)
     }
 
@@ -243,7 +139,7 @@ impl TransactionBoard {
     {
         let complete = self.is_complete(t);
         let live = self.is_live(t);
-        let verdict = return_on(self.hops.as_mut_slice(), hop, t, status, phase, complete);
+        let verdict = self.hops.returned(hop, t, status, phase, complete);
         fault_at_return(live, hop, t, verdict)
     }
 
@@ -259,7 +155,7 @@ impl TransactionBoard {
         ensures quantum { SameQuantum self.old self.new }
         ensures refused { OnErr result (self.new ≡ self.old) }
     {
-        let verdict = b_call_on(self.hops.as_mut_slice(), hop, t, handled);
+        let verdict = self.hops.b_call(hop, t, handled);
         fault_of(hop, t, verdict)
     }
 
@@ -277,7 +173,7 @@ impl TransactionBoard {
     {
         let complete = self.is_complete(t);
         let live = self.is_live(t);
-        let verdict = b_return_on(self.hops.as_mut_slice(), hop, t, complete);
+        let verdict = self.hops.b_returned(hop, t, complete);
         fault_at_return(live, hop, t, verdict)
     }
 
@@ -287,7 +183,7 @@ impl TransactionBoard {
         ensures within { StaysWithin self.old self.new }
         ensures quantum { SameQuantum self.old self.new }
     {
-        leave_on(self.hops.as_mut_slice(), hop, t);
+        self.hops.abandon(hop, t);
     }
 
     /// These open calls were left without a return, one after another.

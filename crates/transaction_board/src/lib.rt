@@ -5,16 +5,16 @@
 ghost use Rattle.std.specs.Prelude.{◌≡◌, [], IfOk, replicate};
 ghost use Rattle.quantum_keeper.specs.Keepers.{at_start};
 ghost use Rattle.transaction_board.specs.Board.{StandsForTransactions, StandsForQuantum, IsWithin};
-ghost use Rattle.transaction_board.specs.Hops.{nothing_called};
 
 mod calls;
+mod hop_list;
 mod payloads;
 
+use hop_list::Hops;
 use payload_pool::Pool;
 use quantum_keeper::Keeper;
 use sim_time::Time;
 use std::alloc::{AllocError, Global};
-use transport_phases::Hop;
 
 pub use payloads::MakeStop;
 
@@ -27,7 +27,7 @@ pub struct TransactionBoard {
     // The live payloads.
     pool: Pool,
     // What is kept of the transactions on each hop.
-    hops: Vec<Hop>,
+    hops: Hops,
     keepers: Vec<Keeper>,
     // The global quantum.
     global: Time,
@@ -41,7 +41,7 @@ impl TransactionBoard {
         ensures quantum { IfOk result (λ b. StandsForQuantum b (record { keepers = replicate keepers at_start; global = 0 })) }
         ensures within { IfOk result (λ b. IsWithin 0 b) }
     {
-        let hops = idle_hops(alloc, hops)?;
+        let hops = Hops::new(alloc, hops)?;
         let keepers = vec![in alloc; Keeper::new(); keepers as usize]?;
         Ok(TransactionBoard {
             pool: Pool::new(alloc),
@@ -50,18 +50,4 @@ impl TransactionBoard {
             global: Time(0),
         })
     }
-}
-
-// So many hops on which nothing has been called.
-fn idle_hops(alloc: Global, n: u32) -> Result<Vec<Hop>, AllocError>
-    ensures { IfOk result (λ hops. hops.items ≡ replicate n nothing_called) }
-{
-    let mut hops = Vec::with_capacity(alloc, n as usize)?;
-    for _i in 0..n {
-        match hops.push(Hop::new(alloc)) {
-            Ok(()) => {}
-            Err(_) => return Err(AllocError),
-        }
-    }
-    Ok(hops)
 }
