@@ -13,8 +13,10 @@ use Rattle.transport_phases.specs.declared.phases.Rule.TheVariants.{P7}
 use Rattle.transport_phases.specs.declared.kept.State.TheVariants.{Idle}
 use Rattle.transport_phases.specs.Phases.{verdict, first_broken, return_rules, answer_of, phase_of}
 use Rattle.transport_phases.specs.Rows.{Rows, IsRegistered}
-use Rattle.transport_phases.specs.History.{Entry, Return, StandsFor, broken}
-use Rattle.sim_model.specs.Configuration.{changed_at, change}
+use Rattle.transport_phases.specs.History.{Entry, Return, Left, StandsFor, broken}
+use Rattle.sim_model.specs.Configuration.{Transactions, changed_at, change}
+use Rattle.sim_model.specs.declared.plain.Via.{Via}
+use Rattle.transaction_board.specs.Board.{entered, left}
 use Rattle.transaction_board.specs.Hops.{nothing_called, StandsForHop, StandsForHops, IsRegisteredOn, history_at, Rules, Enters}
 use Rattle.transaction_board.proofs.Lists.{get-set_same, get-set_other, change-here, change-other}
 
@@ -68,22 +70,26 @@ module _ (rows : List Rows) (hs : List (List Entry)) (stands : StandsForHops row
     pub enters_nothing : (f : List Entry → List Entry) → StandsForHops rows (change hs hop f)
     enters_nothing f = subst (StandsForHops rows) (sym (ap (changed_at hs hop f) no_history)) stands
 
--- an entry on the hop of a number
-module _ (rows : List Rows) (hop : ℕ) (e : Entry) where
-  pub enters_there : hop < length rows → (d new : Rows) → ((h : List Entry) → StandsFor (get_or rows hop d) h → StandsFor new (h ++ e ∷ [])) → Enters rows (set rows hop new) hop e
-  enters_there within d new moves = λ hs stands. enters rows hs stands hop (get_or rows hop d) (slice_get-get_or rows hop d within) new e moves
+-- an entry on the hop of a number; `r` is what is kept there
+module _ (rows old : List Rows) (same : rows ≡ old) (hop : ℕ) (e : Entry) where
+  pub enters_there : hop < length rows → (r new : Rows) → r ≡ get_or rows hop r → ((h : List Entry) → StandsFor r h → StandsFor new (h ++ e ∷ [])) → Enters old (set rows hop new) hop e
+  enters_there within r new is moves = subst (λ o. Enters o (set rows hop new) hop e) same
+      (λ hs stands. enters rows hs stands hop r (slice_get-get_or rows hop r within ∙ ap Some (sym is)) new e moves)
 
-  pub enters_nowhere : length rows ≤ hop → Enters rows rows hop e
-  enters_nowhere past = λ hs stands. enters_nothing rows hs stands hop (slice_get_past rows hop past) (λ h. h ++ e ∷ [])
+  pub enters_nowhere : length rows ≤ hop → Enters old old hop e
+  enters_nowhere past = subst (λ o. Enters o o hop e) same (λ hs stands. enters_nothing rows hs stands hop (slice_get_past rows hop past) (λ h. h ++ e ∷ []))
 
-  pub rules_there : hop < length rows → (d : Rows) (answer : Result Unit Rule) → ((h : List Entry) → StandsFor (get_or rows hop d) h → answer ≡ verdict (broken h e)) → Rules rows answer hop e
-  rules_there within d answer judged = λ hs stands. judged (history_at hs hop) (history_read rows hs stands hop (get_or rows hop d) (slice_get-get_or rows hop d within))
+  pub rules_there : hop < length rows → (r : Rows) → r ≡ get_or rows hop r → (answer : Result Unit Rule) → ((h : List Entry) → StandsFor r h → answer ≡ verdict (broken h e)) → Rules old answer hop e
+  rules_there within r is answer judged = subst (λ o. Rules o answer hop e) same
+      (λ hs stands. judged (history_at hs hop) (history_read rows hs stands hop r (slice_get-get_or rows hop r within ∙ ap Some (sym is))))
 
-  pub rules_nowhere : length rows ≤ hop → (answer : Result Unit Rule) → answer ≡ verdict (broken [] e) → Rules rows answer hop e
-  rules_nowhere past answer judged = λ hs stands. judged ∙ ap (λ h. verdict (broken h e)) (sym (history_missing rows hs stands hop (slice_get_past rows hop past)))
+  pub rules_nowhere : length rows ≤ hop → (answer : Result Unit Rule) → answer ≡ verdict (broken [] e) → Rules old answer hop e
+  rules_nowhere past answer judged = subst (λ o. Rules o answer hop e) same
+      (λ hs stands. judged ∙ ap (λ h. verdict (broken h e)) (sym (history_missing rows hs stands hop (slice_get_past rows hop past))))
 
-pub registered_there : (rows : List Rows) (hop t : ℕ) → hop < length rows → (d : Rows) → IsRegisteredOn (slice_get rows hop) t → IsRegistered (get_or rows hop d) t
-registered_there rows hop t within d registered = subst (λ o. IsRegisteredOn o t) (slice_get-get_or rows hop d within) registered
+pub registered_there : (rows old : List Rows) → rows ≡ old → (hop t : ℕ) → hop < length rows → (r : Rows) → r ≡ get_or rows hop r → IsRegisteredOn (slice_get old hop) t → IsRegistered r t
+registered_there rows old same hop t within r is registered = subst (λ o. IsRegisteredOn o t)
+    (slice_get-get_or rows hop r within ∙ ap Some (sym is)) (subst (λ o. IsRegisteredOn (slice_get o hop) t) (sym same) registered)
 
 pub anyway : {P : Type 0} → (r : Result Unit Rule) → P → OnOk r P
 anyway (Ok u) p = p
@@ -96,3 +102,8 @@ no_answer (Some a) phase complete = refl
 
 pub first_return : (t : ℕ) (status phase : ℤ) (complete : Bool) → Err P7 ≡ verdict (broken [] (Return t status phase complete))
 first_return t status phase complete = no_answer (answer_of status) (phase_of phase) complete
+
+-- calls that were left, one more
+pub left-more : (x : Transactions) (vs : List Via) (v : Via) → left x (vs ++ v ∷ []) ≡ entered (left x vs) v.hop (Left v.payload)
+left-more x [] v = refl
+left-more x (w ∷ vs) v = left-more (entered x w.hop (Left w.payload)) vs v

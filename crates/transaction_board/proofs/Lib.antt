@@ -5,3 +5,4 @@ pub mod Frames
 pub mod Making
 pub mod Histories
 pub mod Judged
+pub mod Keeping

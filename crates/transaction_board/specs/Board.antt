@@ -3,10 +3,10 @@ use Rattle.std.specs.Prelude.{◌≡◌, ◌≤◌, ◌+◌, ⊤, ℕ, List, [],
 use Rattle.std.specs.Option.{ForSome}
 use Rattle.std.specs.FinMap as map
 use Rattle.payload_pool.specs.Payloads as pool
-use Rattle.payload_pool.specs.declared.pool.Counted.{Counted}
+use Rattle.payload_pool.specs.declared.payload.Payload.{Payload}
 use Rattle.transport_phases.specs.Rows.{Rows}
 use Rattle.transport_phases.specs.History.{Entry, Left}
-use Rattle.sim_model.specs.Payloads.{Payloads, counted_at}
+use Rattle.sim_model.specs.Payloads.{Payloads, counted_at, payload_of, with_payload}
 use Rattle.sim_model.specs.Configuration.{Transactions, Quantum, change}
 use Rattle.sim_model.specs.Transport.{payload_limit}
 use Rattle.sim_model.specs.declared.plain.Via.{Via}
@@ -35,6 +35,11 @@ StandsForQuantum b x = quantum_of b ≡ x
 -- for all transactions that a board stood for, it now stands for what f makes of them
 abbrev pub Moves : TransactionBoard → TransactionBoard → (Transactions → Transactions) → Type 0
 Moves old new f = (x : Transactions) → StandsForTransactions old x → StandsForTransactions new (f x)
+
+-- where the payload of the number is live, its count stays, and it is what f makes of it
+abbrev pub Writes : TransactionBoard → TransactionBoard → ℕ → (Payload → Payload) → Type 0
+Writes old new t f = (x : Transactions) (q : Payload) → StandsForTransactions old x → payload_of x.pool t ≡ Some q
+    → StandsForTransactions new (record x { pool = with_payload x.pool t (f q) })
 
 abbrev pub SameQuantum : TransactionBoard → TransactionBoard → Type 0
 SameQuantum old new = quantum_of new ≡ quantum_of old

@@ -8,7 +8,9 @@ ghost use Rattle.transaction_board.specs.Board.{StandsForTransactions, StandsFor
 
 mod calls;
 mod hop_list;
+mod keepers;
 mod payloads;
+mod reading;
 
 use hop_list::Hops;
 use payload_pool::Pool;
