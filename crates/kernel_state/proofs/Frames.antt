@@ -9,7 +9,7 @@ use Rattle.event_core.specs.declared.notifications.Pending.{Pending}
 use Rattle.logic_values.specs.declared.kinds.Value.{Value}
 use Rattle.instance_table.specs.declared.instances.Instance.{Instance as Entry}
 use Rattle.flat_design.specs.Code.{Arena, arena_of}
-use Rattle.sim_model.specs.Residual.{Residual, settle, next_of, in_innermost}
+use Rattle.sim_model.specs.Residual.{Residual, settle, in_innermost}
 use Rattle.sim_model.specs.Configuration as model
 use Rattle.sim_model.specs.Configuration.{Config, Instance, Processes, Channels, Trace, changed_at, change, change_instance, instance_at, with_residual, with_marks, arena}
 use Rattle.sim_model.specs.Waits.{holds, fire, wake, waits, leaves_stack}
@@ -281,7 +281,7 @@ module _ (old new : Kernel) (p : ℕ) (keeps : KeepsBodies old new) where
   lives_still lives = sym (there_as (λ (z : Entry (Process Kept)). z.body.body) (map.get new.schedule.table.live p)) ∙ ap is_some (keeps.bodies p) ∙ there_as (λ (z : Entry (Process Kept)). z.body.body) (map.get old.schedule.table.live p) ∙ lives
 
   pub statement_still : HasStatement old p → HasStatement new p
-  statement_still shows kept at = subst (λ q. bodies.IsStatement (next_of (bodies.settled_in q kept.body))) (sym keeps.program) (shows kept (sym (keeps.bodies p) ∙ at))
+  statement_still shows kept at = subst (λ q. bodies.IsStatement (bodies.next_in q kept.body)) (sym keeps.program) (shows kept (sym (keeps.bodies p) ∙ at))
 
 -- ---- a wait of which the body is seen to afterwards
 

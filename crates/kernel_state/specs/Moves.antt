@@ -2,7 +2,7 @@
 use Rattle.std.specs.Prelude.{◌≡◌, ℕ, true, Option, Some, None, slice_get}
 use Rattle.std.specs.FinMap as map
 use Rattle.sim_model.specs.Residual as residual
-use Rattle.sim_model.specs.Residual.{Residual, settle, next_of}
+use Rattle.sim_model.specs.Residual.{Residual, settle}
 use Rattle.sim_model.specs.Configuration.{Config, Instance, instance_at, arena}
 use Rattle.sim_model.specs.Statements.{settled_in}
 use Rattle.process_state.specs.Bodies as bodies
@@ -34,7 +34,7 @@ KeptAt k p P = (kept : Kept) → kept_at k.schedule p ≡ Some kept → P kept
 
 -- a statement comes next in its body
 abbrev pub HasStatement : Kernel → ℕ → Type 0
-HasStatement k p = KeptAt k p (λ kept. bodies.IsStatement (next_of (bodies.settled_in k.program kept.body)))
+HasStatement k p = KeptAt k p (λ kept. bodies.IsStatement (bodies.next_in k.program kept.body))
 
 -- it is the active one on top
 abbrev pub IsOnTop : Kernel → ℕ → Type 0
