@@ -2,3 +2,4 @@ pub mod Processes
 pub mod Kernel
 pub mod Moves
 pub mod Spawned
+pub mod Made

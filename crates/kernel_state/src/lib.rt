@@ -2,6 +2,7 @@
 #![tactic(auto)]
 
 mod kernel;
+mod making;
 mod moves;
 mod spawning;
 mod statements;

@@ -1,0 +1,35 @@
+-- The processes of a design before the first command.
+use Rattle.std.specs.Prelude.{◌≡◌, ℕ, List, [], ◌∷◌, ◌++◌, map, false, Some, None}
+use Rattle.flat_design.specs.declared.design.Design.{Design}
+use Rattle.flat_design.specs.declared.design.ProcessPart.{ProcessPart}
+use Rattle.sim_model.specs.Configuration.{Cycle, Processes, first_instance}
+use Rattle.sim_model.specs.declared.plain.Phase.TheVariants as phase
+use Rattle.body_code.specs.declared.program.Program.{Program}
+use Rattle.process_state.specs.Bodies as bodies
+use Rattle.schedule.specs.Seen.{body_at as kept_at}
+use Rattle.schedule.specs.Sound as schedules
+use Rattle.schedule.specs.declared.parts.Schedule.{Schedule}
+use Rattle.kernel_state.specs.Processes.{StandsForProcesses}
+use Rattle.kernel_state.specs.Kernel.{Shows}
+use Rattle.kernel_state.specs.declared.kernel.Kept.{Kept}
+
+-- a sound schedule of sound bodies, of which none is due
+pub record IsMade (program : Program) (s : Schedule Kept) : Type 0 where
+  pub schedule : schedules.IsSound s
+  pub bodies : (p : ℕ) (kept : Kept) → kept_at s p ≡ Some kept → bodies.IsSound program kept.body
+  pub nobody_due : s.due.items ≡ []
+
+abbrev pub with_process : Design → ProcessPart → Processes → Processes
+with_process d part x = record x { instances = x.instances ++ first_instance d part ∷ [] }
+
+-- a process of a design with this code is added
+abbrev pub Adds : Program → ProcessPart → Schedule Kept → Schedule Kept → Type 0
+Adds program part old new = (d : Design) (x : Processes) → d.code ≡ program.code → StandsForProcesses (Shows d program) old x → StandsForProcesses (Shows d program) new (with_process d part x)
+
+-- all of them are, and nobody runs
+abbrev pub AddsAll : Program → List ProcessPart → Schedule Kept → Type 0
+AddsAll program parts s = (d : Design) → d.code ≡ program.code → StandsForProcesses (Shows d program) s (record { runnable = []; stack = []; instances = map (first_instance d) parts })
+
+-- Idle at time 0, and no run has begun
+abbrev pub first_cycle : Cycle
+first_cycle = record { phase = phase.Idle; begun = false; now = 0; end = None; stop_asked = false; stopped = false }
