@@ -4,6 +4,7 @@
 mod kernel;
 mod making;
 mod moves;
+mod reading;
 mod spawning;
 mod statements;
 

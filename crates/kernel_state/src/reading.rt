@@ -1,0 +1,32 @@
+//! What is seen of a kernel from outside.
+ghost use Rattle.std.specs.Prelude.{◌≡◌, ◌<◌, Some, length, slice_get};
+ghost use Rattle.flat_design.specs.declared.design.Visible.{Visible};
+ghost use Rattle.sim_model.specs.Configuration.{Config};
+ghost use Rattle.sim_model.specs.Phases.{visible_value};
+ghost use Rattle.kernel_state.specs.Kernel.{StandsFor};
+
+use crate::kernel::Kernel;
+use flat_design::VisibleId;
+use logic_values::Value;
+use sim_time::Time;
+
+impl Kernel {
+    /// The simulated time.
+    pub fn now(&self) -> Time
+        ensures { (c : Config) → StandsFor self.now c → result.0 ≡ c.cycle.now }
+    {
+        self.cycle.now
+    }
+
+    /// The value of an object that has values to be seen: a signal, buffer, clock or resolved signal, by its number among
+    /// these in object order.
+    pub fn read_signal(&self, i: u32) -> Value
+        requires { i < length self.now.design.visible }
+        ensures { (c : Config) (v : Visible) → StandsFor self.now c → slice_get c.design.visible i ≡ Some v → result ≡ visible_value c v.id }
+    {
+        match self.design.visible.as_slice()[i as usize].id {
+            VisibleId::Signal(n) => self.channels.signal(n),
+            VisibleId::Resolved(n) => self.channels.resolved(n),
+        }
+    }
+}
