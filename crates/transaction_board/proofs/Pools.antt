@@ -4,10 +4,10 @@ use Rattle.std.specs.Prelude.{slice_get, slice_set, is_some, unwrap_or, filter}
 use Rattle.std.specs.Ordering.{nat_cmp}
 use Rattle.std.specs.FinMap as map
 use Rattle.std.proofs.lemmas.Bool.{cases_eq, cases_lt}
-use Rattle.std.proofs.lemmas.Option.{slice_get_past, slice_get_within}
+use Rattle.std.proofs.lemmas.Option.{none-some, same_Some}
 use Rattle.std.proofs.lemmas.List.{length-append}
 use Rattle.map_lemmas.specs.Updated.{updated}
-use Rattle.map_lemmas.proofs.MapLemmas.{same_gets, get-updated_same, get-updated_other, is_updated, len-updated, get-insert_same, get-insert_other, get-remove_same, get-remove_other}
+use Rattle.map_lemmas.proofs.MapLemmas.{same_gets, get-updated_same, get-updated_other, is_updated, is_insert, len-updated, get-insert_same, get-insert_other, get-remove_same, get-remove_other}
 use Rattle.payload_pool.specs.Payloads as pool
 use Rattle.payload_pool.specs.Payloads.{one_more, one_less, rewritten, new_payload, payload_in}
 use Rattle.payload_pool.specs.declared.payload.Payload.{Payload}
@@ -111,3 +111,13 @@ live_from (o ∷ ps) k m from below = live_step o ps (map.len m) (map.len (map.r
 
 pub live_read : (p : pool.Payloads) (ps : Payloads) → StandsForPool p ps → map.len p.live ≡ live_payloads ps
 live_read p ps stands = live_from ps 0 p.live (λ t. ap (map.get p.live) (let e : 0 + t ≡ t = omega arith in e) ∙ stands.each t) (λ t below. absurd (let no : ⊥ = omega arith in no))
+
+-- what a payload says already, written again
+rewritten_as : (p : pool.Payloads) (t : ℕ) (q : Payload) (o : Option Counted) → map.get p.live t ≡ o → payload_in o ≡ Some q → pool.with_counted p t (rewritten o q) ≡ p
+rewritten_as p t q None at is = absurd (none-some q is)
+rewritten_as p t q (Some d) at is = ap (λ live. record p { live = live })
+    (ap (λ r. map.insert p.live t (record d { payload = r })) (sym (same_Some d.payload q is)) ∙ sym (is_insert p.live p.live t d at (λ u apart. refl)))
+
+pub rewritten_same : (p : pool.Payloads) (t : ℕ) (q : Payload) → pool.payload_of p t ≡ Some q → pool.with_payload p t q ≡ p
+rewritten_same p t q there =
+    rewritten_as p t q (map.get p.live t) refl there

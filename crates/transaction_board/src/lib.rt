@@ -9,8 +9,11 @@ ghost use Rattle.transaction_board.specs.Board.{StandsForTransactions, StandsFor
 mod calls;
 mod hop_list;
 mod keepers;
+mod laws;
 mod payloads;
 mod reading;
+#[cfg(test)]
+mod tests;
 
 use hop_list::Hops;
 use payload_pool::Pool;
@@ -18,6 +21,7 @@ use quantum_keeper::Keeper;
 use sim_time::Time;
 use std::alloc::{AllocError, Global};
 
+pub use laws::left_calls_end;
 pub use payloads::MakeStop;
 
 /// The transactions of a run and its quantum keepers, by the numbers that the design gives hops and keepers.
