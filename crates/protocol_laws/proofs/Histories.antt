@@ -2,7 +2,7 @@
 use Rattle.std.proofs.Common.{◌≡◌, ◌≢◌, ◌==◌, ℕ, Bool, true, false, cond, ◌⊎◌, List, [], ◌∷◌, ◌++◌, slice_get, unwrap_or, Some, None, refl, sym, ap, ◌∙◌, subst, inl, inr, ⊎_elim, eq-eqb, ne_eqb}
 use Rattle.std.proofs.lemmas.Bool.{cases_eq}
 use Rattle.transport_phases.specs.declared.kept.Open.{Open}
-use Rattle.transport_phases.specs.declared.kept.Open.TheVariants.{Nothing, NonBlocking, Blocking}
+use Rattle.transport_phases.specs.declared.kept.Open.TheVariants.{Nothing}
 use Rattle.transport_phases.specs.declared.kept.Kept.{Kept}
 use Rattle.transport_phases.specs.Phases.{fresh}
 use Rattle.transport_phases.specs.History.{Entry, transaction, after_entry, kept_from, kept_of, is_open, broken}
@@ -14,6 +14,7 @@ use Rattle.sim_model.specs.declared.plain.Via.{Via}
 use Rattle.clean_laws.proofs.Changes.{change-here, change-other}
 use Rattle.move_laws.proofs.Parts.{with_entry_in}
 use Rattle.mark_laws.proofs.Fits.{In}
+use Rattle.protocol_laws.specs.Calls.{call_of}
 
 abbrev pub history_of : List (List Entry) → ℕ → List Entry
 history_of hops hop = unwrap_or (slice_get hops hop) []
@@ -49,10 +50,6 @@ hop-stays hops hop k e h = ⊎_elim
 
 -- ---- open calls
 
-abbrev pub call_of : Bool → Open
-call_of true = Blocking
-call_of false = NonBlocking
-
 pub call-open : (b : Bool) → call_of b ≡ Nothing → ⊥
 call-open true e = cc
 call-open false e = cc
@@ -69,12 +66,24 @@ abbrev pub Apart : List Via → Type 0
 Apart [] = Unit {0}
 Apart (v ∷ vs) = ((w : Via) → In w vs → Same v w → ⊥) × Apart vs
 
--- each history is lawful; the calls of each instance are open, and no two of them are the same
+-- a call of a transaction over a hop is one of an instance
+abbrev pub Owner : (ℕ → List Via) → ℕ → ℕ → Type 0
+Owner calls hop t = (p : ℕ) × (v : Via) × In v (calls p) × (v.hop ≡ hop) × (v.payload ≡ t)
+
+-- each history is lawful; the calls of each instance are open, and no two of them are the same; and no other call is open
 pub record Hopped (hops : List (List Entry)) (calls : ℕ → List Via) : Type 0 where
   pub lawful : (hop : ℕ) → Lawful (history_of hops hop)
   pub open_ : (p : ℕ) (v : Via) → In v (calls p) → IsOpenFor hops v
   pub own : (p : ℕ) → Apart (calls p)
   pub across : (p q : ℕ) (v w : Via) → (p ≡ q → ⊥) → In v (calls p) → In w (calls q) → Same v w → ⊥
+  pub owned : (hop t : ℕ) → (is_open (history_of hops hop) t ≡ Nothing) ⊎ Owner calls hop t
+
+owner_kept : (calls others : ℕ → List Via) (hop t : ℕ) → ((p : ℕ) (v : Via) → v.hop ≡ hop → v.payload ≡ t → In v (calls p) → In v (others p)) → Owner calls hop t → Owner others hop t
+owner_kept calls others hop t kept o = (o.0, o.1, kept o.0 o.1 o.3 o.4 o.2, o.3, o.4)
+
+either_kept : (calls others : ℕ → List Via) (hop t : ℕ) (o p : Open) → o ≡ p → (Owner calls hop t → Owner others hop t) → (o ≡ Nothing) ⊎ Owner calls hop t → (p ≡ Nothing) ⊎ Owner others hop t
+either_kept calls others hop t o p same kept (inl none) = inl (sym same ∙ none)
+either_kept calls others hop t o p same kept (inr owner) = inr (kept owner)
 
 -- calls that are told in another way
 pub same-hopped : (hops : List (List Entry)) (calls others : ℕ → List Via) → ((p : ℕ) → others p ≡ calls p) → Hopped hops calls → Hopped hops others
@@ -83,20 +92,8 @@ same-hopped hops calls others same h = record {
   open_ = λ p v is. h.open_ p v (subst (In v) (same p) is);
   own = λ p. subst Apart (sym (same p)) (h.own p);
   across = λ p q v w apart a b. h.across p q v w apart (subst (In v) (same p) a) (subst (In w) (same q) b);
+  owned = λ hop t. either_kept calls others hop t (is_open (history_of hops hop) t) (is_open (history_of hops hop) t) refl (owner_kept calls others hop t (λ p v a b is. subst (In v) (sym (same p)) is)) (h.owned hop t);
 }
-
--- ---- one instance has no call left, or the same as before: calls go
-
-pub none-hopped : (hops : List (List Entry)) (calls others : ℕ → List Via) (q : ℕ) → others q ≡ [] → ((p : ℕ) → p ≢ q → others p ≡ calls p) → Hopped hops calls → Hopped hops others
-none-hopped hops calls others q none same h = record {
-  lawful = h.lawful;
-  open_ = λ p v is. h.open_ p v (old p v is);
-  own = λ p. ⊎_elim (λ e. subst Apart (sym (ap others e ∙ none)) tt) (λ apart. subst Apart (sym (same p apart)) (h.own p)) (cases_eq p q);
-  across = λ p r v w apart a b. h.across p r v w apart (old p v a) (old r w b);
-}
-  where
-    old : (p : ℕ) (v : Via) → In v (others p) → In v (calls p)
-    old p v is = ⊎_elim (λ e. absurd (subst (In v) (ap others e ∙ none) is)) (λ apart. subst (In v) (same p apart) is) (cases_eq p q)
 
 -- ---- an entry ends the innermost call of an instance
 
@@ -116,7 +113,7 @@ module _ (hops : List (List Entry)) (calls others : ℕ → List Via) (q : ℕ) 
       (λ apart. h.across q p v w (λ e. apart (sym e)) (subst (In v) (sym was) (inl refl)) (subst (In w) (same p apart) is) alike)
       (cases_eq p q)
 
-  module _ (e : Entry) (of : transaction e ≡ v.payload) (comes : MayCome (history_of hops v.hop) e) (unbroken : broken (history_of hops v.hop) e ≡ None) where
+  module _ (e : Entry) (of : transaction e ≡ v.payload) (comes : MayCome (history_of hops v.hop) e) (unbroken : broken (history_of hops v.hop) e ≡ None) (shuts : is_open (history_of hops v.hop ++ e ∷ []) v.payload ≡ Nothing) where
     grown : List (List Entry)
     grown = with_entry_in hops v.hop e
 
@@ -129,13 +126,45 @@ module _ (hops : List (List Entry)) (calls others : ℕ → List Via) (q : ℕ) 
         (λ apart. subst Lawful (sym (hist-other hops v.hop hop e apart)) (h.lawful hop))
         (cases_eq hop v.hop)
 
+    -- of another transaction, or over another hop
+    others_open : (hop t : ℕ) → (v.hop ≡ hop → v.payload ≡ t → ⊥) → is_open (history_of (with_entry_in hops v.hop e) hop) t ≡ is_open (history_of hops hop) t
+    others_open hop t apart = ⊎_elim
+        (λ s. ap (λ x. is_open x t) (ap (history_of (with_entry_in hops v.hop e)) s ∙ hist-here hops v.hop first_open.hop.0 e first_open.hop.1)
+        ∙ ap (λ (k : Kept). k.call) (kept-other (history_of hops v.hop) e t (λ u. apart (sym s) (sym of ∙ u)))
+        ∙ ap (λ n. is_open (history_of hops n) t) (sym s))
+        (λ other. ap (λ x. is_open x t) (hist-other hops v.hop hop e other))
+        (cases_eq hop v.hop)
+
     still : (w : Via) → IsOpenFor hops w → (Same v w → ⊥) → is_open (history_of (with_entry_in hops v.hop e) w.hop) w.payload ≡ call_of w.blocking
-    still w o apart = ⊎_elim
-        (λ s. ap (λ x. is_open x w.payload) (ap (history_of (with_entry_in hops v.hop e)) s ∙ hist-here hops v.hop first_open.hop.0 e first_open.hop.1)
-        ∙ ap (λ (k : Kept). k.call) (kept-other (history_of hops v.hop) e w.payload (λ t. apart (sym s, sym of ∙ t)))
-        ∙ ap (λ n. is_open (history_of hops n) w.payload) (sym s) ∙ o.is_it)
-        (λ other. ap (λ x. is_open x w.payload) (hist-other hops v.hop w.hop e other) ∙ o.is_it)
-        (cases_eq w.hop v.hop)
+    still w o apart = others_open w.hop w.payload (λ a b. apart (a, b)) ∙ o.is_it
+
+    shut_here : is_open (history_of (with_entry_in hops v.hop e) v.hop) v.payload ≡ Nothing
+    shut_here = ap (λ x. is_open x v.payload) (hist-here hops v.hop first_open.hop.0 e first_open.hop.1) ∙ shuts
+
+    -- a call that is not v stays
+    but_first : (w : Via) → (v ≡ w → ⊥) → In w (v ∷ rest) → In w rest
+    but_first w apart (inl a) = absurd (apart a)
+    but_first w apart (inr b) = b
+
+    stays_in : (p : ℕ) (w : Via) → (v ≡ w → ⊥) → In w (calls p) → In w (others p)
+    stays_in p w apart is = ⊎_elim
+        (λ s. subst (In w) (sym (ap others s ∙ now)) (but_first w apart (subst (In w) (ap calls s ∙ was) is)))
+        (λ other. subst (In w) (sym (same p other)) is)
+        (cases_eq p q)
+
+    owned_else : (hop t : ℕ) → (v.hop ≡ hop → v.payload ≡ t → ⊥) → (is_open (history_of (with_entry_in hops v.hop e) hop) t ≡ Nothing) ⊎ Owner others hop t
+    owned_else hop t apart =
+        either_kept calls others hop t (is_open (history_of hops hop) t) (is_open (history_of (with_entry_in hops v.hop e) hop) t) (sym (others_open hop t apart))
+        (owner_kept calls others hop t (λ p w a b is. stays_in p w (λ s. apart (ap (λ (x : Via). x.hop) s ∙ a) (ap (λ (x : Via). x.payload) s ∙ b)) is)) (h.owned hop t)
+
+    owned_now : (hop t : ℕ) → (is_open (history_of (with_entry_in hops v.hop e) hop) t ≡ Nothing) ⊎ Owner others hop t
+    owned_now hop t = ⊎_elim
+        (λ a. ⊎_elim
+        (λ b. inl (subst (λ n. is_open (history_of (with_entry_in hops v.hop e) n) t ≡ Nothing) a (subst (λ u. is_open (history_of (with_entry_in hops v.hop e) v.hop) u ≡ Nothing) b shut_here)))
+        (λ b. owned_else hop t (λ c d. b d))
+        (cases_eq v.payload t))
+        (λ a. owned_else hop t (λ c d. a c))
+        (cases_eq v.hop hop)
 
     pub closes-hopped : Hopped (with_entry_in hops v.hop e) others
     closes-hopped = record {
@@ -143,6 +172,7 @@ module _ (hops : List (List Entry)) (calls others : ℕ → List Via) (q : ℕ) 
       open_ = λ p w is. let o = h.open_ p w (old_in p w is) in record { hop = hop-stays hops v.hop w.hop e o.hop; is_it = still w o (not_first p w is) };
       own = λ p. ⊎_elim (λ s. subst Apart (sym (ap others s ∙ now)) (subst Apart was (h.own q)).1) (λ apart. subst Apart (sym (same p apart)) (h.own p)) (cases_eq p q);
       across = λ p r w x apart a b. h.across p r w x apart (old_in p w a) (old_in r x b);
+      owned = owned_now;
     }
 
 -- ---- an entry opens a call of an instance
@@ -162,13 +192,33 @@ module _ (hops : List (List Entry)) (calls others : ℕ → List Via) (q : ℕ) 
       (λ apart. subst Lawful (sym (hist-other hops v.hop hop e apart)) (h.lawful hop))
       (cases_eq hop v.hop)
 
+  rest_open : (hop t : ℕ) → (v.hop ≡ hop → v.payload ≡ t → ⊥) → is_open (history_of (with_entry_in hops v.hop e) hop) t ≡ is_open (history_of hops hop) t
+  rest_open hop t apart = ⊎_elim
+      (λ s. ap (λ x. is_open x t) (ap (history_of (with_entry_in hops v.hop e)) s ∙ hist-here hops v.hop there.0 e there.1)
+      ∙ ap (λ (k : Kept). k.call) (kept-other (history_of hops v.hop) e t (λ u. apart (sym s) (sym of ∙ u)))
+      ∙ ap (λ n. is_open (history_of hops n) t) (sym s))
+      (λ other. ap (λ x. is_open x t) (hist-other hops v.hop hop e other))
+      (cases_eq hop v.hop)
+
   still_open : (w : Via) → IsOpenFor hops w → (Same v w → ⊥) → is_open (history_of (with_entry_in hops v.hop e) w.hop) w.payload ≡ call_of w.blocking
-  still_open w o apart = ⊎_elim
-      (λ s. ap (λ x. is_open x w.payload) (ap (history_of (with_entry_in hops v.hop e)) s ∙ hist-here hops v.hop there.0 e there.1)
-      ∙ ap (λ (k : Kept). k.call) (kept-other (history_of hops v.hop) e w.payload (λ t. apart (sym s, sym of ∙ t)))
-      ∙ ap (λ n. is_open (history_of hops n) w.payload) (sym s) ∙ o.is_it)
-      (λ other. ap (λ x. is_open x w.payload) (hist-other hops v.hop w.hop e other) ∙ o.is_it)
-      (cases_eq w.hop v.hop)
+  still_open w o apart = rest_open w.hop w.payload (λ a b. apart (a, b)) ∙ o.is_it
+
+  new_owner : Owner others v.hop v.payload
+  new_owner = (q, v, subst (In v) (sym now) (inl refl), refl, refl)
+
+  old_stays : (p : ℕ) (w : Via) → In w (calls p) → In w (others p)
+  old_stays p w is = ⊎_elim (λ s. subst (In w) (sym (ap others s ∙ now)) (inr (subst (In w) (ap calls s) is))) (λ other. subst (In w) (sym (same p other)) is) (cases_eq p q)
+
+  owned_beside : (hop t : ℕ) → (v.hop ≡ hop → v.payload ≡ t → ⊥) → (is_open (history_of (with_entry_in hops v.hop e) hop) t ≡ Nothing) ⊎ Owner others hop t
+  owned_beside hop t apart =
+      either_kept calls others hop t (is_open (history_of hops hop) t) (is_open (history_of (with_entry_in hops v.hop e) hop) t) (sym (rest_open hop t apart))
+      (owner_kept calls others hop t (λ p w a b is. old_stays p w is)) (h.owned hop t)
+
+  owned_too : (hop t : ℕ) → (is_open (history_of (with_entry_in hops v.hop e) hop) t ≡ Nothing) ⊎ Owner others hop t
+  owned_too hop t = ⊎_elim
+      (λ a. ⊎_elim (λ b. inr (subst (λ n. Owner others n t) a (subst (λ u. Owner others v.hop u) b new_owner))) (λ b. owned_beside hop t (λ c d. b d)) (cases_eq v.payload t))
+      (λ a. owned_beside hop t (λ c d. a c))
+      (cases_eq v.hop hop)
 
   new_open : IsOpenFor (with_entry_in hops v.hop e) v
   new_open = record { hop = hop-stays hops v.hop v.hop e there; is_it = ap (λ x. is_open x v.payload) (hist-here hops v.hop there.0 e there.1) ∙ opened }
@@ -199,4 +249,5 @@ module _ (hops : List (List Entry)) (calls others : ℕ → List Via) (q : ℕ) 
     open_ = λ p w is. ⊎_elim (λ a. subst (IsOpenFor (with_entry_in hops v.hop e)) a.1 new_open) (λ b. old_open p w b) (which p w is);
     own = λ p. ⊎_elim (λ s. subst Apart (sym (ap others s ∙ now)) ((λ w is alike. none_alike q w is alike), h.own q)) (λ apart. subst Apart (sym (same p apart)) (h.own p)) (cases_eq p q);
     across = λ p r w x apart a b. cross p r w x apart (which p w a) (which r x b);
+    owned = owned_too;
   }

@@ -5,4 +5,4 @@ mod exact;
 mod lawful;
 
 pub use exact::faults_of_the_protocol_are_exact;
-pub use lawful::histories_are_lawful;
+pub use lawful::{histories_are_lawful, open_calls_are_of_instances};
