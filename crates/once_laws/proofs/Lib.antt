@@ -5,3 +5,4 @@ pub mod Frames
 pub mod Todo
 pub mod Ended
 pub mod Callers
+pub mod Killing

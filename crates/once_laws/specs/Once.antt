@@ -1,11 +1,13 @@
 -- Which guards an unwinding unwinds, and the marks of their ends.
 use Rattle.std.specs.Prelude.{◌≡◌, ◌<◌, ℕ, Bool, true, false, List, [], ◌∷◌, ◌++◌, filter, Some}
 use Rattle.sim_model.specs.Residual.{Residual, skip, one, seq, owing, guard, try_, frame, shell, run, goal, Mark, enter, leave, begin, finish, has_goal}
+use Rattle.sim_model.specs.Unwinding.{unw}
 use Rattle.sim_model.specs.Configuration.{Config, Instance, instance_at}
 use Rattle.sim_model.specs.Steps.{step, went}
 use Rattle.sim_model.specs.Runs.{after}
 use Rattle.sim_model.specs.Waits.{holds}
 use Rattle.sim_model.specs.Clean.{guards_of}
+use Rattle.sim_model.specs.declared.plain.Goal.{Goal}
 
 -- the guards below a goal, from outside in: all of a body that is killed or reset, and those inside its try of an exception
 abbrev pub guards_below : Residual → List ℕ
@@ -66,3 +68,12 @@ pub record IsFirst (P : Config → Type 0) (m : ℕ) (choices : List ℕ) (d e :
   pub reached : after m choices d ≡ Some e
   pub holds_there : P e
   pub not_before : (k : ℕ) (own left : List ℕ) (x : Config) → k < m → choices ≡ own ++ left → after k own d ≡ Some x → P x → ⊥
+
+-- from c to d all guards of q, which is i, are to be unwound: before a goal that is the outermost, on top of the stack
+pub record UnwindsAll (c d : Config) (q : ℕ) (i : Instance) (k : Goal) : Type 0 where
+  pub then : Instance
+  pub is : instance_at d q ≡ Some then
+  pub unwound : then.residual ≡ goal (unw i.residual) k
+  pub guards : guards_below then.residual ≡ guards_of i.residual
+  pub marks : d.trace.marks ≡ c.trace.marks
+  pub top : IsOnTop q d
