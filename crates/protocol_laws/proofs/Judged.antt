@@ -8,6 +8,7 @@ use Rattle.model_tree.specs.declared.constructs.Construct.{Construct}
 use Rattle.payload_pool.specs.declared.payload.Payload.{Payload}
 use Rattle.transport_phases.specs.History.{Entry, Call, Return, BCall, BReturn, broken}
 use Rattle.transport_phases.specs.declared.phases.Rule.{Rule}
+use Rattle.transport_phases.specs.declared.phases.Rule.TheVariants as rule_of
 use Rattle.transport_laws.specs.Lawful.{Lawful}
 use Rattle.transport_laws.specs.Order.{MayCome}
 use Rattle.transport_laws.proofs.LawfulLemmas.{lawful_more, lawful_fits}
@@ -31,7 +32,7 @@ use Rattle.sim_model.specs.Configuration.{Config, Instance, arena, instance_at, 
 use Rattle.sim_model.specs.Reading.{Here, here, denotes, payload_number, live_payload}
 use Rattle.sim_model.specs.Storing.{passes, set_denoted, set_name, stored_if}
 use Rattle.sim_model.specs.Calls.{with_entry, answer_of, final_value}
-use Rattle.sim_model.specs.Transport.{socket_of, blocking_handler, nonblocking_handler, may_enter_handler, path_of_call, int_of, value_named, is_complete, history, rule_number, judged, judged_by, for_freed, of_freed, judged_return, complete_if, complete_now, enters_handler, b_transport_on, nb_transport_on, b_transport_ends, nb_transport_ends}
+use Rattle.sim_model.specs.Transport.{socket_of, blocking_handler, nonblocking_handler, may_enter_handler, path_of_call, int_of, value_named, is_complete, history, rule_number, judged, judged_by, for_freed, of_freed, freed_fault, judged_return, complete_if, complete_now, enters_handler, b_transport_on, nb_transport_on, b_transport_ends, nb_transport_ends}
 use Rattle.sim_model.specs.Statements.{settled_in, on_statement, do_next, step_of, step_by, handed_back, via_ends, calling_statement}
 use Rattle.sim_model.specs.Steps.{Outcome, faulted, ended, as_outcome, evaluate, step_in, step}
 use Rattle.sim_model.specs.Runs.{after}
@@ -41,7 +42,7 @@ use Rattle.clean_laws.proofs.Changes.{change-here}
 use Rattle.goal_laws.proofs.Tight.{settle-tight}
 use Rattle.mark_laws.proofs.Fits.{In}
 use Rattle.move_laws.proofs.Parts.{parts, caller, IsReturnOf}
-use Rattle.protocol_laws.specs.Added.{IsNext, left_of, place_of, WouldAdd, b_call, nb_call, b_return, nb_return, IsJudged}
+use Rattle.protocol_laws.specs.Added.{IsNext, left_of, place_of, WouldAdd, b_call, nb_call, b_return, nb_return, IsJudged, WouldAddFreed, b_freed, nb_freed, IsJudgedFreed, fault_if_freed}
 use Rattle.sim_model.specs.Unwinding.{left_via, left_by_unw}
 use Rattle.protocol_laws.proofs.Histories.{history_of, IsHop, hist-here, IsOpenFor}
 use Rattle.protocol_laws.proofs.Calls.{call-closed, b_call-closed}
@@ -106,6 +107,31 @@ module _ (c x : Config) (same : x.transactions.hops ≡ c.transactions.hops) (ho
   returned_on : (q : Payload) → payload_of x.transactions.pool t ≡ Some q → (b : Option Rule) → broken (history x hop) e ≡ b → (o : Outcome) → o ≡ as_outcome (on_ok (for_freed x t (judged_by x hop e t b)) (λ y. Ok (f y))) → IsJudged c hop t e o
   returned_on q there_is None is o now = judged_on None is o now
   returned_on q there_is (Some rule) is o now = judged_on (Some rule) is o (now ∙ ap (λ z. faulted (of_freed t z (fault.Protocol (rule_number rule) hop t))) there_is)
+
+  -- and where it is freed
+  freed_fault_is : (rule : Rule) → freed_fault t (fault.Protocol (rule_number rule) hop t) ≡ fault_if_freed rule hop t
+  freed_fault_is rule_of.P1 = refl
+  freed_fault_is rule_of.P2 = refl
+  freed_fault_is rule_of.P3 = refl
+  freed_fault_is rule_of.P4 = refl
+  freed_fault_is rule_of.P5 = refl
+  freed_fault_is rule_of.P6 = refl
+  freed_fault_is rule_of.P7 = refl
+  freed_fault_is rule_of.P8 = refl
+  freed_fault_is rule_of.P9 = refl
+  freed_fault_is rule_of.P10 = refl
+
+  freed_on : payload_of x.transactions.pool t ≡ None → (b : Option Rule) → broken (history x hop) e ≡ b → (o : Outcome) → o ≡ as_outcome (on_ok (for_freed x t (judged_by x hop e t b)) (λ y. Ok (f y))) → IsJudgedFreed c hop t e o
+  freed_on gone None is o now = record {
+    lawful = λ k. (f (with_entry x hop e), now, grown_history (ap (λ h. broken h e) (sym history_same) ∙ is));
+    unlawful = λ not. absurd (not (lawful_more (history c hop) e l comes (ap (λ h. broken h e) (sym history_same) ∙ is)));
+  }
+  freed_on gone (Some rule) is o now =
+      let here_too : broken (history c hop) e ≡ Some rule = ap (λ h. broken h e) (sym history_same) ∙ is in
+      record {
+        lawful = λ k. absurd (none-some rule (sym (lawful_fits (history c hop) e k) ∙ here_too));
+        unlawful = λ not. (rule, here_too, now ∙ ap (λ z. faulted (of_freed t z (fault.Protocol (rule_number rule) hop t))) gone ∙ ap faulted (freed_fault_is rule));
+      }
 
 -- ---- calls
 
@@ -218,6 +244,34 @@ module _ (missing : Construct → Bool) (design : Design) (script : List Command
             ∙ ap (λ z. as_outcome (on_ok (judged_return (passes d p r) via.hop (Return via.payload (int_of (answer_of (arena c) x)) (int_of (final_value x 1 (value.Int 32 0))) z) via.payload)
             (λ w. Ok (stored_if (set_name (set_name w p b ph (final_value x 1 (value.Int 32 0))) p b delay (final_value x 2 (value.Moment 0))) p b y (answer_of (arena c) x))))) complete_is)
 
+      -- the payload is freed
+      module _ (gone : payload_of c.transactions.pool via.payload ≡ None) where
+        incomplete_is : complete_now (passes d p r) via.payload ≡ false
+        incomplete_is = ap complete_if gone
+
+        b_return_freed : (socket : ℕ) (m delay : NameUse) → statement_at (arena c) s ≡ Some (code.b_transport socket m delay) → IsJudgedFreed c via.hop via.payload (BReturn via.payload false) (step c)
+        b_return_freed socket m delay found =
+            let e = BReturn via.payload false in
+            let o = closes e (subst (λ z. IsReturnOf z via.payload e) (sym (called_by (code.b_transport socket m delay) found)) (false, refl)) in
+            freed_on c (passes d p r) refl via.hop via.payload e (λ fits. is_open_now.hop) (known.hopped.lawful via.hop) o.comes
+            (λ y. set_name y p b delay (final_value x 1 (value.Moment 0))) (λ y. name_hops y p b delay (final_value x 1 (value.Moment 0))) gone
+            (broken (history (passes d p r) via.hop) e) refl (step c)
+            (b_return_is socket m delay found ∙ ap (λ z. as_outcome (on_ok (judged_return (passes d p r) via.hop (BReturn via.payload z) via.payload) (λ y. Ok (set_name y p b delay (final_value x 1 (value.Moment 0)))))) incomplete_is)
+
+        nb_return_freed : (socket : ℕ) (y : Option Target) (m ph delay : NameUse) → statement_at (arena c) s ≡ Some (code.nb_transport y socket m ph delay)
+            → IsJudgedFreed c via.hop via.payload (Return via.payload (int_of (answer_of (arena c) x)) (int_of (final_value x 1 (value.Int 32 0))) false) (step c)
+        nb_return_freed socket y m ph delay found =
+            let e = Return via.payload (int_of (answer_of (arena c) x)) (int_of (final_value x 1 (value.Int 32 0))) false in
+            let o = closes e (subst (λ z. IsReturnOf z via.payload e) (sym (called_by (code.nb_transport y socket m ph delay) found)) (int_of (answer_of (arena c) x), int_of (final_value x 1 (value.Int 32 0)), false, refl)) in
+            freed_on c (passes d p r) refl via.hop via.payload e (λ fits. is_open_now.hop) (known.hopped.lawful via.hop) o.comes
+            (λ z. stored_if (set_name (set_name z p b ph (final_value x 1 (value.Int 32 0))) p b delay (final_value x 2 (value.Moment 0))) p b y (answer_of (arena c) x))
+            (λ z. stored_hops (set_name (set_name z p b ph (final_value x 1 (value.Int 32 0))) p b delay (final_value x 2 (value.Moment 0))) p b y (answer_of (arena c) x)
+            ∙ name_hops (set_name z p b ph (final_value x 1 (value.Int 32 0))) p b delay (final_value x 2 (value.Moment 0)) ∙ name_hops z p b ph (final_value x 1 (value.Int 32 0))) gone
+            (broken (history (passes d p r) via.hop) e) refl (step c)
+            (nb_return_is socket y m ph delay found
+            ∙ ap (λ z. as_outcome (on_ok (judged_return (passes d p r) via.hop (Return via.payload (int_of (answer_of (arena c) x)) (int_of (final_value x 1 (value.Int 32 0))) z) via.payload)
+            (λ w. Ok (stored_if (set_name (set_name w p b ph (final_value x 1 (value.Int 32 0))) p b delay (final_value x 2 (value.Moment 0))) p b y (answer_of (arena c) x))))) incomplete_is)
+
     -- ---- calls whose handler there is
 
     blocking_there : (hop f : ℕ) (o : Option Hop) → slice_get c.design.hops hop ≡ o → blocking_handler o ≡ Some f → IsHop c.transactions.hops hop
@@ -264,3 +318,7 @@ module _ (missing : Construct → Bool) (design : Design) (script : List Command
   judged-exactly hop t e (nb_call p i s socket y m ph delay hop_ forward t_ q n next found end number live frames) = nb_call_judged p i n s socket y m ph delay hop_ forward t_ q next found end number live frames
   judged-exactly hop t e (b_return p i x s socket m delay via q n next call found over live) = b_return_judged p i n x next s call via over q live socket m delay found
   judged-exactly hop t e (nb_return p i x s socket y m ph delay via q n next call found over live) = nb_return_judged p i n x next s call via over q live socket y m ph delay found
+
+  pub judged-freed : (hop t : ℕ) (e : Entry) → WouldAddFreed c hop t e → IsJudgedFreed c hop t e (step c)
+  judged-freed hop t e (b_freed p i x s socket m delay via n next call found over gone) = b_return_freed p i n x next s call via over gone socket m delay found
+  judged-freed hop t e (nb_freed p i x s socket y m ph delay via n next call found over gone) = nb_return_freed p i n x next s call via over gone socket y m ph delay found

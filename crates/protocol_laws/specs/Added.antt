@@ -1,14 +1,16 @@
 -- Which entry a step is about to add to the history of a hop, and how it is judged.
-use Rattle.std.specs.Prelude.{◌≡◌, ℕ, Bool, false, List, [], ◌∷◌, ◌++◌, slice_get, Option, Some, is_some, Ok}
+use Rattle.std.specs.Prelude.{None, ◌≡◌, ℕ, Bool, false, List, [], ◌∷◌, ◌++◌, slice_get, Option, Some, is_some, Ok}
 use Rattle.logic_values.specs.declared.kinds.Value.TheVariants as value
 use Rattle.payload_pool.specs.declared.payload.Payload.{Payload}
 use Rattle.transport_phases.specs.History.{Entry, Call, Return, BCall, BReturn, broken}
 use Rattle.transport_phases.specs.declared.phases.Rule.{Rule}
+use Rattle.transport_phases.specs.declared.phases.Rule.TheVariants as rule_of
 use Rattle.transport_laws.specs.Lawful.{Lawful}
 use Rattle.flat_design.specs.Code as code
 use Rattle.flat_design.specs.Code.{statement_at}
 use Rattle.flat_design.specs.declared.names.NameUse.{NameUse}
 use Rattle.flat_design.specs.declared.code.Store.{Store as Target}
+use Rattle.flat_design.specs.declared.faults.RunFault.{RunFault}
 use Rattle.flat_design.specs.declared.faults.RunFault.TheVariants as fault
 use Rattle.sim_model.specs.Residual as residual
 use Rattle.sim_model.specs.Residual.{Residual, Frame, settle, next_of}
@@ -64,3 +66,31 @@ pub data WouldAdd (c : Config) : ℕ → ℕ → Entry → Type 0 where
 pub record IsJudged (c : Config) (hop t : ℕ) (e : Entry) (o : Outcome) : Type 0 where
   pub lawful : Lawful (history c hop ++ e ∷ []) → (d : Config) × (o ≡ went d) × (history d hop ≡ history c hop ++ e ∷ [])
   pub unlawful : (Lawful (history c hop ++ e ∷ []) → ⊥) → (rule : Rule) × (broken (history c hop) e ≡ Some rule) × (o ≡ faulted (fault.Protocol (rule_number rule) hop t))
+
+-- The step comes to the end of a call whose payload is freed: it reads as incomplete.
+pub data WouldAddFreed (c : Config) : ℕ → ℕ → Entry → Type 0 where
+  b_freed : (p : ℕ) (i : Instance) (x : Frame) (s socket : ℕ) (n d : NameUse) (via : Via) → IsNext c p i
+      → next_of (left_of c i) ≡ residual.leaves x → x.call ≡ Some s → statement_at (arena c) s ≡ Some (code.b_transport socket n d) → x.via ≡ Some via
+      → payload_of c.transactions.pool via.payload ≡ None
+      → WouldAddFreed c via.hop via.payload (BReturn via.payload false)
+  nb_freed : (p : ℕ) (i : Instance) (x : Frame) (s socket : ℕ) (y : Option Target) (n ph d : NameUse) (via : Via) → IsNext c p i
+      → next_of (left_of c i) ≡ residual.leaves x → x.call ≡ Some s → statement_at (arena c) s ≡ Some (code.nb_transport y socket n ph d) → x.via ≡ Some via
+      → payload_of c.transactions.pool via.payload ≡ None
+      → WouldAddFreed c via.hop via.payload (Return via.payload (int_of (answer_of (arena c) x)) (int_of (final_value x 1 (value.Int 32 0))) false)
+
+-- the rule on the response is then the fault of a freed payload
+abbrev pub fault_if_freed : Rule → ℕ → ℕ → RunFault
+fault_if_freed rule_of.P1 hop t = fault.Protocol 1 hop t
+fault_if_freed rule_of.P2 hop t = fault.Protocol 2 hop t
+fault_if_freed rule_of.P3 hop t = fault.Protocol 3 hop t
+fault_if_freed rule_of.P4 hop t = fault.Protocol 4 hop t
+fault_if_freed rule_of.P5 hop t = fault.Protocol 5 hop t
+fault_if_freed rule_of.P6 hop t = fault.PayloadFreed t
+fault_if_freed rule_of.P7 hop t = fault.Protocol 7 hop t
+fault_if_freed rule_of.P8 hop t = fault.Protocol 8 hop t
+fault_if_freed rule_of.P9 hop t = fault.Protocol 9 hop t
+fault_if_freed rule_of.P10 hop t = fault.Protocol 10 hop t
+
+pub record IsJudgedFreed (c : Config) (hop t : ℕ) (e : Entry) (o : Outcome) : Type 0 where
+  pub lawful : Lawful (history c hop ++ e ∷ []) → (d : Config) × (o ≡ went d) × (history d hop ≡ history c hop ++ e ∷ [])
+  pub unlawful : (Lawful (history c hop ++ e ∷ []) → ⊥) → (rule : Rule) × (broken (history c hop) e ≡ Some rule) × (o ≡ faulted (fault_if_freed rule hop t))

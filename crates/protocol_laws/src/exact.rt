@@ -8,13 +8,18 @@ ghost use Rattle.sim_model.specs.Configuration.{Config, start};
 ghost use Rattle.sim_model.specs.Steps.{step};
 ghost use Rattle.sim_model.specs.Runs.{after};
 ghost use Rattle.sim_model.specs.declared.plain.Command.{Command};
-ghost use Rattle.protocol_laws.specs.Added.{WouldAdd, IsJudged};
+ghost use Rattle.protocol_laws.specs.Added.{WouldAdd, IsJudged, WouldAddFreed, IsJudgedFreed};
 
 /// In every run of a sound design a step that comes to a transport call, or to the end of one, whose payload is not freed,
 /// adds its entry to the hop exactly where the history with that entry is lawful; where it is not, the step is the fault of
-/// the base protocol, with the first rule that is broken, the hop and the payload (IEEE 1666-2011, 15.2).
+/// the base protocol, with the first rule that is broken, the hop and the payload (`live`; IEEE 1666-2011, 15.2). At the end
+/// of a call whose payload is freed it reads as incomplete, and the rule on the response is then the fault of a freed payload
+/// (`freed`).
 pub fn faults_of_the_protocol_are_exact()
-    ensures { (missing : Construct → Bool) (design : Design) (script : List Command) → SoundDesign missing design
+    ensures live { (missing : Construct → Bool) (design : Design) (script : List Command) → SoundDesign missing design
         → (steps : ℕ) (choices : List ℕ) (c : Config) → after steps choices (start design script) ≡ Some c
         → (hop t : ℕ) (e : Entry) → WouldAdd c hop t e → IsJudged c hop t e (step c) }
+    ensures freed { (missing : Construct → Bool) (design : Design) (script : List Command) → SoundDesign missing design
+        → (steps : ℕ) (choices : List ℕ) (c : Config) → after steps choices (start design script) ≡ Some c
+        → (hop t : ℕ) (e : Entry) → WouldAddFreed c hop t e → IsJudgedFreed c hop t e (step c) }
 {}
