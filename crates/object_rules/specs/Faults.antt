@@ -1,5 +1,5 @@
 -- What is wrong with the instances of a model: a module that has itself among them, or too many objects.
-use Rattle.std.specs.Prelude.{ℕ, zero, suc, ◌+◌, ◌||◌, Bool, true, false, nat_lt, if◌then◌else◌, List, [], ◌∷◌, ◌++◌, length, bytes_eq, option_map, Option, Some, None, Contains}
+use Rattle.std.specs.Prelude.{ℕ, zero, suc, ◌+◌, ◌==◌, ◌||◌, Bool, true, false, nat_lt, if◌then◌else◌, List, [], ◌∷◌, length, option_map, Option, Some, None, Contains}
 use Rattle.std.specs.List.{find, flat_map, list_any}
 use Rattle.std.specs.Option.{option_or}
 use Rattle.model_tree.specs.Tree as tree
@@ -8,64 +8,60 @@ use Rattle.model_tree.specs.declared.faults.Kind.TheVariants as kind
 use Rattle.flat_design.specs.declared.objects.Object.{Object}
 use Rattle.flat_design.specs.declared.objects.ObjectForm.{ObjectForm}
 use Rattle.flat_design.specs.declared.objects.ObjectForm.TheVariants as form
-use Rattle.object_rules.specs.Forms.{Name, items_of}
+use Rattle.object_rules.specs.declared.made.Made.{Made}
+use Rattle.object_rules.specs.Forms.{items_at, module_place}
 use Rattle.object_rules.specs.Listing.{list_of}
 
--- an instance: its line, and the name of its module
-pub record Made : Type 0 where
-  pub line : ℕ
-  pub kind : Name
+abbrev pub made_by : List tree.Module → tree.Item → List Made
+made_by ms (tree.signal line s) = []
+made_by ms (tree.resolved line name) = []
+made_by ms (tree.clock line c) = []
+made_by ms (tree.fifo line t name size) = []
+made_by ms (tree.plain line kind name) = []
+made_by ms (tree.semaphore line name c) = []
+made_by ms (tree.memory line name size) = []
+made_by ms (tree.variable line t name c) = []
+made_by ms (tree.port line i name size) = []
+made_by ms (tree.export line i name) = []
+made_by ms (tree.initiator line name role) = []
+made_by ms (tree.target line name role) = []
+made_by ms (tree.instance line kind name) = (record { line = line; place = module_place ms kind }) ∷ []
+made_by ms (tree.bind line left right) = []
+made_by ms (tree.function line f) = []
+made_by ms (tree.process line p) = []
 
-abbrev pub made_by : tree.Item → List Made
-made_by (tree.signal line s) = []
-made_by (tree.resolved line name) = []
-made_by (tree.clock line c) = []
-made_by (tree.fifo line t name size) = []
-made_by (tree.plain line kind name) = []
-made_by (tree.semaphore line name c) = []
-made_by (tree.memory line name size) = []
-made_by (tree.variable line t name c) = []
-made_by (tree.port line i name size) = []
-made_by (tree.export line i name) = []
-made_by (tree.initiator line name role) = []
-made_by (tree.target line name role) = []
-made_by (tree.instance line kind name) = (record { line = line; kind = kind }) ∷ []
-made_by (tree.bind line left right) = []
-made_by (tree.function line f) = []
-made_by (tree.process line p) = []
-
--- those of a module in text order
-abbrev pub made_in : List tree.Item → List Made
-made_in items = flat_map made_by items
+-- those in the module at a place, in text order
+abbrev pub made_at : List tree.Module → ℕ → List Made
+made_at ms place = flat_map (made_by ms) (items_at ms place)
 
 -- a module has an instance of another, in itself or in one of its instances
-pub data Has (ms : List tree.Module) : Name → Name → Type 0 where
-  Directly : (outer : Name) (x : Made) → Contains (made_in (items_of ms outer)) x → Has ms outer x.kind
-  Through : (outer inner : Name) (x : Made) → Contains (made_in (items_of ms outer)) x → Has ms x.kind inner → Has ms outer inner
+pub data Has (ms : List tree.Module) : ℕ → ℕ → Type 0 where
+  Directly : (outer : ℕ) (x : Made) → Contains (made_at ms outer) x → Has ms outer x.place
+  Through : (outer inner : ℕ) (x : Made) → Contains (made_at ms outer) x → Has ms x.place inner → Has ms outer inner
 
 -- the same within so many instances, one in the other
-unfoldable pub has_within : ℕ → List tree.Module → Name → Name → Bool
+unfoldable pub has_within : ℕ → List tree.Module → ℕ → ℕ → Bool
 has_within zero ms inner outer = false
-has_within (suc n) ms inner outer = list_any (λ (x : Made). bytes_eq x.kind inner || has_within n ms inner x.kind) (made_in (items_of ms outer))
+has_within (suc n) ms inner outer = list_any (λ (x : Made). x.place == inner || has_within n ms inner x.place) (made_at ms outer)
 
 -- a module that has itself has itself within as many as there are modules
-abbrev pub has : List tree.Module → Name → Name → Bool
-has ms inner outer = has_within (length ms) ms inner outer
+abbrev pub leads_to : List tree.Module → ℕ → Made → Bool
+leads_to ms place x = x.place == place || has_within (length ms) ms place x.place
 
 -- the first instance in a module that is one of the module itself or has one
-abbrev pub first_of_itself : List tree.Module → tree.Module → Option Made
-first_of_itself ms m = find (λ (x : Made). bytes_eq x.kind m.name || has ms m.name x.kind) (made_in m.items)
+abbrev pub first_of_itself : List tree.Module → ℕ → Option Made
+first_of_itself ms place = find (leads_to ms place) (made_at ms place)
 
-abbrev pub cycle_at : List tree.Module → tree.Module → Option Fault
-cycle_at ms m = option_map (λ (x : Made). record { kind = kind.ModuleCycle; line = x.line; name = m.name }) (first_of_itself ms m)
+abbrev pub cycle_at : List tree.Module → ℕ → tree.Module → Option Fault
+cycle_at ms place m = option_map (λ (x : Made). record { kind = kind.ModuleCycle; line = x.line; name = m.name }) (first_of_itself ms place)
 
--- of these modules, the first in text order on a cycle, at the line of that instance
-abbrev pub cycle_among : List tree.Module → List tree.Module → Option Fault
-cycle_among ms [] = None
-cycle_among ms (m ∷ more) = option_or (cycle_at ms m) (cycle_among ms more)
+-- of the modules from this place on, the first in text order on a cycle, at the line of that instance
+abbrev pub cycle_from : List tree.Module → ℕ → List tree.Module → Option Fault
+cycle_from ms place [] = None
+cycle_from ms place (m ∷ more) = option_or (cycle_at ms place m) (cycle_from ms (place + 1) more)
 
 abbrev pub cycle_fault : tree.Model → Option Fault
-cycle_fault m = cycle_among m.modules m.modules
+cycle_fault m = cycle_from m.modules 0 m.modules
 
 -- the bytes of memories together
 abbrev pub bytes_in : ObjectForm → ℕ

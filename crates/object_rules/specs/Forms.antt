@@ -1,6 +1,6 @@
 -- What the items of a module are declared as.
-use Rattle.std.specs.Prelude.{ℕ, ◌+◌, Bool, true, false, List, [], ◌∷◌, take, bytes_eq, unwrap_or, option_and_then, Option, Some, None}
-use Rattle.std.specs.List.{find, position_or_len}
+use Rattle.std.specs.Prelude.{ℕ, ◌+◌, Bool, true, false, List, [], ◌∷◌, take, slice_get, bytes_eq, unwrap_or, option_and_then, Option, Some, None}
+use Rattle.std.specs.List.{position_or_len}
 use Rattle.model_tree.specs.Tree as tree
 use Rattle.model_tree.specs.declared.items.PlainKind.{PlainKind}
 use Rattle.model_tree.specs.declared.items.PlainKind.TheVariants as plain
@@ -25,7 +25,7 @@ use Rattle.object_rules.specs.Values.{known_type, span_time, start_time, whole, 
 abbrev pub Name : Type 0
 Name = List ℕ
 
--- modules by their names
+-- modules by their names and places
 
 abbrev pub is_named : Name → tree.Module → Bool
 is_named name m = bytes_eq m.name name
@@ -34,9 +34,11 @@ abbrev pub items_in : Option tree.Module → List tree.Item
 items_in None = []
 items_in (Some m) = m.items
 
-abbrev pub items_of : List tree.Module → Name → List tree.Item
-items_of ms name = items_in (find (is_named name) ms)
+-- the items of the module at a place of the text
+abbrev pub items_at : List tree.Module → ℕ → List tree.Item
+items_at ms place = items_in (slice_get ms place)
 
+-- the place of the module of this name; past all of them where there is none
 abbrev pub module_place : List tree.Module → Name → ℕ
 module_place ms name = position_or_len (is_named name) ms
 
@@ -51,8 +53,8 @@ pub record Around : Type 0 where
   pub items : List tree.Item
   pub first_body : ℕ
 
-abbrev pub around : List tree.Module → Name → Around
-around ms name = record { modules = ms; items = items_of ms name; first_body = bodies_in (take (module_place ms name) ms) }
+abbrev pub around : List tree.Module → ℕ → Around
+around ms place = record { modules = ms; items = items_at ms place; first_body = bodies_in (take place ms) }
 
 -- the number of the body of this name; 0 where there is none
 abbrev pub body : Around → Name → ℕ

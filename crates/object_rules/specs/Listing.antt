@@ -11,7 +11,7 @@ use Rattle.flat_design.specs.declared.objects.ObjectForm.TheVariants as form
 use Rattle.flat_design.specs.declared.objects.Binding.{Binding}
 use Rattle.flat_design.specs.declared.objects.Objects.{Objects}
 use Rattle.model_scopes.specs.Meanings.{declared_name}
-use Rattle.object_rules.specs.Forms.{Name, Around, around, items_of, module_place, object_form}
+use Rattle.object_rules.specs.Forms.{Name, Around, around, items_at, module_place, object_form}
 
 -- objects
 
@@ -19,31 +19,31 @@ abbrev pub object_if : ℕ → tree.Item → Option ObjectForm → List Object
 object_if parent i None = []
 object_if parent i (Some f) = (record { name = unwrap_or (declared_name i) []; line = item_line i; parent = parent; form = f }) ∷ []
 
--- the objects inside an instance of this number, of the module of this name
+-- the objects inside an instance of this number, of the module at this place of the text
 abbrev pub Inside : Type 0
-Inside = ℕ → Name → List Object
+Inside = ℕ → ℕ → List Object
 
-abbrev pub inside_item : Inside → ℕ → tree.Item → List Object
-inside_item inside at (tree.signal line s) = []
-inside_item inside at (tree.resolved line name) = []
-inside_item inside at (tree.clock line c) = []
-inside_item inside at (tree.fifo line t name size) = []
-inside_item inside at (tree.plain line kind name) = []
-inside_item inside at (tree.semaphore line name c) = []
-inside_item inside at (tree.memory line name size) = []
-inside_item inside at (tree.variable line t name c) = []
-inside_item inside at (tree.port line i name size) = []
-inside_item inside at (tree.export line i name) = []
-inside_item inside at (tree.initiator line name role) = []
-inside_item inside at (tree.target line name role) = []
-inside_item inside at (tree.instance line kind name) = inside at kind
-inside_item inside at (tree.bind line left right) = []
-inside_item inside at (tree.function line f) = []
-inside_item inside at (tree.process line p) = []
+abbrev pub inside_item : Inside → List tree.Module → ℕ → tree.Item → List Object
+inside_item inside ms at (tree.signal line s) = []
+inside_item inside ms at (tree.resolved line name) = []
+inside_item inside ms at (tree.clock line c) = []
+inside_item inside ms at (tree.fifo line t name size) = []
+inside_item inside ms at (tree.plain line kind name) = []
+inside_item inside ms at (tree.semaphore line name c) = []
+inside_item inside ms at (tree.memory line name size) = []
+inside_item inside ms at (tree.variable line t name c) = []
+inside_item inside ms at (tree.port line i name size) = []
+inside_item inside ms at (tree.export line i name) = []
+inside_item inside ms at (tree.initiator line name role) = []
+inside_item inside ms at (tree.target line name role) = []
+inside_item inside ms at (tree.instance line kind name) = inside at (module_place ms kind)
+inside_item inside ms at (tree.bind line left right) = []
+inside_item inside ms at (tree.function line f) = []
+inside_item inside ms at (tree.process line p) = []
 
 -- those of an item in the instance of the number `parent`, if the next object has the number `at`
 abbrev pub of_item : Inside → Around → ℕ → ℕ → tree.Item → List Object
-of_item inside a parent at i = object_if parent i (object_form a i) ++ inside_item inside at i
+of_item inside a parent at i = object_if parent i (object_form a i) ++ inside_item inside a.modules at i
 
 abbrev pub of_items : Inside → Around → ℕ → ℕ → List tree.Item → List Object
 of_items inside a parent at [] = []
@@ -52,18 +52,21 @@ of_items inside a parent at (i ∷ is) =
 
 -- within so many instances, one in the other
 unfoldable pub inside_within : ℕ → List tree.Module → Inside
-inside_within zero ms at kind = []
-inside_within (suc n) ms at kind = of_items (inside_within n ms) (around ms kind) at (at + 1) (items_of ms kind)
+inside_within zero ms at place = []
+inside_within (suc n) ms at place = of_items (inside_within n ms) (around ms place) at (at + 1) (items_at ms place)
 
 -- where no module has itself among its instances, no more of them stand in each other than there are modules
 abbrev pub inside : List tree.Module → Inside
 inside ms = inside_within (length ms) ms
 
+abbrev pub top_place : tree.Model → ℕ
+top_place m = module_place m.modules m.top.module
+
 abbrev pub top_object : tree.Model → Object
-top_object m = record { name = m.top.name; line = m.top.line; parent = 0; form = form.Instance (module_place m.modules m.top.module) }
+top_object m = record { name = m.top.name; line = m.top.line; parent = 0; form = form.Instance (top_place m) }
 
 abbrev pub list_of : tree.Model → List Object
-list_of m = top_object m ∷ inside m.modules 0 m.top.module
+list_of m = top_object m ∷ inside m.modules 0 (top_place m)
 
 -- bindings
 
@@ -83,37 +86,37 @@ abbrev pub end_of : List Object → ℕ → End → ℕ
 end_of below_top parent e = end_in below_top parent e.name e.member
 
 abbrev pub InsideBinds : Type 0
-InsideBinds = ℕ → Name → List Binding
+InsideBinds = ℕ → ℕ → List Binding
 
-abbrev pub binds_of_item : InsideBinds → List Object → ℕ → tree.Item → List Binding
-binds_of_item inside os parent (tree.signal line s) = []
-binds_of_item inside os parent (tree.resolved line name) = []
-binds_of_item inside os parent (tree.clock line c) = []
-binds_of_item inside os parent (tree.fifo line t name size) = []
-binds_of_item inside os parent (tree.plain line kind name) = []
-binds_of_item inside os parent (tree.semaphore line name c) = []
-binds_of_item inside os parent (tree.memory line name size) = []
-binds_of_item inside os parent (tree.variable line t name c) = []
-binds_of_item inside os parent (tree.port line i name size) = []
-binds_of_item inside os parent (tree.export line i name) = []
-binds_of_item inside os parent (tree.initiator line name role) = []
-binds_of_item inside os parent (tree.target line name role) = []
-binds_of_item inside os parent (tree.instance line kind name) = inside (child os parent name) kind
-binds_of_item inside os parent (tree.bind line left right) =
+abbrev pub binds_of_item : InsideBinds → List tree.Module → List Object → ℕ → tree.Item → List Binding
+binds_of_item inside ms os parent (tree.signal line s) = []
+binds_of_item inside ms os parent (tree.resolved line name) = []
+binds_of_item inside ms os parent (tree.clock line c) = []
+binds_of_item inside ms os parent (tree.fifo line t name size) = []
+binds_of_item inside ms os parent (tree.plain line kind name) = []
+binds_of_item inside ms os parent (tree.semaphore line name c) = []
+binds_of_item inside ms os parent (tree.memory line name size) = []
+binds_of_item inside ms os parent (tree.variable line t name c) = []
+binds_of_item inside ms os parent (tree.port line i name size) = []
+binds_of_item inside ms os parent (tree.export line i name) = []
+binds_of_item inside ms os parent (tree.initiator line name role) = []
+binds_of_item inside ms os parent (tree.target line name role) = []
+binds_of_item inside ms os parent (tree.instance line kind name) = inside (child os parent name) (module_place ms kind)
+binds_of_item inside ms os parent (tree.bind line left right) =
     (record { line = line; instance = parent; left = end_of os parent left; right = end_of os parent right }) ∷ []
-binds_of_item inside os parent (tree.function line f) = []
-binds_of_item inside os parent (tree.process line p) = []
+binds_of_item inside ms os parent (tree.function line f) = []
+binds_of_item inside ms os parent (tree.process line p) = []
 
-abbrev pub binds_of_items : InsideBinds → List Object → ℕ → List tree.Item → List Binding
-binds_of_items inside os parent [] = []
-binds_of_items inside os parent (i ∷ is) = binds_of_item inside os parent i ++ binds_of_items inside os parent is
+abbrev pub binds_of_items : InsideBinds → List tree.Module → List Object → ℕ → List tree.Item → List Binding
+binds_of_items inside ms os parent [] = []
+binds_of_items inside ms os parent (i ∷ is) = binds_of_item inside ms os parent i ++ binds_of_items inside ms os parent is
 
 unfoldable pub binds_within : ℕ → List tree.Module → List Object → InsideBinds
-binds_within zero ms os parent kind = []
-binds_within (suc n) ms os parent kind = binds_of_items (binds_within n ms os) os parent (items_of ms kind)
+binds_within zero ms os parent place = []
+binds_within (suc n) ms os parent place = binds_of_items (binds_within n ms os) ms os parent (items_at ms place)
 
 abbrev pub binds_of : tree.Model → List Binding
-binds_of m = binds_within (length m.modules) m.modules (inside m.modules 0 m.top.module) 0 m.top.module
+binds_of m = binds_within (length m.modules) m.modules (inside m.modules 0 (top_place m)) 0 (top_place m)
 
 abbrev pub objects_of : tree.Model → Objects
 objects_of m = record { list = list_of m; binds = binds_of m }

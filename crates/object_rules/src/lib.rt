@@ -2,8 +2,10 @@
 //! first fault of the instances.
 #![tactic(auto)]
 
+mod made;
 mod worked;
 
+pub use made::Made;
 pub use worked::{
     children_stand_at_their_place, first_values_fit_their_types, memories_are_counted_together,
     modules_are_not_among_their_instances,
