@@ -12,7 +12,7 @@ use Rattle.model_tree.specs.declared.faults.Fault.{Fault}
 use Rattle.model_tree.specs.declared.faults.Kind.TheVariants as kind
 use Rattle.object_rules.specs.declared.made.Made.{Made}
 use Rattle.object_rules.specs.Forms.{items_in}
-use Rattle.object_rules.specs.Faults.{made_by, made_at, has_within, leads_to, first_of_itself, cycle_at, cycle_from}
+use Rattle.object_rules.specs.Faults.{made_by, made_at, has_within, leads_to, fault_at, cycle_from}
 use Rattle.module_cycles.specs.Marks.{made_of, row_of, is_marked, number_if, count_of, AreSettled, KeepsSettled}
 
 head_in : {X : Type 0} (x : X) (xs : List X) → Contains (x ∷ xs) x
@@ -21,7 +21,7 @@ head_in x xs = (0, omega arith, refl)
 tail_in : {X : Type 0} (x y : X) (ys : List X) → Contains ys x → Contains (y ∷ ys) x
 tail_in x y ys h = Contains-append_right (y ∷ []) ys x h
 
-nothing_in : {X : Type 0} (x : X) → Contains [] x → ⊥
+pub nothing_in : {X : Type 0} (x : X) → Contains [] x → ⊥
 nothing_in x (k, below, is) = omega arith
 
 -- one that passes a test, and all that do
@@ -43,7 +43,7 @@ each_all p [] h x at = absurd (nothing_in x at)
 each_all p (y ∷ ys) h x (zero, below, is) = subst (λ z. p z ≡ true) is (and_true (p y) (list_all p ys) h).0
 each_all p (y ∷ ys) h x (suc k, below, is) = each_all p ys (and_true (p y) (list_all p ys) h).1 x (k, omega arith, is)
 
-or_cases : (a b : Bool) → (a || b) ≡ true → (a ≡ true) ⊎ (b ≡ true)
+pub or_cases : (a b : Bool) → (a || b) ≡ true → (a ≡ true) ⊎ (b ≡ true)
 or_cases true b h = inl refl
 or_cases false b h = inr h
 
@@ -102,10 +102,6 @@ none_or p x xs false rest h = rest h
 find_none : (p : Made → Bool) (xs : List Made) → list_any p xs ≡ false → find p xs ≡ None
 find_none p [] h = refl
 find_none p (x ∷ xs) h = none_or p x xs (p x) (find_none p xs) h
-
--- the fault that an instance tells of its module
-abbrev fault_at : tree.Module → Made → Fault
-fault_at m x = record { kind = kind.ModuleCycle; line = x.line; name = m.name }
 
 module _ (ms : List tree.Module) where
   -- what a marked module has is marked
@@ -166,7 +162,7 @@ module _ (ms : List tree.Module) where
       ∙ none_on_cycle marks settled (place + 1) more
       (λ k below. let f : place + suc k ≡ place + 1 + k = omega arith in subst (λ i. is_marked marks i ≡ true) f (all (suc k) (omega arith)))
 
-  none_marked : (n k : ℕ) → is_marked (replicate n false) k ≡ false
+  pub none_marked : (n k : ℕ) → is_marked (replicate n false) k ≡ false
   none_marked zero k = refl
   none_marked (suc n) zero = refl
   none_marked (suc n) (suc k) = none_marked n k

@@ -31,12 +31,9 @@ pub record AreSettled (ms : List tree.Module) (marks : List Bool) : Type 0 where
 abbrev pub meets : ℕ → List Bool → Made → Bool
 meets place marks x = x.place == place || is_marked marks x.place
 
--- What is marked has the module at a place, within as many instances as there are marks; and whether all that has it is marked.
+-- what is marked has the module at a place, within as many instances as there are marks
 abbrev pub AreFound : List tree.Module → ℕ → List Bool → Type 0
 AreFound ms place marks = (k : ℕ) → is_marked marks k ≡ true → has_within (count_of marks) ms place k ≡ true
-
-abbrev pub AreAll : List tree.Module → ℕ → List Bool → Type 0
-AreAll ms place marks = (k : ℕ) → list_any (meets place marks) (made_at ms k) ≡ true → is_marked marks k ≡ true
 
 abbrev pub row_of : List (List Made) → ℕ → List Made
 row_of made k = unwrap_or (slice_get made k) []
@@ -44,3 +41,13 @@ row_of made k = unwrap_or (slice_get made k) []
 -- the table of a model's instances
 abbrev pub KeepsSettled : List (List Made) → List Bool → List Bool → Type 0
 KeepsSettled made old new = (ms : List tree.Module) → made ≡ made_of ms → AreSettled ms old → AreSettled ms new
+
+-- the same of what has the module at a place
+abbrev pub KeepsFound : List (List Made) → ℕ → List Bool → List Bool → Type 0
+KeepsFound made place old new = (ms : List tree.Module) → made ≡ made_of ms → AreFound ms place old → AreFound ms place new
+
+abbrev pub IsClosedAt : List (List Made) → ℕ → List Bool → ℕ → Type 0
+IsClosedAt made place marks k = list_any (meets place marks) (row_of made k) ≡ true → is_marked marks k ≡ true
+
+abbrev pub IsClosed : List (List Made) → ℕ → List Bool → Type 0
+IsClosed made place marks = (k : ℕ) → k < length marks → IsClosedAt made place marks k

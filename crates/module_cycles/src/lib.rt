@@ -1,5 +1,9 @@
 //! Modules that have themselves among their instances.
 #![tactic(auto)]
 
+mod cycles;
+mod found;
 mod made;
 mod settled;
+
+pub use cycles::judge_cycles;

@@ -52,8 +52,11 @@ leads_to ms place x = x.place == place || has_within (length ms) ms place x.plac
 abbrev pub first_of_itself : List tree.Module → ℕ → Option Made
 first_of_itself ms place = find (leads_to ms place) (made_at ms place)
 
+abbrev pub fault_at : tree.Module → Made → Fault
+fault_at m x = record { kind = kind.ModuleCycle; line = x.line; name = m.name }
+
 abbrev pub cycle_at : List tree.Module → ℕ → tree.Module → Option Fault
-cycle_at ms place m = option_map (λ (x : Made). record { kind = kind.ModuleCycle; line = x.line; name = m.name }) (first_of_itself ms place)
+cycle_at ms place m = option_map (fault_at m) (first_of_itself ms place)
 
 -- of the modules from this place on, the first in text order on a cycle, at the line of that instance
 abbrev pub cycle_from : List tree.Module → ℕ → List tree.Module → Option Fault

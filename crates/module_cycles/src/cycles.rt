@@ -1,0 +1,67 @@
+ghost use Rattle.std.specs.Prelude.{◌≡◌, Some, None, OnOk, IfErr};
+ghost use Rattle.model_tree.specs.Views.{module_of, modules_of};
+ghost use Rattle.model_tree.specs.Seen.{model_of};
+ghost use Rattle.model_tree.specs.Stops.{IfRefused};
+ghost use Rattle.object_rules.specs.Faults.{fault_at, cycle_from, cycle_fault};
+ghost use Rattle.module_cycles.specs.Marks.{made_of};
+
+use super::found::first_of_itself;
+use super::made::made_of;
+use super::settled::are_settled;
+use logic_values::Text;
+use model_tree::{CheckStop, Fault, Kind, Module, Tree};
+use object_rules::Made;
+use plain_lists::Items;
+use std::alloc::Global;
+
+/// The refusal of a module that has itself, at the line of an instance in it.
+fn refused(alloc: Global, module: &Module, x: Made) -> CheckStop
+    ensures { IfRefused result (λ fault. fault ≡ fault_at (module_of «module».now) x) }
+{
+    match Vec::from_slice(alloc, module.name.bytes()) {
+        Ok(bytes) => CheckStop::Refused(Fault {
+            kind: Kind::ModuleCycle,
+            line: x.line,
+            name: Text::from_vec(bytes),
+        }),
+        Err(_) => CheckStop::NoMemory,
+    }
+}
+
+/// Judges each module in text order.
+fn judge_all(alloc: Global, modules: &[Module], made: &[Items<Made>]) -> Result<(), CheckStop>
+    requires { made.now ≡ made_of (modules_of modules.now) }
+    ensures ok { OnOk result (cycle_from (modules_of modules.now) 0 (modules_of modules.now) ≡ None) }
+    ensures refused { IfErr result (λ stop. IfRefused stop (λ fault. cycle_from (modules_of modules.now) 0 (modules_of modules.now) ≡ Some fault)) }
+{
+    for (k, module) in modules.iter().enumerate() {
+        match first_of_itself(alloc, made, k) {
+            Ok(None) => {}
+            Ok(Some(x)) => return Err(refused(alloc, module, x)),
+            Err(_) => return Err(CheckStop::NoMemory),
+        }
+    }
+    Ok(())
+}
+
+/// Judges the instances of a tree: no module has itself among its instances, at any depth.
+///
+/// Refused has the first module in text order that has: ModuleCycle, with its name, at the line of the first instance in it
+/// that is of the module itself or of one that has it.
+///
+/// Modules are marked from those without instances on, in place of a walk along them, so that their depth costs no stack.
+/// A tree without a fault takes one such search; of another each module up to the first fault takes one.
+pub fn judge_cycles(alloc: Global, tree: &Tree) -> Result<(), CheckStop>
+    ensures ok { OnOk result (cycle_fault (model_of tree.now) ≡ None) }
+    ensures refused { IfErr result (λ stop. IfRefused stop (λ fault. cycle_fault (model_of tree.now) ≡ Some fault)) }
+{
+    let modules = tree.modules.as_slice();
+    let Ok(made) = made_of(alloc, modules) else {
+        return Err(CheckStop::NoMemory);
+    };
+    match are_settled(alloc, made.as_slice()) {
+        Ok(true) => Ok(()),
+        Ok(false) => judge_all(alloc, modules, made.as_slice()),
+        Err(_) => Err(CheckStop::NoMemory),
+    }
+}
