@@ -1,10 +1,9 @@
 -- Where a body lands.
-use Rattle.std.proofs.Common.{◌≡◌, ℕ, ◌+◌, ◌<◌, ◌≤◌, zero, suc, List, [], ◌∷◌, ◌++◌, Option, Some, None, length, take, drop, get_or, refl, sym, ap, ◌∙◌, subst, arith}
+use Rattle.std.proofs.Common.{◌≡◌, ℕ, ◌<◌, zero, suc, List, [], ◌∷◌, ◌++◌, Option, Some, None, length, take, get_or, refl, sym, ap, ◌∙◌, subst, arith}
 use Rattle.std.proofs.Math.Seq.{take-length}
-use Rattle.flat_design.specs.Code.{Arena, block_at}
+use Rattle.flat_design.specs.Code.{Arena}
 use Rattle.sim_model.specs.Residual as residual
 use Rattle.sim_model.specs.Residual.{Residual, Frame, skip, one, run, goal, frame, followed, statements, then_on, in_run, settle, next_of, frame_end}
-use Rattle.body_code.specs.declared.around.Cursor.{Cursor}
 use Rattle.body_layers.specs.declared.layers.Frame.{Frame as Kept}
 use Rattle.body_layers.specs.declared.layers.Layer.{Layer}
 use Rattle.body_layers.specs.declared.layers.Layer.TheVariants as layer
@@ -12,7 +11,7 @@ use Rattle.body_layers.specs.declared.layers.Next.{Next}
 use Rattle.body_layers.specs.declared.layers.Next.TheVariants as next
 use Rattle.body_layers.specs.declared.layers.Comes.{Comes}
 use Rattle.body_layers.specs.declared.layers.Comes.TheVariants as comes
-use Rattle.body_layers.specs.Layers.{call_of, around, inside, standing, rest_at, shown, shown_by, landed, frame_ends, begins, end_shown, IsBegun, first_then}
+use Rattle.body_layers.specs.Layers.{call_of, around, inside, standing, rest_at, shown, shown_by, landed, frame_ends, end_shown, IsBegun}
 use Rattle.body_layers.proofs.Settling.{IsLeft, IsComing, settle_followed, in_run_left, settle_inside, settle_same, next_inside, inside_take}
 
 -- what r settles to is left, and shows this

@@ -1,12 +1,9 @@
 -- The room of layers one after another.
-use Rattle.std.proofs.Common.{◌≡◌, ℕ, ◌+◌, ◌<◌, ◌≤◌, zero, suc, List, [], ◌∷◌, ◌++◌, Option, Some, None, length, take, drop, get_or, refl, sym, ap, ◌∙◌, subst, arith, length-append}
-use Rattle.std.proofs.lemmas.List.{length-take-le}
+use Rattle.std.proofs.Common.{◌≡◌, ℕ, ◌+◌, ◌≤◌, List, [], ◌∷◌, ◌++◌, Option, Some, None, length, refl, ap, subst, arith, length-append}
 use Rattle.flat_design.specs.Code.{Arena}
 use Rattle.body_layers.specs.declared.layers.Layer.{Layer}
 use Rattle.body_layers.specs.declared.layers.Layer.TheVariants as layer
-use Rattle.body_layers.specs.declared.layers.Comes.{Comes}
-use Rattle.body_layers.specs.Layers.{layers_of, statement_of}
-use Rattle.body_layers.specs.Room.{FitsBlocks, FitsStatement, FitsLayer, FitsAll, Fits, FitsIf, kept_inside, kept_along, own_or, own_room}
+use Rattle.body_layers.specs.Room.{FitsStatement, FitsLayer, FitsAll, Fits, kept_inside, kept_along, own_or, own_room}
 
 pub kept_append : (t : ℕ) (ls ms : List Layer) → kept_along t (ls ++ ms) ≡ kept_along (kept_along t ls) ms
 kept_append t [] ms = refl

@@ -1,8 +1,7 @@
 -- The innermost layer of a kind, and what it tells of what is left.
-use Rattle.std.proofs.Common.{◌≡◌, ℕ, ◌+◌, ◌<◌, ◌≤◌, zero, suc, Bool, true, false, List, [], ◌∷◌, ◌++◌, Option, Some, None, length, take, drop, get_or, refl, sym, ap, ◌∙◌, subst, arith}
+use Rattle.std.proofs.Common.{◌≡◌, ℕ, ◌<◌, zero, suc, Bool, true, false, List, [], ◌∷◌, Option, Some, None, length, drop, get_or, refl, sym, ap, ◌∙◌, subst, arith}
 use Rattle.std.specs.Prelude.{◌||◌, is_some}
 use Rattle.flat_design.specs.Code.{Arena}
-use Rattle.sim_model.specs.Residual as residual
 use Rattle.sim_model.specs.Residual.{Residual, Frame, followed, innermost, or_frame, within, or_via, in_nb, has_goal}
 use Rattle.sim_model.specs.Unwinding.{catches, has_exit}
 use Rattle.sim_model.specs.declared.plain.Via.{Via}
@@ -10,7 +9,7 @@ use Rattle.body_layers.specs.declared.layers.Layer.{Layer}
 use Rattle.body_layers.specs.declared.layers.Layer.TheVariants as layer
 use Rattle.body_layers.specs.declared.layers.Sought.TheVariants as sought
 use Rattle.body_layers.specs.Layers.{call_of, around, inside, rest_at}
-use Rattle.body_layers.specs.Sought.{frame_in, via_in, is_exit, is_sought, is_handling, NoneIs, LastIs}
+use Rattle.body_layers.specs.Sought.{frame_in, via_in, is_sought, is_handling, NoneIs, LastIs}
 
 pub none_from : (p : Layer → Bool) (ls : List Layer) (i : ℕ) (d : Layer) → i < length ls → p (get_or ls i d) ≡ false → NoneIs p (drop (suc i) ls) → NoneIs p (drop i ls)
 none_from p [] i d h e n = absurd (omega (arith, h))

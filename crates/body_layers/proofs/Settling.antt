@@ -1,15 +1,12 @@
 -- Finished parts inside layers.
-use Rattle.std.proofs.Common.{◌≡◌, ℕ, ◌+◌, ◌<◌, zero, suc, Bool, true, false, List, [], ◌∷◌, ◌++◌, Option, Some, None, length, take, drop, get_or, refl, sym, ap, ◌∙◌, subst, arith}
-use Rattle.std.specs.Prelude.{slice_get}
-use Rattle.flat_design.specs.Code.{Arena, block_at}
+use Rattle.std.proofs.Common.{◌≡◌, ℕ, ◌<◌, zero, suc, List, [], ◌∷◌, ◌++◌, length, take, get_or, refl, sym, ap, ◌∙◌, subst, arith}
+use Rattle.flat_design.specs.Code.{Arena}
 use Rattle.sim_model.specs.Residual as residual
 use Rattle.sim_model.specs.Residual.{Residual, Frame, Next, skip, one, seq, owing, guard, try_, frame, shell, run, goal, followed, statements, then_on, then_owed, in_run, in_guard, in_try, in_shell, settle, next_of, in_frame, before_goal, frame_end}
 use Rattle.body_code.specs.Depths.{handlers_of}
 use Rattle.body_layers.specs.declared.layers.Layer.{Layer}
 use Rattle.body_layers.specs.declared.layers.Layer.TheVariants as layer
-use Rattle.body_layers.specs.declared.layers.Comes.{Comes}
-use Rattle.body_layers.specs.declared.layers.Comes.TheVariants as comes
-use Rattle.body_layers.specs.Layers.{call_of, around, inside, standing, rest_at, shown, shown_by, landed, frame_ends, begins, end_shown}
+use Rattle.body_layers.specs.Layers.{call_of, around, inside, rest_at}
 
 -- something is left
 abbrev pub IsLeft : Residual → Type 0

@@ -1,5 +1,5 @@
 -- What a layer becomes when its call answers, or when a local variable of it gets another value.
-use Rattle.std.specs.Prelude.{◌≡◌, ℕ, List, [], ◌∷◌, Option, Some, None, slice_set}
+use Rattle.std.specs.Prelude.{◌≡◌, ℕ, Option}
 use Rattle.std.specs.Vec.{vec_capacity}
 use Rattle.logic_values.specs.declared.kinds.Value.{Value}
 use Rattle.sim_model.specs.Storing.{with_local}

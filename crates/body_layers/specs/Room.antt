@@ -6,7 +6,6 @@ use Rattle.flat_design.specs.Code.{Arena}
 use Rattle.flat_design.specs.declared.code.CodeBody.{CodeBody}
 use Rattle.sim_model.specs.Residual.{Residual, skip, block, first_locals}
 use Rattle.body_code.specs.Depths.{blocks_of, depth_of, locals_at}
-use Rattle.body_layers.specs.declared.layers.Frame.{Frame}
 use Rattle.body_layers.specs.declared.layers.Comes.{Comes}
 use Rattle.body_layers.specs.Layers.{layers_of, statement_of}
 use Rattle.body_layers.specs.declared.layers.Layer.{Layer}

@@ -1,5 +1,5 @@
 -- What an unwinding makes of a layer, and what a layer tells of it.
-use Rattle.std.specs.Prelude.{ℕ, Option, Some, None, option_map}
+use Rattle.std.specs.Prelude.{ℕ, Option, None, option_map}
 use Rattle.flat_design.specs.Code.{Arena}
 use Rattle.flat_design.specs.declared.code.Handler.{Handler}
 use Rattle.sim_model.specs.Unwinding.{handler_of}

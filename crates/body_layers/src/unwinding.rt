@@ -1,5 +1,5 @@
 //! What an unwinding makes of layers.
-ghost use Rattle.std.specs.Prelude.{◌≡◌, ℕ, ◌+◌, ◌<◌, ◌≤◌, ◌++◌, ◌∷◌, [], List, length, map, take, drop, vec_len, vec_capacity, true, Some, None, slice_get};
+ghost use Rattle.std.specs.Prelude.{◌≡◌, ℕ, ◌+◌, ◌<◌, ◌≤◌, ◌++◌, ◌∷◌, [], List, length, map, take, drop, vec_len, vec_capacity, true, Some, None, slice_get, ◌^◌, IfSome};
 ghost use Rattle.flat_design.specs.Code.{Arena, arena_of};
 ghost use Rattle.sim_model.specs.Residual as residual;
 ghost use Rattle.sim_model.specs.Unwinding.{left_by_unw, handles};
@@ -107,7 +107,8 @@ fn left_at(layer: &Layer) -> Option<Via>
 
 /// The transport call of this number among those that an unwinding of the layers leaves, the innermost first.
 pub fn left_by(layers: &[Layer], number: usize) -> Option<Via>
-    ensures { (a : Arena) → result ≡ slice_get (left_by_unw (inside a layers.now residual.skip)) number }
+    ensures value { (a : Arena) → result ≡ slice_get (left_by_unw (inside a layers.now residual.skip)) number }
+    ensures small { IfSome result (λ _. number + 1 < 2 ^ 64) }
 {
     let mut more = number;
     let mut place = layers.len();

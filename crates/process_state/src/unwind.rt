@@ -1,5 +1,5 @@
 //! Unwinding of a body: what a kill, a reset or an exception makes of what is left.
-ghost use Rattle.std.specs.Prelude.{◌≡◌, ◌≤◌, true, false, slice_get};
+ghost use Rattle.std.specs.Prelude.{◌≡◌, ◌≤◌, true, false, slice_get, ◌+◌, ◌<◌, ◌^◌, IfSome};
 ghost use Rattle.flat_design.specs.Code.{Arena, arena_of};
 ghost use Rattle.sim_model.specs.Residual.{goal, has_goal};
 ghost use Rattle.sim_model.specs.Unwinding as spec;
@@ -52,14 +52,16 @@ impl Body {
 
     /// The transport call of this number among those that `unwind` would leave, the innermost first.
     pub fn left_by_unwind(&self, number: usize) -> Option<Via>
-        ensures { (a : Arena) → result ≡ slice_get (spec.left_by_unw (left_of a self.now)) number }
+        ensures value { (a : Arena) → result ≡ slice_get (spec.left_by_unw (left_of a self.now)) number }
+        ensures small { IfSome result (λ _. number + 1 < 2 ^ 64) }
     {
         left_by(self.layers.as_slice(), number)
     }
 
     /// The transport call of this number among those that `raise` would leave, the innermost first.
     pub fn left_by_raise(&self, program: &Program, name: NameId, number: usize) -> Option<Via>
-        ensures { result ≡ slice_get (spec.left_by_raise (left_in program.now self.now) name) number }
+        ensures value { result ≡ slice_get (spec.left_by_raise (left_in program.now self.now) name) number }
+        ensures small { IfSome result (λ _. number + 1 < 2 ^ 64) }
     {
         match last_try(program, self.layers.as_slice(), name) {
             Some(place) => {

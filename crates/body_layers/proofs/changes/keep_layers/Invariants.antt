@@ -1,4 +1,4 @@
-use Rattle.std.proofs.Common.{◌≡◌, ℕ, ◌-◌, ◌≤◌, take, vec_len}
+use Rattle.std.proofs.Common.{◌≡◌, ◌≤◌, take, vec_len}
 use Rattle.std.specs.Vec.{vec_capacity}
 use Rattle.body_layers.specs.Room.{own_room}
 use Rattle.body_layers.proofs.changes.keep_layers.Given as goal

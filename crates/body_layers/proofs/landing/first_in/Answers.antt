@@ -1,4 +1,4 @@
-use Rattle.std.proofs.Common.{subst, ◌≡◌, sym}
+use Rattle.std.proofs.Common.{subst}
 use Rattle.flat_design.specs.Code.{arena_of}
 use Rattle.body_layers.specs.declared.layers.Layer.{Layer}
 use Rattle.body_layers.specs.Room.{FitsLayer}

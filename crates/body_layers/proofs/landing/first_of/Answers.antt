@@ -1,4 +1,4 @@
-use Rattle.std.proofs.Common.{◌≡◌, refl, sym, ap, ◌∙◌, Some, None}
+use Rattle.std.proofs.Common.{refl, sym, ap}
 use Rattle.flat_design.specs.Code.{arena_of, block_at}
 use Rattle.sim_model.specs.Residual.{statements}
 use Rattle.body_layers.proofs.Blocks.{rest_some, rest_none, contains_at}

@@ -1,4 +1,4 @@
-use Rattle.std.proofs.Common.{ℕ, ◌≤◌, length, drop}
+use Rattle.std.proofs.Common.{◌≤◌, length, drop}
 use Rattle.body_layers.specs.Sought.{is_sought, NoneIs}
 use Rattle.body_layers.proofs.sought.last.Given as goal
 

@@ -1,6 +1,6 @@
 use Rattle.std.proofs.Common.{◌-◌, sym, ◌∙◌, arith}
 use Rattle.flat_design.specs.Code.{arena_of}
-use Rattle.body_layers.specs.Sought.{is_sought, is_handling}
+use Rattle.body_layers.specs.Sought.{is_handling}
 use Rattle.body_layers.proofs.Seeking.{last_at}
 use Rattle.body_layers.proofs.sought.last_try.Goals as goal
 

@@ -1,4 +1,4 @@
-use Rattle.std.proofs.Common.{ℕ, ◌≤◌, length, drop}
+use Rattle.std.proofs.Common.{◌≤◌, length, drop}
 use Rattle.flat_design.specs.Code.{arena_of}
 use Rattle.body_layers.specs.Sought.{is_handling, NoneIs}
 use Rattle.body_layers.proofs.sought.last_try.Given as goal

@@ -1,4 +1,4 @@
-use Rattle.std.proofs.Common.{◌≡◌, ℕ, ◌≤◌, length, take}
+use Rattle.std.proofs.Common.{◌≡◌, ◌+◌, ◌≤◌, length, take}
 use Rattle.std.specs.Prelude.{slice_get}
 use Rattle.flat_design.specs.Code.{Arena}
 use Rattle.sim_model.specs.Residual.{skip}
@@ -9,6 +9,7 @@ use Rattle.body_layers.proofs.unwinding.left_by.Given as goal
 abbrev pub invariant-loop-place : goal.invariant-loop-place
 invariant-loop-place l = record {
   few : l.place ≤ length l.layers;
+  seen : l.number + l.place ≤ l.more + length l.layers;
   same : (a : Arena) → slice_get (left_by_unw (inside a l.layers skip)) l.number ≡ slice_get (left_by_unw (inside a (take l.place l.layers) skip)) l.more;
 }
 

@@ -1,4 +1,4 @@
-use Rattle.std.proofs.Common.{◌≡◌, ℕ, ◌-◌, ◌≤◌, ◌++◌, map, take, drop, vec_len}
+use Rattle.std.proofs.Common.{◌≡◌, ◌-◌, ◌≤◌, ◌++◌, map, take, drop, vec_len}
 use Rattle.std.specs.Vec.{vec_capacity}
 use Rattle.body_layers.specs.Unwound.{unwound}
 use Rattle.body_layers.proofs.unwinding.unwind_from.Given as goal
