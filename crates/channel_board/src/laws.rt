@@ -1,9 +1,11 @@
-ghost use Rattle.std.specs.Prelude.{◌≡◌, ℕ, None, Some, Ok, Err, slice_get};
+ghost use Rattle.std.specs.Prelude.{◌≡◌, ◌==◌, ℕ, not, false, List, Option, None, Some, Ok, Err, option_map, slice_get};
 ghost use Rattle.logic_values.specs.declared.kinds.Value.{Value};
 ghost use Rattle.signal_channel.specs.declared.signal.WriterConflict.{WriterConflict};
 ghost use Rattle.flat_design.specs.declared.faults.RunFault.TheVariants as fault;
 ghost use Rattle.sim_model.specs.Configuration.{Config, Channels, change};
-ghost use Rattle.sim_model.specs.Channels.{write_signal, with_channels};
+ghost use Rattle.fifo_sync.specs.Fifos.{Queued, free, readable, after_read, after_write};
+ghost use Rattle.fifo_sync.specs.Locks.{is_unlocked, is_owner, locked_by, unlocked_by, is_used_up};
+ghost use Rattle.sim_model.specs.Channels.{write_signal, with_channels, taken_from};
 ghost use Rattle.sim_model.specs.Phases.{update_phase, channels_updated};
 ghost use Rattle.channel_board.specs.Announced.{told_by};
 ghost use Rattle.channel_board.specs.Writers.{conflict_at, written_unless};
@@ -19,4 +21,13 @@ pub fn a_write_is_that_of_a_run()
         → write_signal c n v p (slice_get c.channels.signals n) ≡ Ok (with_channels c (λ (x : Channels). record x { signals = change x.signals n (written_unless (Some p) v) })) }
     ensures refused { (c : Config) (n : ℕ) (v : Value) (p : ℕ) (w : WriterConflict) → conflict_at (Some p) (slice_get c.channels.signals n) ≡ Some w
         → write_signal c n v p (slice_get c.channels.signals n) ≡ Err (fault.WriterConflict w.first w.second) }
+{}
+
+/// A call on a fifo, a mutex or a semaphore that was not done leaves all of them as they were.
+pub fn what_is_not_done_changes_nothing()
+    ensures read { (qs : List Queued) (n : ℕ) → option_map readable (slice_get qs n) ≡ Some None → change qs n after_read ≡ qs }
+    ensures write { (qs : List Queued) (n : ℕ) (v : Value) → option_map (λ q. not (free q == 0)) (slice_get qs n) ≡ Some false → change qs n (λ q. after_write q v) ≡ qs }
+    ensures lock { (ms : List (Option ℕ)) (n p : ℕ) → option_map is_unlocked (slice_get ms n) ≡ Some false → change ms n (locked_by p) ≡ ms }
+    ensures unlock { (ms : List (Option ℕ)) (n p : ℕ) → option_map (is_owner p) (slice_get ms n) ≡ Some false → change ms n (unlocked_by p) ≡ ms }
+    ensures wait { (vs : List ℕ) (n : ℕ) → option_map (λ v. not (is_used_up v)) (slice_get vs n) ≡ Some false → change vs n taken_from ≡ vs }
 {}

@@ -12,4 +12,6 @@ mod tests;
 mod wires;
 
 pub use board::ChannelBoard;
-pub use laws::{a_write_is_that_of_a_run, what_an_update_phase_announces};
+pub use laws::{
+    a_write_is_that_of_a_run, what_an_update_phase_announces, what_is_not_done_changes_nothing,
+};
