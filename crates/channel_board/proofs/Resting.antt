@@ -1,13 +1,11 @@
 -- Where the update leaves each without a mark as it is.
-use Rattle.std.proofs.Common.{◌≡◌, ◌+◌, ◌≤◌, ℕ, zero, suc, Bool, true, false, cond, List, [], ◌∷◌, Option, Some, None, map, length, set, get_or, replicate, slice_get, refl, sym, ap, ◌∙◌, arith}
-use Rattle.std.specs.Prelude.{vec_capacity, vec_len, count_by}
-use Rattle.std.proofs.lemmas.List.{length-map}
+use Rattle.std.proofs.Common.{◌≡◌, ℕ, zero, suc, Bool, true, false, cond, List, [], ◌∷◌, Option, None, map, length, set, replicate, refl, sym, ap, arith}
 use Rattle.logic_values.specs.declared.kinds.Value.{Value}
 use Rattle.signal_channel.specs.Signals.{settled, unwritten, is_many}
 use Rattle.signal_channel.specs.declared.signal.Signal.{Signal}
 use Rattle.signal_channel.specs.declared.signal.Policy.{Policy}
 use Rattle.signal_channel.specs.declared.signal.Changed.{Changed}
-use Rattle.fifo_sync.specs.Fifos.{Queued, after_update, nothing_in}
+use Rattle.fifo_sync.specs.Fifos.{after_update, nothing_in}
 use Rattle.flat_design.specs.declared.design.SignalPart.{SignalPart}
 use Rattle.flat_design.specs.declared.design.FifoPart.{FifoPart}
 use Rattle.sim_model.specs.Configuration.{first_signal}

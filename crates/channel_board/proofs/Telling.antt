@@ -1,9 +1,8 @@
 -- What those that asked announce is what the update phase of a run announces.
-use Rattle.std.proofs.Common.{◌≡◌, ◌+◌, ℕ, Bool, true, false, List, [], ◌∷◌, map, length, set, replicate, slice_get, refl, sym, ap, ◌∙◌}
+use Rattle.std.proofs.Common.{◌≡◌, ◌+◌, ℕ, Bool, true, false, List, [], ◌∷◌, map, refl, sym, ap, ◌∙◌}
 use Rattle.logic_values.specs.declared.kinds.Digit.{Digit}
 use Rattle.logic_values.specs.declared.kinds.Digit.TheVariants as digit
 use Rattle.event_core.specs.declared.notifications.Pending.{Pending}
-use Rattle.event_core.specs.declared.notifications.When.TheVariants as when
 use Rattle.signal_channel.specs.Signals.{settled, change_of}
 use Rattle.signal_channel.specs.Drivers.{Driven, resettled, edges}
 use Rattle.signal_channel.specs.declared.signal.Signal.{Signal}
@@ -13,7 +12,7 @@ use Rattle.flat_design.specs.declared.design.SignalPart.{SignalPart}
 use Rattle.flat_design.specs.declared.design.ResolvedPart.{ResolvedPart}
 use Rattle.flat_design.specs.declared.design.FifoPart.{FifoPart}
 use Rattle.sim_model.specs.Configuration.{Config}
-use Rattle.sim_model.specs.Phases.{resettled_if, resolved_change, resettled_all, resolved_changes, was_some, notified_if, announced, announce_signals, announce_resolved, announce_fifos, update_phase, channels_updated}
+use Rattle.sim_model.specs.Phases.{resolved_change, resettled_all, resolved_changes, was_some, notified_if, announced, announce_signals, announce_resolved, announce_fifos, update_phase, channels_updated}
 use Rattle.channel_board.specs.Announced.{delta_if, told, told_by_signals, told_by_resolved, told_by_fifos, told_by}
 use Rattle.channel_board.specs.Asked.{Rests, nothing, wire_change, fifo_change}
 use Rattle.channel_board.proofs.Walked.{each_if, changes_if, told_each, change_if}

@@ -1,5 +1,5 @@
 -- What an update of a bank leaves.
-use Rattle.std.proofs.Common.{◌≡◌, ◌≤◌, ◌+◌, ℕ, Bool, true, false, List, [], ◌∷◌, ◌++◌, map, length, replicate, refl, sym, ap, ◌∙◌, subst, arith}
+use Rattle.std.proofs.Common.{◌≡◌, ℕ, Bool, false, List, [], ◌∷◌, ◌++◌, map, length, replicate, refl, sym, ap, ◌∙◌, subst, arith}
 use Rattle.std.specs.Prelude.{vec_capacity, vec_items}
 use Rattle.std.specs.Global.{Vec}
 use Rattle.std.specs.Vec.{with_items}
@@ -18,7 +18,7 @@ use Rattle.channel_board.specs.Announced.{told_by_signals, told_by_resolved, tol
 use Rattle.channel_board.specs.Asked.{Rests, HasRoom, IsSignals, IsWires, IsFifos, wire_change, fifo_change, items_after, marks_after, events_after}
 use Rattle.channel_board.proofs.Walked.{items_all, marks_all, events_all}
 use Rattle.channel_board.proofs.Resting.{as_many, rests_all, updated_all, changed_all, settled_again}
-use Rattle.channel_board.proofs.Telling.{signal_quiet, fifo_quiet, signals_told, fifos_told, wires_told, wires_updated, wires_changed}
+use Rattle.channel_board.proofs.Telling.{signal_quiet, signals_told, fifos_told, wires_told, wires_updated, wires_changed}
 use Rattle.channel_board.proofs.Changing.{room_again}
 
 -- ---- the numbers that are visited

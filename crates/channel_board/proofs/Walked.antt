@@ -1,5 +1,5 @@
 -- A walk over the numbers that asked, in rising order, is an update of each that asked.
-use Rattle.std.proofs.Common.{◌≡◌, ◌<◌, ◌+◌, ℕ, zero, suc, Bool, true, false, cond, List, [], ◌∷◌, ◌++◌, Option, Some, None, length, set, take, drop, replicate, slice_get, refl, sym, ap, ◌∙◌, arith, append_assoc}
+use Rattle.std.proofs.Common.{◌≡◌, ◌+◌, ℕ, zero, suc, Bool, true, false, List, [], ◌∷◌, ◌++◌, Option, Some, None, length, drop, replicate, slice_get, refl, sym, ap, ◌∙◌, arith, append_assoc}
 use Rattle.std.proofs.lemmas.List.{length-append, set_at}
 use Rattle.event_core.specs.declared.notifications.Pending.{Pending}
 use Rattle.number_marks.specs.Places.{places_from}

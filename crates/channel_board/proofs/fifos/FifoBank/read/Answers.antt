@@ -1,4 +1,4 @@
-use Rattle.std.proofs.Common.{◌≡◌, ◌<◌, ◌∙◌, List, length, set, slice_get, sym, ap, subst, arith}
+use Rattle.std.proofs.Common.{◌<◌, ◌∙◌, List, length, set, slice_get, sym, ap, subst, arith}
 use Rattle.std.specs.Prelude.{option_map}
 use Rattle.fifo_sync.specs.Fifos.{Queued, readable, after_read, after_update}
 use Rattle.sim_model.specs.Configuration.{change}

@@ -1,4 +1,4 @@
-use Rattle.std.proofs.Common.{◌≡◌, ◌∙◌, List, map, length, refl, sym, ap}
+use Rattle.std.proofs.Common.{◌∙◌, List, map, length, ap}
 use Rattle.std.specs.Prelude.{vec_items}
 use Rattle.std.specs.Vec.{with_items}
 use Rattle.std.proofs.lemmas.List.{length-map}

@@ -1,4 +1,4 @@
-use Rattle.std.proofs.Common.{◌≡◌, ◌<◌, ◌↔◌, ◌∙◌, ℕ, zero, suc, Bool, true, false, not, List, length, set, slice_get, refl, sym, ap, subst, arith, ne_eqb, true≢false}
+use Rattle.std.proofs.Common.{◌≡◌, ◌<◌, ◌∙◌, ℕ, zero, suc, Bool, true, false, not, List, length, set, slice_get, refl, sym, ap, subst, arith, ne_eqb, true≢false}
 use Rattle.std.specs.Prelude.{option_map, ◌==◌}
 use Rattle.fifo_sync.specs.Fifos.{Queued, free, after_write, after_update}
 use Rattle.sim_model.specs.Configuration.{change}

@@ -1,8 +1,7 @@
-use Rattle.std.proofs.Common.{◌≡◌, ◌∙◌, Bool, false, List, map, length, replicate, refl, sym, ap}
+use Rattle.std.proofs.Common.{◌∙◌, map, length, ap}
 use Rattle.std.specs.Prelude.{vec_items}
 use Rattle.std.specs.Vec.{with_items}
 use Rattle.std.proofs.lemmas.List.{length-map}
-use Rattle.number_marks.specs.Places.{marked_places}
 use Rattle.signal_channel.specs.Signals.{settled, change_of}
 use Rattle.signal_channel.specs.declared.signal.Signal.{Signal}
 use Rattle.channel_board.specs.Codes.{Values}

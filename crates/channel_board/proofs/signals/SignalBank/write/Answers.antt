@@ -1,4 +1,4 @@
-use Rattle.std.proofs.Common.{◌≡◌, ◌<◌, ◌∙◌, List, Some, None, length, set, slice_get, refl, sym, ap, subst, arith}
+use Rattle.std.proofs.Common.{◌<◌, ◌∙◌, length, set, slice_get, sym, ap, subst, arith}
 use Rattle.signal_channel.specs.Signals.{settled}
 use Rattle.sim_model.specs.Configuration.{change}
 use Rattle.channel_board.specs.Asked.{Rests, HasRoom}

@@ -1,4 +1,4 @@
-use Rattle.std.proofs.Common.{◌≡◌, ◌∙◌, Bool, false, map, sym, ap}
+use Rattle.std.proofs.Common.{◌∙◌, Bool, false, map, sym, ap}
 use Rattle.channel_board.specs.Codes.{Wires}
 use Rattle.channel_board.proofs.Resting.{all_false}
 use Rattle.channel_board.proofs.wires.WireBank.clear_changed.Goals as goal

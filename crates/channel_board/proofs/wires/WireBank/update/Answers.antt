@@ -1,4 +1,4 @@
-use Rattle.std.proofs.Common.{◌≡◌, ◌∙◌, Bool, false, List, map, length, replicate, refl, sym, ap}
+use Rattle.std.proofs.Common.{◌∙◌, Bool, false, map, length, sym, ap}
 use Rattle.std.specs.Prelude.{vec_items}
 use Rattle.std.specs.Vec.{with_items}
 use Rattle.sim_model.specs.Phases.{resettled_all, resolved_changes}
