@@ -38,7 +38,7 @@ module _ (n : ℕ) (p : pool.Payloads) (within : AreWithin n p) where
     apart_from : (u : ℕ) → u ≢ t → (d : Counted) → map.get (pool.with_counted p t (f (map.get p.live t))).live u ≡ Some d → d.count ≤ m
     apart_from u apart d there =
         let before : d.count ≤ n = within.counts u d
-            (sym (get-updated_other p.live t (f (map.get p.live t)) u apart) ∙ sym (ap (λ m. map.get m u) (live_counted p t (f (map.get p.live t)))) ∙ there) in
+        (sym (get-updated_other p.live t (f (map.get p.live t)) u apart) ∙ sym (ap (λ m. map.get m u) (live_counted p t (f (map.get p.live t)))) ∙ there) in
         omega arith
 
     counted : AreWithin m (pool.with_counted p t (f (map.get p.live t)))
@@ -88,7 +88,7 @@ module _ (n : ℕ) (p : pool.Payloads) (within : AreWithin n p) where
     counts = λ u d there. ⊎_elim
         (λ (same : u ≡ p.next).
         let one : 1 ≡ d.count = ap (λ x. x.count) (same_Some (record { payload = new_payload len enables; count = 1 }) d
-            (sym (get-insert_same p.live p.next (record { payload = new_payload len enables; count = 1 }) u same) ∙ there)) in omega arith)
+        (sym (get-insert_same p.live p.next (record { payload = new_payload len enables; count = 1 }) u same) ∙ there)) in omega arith)
         (λ (apart : u ≢ p.next).
         let before : d.count ≤ n = within.counts u d (sym (get-insert_other p.live p.next (record { payload = new_payload len enables; count = 1 }) u apart) ∙ there) in omega arith)
         (cases_eq u p.next);
@@ -97,6 +97,10 @@ module _ (n : ℕ) (p : pool.Payloads) (within : AreWithin n p) where
         omega arith;
   }
 
-  -- one more may hold it
-  pub may_rise : n < 4294967295 → (t : ℕ) (c : Counted) → map.get p.live t ≡ Some c → c.count < 4294967295
-  may_rise below t c there = let before : c.count ≤ n = within.counts t c there in omega arith
+-- a bound holds of what has a lower one
+pub within_more : (n m : ℕ) (p : pool.Payloads) → n ≤ m → AreWithin n p → AreWithin m p
+within_more n m p more within = record {
+  numbers = let before : p.next ≤ n = within.numbers in omega arith;
+  counts = λ t c there. let before : c.count ≤ n = within.counts t c there in omega arith;
+  live = within.live;
+}

@@ -17,10 +17,6 @@ pub pool_moves : (p q new : pool.Payloads) (rows : List Rows) (x : Transactions)
     → AreKept new rows (record x { pool = ps })
 pool_moves p q new rows x ps same stands kept = record { payloads = subst (λ r. StandsForPool r ps) (sym same) stands; hops = kept.hops }
 
-pub hops_move : (p : pool.Payloads) (rows new : List Rows) (x : Transactions) (hs : List (List Entry)) → StandsForHops new hs → AreKept p rows x
-    → AreKept p new (record x { hops = hs })
-hops_move p rows new x hs stands kept = record { payloads = kept.payloads; hops = stands }
-
 -- a live payload is written
 pub write_moves : (p : pool.Payloads) (rows : List Rows) (x : Transactions) → AreKept p rows x → (t : ℕ) (before after : Payload) → pool.payload_of p t ≡ Some before
     → (f : Payload → Payload) → after ≡ f before → (q : Payload) → payload_of x.pool t ≡ Some q → AreKept (pool.with_payload p t after) rows (record x { pool = with_payload x.pool t (f q) })

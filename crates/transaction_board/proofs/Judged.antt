@@ -1,7 +1,6 @@
 -- The judgement of a hop as a run fault beside the judgement of the configuration.
 use Rattle.std.proofs.Common.{◌≡◌, ℕ, Bool, true, false, Option, Some, None, Result, Ok, Err, refl, sym, ap, ◌∙◌}
 use Rattle.std.specs.Prelude.{is_some}
-use Rattle.std.specs.Result.{OnOk, OnErr}
 use Rattle.payload_pool.specs.declared.payload.Payload.{Payload}
 use Rattle.transport_phases.specs.declared.phases.Rule.{Rule}
 use Rattle.transport_phases.specs.Phases.{verdict}
@@ -12,9 +11,10 @@ use Rattle.sim_model.specs.Values.{on_ok}
 use Rattle.sim_model.specs.Payloads.{payload_of}
 use Rattle.sim_model.specs.Configuration.{Config}
 use Rattle.sim_model.specs.Calls.{with_entry}
-use Rattle.sim_model.specs.Transport.{history, judged_by, judged, judged_return, of_freed, for_freed, rule_number}
+use Rattle.sim_model.specs.Transport.{judged_by, of_freed, for_freed, rule_number, is_complete, complete_if}
+use Rattle.sim_model.specs.Reading.{not_freed, live_payload}
 use Rattle.transaction_board.specs.Hops.{history_at}
-use Rattle.transaction_board.specs.Answers.{Judges, JudgesReturn, fault_of, fault_at_return}
+use Rattle.transaction_board.specs.Answers.{use_of, complete_in, Judges, JudgesReturn, fault_of, fault_at_return}
 
 module _ (c : Config) (hop : ℕ) (e : Entry) (t : ℕ) where
   abbrev after : Result Unit RunFault → Result Config RunFault
@@ -41,22 +41,20 @@ module _ (c : Config) (hop : ℕ) (e : Entry) (t : ℕ) where
       ∙ ap (λ v. after (fault_at_return (is_some (payload_of c.transactions.pool t)) hop t v)) (sym is)
       ∙ ap (λ b. after (fault_at_return b hop t v)) (sym lives) ∙ ap after (sym same)
 
--- an answer is a fault where a rule is broken
-module _ (hop t : ℕ) (P : Type 0) where
-  pub call_ok : (v : Result Unit Rule) → OnOk v P → OnOk (fault_of hop t v) P
-  call_ok (Ok u) p = p
-  call_ok (Err e) p = tt
+-- a use of a payload that is live
+used_by : (t : ℕ) (k : Result Config RunFault) (o : Option Payload) → on_ok (not_freed t o) (λ q. k) ≡ on_ok (on_ok {A = Payload} {B = Unit {0}} (not_freed t o) (λ q. Ok tt)) (λ ok. k)
+used_by t k None = refl
+used_by t k (Some q) = refl
 
-  pub call_err : (v : Result Unit Rule) → OnErr v P → OnErr (fault_of hop t v) P
-  call_err (Ok u) p = tt
-  call_err (Err e) p = p
+pub used_as : (c : Config) (t : ℕ) (k : Result Config RunFault) → on_ok (live_payload c t) (λ q. k) ≡ on_ok (use_of c t) (λ ok. k)
+used_as c t k = used_by t k (payload_of c.transactions.pool t)
 
-  pub return_ok : (live : Bool) (v : Result Unit Rule) → OnOk v P → OnOk (fault_at_return live hop t v) P
-  return_ok live (Ok u) p = p
-  return_ok true (Err e) p = tt
-  return_ok false (Err e) p = tt
+found_by : (t : ℕ) (q : Payload) (o : Option Payload) → not_freed t o ≡ Ok q → o ≡ Some q
+found_by t q None is = cc
+found_by t q (Some p) is = cc
 
-  pub return_err : (live : Bool) (v : Result Unit Rule) → OnErr v P → OnErr (fault_at_return live hop t v) P
-  return_err live (Ok u) p = tt
-  return_err true (Err e) p = p
-  return_err false (Err e) p = p
+pub live_found : (c : Config) (t : ℕ) (q : Payload) → live_payload c t ≡ Ok q → payload_of c.transactions.pool t ≡ Some q
+live_found c t q is = found_by t q (payload_of c.transactions.pool t) is
+
+pub complete_read : (c : Config) (t : ℕ) (q : Payload) → live_payload c t ≡ Ok q → is_complete q ≡ complete_in c.transactions t
+complete_read c t q is = sym (ap complete_if (live_found c t q is))

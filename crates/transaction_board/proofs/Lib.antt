@@ -5,4 +5,3 @@ pub mod Frames
 pub mod Making
 pub mod Histories
 pub mod Judged
-pub mod Keeping

@@ -47,12 +47,7 @@ fn fault_of(hop: u32, t: u32, verdict: Result<(), Rule>) -> Result<(), RunFault>
 }
 
 // The run fault of a rule that a return breaks: of a freed payload no response is found, which is a fault of its own.
-fn fault_at_return(
-    live: bool,
-    hop: u32,
-    t: u32,
-    verdict: Result<(), Rule>,
-) -> Result<(), RunFault>
+fn fault_at_return(live: bool, hop: u32, t: u32, verdict: Result<(), Rule>) -> Result<(), RunFault>
     ensures { result ≡ spec.fault_at_return live hop t verdict }
 {
     let rule = match verdict {
@@ -123,13 +118,7 @@ impl TransactionBoard {
     ///
     /// The fault is the first rule that the return breaks, or that the payload was freed where a response is missing;
     /// nothing changes then.
-    pub fn returned(
-        &mut self,
-        hop: u32,
-        t: u32,
-        status: i32,
-        phase: i32,
-    ) -> Result<(), RunFault>
+    pub fn returned(&mut self, hop: u32, t: u32, status: i32, phase: i32) -> Result<(), RunFault>
         ensures answer { (c : Config) → StandsForTransactions self.old c.transactions
             → JudgesReturn result c hop (Return t status phase (complete_in c.transactions t)) t }
         ensures moves { OnOk result (Moves self.old self.new (λ x. entered x hop (Return t status phase (complete_in x t)))) }

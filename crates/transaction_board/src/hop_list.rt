@@ -31,13 +31,7 @@ fn first_call(path: Path, phase: i32, handled: bool) -> Result<(), Rule>
     ensures { (t : ℕ) (complete : Bool) → result ≡ verdict (broken [] (Call t path phase complete handled)) }
 {
     match (path, phase) {
-        (Path::Forward, 1) => {
-            if handled {
-                Ok(())
-            } else {
-                Err(Rule::P10)
-            }
-        }
+        (Path::Forward, 1) => { if handled { Ok(()) } else { Err(Rule::P10) } }
         (Path::Forward, 4) | (Path::Backward, 2 | 3) => Err(Rule::P5),
         _ => Err(Rule::P1),
     }

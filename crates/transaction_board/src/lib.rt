@@ -16,13 +16,12 @@ mod reading;
 mod tests;
 
 use hop_list::Hops;
+pub use laws::{bounds_grow, left_calls_end, live_payloads_are_used};
 use payload_pool::Pool;
+pub use payloads::MakeStop;
 use quantum_keeper::Keeper;
 use sim_time::Time;
 use std::alloc::{AllocError, Global};
-
-pub use laws::left_calls_end;
-pub use payloads::MakeStop;
 
 /// The transactions of a run and its quantum keepers, by the numbers that the design gives hops and keepers.
 ///

@@ -99,12 +99,7 @@ fn write_at(bytes: &mut Bytes, i: u64, byte: u8) -> Result<(), RunFault>
 }
 
 // Writes a byte of a payload.
-fn write_byte(
-    payload: &mut Payload,
-    part: PayloadBytes,
-    i: u64,
-    byte: u8,
-) -> Result<(), RunFault>
+fn write_byte(payload: &mut Payload, part: PayloadBytes, i: u64, byte: u8) -> Result<(), RunFault>
     ensures answer { result ≡ on_ok (index_within i (length (bytes_in part payload.old))) (λ k. Ok tt) }
     ensures written { OnOk result (payload.new ≡ with_byte part i byte payload.old) }
     ensures err { OnErr result (payload.new ≡ payload.old) }
@@ -165,13 +160,7 @@ impl TransactionBoard {
     }
 
     /// Writes a byte of the payload at an index, counted from 0.
-    pub fn set_byte(
-        &mut self,
-        t: u32,
-        part: PayloadBytes,
-        i: u64,
-        byte: u8,
-    ) -> Result<(), RunFault>
+    pub fn set_byte(&mut self, t: u32, part: PayloadBytes, i: u64, byte: u8) -> Result<(), RunFault>
         ensures answer { (c : Config) → StandsForTransactions self.old c.transactions
             → result ≡ on_ok (live_payload c t) (λ q. on_ok (index_within i (length (bytes_in part q))) (λ k. Ok tt)) }
         ensures moves { OnOk result (Writes self.old self.new t (with_byte part i byte)) }
