@@ -16,7 +16,7 @@ mod reading;
 mod tests;
 
 use hop_list::Hops;
-pub use laws::{bounds_grow, left_calls_end, live_payloads_are_used};
+pub use laws::{bounds_grow, left_calls_end, live_payloads_are_used, payloads_are_made};
 use payload_pool::Pool;
 pub use payloads::MakeStop;
 use quantum_keeper::Keeper;

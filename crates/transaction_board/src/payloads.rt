@@ -1,5 +1,5 @@
 // Payloads: how many hold each, what they say, and how they carry bytes.
-ghost use Rattle.std.specs.Prelude.{◌≡◌, ◌^◌, ◌-◌, OnOk, OnErr, IfOk, is_some};
+ghost use Rattle.std.specs.Prelude.{◌≡◌, ◌^◌, ◌-◌, OnOk, OnErr, IfOk, is_some, length};
 ghost use Rattle.payload_pool.specs.declared.payload.Payload.{Payload as Carried};
 ghost use Rattle.sim_model.specs.Configuration.{Config, Transactions};
 ghost use Rattle.sim_model.specs.Payloads.{payload_of, with_made, with_acquired, with_released};
@@ -43,6 +43,7 @@ impl TransactionBoard {
     pub fn make(&mut self, len: u64, enables: u64) -> Result<u32, MakeStop>
         requires { IsWithin (2 ^ 32 - 2) self.old }
         ensures answer { (c : Config) → StandsForTransactions self.old c.transactions → Makes result (number_made c len enables) }
+        ensures number { IfOk result (λ t. (x : Transactions) → StandsForTransactions self.old x → t ≡ length x.pool) }
         ensures moves { OnOk result (Moves self.old self.new (λ x. record x { pool = with_made x.pool len enables })) }
         ensures raised { RisesByOne self.old self.new }
         ensures quantum { SameQuantum self.old self.new }

@@ -111,7 +111,7 @@ fn write_byte(payload: &mut Payload, part: PayloadBytes, i: u64, byte: u8) -> Re
 }
 
 impl TransactionBoard {
-    /// A field of the payload, at 64 bits (IEEE 1666-2011, 14.7 to 14.17).
+    /// A field of the payload, at 64 bits (IEEE 1666-2011, clause 14).
     pub fn field(&self, t: u32, field: PayloadField) -> Result<Value, RunFault>
         ensures { (c : Config) → StandsForTransactions self.now c.transactions → result ≡ on_ok (live_payload c t) (λ q. Ok (field_value field q)) }
     {

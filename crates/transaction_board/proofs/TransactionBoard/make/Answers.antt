@@ -16,6 +16,9 @@ returns-in-Ok-make-clause-answer c = λ d stands.
     number_given d c.args.len c.args.enables _ _ (sym c.in-Ok.is ∙ c.size_within.ensures.answer) (sym c.in-Ok-size_within.is ∙ c.size_within-2.ensures.answer)
     (map.len c.args.self.now.pool.live) (live_read _ _ stands.payloads) (omega arith) c.in-Ok-make.t (c.in-Ok-make.ensures.number ∙ stands.payloads.next)
 
+pub returns-in-Ok-make-clause-number : goal.returns-in-Ok-make-clause-number
+returns-in-Ok-make-clause-number c = λ x stands. c.in-Ok-make.ensures.number ∙ stands.payloads.next
+
 pub returns-in-Ok-make-clause-moves : goal.returns-in-Ok-make-clause-moves
 returns-in-Ok-make-clause-moves c = λ x stands. pool_moves _ _ _ _ x _
     (c.in-Ok-make.ensures.made ∙ ap (λ n. pool.with_made c.args.self.now.pool n c.in-Ok-size_within.enables) c.in-Ok.ensures.same
