@@ -4,13 +4,12 @@ use Rattle.std.proofs.lemmas.Option.{same_Some}
 use Rattle.payload_pool.specs.declared.payload.Payload.{Payload}
 use Rattle.payload_pool.specs.Payloads as pool
 use Rattle.transport_phases.specs.Rows.{Rows}
-use Rattle.transport_phases.specs.History.{Entry, Left}
+use Rattle.transport_phases.specs.History.{Left}
 use Rattle.sim_model.specs.Payloads.{Payloads, payload_of, with_payload}
 use Rattle.sim_model.specs.Configuration.{Config, Transactions}
 use Rattle.sim_model.specs.Calls.{with_entry, with_left}
 use Rattle.sim_model.specs.declared.plain.Via.{Via}
 use Rattle.transaction_board.specs.Board.{StandsForPool, AreKept, left}
-use Rattle.transaction_board.specs.Hops.{StandsForHops}
 use Rattle.transaction_board.proofs.Pools.{written, payload_read}
 
 pub pool_moves : (p q new : pool.Payloads) (rows : List Rows) (x : Transactions) (ps : Payloads) → new ≡ q → StandsForPool q ps → AreKept p rows x

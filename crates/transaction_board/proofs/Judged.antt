@@ -1,5 +1,5 @@
 -- The judgement of a hop as a run fault beside the judgement of the configuration.
-use Rattle.std.proofs.Common.{◌≡◌, ℕ, Bool, true, false, Option, Some, None, Result, Ok, Err, refl, sym, ap, ◌∙◌}
+use Rattle.std.proofs.Common.{◌≡◌, ℕ, Bool, Option, Some, None, Result, Ok, Err, refl, sym, ap, ◌∙◌}
 use Rattle.std.specs.Prelude.{is_some}
 use Rattle.payload_pool.specs.declared.payload.Payload.{Payload}
 use Rattle.transport_phases.specs.declared.phases.Rule.{Rule}

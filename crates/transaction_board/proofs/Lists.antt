@@ -1,7 +1,6 @@
 -- Lists, read by place.
-use Rattle.std.proofs.Common.{◌≡◌, ◌≢◌, ◌≤◌, ◌<◌, ◌+◌, ℕ, zero, suc, Bool, cond, List, [], ◌∷◌, ◌++◌, length, map, set, replicate, Option, Some, None, refl, sym, ap, ◌∙◌, ⊎_elim, arith}
-use Rattle.std.specs.Prelude.{slice_get, is_some, option_map}
-use Rattle.std.proofs.lemmas.Option.{slice_get_past}
+use Rattle.std.proofs.Common.{◌≡◌, ◌≢◌, ℕ, zero, suc, List, [], ◌∷◌, ◌++◌, length, set, Option, Some, None, refl, ap}
+use Rattle.std.specs.Prelude.{slice_get, option_map}
 use Rattle.sim_model.specs.Configuration.{changed_at, change}
 
 module _ {X : Type 0} where

@@ -1,11 +1,7 @@
 -- What the calls of a board answer.
-use Rattle.std.specs.Prelude.{◌≡◌, ⊤, ℕ, ℤ, Bool, true, false, List, [], length, slice_get, unwrap_or, Option, Result, Ok, Err}
-use Rattle.payload_pool.specs.Payloads as pool
-use Rattle.transport_phases.specs.declared.phases.Path.{Path}
+use Rattle.std.specs.Prelude.{◌≡◌, ⊤, ℕ, Bool, true, false, length, Result, Ok, Err}
 use Rattle.transport_phases.specs.declared.phases.Rule.{Rule}
-use Rattle.transport_phases.specs.Phases.{verdict}
-use Rattle.transport_phases.specs.Rows.{Rows}
-use Rattle.transport_phases.specs.History.{Entry, Call, Return, BCall, BReturn, broken}
+use Rattle.transport_phases.specs.History.{Entry}
 use Rattle.flat_design.specs.declared.faults.RunFault.{RunFault}
 use Rattle.flat_design.specs.declared.faults.RunFault.TheVariants as fault
 use Rattle.sim_model.specs.Values.{on_ok}

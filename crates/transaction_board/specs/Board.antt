@@ -1,5 +1,5 @@
 -- What a board stands for: the transactions and the quantum of a configuration.
-use Rattle.std.specs.Prelude.{◌≡◌, ◌≤◌, ◌+◌, ⊤, ℕ, List, [], ◌∷◌, ◌++◌, Option, Some, None, length, slice_get}
+use Rattle.std.specs.Prelude.{◌≡◌, ◌≤◌, ◌+◌, ℕ, List, [], ◌∷◌, ◌++◌, Some, length, slice_get}
 use Rattle.std.specs.Option.{ForSome}
 use Rattle.std.specs.FinMap as map
 use Rattle.payload_pool.specs.Payloads as pool
