@@ -44,6 +44,21 @@ fn judge_all(alloc: Global, modules: &[Module], made: &[Items<Made>]) -> Result<
     Ok(())
 }
 
+/// Judges the instances of modules.
+pub(crate) fn judge_modules(alloc: Global, modules: &[Module]) -> Result<(), CheckStop>
+    ensures ok { OnOk result (cycle_from (modules_of modules.now) 0 (modules_of modules.now) ≡ None) }
+    ensures refused { IfErr result (λ stop. IfRefused stop (λ fault. cycle_from (modules_of modules.now) 0 (modules_of modules.now) ≡ Some fault)) }
+{
+    let Ok(made) = made_of(alloc, modules) else {
+        return Err(CheckStop::NoMemory);
+    };
+    match are_settled(alloc, made.as_slice()) {
+        Ok(true) => Ok(()),
+        Ok(false) => judge_all(alloc, modules, made.as_slice()),
+        Err(_) => Err(CheckStop::NoMemory),
+    }
+}
+
 /// Judges the instances of a tree: no module has itself among its instances, at any depth.
 ///
 /// Refused has the first module in text order that has: ModuleCycle, with its name, at the line of the first instance in it
@@ -55,13 +70,5 @@ pub fn judge_cycles(alloc: Global, tree: &Tree) -> Result<(), CheckStop>
     ensures ok { OnOk result (cycle_fault (model_of tree.now) ≡ None) }
     ensures refused { IfErr result (λ stop. IfRefused stop (λ fault. cycle_fault (model_of tree.now) ≡ Some fault)) }
 {
-    let modules = tree.modules.as_slice();
-    let Ok(made) = made_of(alloc, modules) else {
-        return Err(CheckStop::NoMemory);
-    };
-    match are_settled(alloc, made.as_slice()) {
-        Ok(true) => Ok(()),
-        Ok(false) => judge_all(alloc, modules, made.as_slice()),
-        Err(_) => Err(CheckStop::NoMemory),
-    }
+    judge_modules(alloc, tree.modules.as_slice())
 }

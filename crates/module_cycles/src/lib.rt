@@ -5,5 +5,7 @@ mod cycles;
 mod found;
 mod made;
 mod settled;
+#[cfg(test)]
+mod tests;
 
 pub use cycles::judge_cycles;
