@@ -18,7 +18,7 @@ use Rattle.flat_design.specs.declared.objects.LeadsTo.TheVariants as leads
 use Rattle.flat_design.specs.declared.objects.ObjectForm.{ObjectForm}
 use Rattle.flat_design.specs.declared.objects.ObjectForm.TheVariants as form
 use Rattle.model_scopes.specs.Meanings.{signal_type, variable_type, port_size}
-use Rattle.code_of_model.specs.Deeds.{Home, body_number}
+use Rattle.code_of_model.specs.Deeds.{body_number}
 use Rattle.code_of_model.specs.Bodies.{body_count}
 use Rattle.object_rules.specs.Values.{known_type, span_time, start_time, whole, first_value}
 

@@ -1,5 +1,5 @@
 -- Models written by hand: each item with its line.
-use Rattle.std.specs.Prelude.{ℕ, true, false, List, [], ◌∷◌, codes, Option, Some, None}
+use Rattle.std.specs.Prelude.{ℕ, false, List, [], ◌∷◌, codes, Option, Some, None}
 use Rattle.model_tree.specs.Tree as tree
 use Rattle.model_tree.specs.declared.items.SignalKind.TheVariants as signal_kind
 use Rattle.model_tree.specs.declared.items.ProcessKind.TheVariants as process_kind

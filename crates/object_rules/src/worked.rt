@@ -1,7 +1,7 @@
 //! The definitions, worked out for models written by hand: what they give there is computed by the checker.
 #![tactic(auto, unfolding(crate::specs::Listing::inside_within, crate::specs::Listing::binds_within, crate::specs::Faults::has_within))]
 
-ghost use Rattle.std.specs.Prelude.{◌≡◌, ◌∷◌, ◌-◌, ◌^◌, [], codes, Some, None, false};
+ghost use Rattle.std.specs.Prelude.{◌≡◌, ◌∷◌, ◌-◌, ◌^◌, [], codes, None, false};
 ghost use Rattle.model_tree.specs.declared.faults.Kind.TheVariants as kind;
 ghost use Rattle.model_tree.specs.declared.items.SignalKind.TheVariants as signal_kind;
 ghost use Rattle.model_tree.specs.declared.items.ProcessKind.TheVariants as process_kind;
