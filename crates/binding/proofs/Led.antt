@@ -1,18 +1,18 @@
 -- Who leads to each object, filled in against the order of the objects.
-use Rattle.std.proofs.Common.{◌≡◌, ◌<◌, ◌≤◌, ◌+◌, ◌⊎◌, ℕ, zero, suc, Bool, true, false, List, [], ◌∷◌, ◌++◌, length, fold, get_or, Some, refl, sym, ap, ◌∙◌, subst, inl, inr, arith, eq-eqb}
+use Rattle.std.proofs.Common.{◌≡◌, ◌<◌, ◌≤◌, ◌+◌, ℕ, Bool, true, false, List, [], ◌∷◌, ◌++◌, length, fold, get_or, Some, refl, sym, ap, ◌∙◌, subst, inl, inr, arith, eq-eqb}
 use Rattle.std.specs.Prelude.{◌==◌, ◌||◌, not, slice_get, slice_set, Contains}
 use Rattle.std.specs.List.{flat_map, list_any, AllByRecursion}
 use Rattle.std.proofs.lemmas.Bool.{cases_eq, cases_lt, eqb-true}
-use Rattle.std.proofs.lemmas.List.{append-nil, append_assoc, length-set, get_or_past, get_or-set_same, get_or-set_other}
+use Rattle.std.proofs.lemmas.List.{append-nil, append_assoc, get_or_past, get_or-set_same, get_or-set_other}
 use Rattle.std.proofs.lemmas.List.Elements.{All-contains}
 use Rattle.std.proofs.lemmas.List.Folds.{list_any-append}
-use Rattle.std.proofs.lemmas.Option.{slice_get-get_or, slice_get_within, same_Some, unwrap_or-slice_get}
+use Rattle.std.proofs.lemmas.Option.{slice_get-get_or, same_Some, unwrap_or-slice_get}
 use Rattle.flat_design.specs.declared.objects.Binding.{Binding}
 use Rattle.flat_design.specs.declared.objects.Objects.{Objects}
 use Rattle.binding_rules.specs.Objects.{form_at, bindings_to}
 use Rattle.binding_rules.specs.Formed.{HasForm, AreFormed}
 use Rattle.binding_rules.specs.Paths.{is_beginning, itself_or, leaders_of}
-use Rattle.binding_rules.proofs.Lists.{filter_from, each_of, head_in}
+use Rattle.binding_rules.proofs.Lists.{filter_from, each_of}
 use Rattle.binding_rules.proofs.Rounds.{leaders_follow}
 use Rattle.binding.specs.declared.leading.Leading.{Leading}
 use Rattle.binding.specs.declared.leading.Leading.TheVariants as leading

@@ -2,21 +2,19 @@
 use Rattle.std.proofs.Common.{◌≡◌, ◌<◌, ◌≤◌, ◌+◌, ◌⊎◌, ℕ, zero, suc, Bool, true, false, List, [], ◌∷◌, ◌++◌, length, take, drop, get_or, Some, refl, sym, ap, ◌∙◌, subst, inl, inr, arith, eq-eqb, zero-add, add-zero, add_assoc}
 use Rattle.std.specs.Prelude.{◌==◌, ◌||◌, ◌&&◌, not, slice_get, slice_set, Contains}
 use Rattle.std.specs.List.{flat_map}
-use Rattle.std.proofs.lemmas.Bool.{cases_eq, eqb-true, false≢true}
 use Rattle.std.proofs.lemmas.Bool.Decides.{nat_tests}
-use Rattle.std.proofs.lemmas.List.{append-nil, length-take, length-set, take-append-drop, take_more, drop_more, get_or-set_other, nil_from_length}
+use Rattle.std.proofs.lemmas.List.{append-nil, length-take, take-append-drop, take_more, drop_more, nil_from_length}
 use Rattle.std.proofs.lemmas.List.Concat.{flat_map-append}
 use Rattle.std.proofs.lemmas.List.Elements.{Contains-append_left, Contains-push}
-use Rattle.std.proofs.lemmas.Option.{slice_get-get_or, slice_get_within, same_Some, unwrap_or-slice_get}
 use Rattle.flat_design.specs.declared.objects.Binding.{Binding}
 use Rattle.flat_design.specs.declared.objects.Objects.{Objects}
-use Rattle.binding_rules.specs.Objects.{form_at, bindings_of}
+use Rattle.binding_rules.specs.Objects.{form_at}
 use Rattle.binding_rules.specs.Paths.{is_end, itself_or, ends_of}
 use Rattle.binding.specs.Rows.{row_at, AreRows}
 use Rattle.binding.specs.Ends.{kept_ends, leads}
-use Rattle.binding.specs.Twice.{if_so, times, sum_at, reached, all_leads, leads_on, is_marked, marked_if, MeetsTwice, AreMarked}
+use Rattle.binding.specs.Twice.{if_so, times, reached, all_leads, leads_on, is_marked, marked_if, MeetsTwice, AreMarked}
 use Rattle.binding.proofs.Linked.{no_binding}
-use Rattle.binding.proofs.Sums.{sum_marked, sum_cleared, sum_within, times-append}
+use Rattle.binding.proofs.Sums.{sum_marked, sum_within, times-append}
 
 once_itself : (x : ℕ) (xs : List ℕ) → 1 ≤ times x (x ∷ xs)
 once_itself x xs = let e : (x == x) ≡ true = eq-eqb x x refl in let one = ap (if_so 1) e in omega (arith, one)

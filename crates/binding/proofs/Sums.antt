@@ -1,5 +1,5 @@
 -- Marks over places: what setting one of them adds to a sum, and takes from it; and what doubles a list has.
-use Rattle.std.proofs.Common.{◌≡◌, ◌<◌, ◌≤◌, ◌+◌, ◌⊎◌, ℕ, zero, suc, Bool, true, false, cond, List, [], ◌∷◌, ◌++◌, length, replicate, Some, refl, sym, ap, ◌∙◌, subst, arith, add-zero, zero-add, eq-eqb}
+use Rattle.std.proofs.Common.{◌≡◌, ◌<◌, ◌≤◌, ◌+◌, ℕ, zero, suc, Bool, true, false, List, [], ◌∷◌, ◌++◌, replicate, Some, refl, ap, ◌∙◌, subst, arith, add-zero, zero-add, eq-eqb}
 use Rattle.std.specs.Prelude.{◌==◌, ◌||◌, slice_get, slice_set}
 use Rattle.std.specs.List.{list_any}
 use Rattle.std.proofs.lemmas.Bool.{eqb-true}

@@ -2,11 +2,9 @@
 use Rattle.std.proofs.Common.{◌≡◌, ◌<◌, ◌≤◌, ◌+◌, ℕ, zero, suc, Bool, true, false, List, [], ◌∷◌, ◌++◌, length, drop, get_or, Option, Some, None, refl, sym, ap, ◌∙◌, subst, arith, zero-add, add-zero}
 use Rattle.std.specs.Prelude.{slice_get, nat_lt, option_map}
 use Rattle.std.specs.Option.{option_or}
-use Rattle.std.proofs.lemmas.Bool.{false≢true}
 use Rattle.std.proofs.lemmas.Bool.Decides.{nat_tests}
 use Rattle.std.proofs.lemmas.List.{append-nil, append_assoc, take_all, drop_more}
 use Rattle.std.proofs.lemmas.Option.{same_Some, slice_get_read}
-use Rattle.model_tree.specs.declared.faults.Kind.{Kind}
 use Rattle.flat_design.specs.declared.objects.Object.{Object}
 use Rattle.flat_design.specs.declared.objects.ObjectForm.{ObjectForm}
 use Rattle.flat_design.specs.declared.objects.ObjectForm.TheVariants as form

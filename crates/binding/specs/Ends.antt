@@ -1,6 +1,5 @@
 -- The channels of an object, as far as they are kept.
 use Rattle.std.specs.Prelude.{ℕ, List, take}
-use Rattle.flat_design.specs.declared.objects.Binding.{Binding}
 use Rattle.flat_design.specs.declared.objects.Objects.{Objects}
 use Rattle.binding_rules.specs.Objects.{form_at}
 use Rattle.binding_rules.specs.Paths.{is_end, itself_or, ends_of}

@@ -1,10 +1,9 @@
-ghost use Rattle.std.specs.Prelude.{◌≡◌, ◌++◌, true, Some, None, IfOk, IfErr, OnOk};
+ghost use Rattle.std.specs.Prelude.{◌≡◌, ◌++◌, Some, None, IfOk, IfErr, OnOk};
 ghost use Rattle.model_tree.specs.Stops.{IfRefused};
 ghost use Rattle.binding_rules.specs.Formed.{AreFormed};
-ghost use Rattle.binding_rules.specs.Paths.{begins_path, ends_of};
-ghost use Rattle.binding_rules.specs.Bound.{is_port, port_if, ports_from, hop_if, hops_from, bound};
+ghost use Rattle.binding_rules.specs.Paths.{begins_path};
+ghost use Rattle.binding_rules.specs.Bound.{is_port, ports_from, hop_if, hops_from, bound};
 ghost use Rattle.binding_rules.specs.Faults.{first_fault, objects_fault};
-ghost use Rattle.binding.specs.Rows.{row_at};
 ghost use Rattle.binding.specs.Known.{IsKnown};
 
 use super::forms::{begins_path, is_port};

@@ -1,5 +1,5 @@
 //! The objects in an order in which what an object is bound to stands before it.
-ghost use Rattle.std.specs.Prelude.{◌≡◌, ◌≤◌, ◌^◌, ◌<◌, length, map, IfOk};
+ghost use Rattle.std.specs.Prelude.{◌≡◌, ◌≤◌, ◌^◌, ◌<◌, length, IfOk};
 ghost use Rattle.std.specs.List.Sorted.{IsNonDecreasingBy, IsPermutation};
 ghost use Rattle.binding_rules.specs.Formed.{AreFormed};
 ghost use Rattle.binding.specs.Order.{rank_in, ranked_from, numbers_of, IsOrder};

@@ -1,4 +1,4 @@
-use Rattle.std.proofs.Common.{◌≡◌, ◌==◌, ℕ, length, take}
+use Rattle.std.proofs.Common.{◌≡◌, ◌==◌, length, take}
 use Rattle.std.specs.Prelude.{filter}
 use Rattle.flat_design.specs.declared.objects.Binding.{Binding}
 use Rattle.binding.specs.Rows.{AreRows}

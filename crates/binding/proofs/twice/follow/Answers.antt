@@ -1,4 +1,4 @@
-use Rattle.std.proofs.Common.{◌<◌, List, length, set, false, Some, sym, ap, subst, ◌∙◌}
+use Rattle.std.proofs.Common.{List, length, set, false, Some, sym, ap, subst, ◌∙◌}
 use Rattle.std.proofs.lemmas.List.{length-set}
 use Rattle.std.proofs.lemmas.Option.{slice_get-get_or}
 use Rattle.flat_design.specs.declared.objects.Binding.{Binding}

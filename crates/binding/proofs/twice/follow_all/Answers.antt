@@ -1,4 +1,4 @@
-use Rattle.std.proofs.Common.{◌-◌, ◌≤◌, get_or, sym, subst, ◌∙◌, arith}
+use Rattle.std.proofs.Common.{◌-◌, ◌≤◌, subst, ◌∙◌, arith}
 use Rattle.binding.proofs.Followed.{left_less, once_left}
 use Rattle.binding.proofs.twice.follow_all.Goals as goal
 

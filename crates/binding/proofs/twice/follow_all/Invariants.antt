@@ -1,4 +1,4 @@
-use Rattle.std.proofs.Common.{◌≡◌, ◌<◌, ℕ, true, false, length, Some}
+use Rattle.std.proofs.Common.{◌≡◌, ◌<◌, ℕ, true, false, Some}
 use Rattle.std.specs.Prelude.{slice_get}
 use Rattle.binding_rules.specs.Objects.{form_at}
 use Rattle.binding_rules.specs.Paths.{is_end}

@@ -1,4 +1,4 @@
-use Rattle.std.proofs.Common.{◌<◌, List, Bool, length, sym, ap, subst, ◌∙◌}
+use Rattle.std.proofs.Common.{◌<◌, List, Bool, length, sym, subst, ◌∙◌}
 use Rattle.std.specs.Bool.{MatchBool}
 use Rattle.flat_design.specs.declared.objects.Object.{Object}
 use Rattle.binding.specs.Twice.{ReachesTwice, ReachesOnce}
