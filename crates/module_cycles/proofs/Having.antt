@@ -1,15 +1,15 @@
 -- Marked modules: they have the module at a place, and all that have it are marked.
-use Rattle.std.proofs.Common.{◌≡◌, ◌<◌, ◌≤◌, ◌+◌, ◌-◌, ◌⊎◌, ℕ, zero, suc, Bool, true, false, cond, List, [], ◌∷◌, length, map, replicate, Option, Some, None, refl, sym, ap, ◌∙◌, subst, inl, inr, arith, eq-eqb}
-use Rattle.std.specs.Prelude.{◌==◌, ◌||◌, not, slice_get, slice_set, Contains}
+use Rattle.std.proofs.Common.{◌≡◌, ◌<◌, ◌≤◌, ◌+◌, ◌-◌, ◌⊎◌, ℕ, zero, suc, Bool, true, false, cond, List, [], ◌∷◌, length, replicate, Option, Some, refl, sym, ap, ◌∙◌, subst, inl, inr, arith}
+use Rattle.std.specs.Prelude.{◌==◌, ◌||◌, slice_set, Contains}
 use Rattle.std.specs.List.{find, flat_map, list_any}
-use Rattle.std.proofs.lemmas.Bool.{eqb-true, false≢true, cases_lt}
+use Rattle.std.proofs.lemmas.Bool.{false≢true, cases_lt}
 use Rattle.std.proofs.lemmas.List.{length-map, length-replicate}
 use Rattle.std.proofs.lemmas.Option.{slice_get_past}
 use Rattle.model_tree.specs.Tree as tree
 use Rattle.object_rules.specs.declared.made.Made.{Made}
 use Rattle.object_rules.specs.Forms.{items_in}
 use Rattle.object_rules.specs.Faults.{made_by, made_at, has_within, leads_to, first_of_itself}
-use Rattle.module_cycles.specs.Marks.{made_of, row_of, is_marked, meets, count_of, AreFound, KeepsFound, IsClosedAt, IsClosed}
+use Rattle.module_cycles.specs.Marks.{made_of, row_of, is_marked, meets, count_of, AreFound, KeepsFound, IsClosed}
 use Rattle.module_cycles.proofs.Closed.{any_from, or_cases, marked_only, none_marked, count_more, count_within, row_is, nothing_in}
 
 or_true : (a b : Bool) → (a ≡ true) ⊎ (b ≡ true) → (a || b) ≡ true

@@ -1,6 +1,6 @@
 -- Marks on modules, by their places in the text.
 use Rattle.std.specs.Prelude.{◌≡◌, ◌==◌, ◌||◌, ◌+◌, ◌<◌, ℕ, Bool, true, false, List, [], ◌∷◌, map, length, slice_get, unwrap_or, Contains}
-use Rattle.std.specs.List.{flat_map, list_any, list_all}
+use Rattle.std.specs.List.{flat_map, list_any}
 use Rattle.model_tree.specs.Tree as tree
 use Rattle.object_rules.specs.declared.made.Made.{Made}
 use Rattle.object_rules.specs.Faults.{made_by, made_at, has_within}

@@ -1,5 +1,5 @@
 //! The instances in each module.
-ghost use Rattle.std.specs.Prelude.{◌≡◌, ◌^◌, ◌<◌, map, length, IfOk, OnOk, ◌++◌};
+ghost use Rattle.std.specs.Prelude.{◌≡◌, ◌<◌, map, IfOk, OnOk, ◌++◌};
 ghost use Rattle.std.specs.List.{flat_map};
 ghost use Rattle.model_tree.specs.Views.{item_of, module_of, modules_of};
 ghost use Rattle.object_rules.specs.Forms.{is_named, module_place};

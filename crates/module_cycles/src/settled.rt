@@ -4,7 +4,7 @@ ghost use Rattle.std.specs.Bool.{MatchBool};
 ghost use Rattle.std.specs.List.{list_all};
 ghost use Rattle.model_tree.specs.Tree as tree;
 ghost use Rattle.object_rules.specs.Faults.{cycle_from};
-ghost use Rattle.module_cycles.specs.Marks.{made_of, row_of, is_marked, count_of, AreSettled, KeepsSettled};
+ghost use Rattle.module_cycles.specs.Marks.{made_of, row_of, is_marked, count_of, KeepsSettled};
 
 use object_rules::Made;
 use plain_lists::Items;

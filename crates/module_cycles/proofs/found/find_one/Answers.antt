@@ -1,4 +1,4 @@
-use Rattle.std.proofs.Common.{◌≡◌, List, true, false, sym, ap, subst, ◌∙◌}
+use Rattle.std.proofs.Common.{◌≡◌, List, true, sym, subst, ◌∙◌}
 use Rattle.std.specs.List.{list_any}
 use Rattle.object_rules.specs.declared.made.Made.{Made}
 use Rattle.module_cycles.specs.Marks.{row_of, is_marked, meets}

@@ -1,4 +1,4 @@
-use Rattle.std.proofs.Common.{◌≡◌, List, true, sym, ap, subst, ◌∙◌}
+use Rattle.std.proofs.Common.{◌≡◌, List, true, sym, subst, ◌∙◌}
 use Rattle.std.specs.List.{list_all}
 use Rattle.object_rules.specs.declared.made.Made.{Made}
 use Rattle.module_cycles.specs.Marks.{row_of, is_marked}
