@@ -15,9 +15,7 @@ ghost use Rattle.model_tree.specs.declared.faults.Kind.TheVariants as kind;
 ghost use Rattle.expression_check.specs.Findings.{faults_of, told};
 ghost use Rattle.action_check.specs.Uses as spec;
 
-use super::calls::{
-    arguments_differ, arguments_finding, count_differs, has_inout, parameters_of,
-};
+use super::calls::{arguments_differ, arguments_finding, count_differs, has_inout, parameters_of};
 use super::events::{
     events_finding, notification_differs, notification_finding, option_finding, option_type,
     span_differs, waiting_differs, waiting_finding,
@@ -109,8 +107,8 @@ fn make_finding<'a>(
     ensures { faults_of result ≡ option_or (spec.action_fault (scope_of place.now) line (tree.make name.now (expression_of size.now) (option_map expression_of enables.now))) (fault_of constructs (sites.action_parts (scope_of place.now) (tree.make name.now (expression_of size.now) (option_map expression_of enables.now)))) }
 {
     let inside = judge(place, Need::Readable, size);
-    let differs =
-        is_no_integer(type_seen(inside.seen)) || is_no_integer(option_type(place, enables));
+    let differs = is_no_integer(type_seen(inside.seen))
+        || is_no_integer(option_type(place, enables));
     let own = named_finding(place, line, name, Need::Payload, differs);
     first_finding(
         own,
@@ -135,7 +133,13 @@ fn b_transport_finding<'a>(
     ];
     let differs = types_differ(Some(ValueType::Payload), variable_named(place, payload))
         || types_differ(Some(ValueType::Time), variable_named(place, delay));
-    site_finding(place, line, &uses, differs, pass_finding(place, line, socket))
+    site_finding(
+        place,
+        line,
+        &uses,
+        differs,
+        pass_finding(place, line, socket),
+    )
 }
 
 /// The type of the variable of a name, where one is written.
@@ -292,7 +296,10 @@ fn carry_finding<'a>(
 ) -> Option<Finding<'a>>
     ensures { faults_of result ≡ spec.action_fault (scope_of place.now) line (tree.carry payload.now memory.now) }
 {
-    let uses = [one_use(payload, Need::Payload), one_use(memory, Need::Memory)];
+    let uses = [
+        one_use(payload, Need::Payload),
+        one_use(memory, Need::Memory),
+    ];
     site_finding(place, line, &uses, false, None)
 }
 
@@ -310,11 +317,7 @@ fn keeper_finding<'a>(
 }
 
 /// A statement with a time: itself and the time.
-fn timed_finding<'a>(
-    place: &Place<'a>,
-    line: u32,
-    time: &'a Expression,
-) -> Option<Finding<'a>>
+fn timed_finding<'a>(place: &Place<'a>, line: u32, time: &'a Expression) -> Option<Finding<'a>>
     ensures { faults_of result ≡ option_or (spec.action_fault (scope_of place.now) line (tree.qk_global (expression_of time.now))) (fault_of constructs (sites.expression_sites (scope_of place.now) (expression_of time.now))) }
 {
     let own = plain_finding(place, line, span_differs(place, time));
@@ -322,11 +325,7 @@ fn timed_finding<'a>(
 }
 
 /// The first broken rule at a statement that gives no value, and in its parts.
-pub fn action_finding<'a>(
-    place: &Place<'a>,
-    line: u32,
-    action: &'a Action,
-) -> Option<Finding<'a>>
+pub fn action_finding<'a>(place: &Place<'a>, line: u32, action: &'a Action) -> Option<Finding<'a>>
     ensures { faults_of result ≡ option_or (spec.action_fault (scope_of place.now) line (action_of action.now)) (fault_of constructs (sites.action_parts (scope_of place.now) (action_of action.now))) }
 {
     match action {

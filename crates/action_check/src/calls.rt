@@ -123,10 +123,7 @@ fn argument_finding<'a>(place: &Place<'a>, argument: &'a Expression) -> Option<F
 }
 
 /// The first broken rule in arguments.
-pub fn arguments_finding<'a>(
-    place: &Place<'a>,
-    arguments: &'a [Expression],
-) -> Option<Finding<'a>>
+pub fn arguments_finding<'a>(place: &Place<'a>, arguments: &'a [Expression]) -> Option<Finding<'a>>
     ensures { faults_of result ≡ fault_of constructs (sites.argument_sites (scope_of place.now) (expressions_of arguments.now)) }
 {
     for argument in arguments {

@@ -13,9 +13,7 @@ ghost use Rattle.expression_check.specs.declared.heads.MemberUse.TheVariants as 
 ghost use Rattle.model_scopes.specs.Scopes.{meaning_of};
 ghost use Rattle.action_check.specs.Uses as spec;
 
-use expression_check::{
-    Finding, MemberUse, first_finding, judge, judge_channel, member_finding,
-};
+use expression_check::{Finding, MemberUse, first_finding, judge, judge_channel, member_finding};
 use expression_types::{is_time, type_seen};
 use model_faults::Need;
 use model_scopes::ExpressionType;

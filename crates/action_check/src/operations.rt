@@ -46,7 +46,12 @@ pub(crate) fn pass_finding<'a>(
 ) -> Option<Finding<'a>>
     ensures { faults_of result ≡ told kind.BadBinding line (items.pass_in (scope_of place.now) socket.now) }
 {
-    told_if(is_pass(place.meaning(socket)), Kind::BadBinding, line, socket)
+    told_if(
+        is_pass(place.meaning(socket)),
+        Kind::BadBinding,
+        line,
+        socket,
+    )
 }
 
 /// A call of a function: itself.
@@ -61,7 +66,8 @@ fn call_finding<'a>(
     let name = name.bytes();
     let function = place.function(name);
     let parameters = parameters_of(function);
-    let miscounted = count_differs(function, arguments) || inouts_wrong(place, parameters, arguments);
+    let miscounted = count_differs(function, arguments)
+        || inouts_wrong(place, parameters, arguments);
     let extra = told_if(miscounted, Kind::ArgumentCount, line, name);
     let differs = arguments_differ(place, parameters, arguments);
     let uses = [Used {
@@ -149,7 +155,13 @@ fn nb_transport_finding<'a>(
     let differs = types_differ(Some(ValueType::Payload), variable_named(place, payload))
         || types_differ(Some(ValueType::Int(32)), variable_named(place, phase))
         || types_differ(Some(ValueType::Time), variable_named(place, delay));
-    site_finding(place, line, &uses, differs, pass_finding(place, line, socket))
+    site_finding(
+        place,
+        line,
+        &uses,
+        differs,
+        pass_finding(place, line, socket),
+    )
 }
 
 /// The first broken rule at an operation and in its parts.
@@ -166,16 +178,12 @@ pub fn operation_finding<'a>(
             arguments_finding(place, arguments.as_slice()),
         ),
         Operation::Read(channel) => judge_channel(place, Need::Taken, channel).finding,
-        Operation::NbRead(channel, name) => {
-            nb_read_finding(place, line, channel, name.bytes())
-        }
+        Operation::NbRead(channel, name) => { nb_read_finding(place, line, channel, name.bytes()) }
         Operation::NbWrite(channel, value) => nb_write_finding(place, line, channel, value),
         Operation::Trylock(channel) | Operation::Unlock(channel) => {
             judge_channel(place, Need::Mutex, channel).finding
         }
-        Operation::SemTrywait(channel) => {
-            judge_channel(place, Need::Semaphore, channel).finding
-        }
+        Operation::SemTrywait(channel) => { judge_channel(place, Need::Semaphore, channel).finding }
         Operation::NbTransport(socket, payload, phase, delay) => nb_transport_finding(
             place,
             line,
