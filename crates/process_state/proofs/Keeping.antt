@@ -1,5 +1,5 @@
 -- What keeps the room of layers.
-use Rattle.std.proofs.Common.{◌≡◌, ℕ, ◌+◌, ◌<◌, ◌≤◌, zero, suc, List, [], ◌∷◌, ◌++◌, Option, Some, None, length, take, drop, get_or, set, refl, sym, ap, ◌∙◌, subst, arith}
+use Rattle.std.proofs.Common.{◌≡◌, ℕ, ◌+◌, ◌≤◌, zero, suc, List, [], ◌∷◌, ◌++◌, Option, Some, None, length, take, drop, get_or, set, refl, sym, ap, ◌∙◌, subst, arith}
 use Rattle.std.proofs.Math.ListN.{length-set}
 use Rattle.std.proofs.lemmas.List.{take-append-drop}
 use Rattle.std.specs.Vec.{vec_capacity}
@@ -13,10 +13,10 @@ use Rattle.body_layers.specs.declared.layers.Comes.{Comes}
 use Rattle.body_layers.specs.declared.layers.Comes.TheVariants as comes
 use Rattle.body_code.specs.declared.around.Around.{Around}
 use Rattle.body_code.specs.declared.around.Around.TheVariants as enclosing
-use Rattle.body_layers.specs.Layers.{layers_of, layers_around, statement_of}
-use Rattle.body_layers.specs.Room.{FitsBlocks, FitsStatement, FitsLayer, FitsAll, Fits, kept_inside, kept_along, own_or, own_room, room_of_own}
+use Rattle.body_layers.specs.Layers.{layers_of, layers_around}
+use Rattle.body_layers.specs.Room.{FitsStatement, FitsLayer, FitsAll, Fits, kept_inside, kept_along, own_or, own_room, room_of_own}
 use Rattle.body_layers.specs.Changed.{IsSet, IsFrameSet, IsFrameOf, IsShellOf, IsAnswered}
-use Rattle.body_layers.proofs.Rooms.{all_split, nothing_fits, layer_place, kept_small}
+use Rattle.body_layers.proofs.Rooms.{all_split, nothing_fits, kept_small}
 
 -- more room is enough room
 module _ (a : Arena) (depths : List ℕ) (most more : ℕ) (le : most ≤ more) where

@@ -1,21 +1,19 @@
 -- Another residual in place of what comes next, a local variable set, and a return, inside layers.
-use Rattle.std.proofs.Common.{◌≡◌, ℕ, ◌+◌, ◌<◌, ◌≤◌, zero, suc, Bool, true, false, List, [], ◌∷◌, ◌++◌, Option, Some, None, length, take, drop, get_or, set, refl, sym, ap, ◌∙◌, subst, arith}
-use Rattle.std.specs.Prelude.{◌||◌, is_some, if◌then◌else◌}
+use Rattle.std.proofs.Common.{◌≡◌, ℕ, zero, suc, Bool, true, false, List, [], ◌∷◌, Option, Some, None, take, get_or, set, refl, sym, ap, ◌∙◌}
+use Rattle.std.specs.Prelude.{is_some, if◌then◌else◌}
 use Rattle.logic_values.specs.declared.kinds.Value.{Value}
 use Rattle.flat_design.specs.Code.{Arena}
-use Rattle.sim_model.specs.Residual as residual
-use Rattle.sim_model.specs.Residual.{Residual, Frame, skip, one, seq, frame, shell, run, goal, followed, put, frame_or, goal_or, innermost, in_innermost, changed_if, next_of}
+use Rattle.sim_model.specs.Residual.{Residual, Frame, skip, frame, shell, goal, followed, put, frame_or, goal_or, innermost, in_innermost, changed_if}
 use Rattle.sim_model.specs.Unwinding.{has_exit, returned}
 use Rattle.sim_model.specs.Storing.{with_local}
-use Rattle.body_layers.specs.declared.layers.Frame.{Frame as Kept}
 use Rattle.body_layers.specs.declared.layers.Layer.{Layer}
 use Rattle.body_layers.specs.declared.layers.Layer.TheVariants as layer
 use Rattle.body_layers.specs.declared.layers.Sought.TheVariants as sought
-use Rattle.body_layers.specs.Layers.{call_of, around, inside, standing, rest_at}
+use Rattle.body_layers.specs.Layers.{call_of, around, inside, rest_at}
 use Rattle.body_layers.specs.Sought.{frame_in, is_exit, is_sought, NoneIs, LastIs}
 use Rattle.body_layers.specs.Changed.{IsSet, IsFrameSet, IsFrameOf, IsShellOf, IsAnswered}
 use Rattle.body_layers.proofs.Settling.{IsLeft, around_left}
-use Rattle.body_layers.proofs.Seeking.{innermost_around, innermost_last, innermost_none, or_inner, exit_tests, test_last, test_none}
+use Rattle.body_layers.proofs.Seeking.{innermost_last, innermost_none, exit_tests, test_last, test_none}
 
 -- in place of what comes next
 

@@ -1,5 +1,5 @@
 -- One step of a body: what comes, and what is put in its place.
-use Rattle.std.proofs.Common.{◌≡◌, ℕ, ◌+◌, ◌-◌, ◌<◌, ◌≤◌, zero, suc, Bool, true, false, List, [], ◌∷◌, ◌++◌, Option, Some, None, length, take, drop, get_or, refl, sym, ap, ◌∙◌, subst, arith, append_assoc, length-append}
+use Rattle.std.proofs.Common.{◌≡◌, ℕ, ◌+◌, ◌-◌, ◌≤◌, false, List, [], ◌∷◌, ◌++◌, Option, Some, None, length, take, refl, sym, ap, ◌∙◌, subst, arith, length-append}
 use Rattle.std.specs.Prelude.{Contains}
 use Rattle.flat_design.specs.Code as code
 use Rattle.flat_design.specs.Code.{Arena, Statement, statement_at}
@@ -18,10 +18,10 @@ use Rattle.body_layers.specs.declared.layers.Layer.TheVariants as layer
 use Rattle.body_layers.specs.declared.layers.Next.TheVariants as next
 use Rattle.body_layers.specs.declared.layers.Comes.{Comes}
 use Rattle.body_layers.specs.declared.layers.Comes.TheVariants as comes
-use Rattle.body_layers.specs.Layers.{call_of, around, inside, standing, shown, shown_by, statement_of, layers_of, layers_around, landed, frame_ends, end_shown, EndsWith}
-use Rattle.body_layers.specs.Room.{FitsBlocks, FitsStatement, FitsLayer, FitsAll, Fits, kept_inside, kept_along, own_or, own_room, room_of_own}
+use Rattle.body_layers.specs.Layers.{call_of, around, inside, standing, shown, shown_by, statement_of, layers_of, layers_around, frame_ends, end_shown, EndsWith}
+use Rattle.body_layers.specs.Room.{FitsStatement, FitsAll, Fits, kept_along, own_or, room_of_own}
 use Rattle.process_state.specs.Bodies.{IsStatement, IsGoal, enclosed}
-use Rattle.body_layers.proofs.Settling.{IsLeft, IsComing, next_inside, inside_append}
+use Rattle.body_layers.proofs.Settling.{IsComing, next_inside, inside_append}
 use Rattle.process_state.proofs.Putting.{put_inside}
 use Rattle.body_layers.proofs.Rooms.{kept_append, leaf_at, fits_more}
 

@@ -4,7 +4,6 @@ use Rattle.std.specs.Vec.{vec_capacity}
 use Rattle.logic_values.specs.declared.kinds.Value.{Value}
 use Rattle.sim_model.specs.declared.plain.Via.{Via}
 use Rattle.flat_design.specs.Code.{Arena, arena_of, body_at}
-use Rattle.sim_model.specs.Residual as residual
 use Rattle.sim_model.specs.Residual.{Residual, Frame, followed, guard, try_, settle, next_of}
 use Rattle.body_code.specs.Depths.{handlers_of}
 use Rattle.body_code.specs.declared.program.Program.{Program}

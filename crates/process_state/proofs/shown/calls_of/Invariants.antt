@@ -1,4 +1,4 @@
-use Rattle.std.proofs.Common.{◌≡◌, ℕ, ◌+◌, ◌≤◌, drop}
+use Rattle.std.proofs.Common.{◌≡◌, ◌+◌, ◌≤◌, drop}
 use Rattle.flat_design.specs.Code.{Arena}
 use Rattle.sim_model.specs.Residual.{Residual, open_frames}
 use Rattle.body_layers.specs.Layers.{inside}

@@ -1,4 +1,4 @@
-use Rattle.std.proofs.Common.{◌≡◌, sym, ap, ◌∙◌}
+use Rattle.std.proofs.Common.{sym, ap, ◌∙◌}
 use Rattle.body_layers.specs.Sought.{frame_in}
 use Rattle.body_layers.proofs.Seeking.{innermost_last, innermost_none}
 use Rattle.process_state.proofs.shown.innermost_of.Goals as goal

@@ -1,4 +1,4 @@
-use Rattle.std.proofs.Common.{◌≡◌, sym, ap, ◌∙◌}
+use Rattle.std.proofs.Common.{sym, ap, ◌∙◌}
 use Rattle.body_layers.specs.Sought.{via_in}
 use Rattle.body_layers.proofs.Seeking.{within_last, within_none}
 use Rattle.process_state.proofs.shown.within_of.Goals as goal

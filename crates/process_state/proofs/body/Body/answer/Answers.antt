@@ -1,4 +1,4 @@
-use Rattle.std.proofs.Common.{◌≡◌, ℕ, ◌+◌, ◌≤◌, ◌<◌, suc, List, Option, None, Some, length, take, get_or, set, refl, subst, sym, ap, ◌∙◌, arith}
+use Rattle.std.proofs.Common.{◌≡◌, ◌+◌, ◌≤◌, suc, List, None, take, get_or, set, refl, subst, sym, ap, ◌∙◌, arith}
 use Rattle.std.specs.Vec.{vec_capacity}
 use Rattle.flat_design.specs.Code.{arena_of}
 use Rattle.sim_model.specs.Residual.{skip}
@@ -9,7 +9,6 @@ use Rattle.body_layers.specs.Layers.{inside, standing}
 use Rattle.body_layers.specs.Sought.{is_sought, LastIs, NoneIs}
 use Rattle.body_layers.specs.Room.{Fits, own_room}
 use Rattle.body_layers.specs.Changed.{IsAnswered}
-use Rattle.process_state.specs.Bodies.{settled_in}
 use Rattle.process_state.proofs.Putting.{returned_last, returned_none}
 use Rattle.process_state.proofs.Keeping.{fits_at_cap, fits_set, fits_taken, own_set, answered_room, taken_at}
 use Rattle.process_state.proofs.Stepping.{le_to, exit_standing, returned_standing}

@@ -1,12 +1,9 @@
-use Rattle.std.proofs.Common.{◌≡◌, ℕ, ◌+◌, ◌≤◌, List, [], ◌∷◌, ◌++◌, Option, Some, None, length, subst, sym, ap, ◌∙◌, arith, length-append}
-use Rattle.std.specs.Prelude.{Contains}
+use Rattle.std.proofs.Common.{◌≡◌, ℕ, ◌≤◌, ◌++◌, Option, length, subst, sym, ap, ◌∙◌, arith, length-append}
 use Rattle.std.specs.Vec.{vec_capacity}
 use Rattle.flat_design.specs.Code.{arena_of}
 use Rattle.sim_model.specs.Residual as residual
 use Rattle.sim_model.specs.Residual.{Residual, next_of, put, block}
-use Rattle.body_code.specs.Depths.{blocks_of}
 use Rattle.body_code.specs.Around.{around_at}
-use Rattle.body_layers.specs.declared.layers.Layer.{Layer}
 use Rattle.body_layers.specs.Layers.{shown, inside, standing, landed, layers_of, layers_around, statement_of}
 use Rattle.body_layers.specs.Room.{Fits, own_room}
 use Rattle.process_state.specs.Bodies.{settled_in, enclosed}

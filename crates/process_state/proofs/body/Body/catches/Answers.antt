@@ -1,4 +1,4 @@
-use Rattle.std.proofs.Common.{◌≡◌, List, sym, ap, ◌∙◌, subst}
+use Rattle.std.proofs.Common.{sym, ap, ◌∙◌}
 use Rattle.flat_design.specs.Code.{arena_of}
 use Rattle.sim_model.specs.Unwinding as unwinding
 use Rattle.body_layers.specs.Layers.{landed}

@@ -1,4 +1,4 @@
-use Rattle.std.proofs.Common.{◌≡◌, ℕ, ◌+◌, ◌≤◌, List, [], ◌∷◌, ◌++◌, Option, Some, None, length, refl, subst, sym, ap, ◌∙◌, arith}
+use Rattle.std.proofs.Common.{◌≡◌, ℕ, ◌≤◌, Option, Some, None, refl, sym, ap, ◌∙◌, arith}
 use Rattle.std.specs.Vec.{vec_capacity}
 use Rattle.flat_design.specs.Code.{arena_of, body_at}
 use Rattle.sim_model.specs.Residual as residual
@@ -6,7 +6,7 @@ use Rattle.sim_model.specs.Residual.{Residual, next_of, put}
 use Rattle.body_layers.specs.declared.layers.Layer.TheVariants as layer
 use Rattle.body_layers.specs.declared.layers.Frame.{Frame}
 use Rattle.body_layers.specs.Layers.{inside}
-use Rattle.body_layers.specs.Room.{begun_in, own_room, room_of_own}
+use Rattle.body_layers.specs.Room.{begun_in, own_room}
 use Rattle.process_state.specs.Bodies.{settled_in}
 use Rattle.body_layers.proofs.Rooms.{own_less}
 use Rattle.process_state.proofs.Keeping.{fits_at_cap}

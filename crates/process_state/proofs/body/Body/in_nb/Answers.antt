@@ -1,4 +1,4 @@
-use Rattle.std.proofs.Common.{◌≡◌, List, sym, ap, ◌∙◌, subst}
+use Rattle.std.proofs.Common.{List, ◌∙◌, subst}
 use Rattle.sim_model.specs.Residual as residual
 use Rattle.body_layers.specs.declared.layers.Layer.{Layer}
 use Rattle.body_layers.specs.declared.layers.Sought.TheVariants as sought

@@ -1,4 +1,4 @@
-use Rattle.std.proofs.Common.{◌≡◌, ℕ, ◌+◌, ◌≤◌, ◌<◌, suc, List, [], ◌∷◌, ◌++◌, Option, None, Some, length, map, take, drop, get_or, set, refl, subst, sym, ap, ◌∙◌, arith}
+use Rattle.std.proofs.Common.{◌≡◌, ◌+◌, ◌≤◌, ◌<◌, suc, List, ◌∷◌, ◌++◌, None, Some, length, map, take, drop, get_or, set, refl, subst, sym, ap, ◌∙◌, arith}
 use Rattle.std.specs.Vec.{vec_capacity}
 use Rattle.flat_design.specs.Code.{arena_of}
 use Rattle.sim_model.specs.Residual.{skip}
@@ -6,7 +6,7 @@ use Rattle.body_layers.specs.declared.layers.Layer.{Layer}
 use Rattle.body_layers.specs.declared.layers.Layer.TheVariants as layer
 use Rattle.body_layers.specs.Layers.{inside, standing}
 use Rattle.body_layers.specs.Sought.{is_handling, NoneIs, LastIs}
-use Rattle.body_layers.specs.Room.{Fits, own_room}
+use Rattle.body_layers.specs.Room.{own_room}
 use Rattle.body_layers.specs.Unwound.{unwound, handler_in}
 use Rattle.body_layers.proofs.Seeking.{catches_last}
 use Rattle.process_state.proofs.Keeping.{fits_at_cap, fits_length}

@@ -1,4 +1,4 @@
-use Rattle.std.proofs.Common.{◌≡◌, ℕ, ◌+◌, ◌≤◌, refl, sym, ap, ◌∙◌, arith}
+use Rattle.std.proofs.Common.{◌≤◌, refl, ap, arith}
 use Rattle.std.specs.Vec.{vec_capacity}
 use Rattle.flat_design.specs.Code.{arena_of}
 use Rattle.body_layers.specs.Room.{own_room}

@@ -1,12 +1,11 @@
-use Rattle.std.proofs.Common.{◌≡◌, ℕ, ◌+◌, ◌≤◌, List, [], ◌∷◌, Option, None, map, refl, subst, sym, ap, ◌∙◌, arith}
+use Rattle.std.proofs.Common.{◌≤◌, ◌∷◌, None, map, refl, ap, ◌∙◌, arith}
 use Rattle.std.specs.Vec.{vec_capacity}
 use Rattle.flat_design.specs.Code.{arena_of}
 use Rattle.sim_model.specs.Residual as residual
 use Rattle.sim_model.specs.Residual.{skip}
-use Rattle.body_layers.specs.declared.layers.Layer.{Layer}
 use Rattle.body_layers.specs.declared.layers.Layer.TheVariants as layer
 use Rattle.body_layers.specs.Layers.{inside, standing}
-use Rattle.body_layers.specs.Room.{Fits, own_room}
+use Rattle.body_layers.specs.Room.{own_room}
 use Rattle.body_layers.specs.Unwound.{unwound}
 use Rattle.process_state.proofs.Keeping.{fits_at_cap, fits_length}
 use Rattle.process_state.proofs.Stepping.{le_to}
