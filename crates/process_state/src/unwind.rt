@@ -27,7 +27,7 @@ impl Body {
     }
 
     /// Raises an exception: what is inside the innermost `try` that has a handler for it is unwound, before this goal, and
-    /// the handler follows (IEEE 1666-2011, 5.6.7). The answer is whether there is such a `try`; without one nothing changes.
+    /// the handler follows (IEEE 1666-2011, 5.6.6). The answer is whether there is such a `try`; without one nothing changes.
     /// It takes no memory.
     pub fn raise(&mut self, program: &Program, name: NameId, end: Goal) -> bool
         requires sound { IsSound program.now self.old }
