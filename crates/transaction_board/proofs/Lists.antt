@@ -21,11 +21,6 @@ module _ {X : Type 0} where
   get-set_other (z ∷ xs) (suc i) zero y apart = refl
   get-set_other (z ∷ xs) (suc i) (suc j) y apart = get-set_other xs i j y (λ e. apart (ap suc e))
 
-  pub set_itself : (xs : List X) (i : ℕ) (x : X) → slice_get xs i ≡ Some x → set xs i x ≡ xs
-  set_itself [] i x here = refl
-  set_itself (z ∷ xs) zero x here = cc
-  set_itself (z ∷ xs) (suc i) x here = ap (λ ys. z ∷ ys) (set_itself xs i x here)
-
   pub length-set : (xs : List X) (i : ℕ) (y : X) → length (set xs i y) ≡ length xs
   length-set [] i y = refl
   length-set (z ∷ xs) zero y = refl

@@ -18,6 +18,7 @@ pub record StandsForPool (p : pool.Payloads) (ps : Payloads) : Type 0 where
   pub each : (t : ℕ) → map.get p.live t ≡ counted_at ps t
   pub next : p.next ≡ length ps
 
+-- a pool and the rows of the hops, by number, are what is kept of these transactions
 pub record AreKept (p : pool.Payloads) (rows : List Rows) (x : Transactions) : Type 0 where
   pub payloads : StandsForPool p x.pool
   pub hops : StandsForHops rows x.hops
