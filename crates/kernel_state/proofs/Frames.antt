@@ -228,15 +228,15 @@ module _ (k : Kernel) (p : ℕ) (x : Entry (Process Kept)) (b : Body) (at : map.
   local_moves n v left c h = processes_move k c h with_body (record c.processes { instances = change c.processes.instances p (λ i. record i { residual = in_innermost (with_local n v) i.residual }) })
       (put_stands (Shows (whole_design k) k.program) k.schedule with_body c.processes h.processes p (record x.body.body { body = b }) (λ i. record i { residual = in_innermost (with_local n v) i.residual }) puts (λ i. refl) (λ i. refl) (λ i none. none)
       (λ a i found there old.
-          let o = subst (λ w. Shows (whole_design k) k.program w (beside i)) (ap (λ o. unwrap o x.body.body) (sym found ∙ was k p x at)) old in
-          record {
-            home = o.home;
-            path = subst (λ f. i.path ≡ path_in (whole_design k) x.body.body.home f x.body.body.path) (sym keeps.code) o.path;
-            code = o.code ∙ sym keeps.code;
-            arguments = o.arguments ∙ sym keeps.arguments;
-            residual = strip-in_innermost (with_local n v) i.residual ∙ ap (in_innermost (with_local n v)) o.residual ∙ sym (left (arena_of k.program.code));
-            trigger = o.trigger;
-          }))
+      let o = subst (λ w. Shows (whole_design k) k.program w (beside i)) (ap (λ o. unwrap o x.body.body) (sym found ∙ was k p x at)) old in
+      record {
+        home = o.home;
+        path = subst (λ f. i.path ≡ path_in (whole_design k) x.body.body.home f x.body.body.path) (sym keeps.code) o.path;
+        code = o.code ∙ sym keeps.code;
+        arguments = o.arguments ∙ sym keeps.arguments;
+        residual = strip-in_innermost (with_local n v) i.residual ∙ ap (in_innermost (with_local n v)) o.residual ∙ sym (left (arena_of k.program.code));
+        trigger = o.trigger;
+      }))
 
 -- ---- events and wakes
 

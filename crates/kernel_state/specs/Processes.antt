@@ -1,6 +1,5 @@
 -- What a schedule stands for: the processes of a configuration.
 use Rattle.std.specs.Prelude.{◌≡◌, ℕ, Bool, true, false, List, length, reverse, slice_get, Option, Some, None}
-
 use Rattle.std.specs.FinSet as set
 use Rattle.logic_values.specs.declared.kinds.Value.{Value}
 use Rattle.sim_model.specs.Residual.{Residual}

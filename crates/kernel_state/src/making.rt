@@ -97,7 +97,13 @@ fn add_process(
         body,
         trigger: None,
     };
-    match spawn(s, kind_by(part.kind), Items::from_vec(sensitive), kept, true) {
+    match spawn(
+        s,
+        kind_by(part.kind),
+        Items::from_vec(sensitive),
+        kept,
+        true,
+    ) {
         Ok(_) => Ok(()),
         Err(_) => Err(AllocError),
     }
