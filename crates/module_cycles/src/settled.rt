@@ -62,7 +62,7 @@ fn settle_one(made: &[Items<Made>], k: usize, marks: &mut [bool]) -> bool
 }
 
 /// Marks the modules all of whose instances are of marked modules, the last one first; whether there was one.
-fn settle_more(made: &[Items<Made>], marks: &mut [bool]) -> bool
+fn settle_upward(made: &[Items<Made>], marks: &mut [bool]) -> bool
     ensures counted { MatchBool result (count_of marks.old < count_of marks.new) (count_of marks.old ≤ count_of marks.new) }
     ensures settled { KeepsSettled made.now marks.old marks.new }
 {
@@ -73,6 +73,30 @@ fn settle_more(made: &[Items<Made>], marks: &mut [bool]) -> bool
         }
     }
     more
+}
+
+/// The same, the first one first.
+fn settle_downward(made: &[Items<Made>], marks: &mut [bool]) -> bool
+    ensures counted { MatchBool result (count_of marks.old < count_of marks.new) (count_of marks.old ≤ count_of marks.new) }
+    ensures settled { KeepsSettled made.now marks.old marks.new }
+{
+    let mut more = false;
+    for k in 0..marks.len() {
+        if settle_one(made, k, marks) {
+            more = true;
+        }
+    }
+    more
+}
+
+/// Both ways, so that modules may stand before or behind those that they use; whether there was one.
+fn settle_more(made: &[Items<Made>], marks: &mut [bool]) -> bool
+    ensures counted { MatchBool result (count_of marks.old < count_of marks.new) (count_of marks.old ≤ count_of marks.new) }
+    ensures settled { KeepsSettled made.now marks.old marks.new }
+{
+    let up = settle_upward(made, marks);
+    let down = settle_downward(made, marks);
+    up || down
 }
 
 /// Marks modules as long as one can be.

@@ -1,7 +1,7 @@
 use Rattle.std.specs.Bool.{MatchBool}
 use Rattle.std.proofs.Common.{◌<◌, ◌≤◌}
 use Rattle.module_cycles.specs.Marks.{count_of, KeepsSettled}
-use Rattle.module_cycles.proofs.settled.settle_more.Given as goal
+use Rattle.module_cycles.proofs.settled.settle_upward.Given as goal
 
 abbrev pub invariant-loop-k : goal.invariant-loop-k
 invariant-loop-k l = record {
