@@ -63,7 +63,7 @@ fn find_one(made: &[Items<Made>], place: usize, k: usize, marks: &mut [bool]) ->
 }
 
 /// Marks modules that have the one at this place, the last one first; whether there was one.
-fn find_more(made: &[Items<Made>], place: usize, marks: &mut [bool]) -> bool
+fn find_upward(made: &[Items<Made>], place: usize, marks: &mut [bool]) -> bool
     ensures counted { MatchBool result (count_of marks.old < count_of marks.new) (marks.new ≡ marks.old) }
     ensures found { KeepsFound made.now place marks.old marks.new }
     ensures all { result ≡ false → IsClosed made.now place marks.old }
@@ -75,6 +75,34 @@ fn find_more(made: &[Items<Made>], place: usize, marks: &mut [bool]) -> bool
         }
     }
     more
+}
+
+/// The same, the first one first.
+fn find_downward(made: &[Items<Made>], place: usize, marks: &mut [bool]) -> bool
+    ensures counted { MatchBool result (count_of marks.old < count_of marks.new) (marks.new ≡ marks.old) }
+    ensures found { KeepsFound made.now place marks.old marks.new }
+    ensures all { result ≡ false → IsClosed made.now place marks.old }
+{
+    let mut found = false;
+    for k in 0..marks.len() {
+        if find_one(made, place, k, marks) {
+            found = true;
+        }
+    }
+    found
+}
+
+/// Both ways; whether there was one.
+fn find_more(made: &[Items<Made>], place: usize, marks: &mut [bool]) -> bool
+    ensures counted { MatchBool result (count_of marks.old < count_of marks.new) (marks.new ≡ marks.old) }
+    ensures found { KeepsFound made.now place marks.old marks.new }
+    ensures all { result ≡ false → IsClosed made.now place marks.old }
+{
+    if find_upward(made, place, marks) {
+        find_downward(made, place, marks);
+        return true;
+    }
+    find_downward(made, place, marks)
 }
 
 /// Marks the modules that have the one at this place.

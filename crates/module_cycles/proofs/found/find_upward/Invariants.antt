@@ -1,7 +1,7 @@
 use Rattle.std.proofs.Common.{◌≡◌, ◌<◌, ◌≤◌, ℕ, length}
 use Rattle.std.specs.Bool.{MatchBool}
 use Rattle.module_cycles.specs.Marks.{count_of, KeepsFound, IsClosedAt}
-use Rattle.module_cycles.proofs.found.find_more.Given as goal
+use Rattle.module_cycles.proofs.found.find_upward.Given as goal
 
 abbrev pub invariant-loop-k : goal.invariant-loop-k
 invariant-loop-k l = record {
