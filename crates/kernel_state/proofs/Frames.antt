@@ -11,7 +11,7 @@ use Rattle.instance_table.specs.declared.instances.Instance.{Instance as Entry}
 use Rattle.flat_design.specs.Code.{Arena, arena_of}
 use Rattle.sim_model.specs.Residual.{Residual, settle, in_innermost}
 use Rattle.sim_model.specs.Configuration as model
-use Rattle.sim_model.specs.Configuration.{Config, Instance, Processes, Channels, Transactions, Trace, changed_at, change, change_instance, instance_at, with_residual, with_marks, arena}
+use Rattle.sim_model.specs.Configuration.{Config, Instance, Processes, Channels, Trace, changed_at, change, change_instance, instance_at, with_residual, with_marks, arena}
 use Rattle.sim_model.specs.Waits.{holds, fire, wake, waits, leaves_stack}
 use Rattle.sim_model.specs.Statements.{settled_in}
 use Rattle.sim_model.specs.Storing.{with_local, set_local}
@@ -33,8 +33,6 @@ use Rattle.schedule.specs.declared.parts.Process.{Process}
 use Rattle.schedule.specs.declared.parts.Schedule.{Schedule}
 use Rattle.schedule.specs.declared.parts.Trigger.{Trigger}
 use Rattle.process_moves.specs.Moved.{IsTop, same_stack, leaves_top, joins_top, Stays, Ends, Spawns, PutsBody, wait_as, waits_as}
-use Rattle.transaction_board.specs.Board.{StandsForTransactions, SameQuantum, IsWithin}
-use Rattle.transaction_board.specs.declared.TransactionBoard.{TransactionBoard}
 use Rattle.kernel_state.specs.Processes.{Beside, beside, TellsBy, Tells, StandsForProcesses}
 use Rattle.kernel_state.specs.Kernel.{Shows, StandsFor, IsSound, whole_design, path_in}
 use Rattle.kernel_state.specs.Moves.{Moves, Steps, stepped, Lives, HasStatement, KeepsBodies}
@@ -70,8 +68,6 @@ module _ (k : Kernel) (c : Config) (h : StandsFor k c) where
     processes = stands;
     events = h.events;
     channels = h.channels;
-    transactions = h.transactions;
-    quantum = h.quantum;
     variables = h.variables;
     memories = h.memories;
   }
@@ -84,8 +80,6 @@ module _ (k : Kernel) (c : Config) (h : StandsFor k c) where
     processes = h.processes;
     events = h.events;
     channels = h.channels;
-    transactions = h.transactions;
-    quantum = h.quantum;
     variables = h.variables;
     memories = h.memories;
   }
@@ -98,33 +92,9 @@ module _ (k : Kernel) (c : Config) (h : StandsFor k c) where
     processes = h.processes;
     events = h.events;
     channels = refl;
-    transactions = h.transactions;
-    quantum = h.quantum;
     variables = h.variables;
     memories = h.memories;
   }
-
-module _ (k : Kernel) (c : Config) (h : StandsFor k c) where
-  pub transactions_move : (b : TransactionBoard) (x : Transactions) → StandsForTransactions b x → SameQuantum k.transactions b → StandsFor (record k { transactions = b }) (record c { transactions = x })
-  transactions_move b x stands same = record {
-    design = h.design;
-    cycle = h.cycle;
-    processes = h.processes;
-    events = h.events;
-    channels = h.channels;
-    transactions = stands;
-    quantum = same ∙ h.quantum;
-    variables = h.variables;
-    memories = h.memories;
-  }
-
--- what was made, and how many hold it, stays below more
-pub within_more : (n m : ℕ) (b : TransactionBoard) → n ≤ m → IsWithin n b → IsWithin m b
-within_more n m b le within = record {
-  numbers = let few = within.numbers in omega (arith, few, le);
-  counts = λ t x is. let few = within.counts t x is in omega (arith, few, le);
-  live = within.live;
-}
 
 -- the schedule moves, and the bodies stay
 pub keeps_bodies : (k : Kernel) (s : Schedule Kept) → ((q : ℕ) → kept_at s q ≡ kept_at k.schedule q) → KeepsBodies k (record k { schedule = s })
@@ -139,7 +109,6 @@ module _ (k : Kernel) (sound : IsSound k) where
     bodies = λ p kept at. sound.bodies p kept (sym (same p) ∙ at);
     nobody_due = due ∙ sound.nobody_due;
     serials = subst (λ n. n ≤ 2 ^ 16 + k.made) (sym next) sound.serials;
-    payloads = sound.payloads;
   }
 
 -- ---- the body of an instance
@@ -154,7 +123,6 @@ module _ (k : Kernel) (p : ℕ) (kept : Kept) (b : Body) (at : kept_at k.schedul
         (cases_eq q p);
     nobody_due = ap (λ v. v.items) puts.due ∙ sound.nobody_due;
     serials = subst (λ n. n ≤ 2 ^ 16 + k.made) (sym puts.next) sound.serials;
-    payloads = sound.payloads;
   }
 
   -- the residual of the instance becomes what its body stands for

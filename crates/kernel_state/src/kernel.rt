@@ -11,7 +11,6 @@ use process_state::Body;
 use schedule::{Schedule, Trigger};
 use sim_model::Phase;
 use sim_time::Time;
-use transaction_board::TransactionBoard;
 
 /// What the path of an instance is made of.
 #[derive(Clone, Copy, Debug, PartialEq, Eq)]
@@ -67,8 +66,6 @@ pub struct Kernel {
     pub events: EventBoard,
     /// The channels.
     pub channels: ChannelBoard,
-    /// The payloads, what is open on each hop, and the quantum keepers.
-    pub transactions: TransactionBoard,
     /// The variables of instances of modules.
     pub variables: Vec<Value>,
     /// The bytes of memories.

@@ -10,9 +10,7 @@ ghost use Rattle.flat_design.specs.declared.design.VariablePart.{VariablePart as
 ghost use Rattle.flat_design.specs.declared.design.MemoryPart.{MemoryPart as Memory};
 ghost use Rattle.sim_model.specs.Configuration.{start, first_instance};
 ghost use Rattle.sim_model.specs.declared.plain.Command.{Command};
-ghost use Rattle.quantum_keeper.specs.Keepers.{at_start};
 ghost use Rattle.schedule.specs.Seen.{kind_of};
-ghost use Rattle.transaction_board.specs.Board.{StandsForTransactions, StandsForQuantum, IsWithin};
 ghost use Rattle.kernel_state.specs.Kernel.{StandsFor, IsSound, cycle_of};
 ghost use Rattle.kernel_state.specs.Made.{IsMade, Adds, AddsAll, first_cycle};
 
@@ -32,7 +30,6 @@ use sim_model::Phase;
 use sim_time::Time;
 use std::alloc::{AllocError, Global};
 use std::mem;
-use transaction_board::TransactionBoard;
 
 fn kind_by(kind: Kind) -> ProcessKind
     ensures { kind_of result ≡ kind }
@@ -153,22 +150,6 @@ fn first_cycle() -> Cycle
     }
 }
 
-/// No payloads, nothing on any hop, and keepers that nobody has set. Memory is wanting, too, where there are 2^32 hops or
-/// more.
-fn first_transactions(alloc: Global, design: &Design) -> Result<TransactionBoard, AllocError>
-    ensures transactions { IfOk result (λ b. StandsForTransactions b (record { pool = []; hops = replicate (length design.now.hops) [] })) }
-    ensures quantum { IfOk result (λ b. StandsForQuantum b (record { keepers = replicate design.now.keepers at_start; global = 0 })) }
-    ensures within { IfOk result (λ b. IsWithin 0 b) }
-{
-    match u32::try_from(design.hops.as_slice().len()) {
-        Ok(hops) => match TransactionBoard::new(alloc, hops, design.keepers) {
-            Ok(board) => Ok(board),
-            Err(_) => Err(AllocError),
-        },
-        Err(_) => Err(AllocError),
-    }
-}
-
 impl Kernel {
     /// The kernel of a sound design before the first command: no run has begun, it is time 0, and each value is the first.
     pub fn new(alloc: Global, design: Design) -> Result<Kernel, AllocError>
@@ -196,10 +177,6 @@ impl Kernel {
             Ok(channels) => channels,
             Err(_) => return Err(AllocError),
         };
-        let transactions = match first_transactions(alloc, &design) {
-            Ok(transactions) => transactions,
-            Err(_) => return Err(AllocError),
-        };
         let variables = match first_values(alloc, design.variables.as_slice()) {
             Ok(variables) => variables,
             Err(_) => return Err(AllocError),
@@ -215,7 +192,6 @@ impl Kernel {
             schedule,
             events,
             channels,
-            transactions,
             variables,
             memories,
             made: 0,

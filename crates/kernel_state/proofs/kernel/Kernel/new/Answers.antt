@@ -1,4 +1,4 @@
-use Rattle.std.proofs.Common.{◌≡◌, ℕ, List, [], length, map, replicate, arith, refl, sym, ap, ◌∙◌, subst}
+use Rattle.std.proofs.Common.{◌≡◌, ℕ, List, [], map, replicate, refl, sym, ap, ◌∙◌, subst}
 use Rattle.flat_design.specs.Code.{arena_of}
 use Rattle.flat_design.specs.Reach.{IsIn}
 use Rattle.flat_design.specs.declared.design.Design.{Design}
@@ -25,21 +25,6 @@ returns-clause-first c script =
           (c.in-Ok-first_processes.ensures.adds (record c.args.design { code = c.in-Ok.program.code }) refl));
       events = sym c.in-Ok-new.ensures;
       channels = sym c.in-Ok-new-2.ensures;
-      transactions = c.in-Ok-first_transactions.ensures.transactions;
-      quantum = c.in-Ok-first_transactions.ensures.quantum;
       variables = sym (c.in-Ok-first_values.ensures ∙ ap (map (λ (p : VariablePart). p.initial)) c.as_slice-2.ensures);
       memories = sym (c.in-Ok-first_bytes.ensures ∙ ap (map (λ (p : MemoryPart). replicate p.size 0)) c.as_slice-3.ensures);
-    }
-
-pub returns-clause-sound : goal.returns-clause-sound
-returns-clause-sound c =
-    let made = c.in-Ok-first_processes.ensures.sound in
-    let next = c.in-Ok-first_processes.ensures.next ∙ ap length c.as_slice.ensures in
-    let few = c.requires.few in
-    record {
-      schedule = made.schedule;
-      bodies = made.bodies;
-      nobody_due = made.nobody_due;
-      serials = omega (arith, next, few);
-      payloads = c.in-Ok-first_transactions.ensures.within;
     }
