@@ -1,0 +1,4 @@
+pub mod Behind
+mod Passed
+mod Pieces
+mod Tables
