@@ -26,7 +26,7 @@ use Rattle.model_scopes.specs.declared.meanings.Seen.TheVariants as seen
 use Rattle.model_faults.specs.Names.{is_variable}
 use Rattle.code_of_model.specs.Terms.{Typed, typed, Made, object, bytes, value_made, value_if, object_if, placed_made, placed_term, name_term, term_made, member_if, member_made, memory_element, digit_term, object_element, element_at, converted_to, convert_term, if_typed, binary_term, joined, number, constant_bits, made_of, term_of}
 
-some_none : {R : Type 0} → false ≡ true → R
+pub some_none : {R : Type 0} → false ≡ true → R
 some_none h = absurd (true≢false (sym h))
 
 mapped_some : {A B : Type 0} (f : A → B) (o : Option A) → is_some o ≡ true → is_some (option_map f o) ≡ true
@@ -37,7 +37,7 @@ mapped_back : {A B : Type 0} (f : A → B) (o : Option A) → is_some (option_ma
 mapped_back f None h = h
 mapped_back f (Some x) h = refl
 
-bound_back : {A B : Type 0} (f : A → Option B) (o : Option A) → is_some (option_and_then f o) ≡ true → is_some o ≡ true
+pub bound_back : {A B : Type 0} (f : A → Option B) (o : Option A) → is_some (option_and_then f o) ≡ true → is_some o ≡ true
 bound_back f None h = h
 bound_back f (Some x) h = refl
 
@@ -48,15 +48,15 @@ below_at : {A : Type 0} (p : A → Bool) (x : A) (xs : List A) (b : Bool) → (i
 below_at p x xs true rest h = grind (arith, nat_tests)
 below_at p x xs false rest h = let r = rest h in grind (arith, nat_tests, r)
 
-below : {A : Type 0} (p : A → Bool) (xs : List A) → is_some (find p xs) ≡ true → nat_lt (position_or_len p xs) (length xs) ≡ true
+pub below : {A : Type 0} (p : A → Bool) (xs : List A) → is_some (find p xs) ≡ true → nat_lt (position_or_len p xs) (length xs) ≡ true
 below p [] h = some_none h
 below p (x ∷ xs) h = below_at p x xs (p x) (below p xs) h
 
-positioned : (b : Bool) (k : ℕ) → b ≡ true → cond b (Some k) None ≡ Some k
+pub positioned : (b : Bool) (k : ℕ) → b ≡ true → cond b (Some k) None ≡ Some k
 positioned true k h = refl
 positioned false k h = cc
 
-same_some : {A : Type 0} (x y : A) → Some x ≡ Some y → x ≡ y
+pub same_some : {A : Type 0} (x y : A) → Some x ≡ Some y → x ≡ y
 same_some x y h = ap (λ o. unwrap_or o x) h
 
 -- what a name is in the code: a local variable is a variable, and a place stands on a port of the module alone
@@ -86,7 +86,7 @@ stands_by None ds name m h =
     (name_use.Declared (position_or_len (is_declared name) ds), ap (option_map name_use.Declared) (positioned (nat_lt (position_or_len (is_declared name) ds) (length ds)) (position_or_len (is_declared name) ds) there), tt)
 stands_by (Some l) ds name m h = (name_use.Local l.number, refl, ap is_variable_there (sym h))
 
-stands : (s : Scope) (name : List ℕ) (m : Meaning) → meaning_of s name ≡ Some m → (n : NameUse) × (use_of s name ≡ Some n) × Stands n None m
+pub stands : (s : Scope) (name : List ℕ) (m : Meaning) → meaning_of s name ≡ Some m → (n : NameUse) × (use_of s name ≡ Some n) × Stands n None m
 stands s name m h = stands_by (local_named s name) (declarations s.items) name m h
 
 no_port : {R : Type 0} (m : Meaning) → is_variable m ≡ true → is_port m ≡ true → R
@@ -116,7 +116,7 @@ placed_matches : (u : Option NameUse) (place : Term) (f : Meaning → Option Mea
 placed_matches u place f None h g = tt
 placed_matches u place f (Some m) h g = placed_at u place m (f m) (h m refl) (g m)
 
-if_some : {A : Type 0} (b : Bool) (x y : A) → option_if b x ≡ Some y → (b ≡ true) × (x ≡ y)
+pub if_some : {A : Type 0} (b : Bool) (x y : A) → option_if b x ≡ Some y → (b ≡ true) × (x ≡ y)
 if_some true x y h = (refl, same_some x y h)
 if_some false x y h = cc
 
@@ -124,14 +124,14 @@ below_port : (n : ℕ) (o : Option ℕ) → is_below n o ≡ true → is_some o 
 below_port n None h = h
 below_port n (Some size) h = refl
 
-number_placed : (n : ℕ) (m k : Meaning) → at_number n m ≡ Some k → (m ≡ k) × (is_port m ≡ true)
+pub number_placed : (n : ℕ) (m k : Meaning) → at_number n m ≡ Some k → (m ≡ k) × (is_port m ≡ true)
 number_placed n m k h = let x = if_some (is_below n (places m)) m k h in (x.1, below_port n (places m) x.0)
 
 first_true : (a b : Bool) → (a && b) ≡ true → a ≡ true
 first_true true b h = refl
 first_true false b h = h
 
-computed_placed : (e : Option ExpressionType) (m k : Meaning) → at_computed e m ≡ Some k → (m ≡ k) × (is_port m ≡ true)
+pub computed_placed : (e : Option ExpressionType) (m k : Meaning) → at_computed e m ≡ Some k → (m ≡ k) × (is_port m ≡ true)
 computed_placed e m k h = let x = if_some (is_port m && is_integer_type e) m k h in (x.1, first_true (is_port m) (is_integer_type e) x.0)
 
 nowhere : (b : Bool) (m : Meaning) (d : Made) → Matches (seen_object (option_if (b && false) m)) d
@@ -177,18 +177,18 @@ typed_some None x h k = some_none h
 typed_some (Some e) None h k = some_none k
 typed_some (Some e) (Some x) h k = refl
 
-two_some : {A B C : Type 0} (f : A → B → C) (a : Option A) (b : Option B) → is_some a ≡ true → is_some b ≡ true → is_some (both (λ x y. Some (f x y)) a b) ≡ true
+pub two_some : {A B C : Type 0} (f : A → B → C) (a : Option A) (b : Option B) → is_some a ≡ true → is_some b ≡ true → is_some (both (λ x y. Some (f x y)) a b) ≡ true
 two_some f None b h k = some_none h
 two_some f (Some x) None h k = some_none k
 two_some f (Some x) (Some y) h k = refl
 
-both_first : {A B C : Type 0} (f : A → B → Option C) (a : Option A) (b : Option B) → is_some (both f a b) ≡ true → (is_some a ≡ true) × (is_some b ≡ true)
+pub both_first : {A B C : Type 0} (f : A → B → Option C) (a : Option A) (b : Option B) → is_some (both f a b) ≡ true → (is_some a ≡ true) × (is_some b ≡ true)
 both_first f None b h = some_none h
 both_first f (Some x) None h = some_none h
 both_first f (Some x) (Some y) h = (refl, refl)
 
 -- one part
-one_part : (f : ExpressionType → Option ExpressionType) (g : Typed → Term) (e : Option ExpressionType) (x : Option Term) → (is_some e ≡ true → is_some x ≡ true)
+pub one_part : (f : ExpressionType → Option ExpressionType) (g : Typed → Term) (e : Option ExpressionType) (x : Option Term) → (is_some e ≡ true → is_some x ≡ true)
     → is_some (option_and_then f e) ≡ true → is_some (option_map g (typed e x)) ≡ true
 one_part f g e x h k = let some = bound_back f e k in mapped_some g (typed e x) (typed_some e x some (h some))
 

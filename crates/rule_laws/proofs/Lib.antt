@@ -2,3 +2,4 @@ pub mod NamesMet
 pub mod Kept
 pub mod Typed
 pub mod Coded
+pub mod Passes

@@ -31,35 +31,35 @@ use Rattle.rule_laws.proofs.NamesMet.{site_met}
 
 -- truth values
 
-same_false : (b : Bool) → not b ≡ false → b ≡ true
+pub same_false : (b : Bool) → not b ≡ false → b ≡ true
 same_false true h = refl
 same_false false h = cc
 
-neither : (a b : Bool) → (a || b) ≡ false → (a ≡ false) × (b ≡ false)
+pub neither : (a b : Bool) → (a || b) ≡ false → (a ≡ false) × (b ≡ false)
 neither true b h = cc
 neither false b h = (refl, h)
 
-some_of : {A : Type 0} (o : Option A) → is_none o ≡ false → is_some o ≡ true
+pub some_of : {A : Type 0} (o : Option A) → is_none o ≡ false → is_some o ≡ true
 some_of o h = same_false (is_some o) h
 
-not_named : (b : Bool) (name : List ℕ) → name_if b name ≡ None → b ≡ false
+pub not_named : (b : Bool) (name : List ℕ) → name_if b name ≡ None → b ≡ false
 not_named false name h = refl
 not_named true name h = cc
 
-mapped_some : {A B : Type 0} (f : A → B) (o : Option A) → is_some o ≡ true → is_some (option_map f o) ≡ true
+pub mapped_some : {A B : Type 0} (f : A → B) (o : Option A) → is_some o ≡ true → is_some (option_map f o) ≡ true
 mapped_some f None h = h
 mapped_some f (Some x) h = refl
 
-option_if_true : {A : Type 0} (b : Bool) (x : A) → b ≡ true → is_some (option_if b x) ≡ true
+pub option_if_true : {A : Type 0} (b : Bool) (x : A) → b ≡ true → is_some (option_if b x) ≡ true
 option_if_true true x h = refl
 option_if_true false x h = cc
 
 -- lists of sites
 
-parts_none : (xs ys : List Site) → fault_of constructs (xs ++ ys) ≡ None → (fault_of constructs xs ≡ None) × (fault_of constructs ys ≡ None)
+pub parts_none : (xs ys : List Site) → fault_of constructs (xs ++ ys) ≡ None → (fault_of constructs xs ≡ None) × (fault_of constructs ys ≡ None)
 parts_none xs ys h = or_none (fault_of constructs xs) (fault_of constructs ys) (sym (first_append (fault_at constructs) xs ys) ∙ h)
 
-head_none : (x : Site) (xs : List Site) → fault_of constructs (x ∷ xs) ≡ None → (fault_at constructs x ≡ None) × (fault_of constructs xs ≡ None)
+pub head_none : (x : Site) (xs : List Site) → fault_of constructs (x ∷ xs) ≡ None → (fault_at constructs x ≡ None) × (fault_of constructs xs ≡ None)
 head_none x xs h = or_none (fault_at constructs x) (fault_of constructs xs) h
 
 -- what is needed of what an expression stands for
@@ -112,15 +112,15 @@ object_good need_of.Object m h k = refl
 object_good other m h k = refl
 
 -- a channel in an expression: its name is known and what is needed, and its place is right
-record IsChannelKept (s : Scope) (need : Need) (name : List ℕ) (place : tree.Place) : Type 0 where
-  meaning_ : Meaning
-  known : meaning_of s name ≡ Some meaning_
-  met : meets need meaning_ ≡ true
-  right_place : is_wrong_place need place (Some meaning_) ≡ false
-  place_type : place_differs s place ≡ false
-  place_range : wide_place place (Some meaning_) ≡ false
+pub record IsChannelKept (s : Scope) (need : Need) (name : List ℕ) (place : tree.Place) : Type 0 where
+  pub meaning_ : Meaning
+  pub known : meaning_of s name ≡ Some meaning_
+  pub met : meets need meaning_ ≡ true
+  pub right_place : is_wrong_place need place (Some meaning_) ≡ false
+  pub place_type : place_differs s place ≡ false
+  pub place_range : wide_place place (Some meaning_) ≡ false
 
-channel_kept : (s : Scope) (need : Need) (c : tree.Channel) → fault_at constructs (channel_site s need c) ≡ None → IsChannelKept s need c.name c.place
+pub channel_kept : (s : Scope) (need : Need) (c : tree.Channel) → fault_at constructs (channel_site s need c) ≡ None → IsChannelKept s need c.name c.place
 channel_kept s need c h =
     let k = keeps (channel_site s need c) h in
     let m = (site_met (channel_site s need c) k.known k.kind).0 in
@@ -143,18 +143,18 @@ if_true : {A : Type 0} (b : Bool) (x : A) → b ≡ true → option_if b x ≡ S
 if_true true x h = refl
 if_true false x h = cc
 
-number_placed : (n : ℕ) (m : Meaning) → not (is_port m) ≡ false → is_past n (places m) ≡ false → at_number n m ≡ Some m
+pub number_placed : (n : ℕ) (m : Meaning) → not (is_port m) ≡ false → is_past n (places m) ≡ false → at_number n m ≡ Some m
 number_placed n m port past = if_true (is_below n (places m)) m (at_places n m (places m) refl port past)
 
-both_true : (a b : Bool) → a ≡ true → b ≡ true → (a && b) ≡ true
+pub both_true : (a b : Bool) → a ≡ true → b ≡ true → (a && b) ≡ true
 both_true true b h k = k
 both_true false b h k = cc
 
-integer_known : (o : Option ExpressionType) → is_some o ≡ true → fails is_integer o ≡ false → is_integer_type o ≡ true
+pub integer_known : (o : Option ExpressionType) → is_some o ≡ true → fails is_integer o ≡ false → is_integer_type o ≡ true
 integer_known None h k = cc
 integer_known (Some e) h k = same_false (is_integer e) k
 
-computed_placed : (o : Option ExpressionType) (m : Meaning) → not (is_port m) ≡ false → is_some o ≡ true → fails is_integer o ≡ false → at_computed o m ≡ Some m
+pub computed_placed : (o : Option ExpressionType) (m : Meaning) → not (is_port m) ≡ false → is_some o ≡ true → fails is_integer o ≡ false → at_computed o m ≡ Some m
 computed_placed o m port some fits = if_true (is_port m && is_integer_type o) m (both_true (is_port m) (is_integer_type o) (same_false (is_port m) port) (integer_known o some fits))
 
 -- members
@@ -170,7 +170,7 @@ value_member_good need None h = cc
 value_member_good need (Some (reached.One m)) h = value_good need _
 value_member_good need (Some (reached.Many b)) h = indexed_need need b h
 
-and_true : (a b : Bool) → (a && not b) ≡ false → b ≡ false → a ≡ false
+pub and_true : (a b : Bool) → (a && not b) ≡ false → b ≡ false → a ≡ false
 and_true true true h k = cc
 and_true true false h k = cc
 and_true false b h k = refl

@@ -1,13 +1,21 @@
 //! Laws of models without a first fault.
-ghost use Rattle.std.specs.Prelude.{◌≡◌, None, true, is_some};
+ghost use Rattle.std.specs.Prelude.{◌≡◌, None, Some, true, is_some};
 ghost use Rattle.model_tree.specs.Tree.{Expression, Model};
+ghost use Rattle.model_tree.specs.declared.faults.Fault.{Fault};
 ghost use Rattle.model_scopes.specs.Scopes.{Scope};
 ghost use Rattle.model_scopes.specs.Types.{type_of};
 ghost use Rattle.model_faults.specs.Sites.{expression_sites};
 ghost use Rattle.model_faults.specs.Passes.{constructs, fault_of, first_fault};
 ghost use Rattle.code_of_model.specs.Terms.{term_of};
+ghost use Rattle.rule_laws.specs.Decided.{IsDecided};
 ghost use Rattle.rule_laws.specs.Known.{TypesAreKnown};
 ghost use Rattle.rule_laws.specs.Met.{AllAreMet};
+
+/// The first fault of a model is that of the first construct which breaks a rule of its pass, and no construct breaks a rule
+/// of a pass before it.
+pub fn first_fault_is_first()
+    ensures { (m : Model) (f : Fault) → first_fault m ≡ Some f → IsDecided m f }
+{}
 
 /// Where a model has no first fault, each name that is used is declared, and is what the construct needs.
 pub fn uses_are_met()
