@@ -1,0 +1,11 @@
+use Rattle.std.proofs.Common.{sym, subst, ◌∙◌}
+use Rattle.flat_design.specs.Typed.{HasType}
+use Rattle.model_scopes.specs.Operators.{evaluated_as}
+use Rattle.rule_laws.proofs.Coded.{same_some}
+use Rattle.typed_code.proofs.Terms.{term_typed}
+use Rattle.typed_code.proofs.laws.sound_terms_are_typed.Goals as goal
+
+pub returns : goal.returns
+returns g = λ s c e at t x names formed typed is.
+    let k = term_typed c s names e at formed t typed in
+    subst (λ y. HasType c y (evaluated_as t)) (same_some k.0 x (sym k.1 ∙ is)) k.2

@@ -1,0 +1,6 @@
+//! Laws over the code of a model that breaks no rule: that it is typed.
+#![tactic(auto)]
+
+mod laws;
+
+pub use laws::{sound_code_is_typed, sound_terms_are_typed};
