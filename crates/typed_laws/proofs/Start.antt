@@ -1,0 +1,56 @@
+-- The first configuration of a sound design is typed.
+use Rattle.std.proofs.Common.{◌≡◌, ℕ, zero, suc, List, [], ◌∷◌, map, take, length, replicate, slice_get, Option, Some, None, refl, sym, ap, ◌∙◌, subst, arith}
+use Rattle.std.proofs.lemmas.List.{length-replicate}
+use Rattle.model_tree.specs.declared.constructs.Construct.{Construct}
+use Rattle.std.specs.Prelude.{Bool}
+use Rattle.flat_design.specs.Typed.{EachOf, parameters_of}
+use Rattle.flat_design.specs.Sound.{SoundDesign, ProcessFits}
+use Rattle.flat_design.specs.declared.code.Local.{Local}
+use Rattle.flat_design.specs.declared.design.SignalPart.{SignalPart}
+use Rattle.flat_design.specs.declared.design.FifoPart.{FifoPart}
+use Rattle.flat_design.specs.declared.design.MemoryPart.{MemoryPart}
+use Rattle.flat_design.specs.declared.design.VariablePart.{VariablePart}
+use Rattle.flat_design.specs.declared.design.ProcessPart.{ProcessPart}
+use Rattle.flat_design.specs.declared.design.Design.{Design}
+use Rattle.fifo_sync.specs.Fifos.{nothing_in}
+use Rattle.sim_model.specs.Configuration.{Config, first_signal, first_instance, start}
+use Rattle.sim_model.specs.declared.plain.Command.{Command}
+use Rattle.typed_terms.specs.Contents.{Pairwise, LocalFits, VariableFits, SignalFits, FifoFits, IsByte, MemoryFits}
+use Rattle.typed_moves.specs.Frames.{InstanceFits}
+use Rattle.typed_moves.specs.TypedConfig.{CommandFits}
+use Rattle.typed_moves.proofs.EachLists.{each-replicate}
+use Rattle.typed_moves.proofs.Moves.{Fits}
+
+pairs_of : {A B : Type 0} (P : A → B → Type 0) (f : A → B) (xs : List A) → ((n : ℕ) (x : A) → slice_get xs n ≡ Some x → P x (f x)) → Pairwise P xs (map f xs)
+pairs_of P f [] each = tt
+pairs_of P f (x ∷ xs) each = (each 0 x refl, pairs_of P f xs (λ n y at. each (suc n) y at))
+
+each_of : {A B : Type 0} (P : B → Type 0) (f : A → B) (xs : List A) → ((n : ℕ) (x : A) → slice_get xs n ≡ Some x → P (f x)) → EachOf P (map f xs)
+each_of P f [] each = tt
+each_of P f (x ∷ xs) each = (each 0 x refl, each_of P f xs (λ n y at. each (suc n) y at))
+
+many : {A : Type 0} (n : ℕ) (x : A) → length (replicate n x) ≡ n
+many zero x = refl
+many (suc n) x = ap suc (many n x)
+
+no_parameters : (k : ℕ) (ls : List Local) → k ≡ 0 → Pairwise LocalFits (take k ls) []
+no_parameters k ls e = subst (λ n. Pairwise LocalFits (take n ls) []) (sym e) tt
+
+process_fits : (d : Design) (p : ProcessPart) → ProcessFits d p → InstanceFits d (first_instance d p)
+process_fits d p h = record { body = h.body; found = h.found; home_of = h.home; arguments = no_parameters h.body.parameters h.body.locals h.parameters; left = tt }
+
+pub start-fits : (missing : Construct → Bool) (d : Design) (script : List Command) → SoundDesign missing d → EachOf (CommandFits d) script → Fits d (start d script)
+start-fits missing d script sound fits = (
+  refl,
+  record {
+    variables = pairs_of VariableFits (λ (p : VariablePart). p.initial) d.variables (λ n p at. sound.variables n p at);
+    memories = pairs_of MemoryFits (λ (p : MemoryPart). replicate p.size 0) d.memories (λ n p at. (many p.size 0, each-replicate IsByte p.size 0 (omega arith)));
+    signals = pairs_of SignalFits first_signal d.signals (λ n p at. let s = sound.signals n p at in (s.0, s.0));
+    resolved = many (length d.resolved) _;
+    fifos = pairs_of FifoFits (λ (p : FifoPart). nothing_in p.size) d.fifos (λ n p at. tt);
+    payloads = tt;
+    keepers_there = many d.keepers _;
+  },
+  each_of (InstanceFits d) (first_instance d) d.processes (λ n p at. process_fits d p (sound.processes n p at)),
+  fits,
+)

@@ -1,0 +1,5 @@
+use Rattle.typed_laws.proofs.TypedRuns.{meets-runs}
+use Rattle.typed_laws.proofs.typing.operators_meet_their_types.Goals as goal
+
+pub returns : goal.returns
+returns c = meets-runs

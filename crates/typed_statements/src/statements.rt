@@ -1,0 +1,26 @@
+//! The statement in place, in a typed configuration.
+ghost use Rattle.std.specs.Prelude.{◌≡◌, ℕ, Bool, Some, IfOk};
+ghost use Rattle.model_tree.specs.declared.constructs.Construct.{Construct};
+ghost use Rattle.flat_design.specs.Code.{Statement, statement_at};
+ghost use Rattle.flat_design.specs.Sound.{SoundDesign};
+ghost use Rattle.sim_model.specs.Residual.{next_of, statement};
+ghost use Rattle.sim_model.specs.Configuration.{Config, Instance, instance_at};
+ghost use Rattle.sim_model.specs.Reading.{here};
+ghost use Rattle.sim_model.specs.Statements.{do_statement};
+ghost use Rattle.goal_laws.specs.Standing.{code_of, IsStanding};
+ghost use Rattle.typed_moves.specs.TypedConfig.{TypesHaveValues, IsTypedConfig};
+ghost use Rattle.typed_statements.specs.Terms.{MeetsItsTypes};
+
+/// In a typed configuration of a sound design, each expression of the statement that an instance carries out next meets
+/// operands of the types that its operators ask for.
+pub fn each_statement_meets_its_types()
+    ensures { (missing : Construct → Bool) (c : Config) (p : ℕ) (i : Instance) → SoundDesign missing c.design → IsTypedConfig c → instance_at c p ≡ Some i → MeetsItsTypes c p i }
+{}
+
+/// A statement of any form, where what is left of its instance stands in the bodies of the design, leaves a typed
+/// configuration typed, or is a run fault.
+pub fn each_statement_keeps_everything_typed()
+    ensures { (missing : Construct → Bool) (c : Config) (p : ℕ) (i : Instance) (n : ℕ) (s : Statement) → SoundDesign missing c.design → TypesHaveValues c.design → IsTypedConfig c
+        → instance_at c p ≡ Some i → IsStanding c.design i.home i.residual → next_of i.residual ≡ statement n → statement_at (code_of c.design) n ≡ Some s
+        → IfOk (do_statement c p i i.residual (here c p i i.residual) n s) IsTypedConfig }
+{}
