@@ -1,0 +1,4 @@
+mod RowLemmas
+mod Lasting
+mod Counts
+mod Parents

@@ -1,0 +1,12 @@
+//! The objects of a model in object order.
+#![tactic(auto)]
+
+mod frames;
+mod limits;
+mod list;
+#[cfg(test)]
+mod tests;
+mod turns;
+mod walks;
+
+pub use list::list_objects;
