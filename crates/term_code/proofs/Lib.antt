@@ -1,0 +1,2 @@
+mod Logic
+mod Outside
