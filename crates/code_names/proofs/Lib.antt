@@ -1,0 +1,3 @@
+mod Positions
+mod Once
+mod Following
