@@ -1,4 +1,4 @@
 pub mod Behind
 mod Passed
-mod Pieces
+pub mod Pieces
 mod Tables
