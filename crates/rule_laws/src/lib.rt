@@ -3,4 +3,6 @@
 
 mod laws;
 
-pub use laws::{first_fault_is_first, sound_expressions_have_types, typed_expressions_have_code, uses_are_met};
+pub use laws::{
+    first_fault_is_first, sound_expressions_have_types, typed_expressions_have_code, uses_are_met,
+};

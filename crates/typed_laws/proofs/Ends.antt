@@ -174,14 +174,18 @@ module _ (missing : Construct → Bool) (c : Config) (p : ℕ) (i : Instance) (a
 
 module _ (d : Design) (types : TypesHaveValues d) where
   over-fits : (c : Config) (p : ℕ) (g : Instance → Instance) → ((i : Instance) → (g i).home ≡ i.home) → ((i : Instance) → (g i).code ≡ i.code) → ((i : Instance) → (g i).arguments ≡ i.arguments) → ((i : Instance) → (g i).residual ≡ skip) → Fits d c → Fits d (change_instance c p g)
-  over-fits c p g home code_ arguments left k =
-      (k.0, k.1, each-change (InstanceFits d) c.processes.instances p g (λ i at h. record {
-        body = h.body;
-        found = ap (body_at (code_of d)) (code_ i) ∙ h.found;
-        home_of = subst (λ m. IsHomeOf d m h.body) (sym (home i)) h.home_of;
-        arguments = subst (Pairwise LocalFits (parameters_of h.body)) (sym (arguments i)) h.arguments;
-        left = subst (LeftFits d None (g i).home) (sym (left i)) tt;
-      }) k.2, k.3)
+  over-fits c p g home code_ arguments left k = (
+    k.0,
+    k.1,
+    each-change (InstanceFits d) c.processes.instances p g (λ i at h. record {
+      body = h.body;
+      found = ap (body_at (code_of d)) (code_ i) ∙ h.found;
+      home_of = subst (λ m. IsHomeOf d m h.body) (sym (home i)) h.home_of;
+      arguments = subst (Pairwise LocalFits (parameters_of h.body)) (sym (arguments i)) h.arguments;
+      left = subst (LeftFits d None (g i).home) (sym (left i)) tt;
+    }) k.2,
+    k.3,
+  )
 
   pub ends-fits : (c : Config) (p : ℕ) → Fits d c → Fits d (ends c p)
   ends-fits c p k = fire-fits d (leaves_stack (change_instance c p ended_instance)) (ev.Terminated p) (over-fits c p ended_instance (λ i. refl) (λ i. refl) (λ i. refl) (λ i. refl) k)
@@ -196,18 +200,22 @@ module _ (d : Design) (types : TypesHaveValues d) where
 
   -- the body of the instance begins; i is it, but for what is left and its flags
   pub begins-fits : (c : Config) (p : ℕ) (i : Instance) → c.design ≡ d → ((j : Instance) → slice_get c.processes.instances p ≡ Some j → (j.code ≡ i.code) × (j.arguments ≡ i.arguments)) → Fits d c → Fits d (begins c p i)
-  begins-fits c p i same alike k =
-      (k.0, k.1, each-change (InstanceFits d) c.processes.instances p (λ j. record j { residual = begun (arena c) i.code i.arguments; started = true }) (λ j at h. record {
-        body = h.body;
-        found = h.found;
-        home_of = h.home_of;
-        arguments = h.arguments;
-        left =
-            let a = alike j at in
-            subst (λ x. LeftFits d None j.home (begun (code_of x) i.code i.arguments)) (sym same)
-            (subst (λ args. LeftFits d None j.home (begun (code_of d) i.code args)) a.1 (subst (λ m. LeftFits d None j.home (begun (code_of d) m j.arguments)) a.0
-            (begun-fits d j.home j.code h.body j.arguments h.found h.home_of (types.bodies j.code h.body h.found) h.arguments)));
-      }) k.2, k.3)
+  begins-fits c p i same alike k = (
+    k.0,
+    k.1,
+    each-change (InstanceFits d) c.processes.instances p (λ j. record j { residual = begun (arena c) i.code i.arguments; started = true }) (λ j at h. record {
+      body = h.body;
+      found = h.found;
+      home_of = h.home_of;
+      arguments = h.arguments;
+      left =
+          let a = alike j at in
+          subst (λ x. LeftFits d None j.home (begun (code_of x) i.code i.arguments)) (sym same)
+          (subst (λ args. LeftFits d None j.home (begun (code_of d) i.code args)) a.1 (subst (λ m. LeftFits d None j.home (begun (code_of d) m j.arguments)) a.0
+          (begun-fits d j.home j.code h.body j.arguments h.found h.home_of (types.bodies j.code h.body h.found) h.arguments)));
+    }) k.2,
+    k.3,
+  )
 
   pub kept-fits : (c : Config) (p : ℕ) → Fits d c → Fits d (stays_kept c p)
   kept-fits c p k = same-fits d c p (λ j. record j { kept = true }) (λ j. record { home = refl; code = refl; arguments = refl; residual = refl }) k

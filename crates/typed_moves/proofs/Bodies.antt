@@ -58,7 +58,6 @@ default-type type.Time h = refl
 default-type type.Process h = refl
 default-type type.Payload h = refl
 
-
 default_locals : (ls : List Local) → EachOf (λ (l : Local). HasValues l.value_type) ls → Pairwise LocalFits ls (map (λ (l : Local). default_value l.value_type) ls)
 default_locals [] h = tt
 default_locals (l ∷ ls) h = (default-type l.value_type h.0, default_locals ls h.1)
@@ -89,9 +88,10 @@ module _ (d : Design) where
   pub entered-fits : (o : Option ℕ) (home f : ℕ) (b : CodeBody) (args : List Value) (call : Option ℕ) (via : Option Via) → body_at (code_of d) f ≡ Some b → IsHomeOf d (home_of_via d home via) b → IsOverHop d via
       → BodyHasValues b → Pairwise LocalFits (parameters_of b) args → CallFits d o call f b → LeftFits d o home (entered (code_of d) f args call via)
   entered-fits o home f b args call via is home_of over types fits call_fits =
-      subst (λ m. LeftFits d o home (entered_in (code_of d) f args call via m)) (sym is)
-      (record { body = b; found = is; home_of = home_of; over = over; locals_fit = first-locals b.parameters args b.locals types.locals fits; answer_fits = tt; call_fits = call_fits },
-      statements-fit d (Some f) (home_of_via d home via) (block_at (code_of d) b.block) (body-inside f b is))
+      subst (λ m. LeftFits d o home (entered_in (code_of d) f args call via m)) (sym is) (
+        record { body = b; found = is; home_of = home_of; over = over; locals_fit = first-locals b.parameters args b.locals types.locals fits; answer_fits = tt; call_fits = call_fits },
+        statements-fit d (Some f) (home_of_via d home via) (block_at (code_of d) b.block) (body-inside f b is),
+      )
 
   pub begun-fits : (home f : ℕ) (b : CodeBody) (args : List Value) → body_at (code_of d) f ≡ Some b → IsHomeOf d home b → BodyHasValues b → Pairwise LocalFits (parameters_of b) args → LeftFits d None home (begun (code_of d) f args)
   begun-fits home f b args is home_of types fits = entered-fits None home f b args None None is home_of tt types fits tt

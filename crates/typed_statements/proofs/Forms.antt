@@ -210,9 +210,10 @@ module _ (missing : Construct → Bool) (c : Config) (p : ℕ) (i : Instance) (a
 
     try-fits : (j : ℕ) (handlers : List Handler) → statement_at (code_of d) n ≡ Some (code.try_ j handlers) → IfOk (do_try c p r j handlers) (Fits d)
     try-fits j handlers found =
-        new_fits (try_ (block (code_of d) j) handlers)
-        (block_fits j (code.try_ j handlers) found (zero, omega arith, refl),
-        handlers_each handlers (λ m c. let within = c.1 in inner-inside d (Some f) n m (code.try_ j handlers) inside found (suc c.0, omega (arith, within), c.2)))
+        new_fits (try_ (block (code_of d) j) handlers) (
+          block_fits j (code.try_ j handlers) found (zero, omega arith, refl),
+          handlers_each handlers (λ m c. let within = c.1 in inner-inside d (Some f) n m (code.try_ j handlers) inside found (suc c.0, omega (arith, within), c.2)),
+        )
 
     -- ---- calls and returns
 
