@@ -1,0 +1,5 @@
+mod Lists
+mod Doubled
+mod Built
+mod Uses
+mod Models
