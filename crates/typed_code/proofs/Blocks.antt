@@ -26,7 +26,7 @@ use Rattle.model_faults.specs.Passes.{constructs, fault_of}
 use Rattle.code_of_model.specs.Terms.{term_of}
 use Rattle.code_of_model.specs.Deeds.{Home, if_written, store, action_code}
 use Rattle.code_of_model.specs.Numbered.{AtBlock, AreFirst, IsCoded, IsStatement, IsBlock, IsElse, AreHandlers, var_code, assign_code, operate_code}
-use Rattle.code_of_model.specs.Bodies.{LocalSource, IsAnswer, variables_in, variables_in_block, variables_in_else, variables_in_handlers, exceptions_in, exceptions_in_block, exceptions_in_else, exceptions_in_handlers}
+use Rattle.code_of_model.specs.Bodies.{LocalSource, variables_in, variables_in_block, variables_in_else, variables_in_handlers, exceptions_in, exceptions_in_block, exceptions_in_else, exceptions_in_handlers}
 use Rattle.rule_laws.specs.Known.{TypesAreKnown}
 use Rattle.rule_laws.proofs.Kept.{keeps}
 use Rattle.rule_laws.proofs.Coded.{same_some}
@@ -34,12 +34,13 @@ use Rattle.rule_laws.proofs.Typed.{not_named, parts_none, head_none}
 use Rattle.code_laws.specs.HasCode.{AreNumbered}
 use Rattle.code_laws.proofs.Blocks.{all_parts, behind_known}
 use Rattle.code_laws.proofs.Models.{all_joined}
-use Rattle.typed_code.specs.Standing.{LocalStands, NamesStand}
-use Rattle.typed_code.specs.Functions.{FunctionsStand, VariablesStand}
-use Rattle.typed_code.proofs.Has.{Has}
-use Rattle.typed_code.proofs.Operands.{both_true, bool_type}
-use Rattle.typed_code.proofs.Channels.{within_is, type_there, tested, follows}
-use Rattle.typed_code.proofs.Actions.{var_fine, assign_fine, operate_fine, act_fine}
+use Rattle.sound_terms.specs.Standing.{LocalStands}
+use Rattle.sound_statements.specs.Functions.{VariablesStand}
+use Rattle.sound_statements.specs.Ready.{Ready}
+use Rattle.sound_terms.proofs.Has.{Has}
+use Rattle.sound_terms.proofs.Operands.{both_true, bool_type}
+use Rattle.sound_statements.proofs.Channels.{within_is, type_there, tested, follows}
+use Rattle.sound_statements.proofs.Actions.{var_fine, assign_fine, operate_fine, act_fine}
 use Rattle.typed_code.proofs.Plain.{NoneHasBlocks, var_plain, assign_plain, operate_plain, action_plain}
 
 -- what is so of all is so of each
@@ -104,20 +105,16 @@ variables_behind : (ls : List CodeLocal) (n k : ℕ) (xs ys : List LocalSource) 
 variables_behind ls n k xs ys e h = let p = variables_parts ls n xs ys h in (p.0, subst (λ j. VariablesStand ls (n + j) ys) e p.1)
 
 module _ (h : Home) (a : Arena) (place : ℕ) (answer : Option ValueType) (c : Context) where
-  -- a scope at which the statements of a body stand
-  pub record Ready (s : Scope) : Type 0 where
-    pub names : NamesStand s c
-    pub known : TypesAreKnown s
-    pub functions : FunctionsStand h a place s
-    pub returns : IsAnswer s.answer answer
+  abbrev pub IsReady : Scope → Type 0
+  IsReady s = Ready h a place answer c s
 
-  pub past_ready : (n : ℕ) (s : Scope) → Ready s → Ready (past n s)
+  pub past_ready : (n : ℕ) (s : Scope) → IsReady s → IsReady (past n s)
   past_ready n s r = record { names = record { names = r.names.names; locals = r.names.locals }; known = r.known; functions = r.functions; returns = r.returns }
 
-  unwind_ready : (s : Scope) → Ready s → Ready (in_unwind s)
+  unwind_ready : (s : Scope) → IsReady s → IsReady (in_unwind s)
   unwind_ready s r = record { names = record { names = r.names.names; locals = r.names.locals }; known = r.known; functions = r.functions; returns = r.returns }
 
-  pub local_ready : (s : Scope) (name : List ℕ) (t : VarType) → Ready s → TypesAreKnown (with_local s name t) → VariablesStand c.locals s.count ((name, t, false) ∷ []) → Ready (with_local s name t)
+  pub local_ready : (s : Scope) (name : List ℕ) (t : VarType) → IsReady s → TypesAreKnown (with_local s name t) → VariablesStand c.locals s.count ((name, t, false) ∷ []) → IsReady (with_local s name t)
   local_ready s name t r known v =
       record {
         names =
@@ -130,7 +127,7 @@ module _ (h : Home) (a : Arena) (place : ℕ) (answer : Option ValueType) (c : C
         returns = r.returns;
       }
 
-  behind_ready : (x : tree.Statement) (s : Scope) → Ready s → VariablesStand c.locals s.count (variables_in x) → fault_of constructs (statement_sites x s) ≡ None → Ready (behind x s)
+  behind_ready : (x : tree.Statement) (s : Scope) → IsReady s → VariablesStand c.locals s.count (variables_in x) → fault_of constructs (statement_sites x s) ≡ None → IsReady (behind x s)
   behind_ready (tree.var line t name e) s r v clean = local_ready s name t r (behind_known (tree.var line t name e) s r.known clean) v
   behind_ready (tree.assign line target e) s r v clean = r
   behind_ready (tree.operate line name at o) s r v clean = r
@@ -154,7 +151,7 @@ module _ (h : Home) (a : Arena) (place : ℕ) (answer : Option ValueType) (c : C
   pub record BlockOf (ids : List ℕ) : Type 0 where
     pub block : tree.Block
     pub scope : Scope
-    pub ready : Ready scope
+    pub ready : IsReady scope
     pub variables : VariablesStand c.locals scope.count (variables_in_block block)
     pub numbered : AreNumbered h (exceptions_in_block block)
     pub depth : ℕ
@@ -189,24 +186,24 @@ module _ (h : Home) (a : Arena) (place : ℕ) (answer : Option ValueType) (c : C
       first_fine r.0 ids rest r.2 (plain_each r.0 (subst (λ fs. EachOf (λ f. IsTyped a place answer c f) fs) same k.2) (plain r.0 r.1)) l
 
   -- a condition is a truth value
-  condition : (s : Scope) (r : Ready s) (n : ℕ) (e : tree.Expression) (t : Term) → fits n e ≡ true → fault_of constructs (expression_sites s e) ≡ None → fails is_bool (type_of s e) ≡ false → term_of s e ≡ Some t → HasType c t type.Bool
+  condition : (s : Scope) (r : IsReady s) (n : ℕ) (e : tree.Expression) (t : Term) → fits n e ≡ true → fault_of constructs (expression_sites s e) ≡ None → fails is_bool (type_of s e) ≡ false → term_of s e ≡ Some t → HasType c t type.Bool
   condition s r n e t fit clean ok is =
       let x = type_there s c r.names r.known e clean in
       let y = follows s c r.names r.known n e fit x.0 x.1 in
       subst (HasType c t) (bool_type x.0 (tested s c r.names r.known is_bool (type_of s e) x.0 x.1 ok)) (subst (λ z. HasType c z (evaluated_as x.0)) (same_some y.0 t (sym y.1 ∙ is)) y.2)
 
-  inner : (b : tree.Block) (s : Scope) (n j : ℕ) → Ready s → VariablesStand c.locals s.count (variables_in_block b) → AreNumbered h (exceptions_in_block b) → within n (fits_block b) ≡ true → fault_of constructs (block_sites b s) ≡ None
+  inner : (b : tree.Block) (s : Scope) (n j : ℕ) → IsReady s → VariablesStand c.locals s.count (variables_in_block b) → AreNumbered h (exceptions_in_block b) → within n (fits_block b) ≡ true → fault_of constructs (block_sites b s) ≡ None
       → AtBlock a j (IsBlock b h a s) → IsGood j
   inner b s n j r v m fit clean read =
       let w = within_is n (fits_block b) fit in
       (read.0, read.1, record { block = b; scope = s; ready = r; variables = v; numbered = m; depth = w.0; within_limits = w.1; clean = clean; read = read.2 })
 
-  else_good : (o : tree.Else) (s : Scope) (n : ℕ) (j : Option ℕ) → Ready s → VariablesStand c.locals s.count (variables_in_else o) → AreNumbered h (exceptions_in_else o) → fits_else o n ≡ true → fault_of constructs (else_sites o s) ≡ None
+  else_good : (o : tree.Else) (s : Scope) (n : ℕ) (j : Option ℕ) → IsReady s → VariablesStand c.locals s.count (variables_in_else o) → AreNumbered h (exceptions_in_else o) → fits_else o n ≡ true → fault_of constructs (else_sites o s) ≡ None
       → IsElse o h a s j → AllByRecursion IsGood (listed j)
   else_good tree.no_else s n j r v m fit clean read = subst (λ x. AllByRecursion IsGood (listed x)) (sym read) tt
   else_good (tree.else_block body) s n j r v m fit clean read = subst (λ x. AllByRecursion IsGood (listed x)) (sym read.1) (inner body s n read.0 r v m fit clean read.2, tt)
 
-  handlers_good : (hs : tree.Handlers) (s : Scope) (n : ℕ) (js : List Handler) → Ready s → VariablesStand c.locals s.count (variables_in_handlers hs) → AreNumbered h (exceptions_in_handlers hs) → fits_handlers hs n ≡ true
+  handlers_good : (hs : tree.Handlers) (s : Scope) (n : ℕ) (js : List Handler) → IsReady s → VariablesStand c.locals s.count (variables_in_handlers hs) → AreNumbered h (exceptions_in_handlers hs) → fits_handlers hs n ≡ true
       → fault_of constructs (handler_sites hs s) ≡ None → AreHandlers hs h a s js → AllByRecursion IsGood (map (λ (x : Handler). x.block) js)
   handlers_good tree.no_more s n js r v m fit clean read = subst (λ xs. AllByRecursion IsGood (map (λ (x : Handler). x.block) xs)) (sym read) tt
   handlers_good (tree.handler name body more) s n js r v m fit clean read =
@@ -217,7 +214,7 @@ module _ (h : Home) (a : Arena) (place : ℕ) (answer : Option ValueType) (c : C
       subst (λ xs. AllByRecursion IsGood (map (λ (x : Handler). x.block) xs)) (sym read.3)
       (inner body s n read.1 r w.0 q.0 f.0 p.0 read.5, handlers_good more (past (locals_in_block body) s) n read.2 (past_ready (locals_in_block body) s r) w.1 q.1 f.1 p.1 read.6)
 
-  statement_fine : (x : tree.Statement) (s : Scope) (n : ℕ) (ids rest : List ℕ) → Ready s → VariablesStand c.locals s.count (variables_in x) → AreNumbered h (exceptions_in x) → fits_statement x n ≡ true
+  statement_fine : (x : tree.Statement) (s : Scope) (n : ℕ) (ids rest : List ℕ) → IsReady s → VariablesStand c.locals s.count (variables_in x) → AreNumbered h (exceptions_in x) → fits_statement x n ≡ true
       → fault_of constructs (statement_sites x s) ≡ None → IsStatement x h a s ids rest → AllFineAt rest → AllFineAt ids
   statement_fine (tree.var line t name e) s n ids rest r v m fit clean read l =
       coded_fine (var_code s (variable_type t) e) ids rest read (var_fine s c r.names r.known h a place r.functions answer line n t name e v fit clean) (var_plain s (variable_type t) e) l
@@ -283,7 +280,7 @@ module _ (h : Home) (a : Arena) (place : ℕ) (answer : Option ValueType) (c : C
         tt,
       ) l
 
-  pub block_fine : (b : tree.Block) (s : Scope) (n : ℕ) (ids : List ℕ) → Ready s → VariablesStand c.locals s.count (variables_in_block b) → AreNumbered h (exceptions_in_block b) → fits_block b n ≡ true
+  pub block_fine : (b : tree.Block) (s : Scope) (n : ℕ) (ids : List ℕ) → IsReady s → VariablesStand c.locals s.count (variables_in_block b) → AreNumbered h (exceptions_in_block b) → fits_block b n ≡ true
       → fault_of constructs (block_sites b s) ≡ None → IsBlock b h a s ids → AllFineAt ids
   block_fine tree.over s n ids r v m fit clean read = subst AllFineAt (sym read) tt
   block_fine (tree.then x xs) s n ids r v m fit clean read =

@@ -15,8 +15,8 @@ use Rattle.code_of_model.specs.Deeds.{Home, has_body, body_number}
 use Rattle.code_of_model.specs.Bodies as source
 use Rattle.code_of_model.specs.Bodies.{LocalSource, AreLocals, Source, source_of, source_locals, source_parameters, parameter_sources, IsBody, IsBodyIf, AreBodies, around_item, body_count}
 use Rattle.rule_laws.proofs.Coded.{same_some}
-use Rattle.typed_code.specs.Functions.{AreParameters, FunctionsStand, VariablesStand}
-use Rattle.typed_code.proofs.Places.{mapped_is}
+use Rattle.sound_statements.specs.Functions.{AreParameters, FunctionsStand, VariablesStand}
+use Rattle.sound_terms.proofs.Places.{mapped_is}
 
 -- local variables
 

@@ -1,12 +1,3 @@
-pub mod Operands
-pub mod Has
-pub mod Places
-pub mod Seen
-pub mod Terms
-pub mod Channels
-pub mod Events
-pub mod Calls
-pub mod Actions
 pub mod Plain
 pub mod Blocks
 pub mod Bodies

@@ -44,13 +44,14 @@ use Rattle.code_laws.proofs.Declared.{IsKnown, items_known, scope_known, AreType
 use Rattle.code_laws.proofs.Exceptions.{all_numbered}
 use Rattle.code_laws.proofs.Blocks.{all_parts}
 use Rattle.code_laws.proofs.Models.{constructs_none}
-use Rattle.typed_code.specs.Standing.{Standing, DesignStands}
-use Rattle.typed_code.specs.Functions.{FunctionsStand, VariablesStand}
+use Rattle.sound_terms.specs.Standing.{Standing, DesignStands}
+use Rattle.sound_statements.specs.Ready.{Ready}
+use Rattle.sound_statements.specs.Functions.{FunctionsStand, VariablesStand}
 use Rattle.typed_code.specs.TypedCode.{IsTypedCode}
-use Rattle.typed_code.proofs.Operands.{both_true}
-use Rattle.typed_code.proofs.Places.{signal_offers}
-use Rattle.typed_code.proofs.Channels.{within_is}
-use Rattle.typed_code.proofs.Blocks.{firsts, held, Ready, local_ready, held_fine}
+use Rattle.sound_terms.proofs.Operands.{both_true}
+use Rattle.sound_terms.proofs.Places.{signal_offers}
+use Rattle.sound_statements.proofs.Channels.{within_is}
+use Rattle.typed_code.proofs.Blocks.{firsts, held, local_ready, held_fine}
 use Rattle.typed_code.proofs.Bodies.{names_in, distinct_head, all_behind, pos_is, locals_stand, functions_stand, used_bodies, slice_behind}
 
 -- clocks

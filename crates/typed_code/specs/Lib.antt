@@ -1,3 +1,1 @@
-pub mod Standing
-pub mod Functions
 pub mod TypedCode

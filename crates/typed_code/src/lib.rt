@@ -3,4 +3,4 @@
 
 mod laws;
 
-pub use laws::{sound_code_is_typed, sound_terms_are_typed};
+pub use laws::sound_code_is_typed;

@@ -1,7 +1,7 @@
 -- A call that ends hands back values of the types of the caller's variables; and bodies that end, or begin, stay typed.
-use Rattle.std.proofs.Common.{◌≡◌, ℕ, zero, suc, Bool, true, false, cond, List, [], ◌∷◌, slice_get, Option, Some, None, refl, sym, ap, ◌∙◌, subst}
-use Rattle.std.specs.Prelude.{Result, Ok, Err, IfOk}
-use Rattle.std.proofs.lemmas.Option.{none-some, same_Some}
+use Rattle.std.proofs.Common.{◌≡◌, ℕ, suc, Bool, true, false, List, [], ◌∷◌, slice_get, Option, Some, None, refl, sym, ap, ◌∙◌, subst}
+use Rattle.std.specs.Prelude.{Result, IfOk}
+use Rattle.std.proofs.lemmas.Option.{same_Some}
 use Rattle.logic_values.specs.declared.kinds.Value.{Value}
 use Rattle.logic_values.specs.declared.kinds.Value.TheVariants as value
 use Rattle.event_core.specs.declared.event.Ev.TheVariants as ev
@@ -13,7 +13,7 @@ use Rattle.transport_phases.specs.declared.phases.Rule.{Rule}
 use Rattle.flat_design.specs.Code as code
 use Rattle.flat_design.specs.Code.{ArgumentTerm, Statement, statement_at, body_at}
 use Rattle.flat_design.specs.Denotes.{Context, variable_type}
-use Rattle.flat_design.specs.Typed.{Stores, IfWritten, StoresAnswer, AreArguments, IsTyped, IsFunctionHere, parameters_of}
+use Rattle.flat_design.specs.Typed.{Stores, IfWritten, StoresAnswer, AreArguments, IsTyped, parameters_of}
 use Rattle.flat_design.specs.Sound.{SoundDesign, IsHomeOf, HasParameters, blocking_parameters, nonblocking_parameters}
 use Rattle.flat_design.specs.declared.value_types.ValueType.{ValueType}
 use Rattle.flat_design.specs.declared.value_types.ValueType.TheVariants as type
@@ -24,31 +24,29 @@ use Rattle.flat_design.specs.declared.code.Store.{Store as Target}
 use Rattle.flat_design.specs.declared.design.Design.{Design}
 use Rattle.flat_design.specs.declared.faults.RunFault.{RunFault}
 use Rattle.sim_model.specs.Values.{cut_to}
-use Rattle.sim_model.specs.Residual.{Residual, Frame, skip, put, innermost, next_of, leaves, reaches, begun}
-use Rattle.sim_model.specs.Configuration.{Config, Instance, Trigger, arena, change_instance, instance_at, with_residual}
+use Rattle.sim_model.specs.Residual.{Residual, Frame, skip, put, next_of, leaves, begun}
+use Rattle.sim_model.specs.Configuration.{Config, Instance, arena, change_instance, instance_at}
 use Rattle.sim_model.specs.Reading.{Here, here}
 use Rattle.sim_model.specs.Storing.{passes, set_name, stored, stored_if}
-use Rattle.sim_model.specs.Waits.{fire, leaves_stack}
-use Rattle.sim_model.specs.Calls.{with_entry, final_value, given_back, answer_of, call_ends}
+use Rattle.sim_model.specs.Waits.{leaves_stack}
+use Rattle.sim_model.specs.Calls.{final_value, given_back, answer_of, call_ends}
 use Rattle.sim_model.specs.Transport.{history, judged_by, complete_now, for_freed, judged_return, int_of, b_transport_ends, nb_transport_ends}
-use Rattle.sim_model.specs.Control.{with_kept, ended_instance, ends, begins, stays_kept, restarts, goes_on, reaches_goal, next_wait, idles, done_by}
+use Rattle.sim_model.specs.Control.{ended_instance, ends, begins, stays_kept, next_wait, idles, done_by}
 use Rattle.sim_model.specs.Statements.{via_ends, hands_back, handed_back, calling_statement, leaves_call}
-use Rattle.sim_model.specs.declared.plain.Goal.{Goal}
-use Rattle.sim_model.specs.declared.plain.Goal.TheVariants as goal_of
 use Rattle.sim_model.specs.declared.plain.Via.{Via}
 use Rattle.clean_laws.proofs.Changes.{change-here}
 use Rattle.goal_laws.specs.Standing.{code_of, place_of}
 use Rattle.goal_laws.proofs.Tight.{IsTight}
 use Rattle.typed_terms.specs.Contents.{Pairwise, IsOf, LocalFits, context_of}
-use Rattle.typed_moves.specs.Frames.{IsInside, AnswerFits, Calls, CallFits, FrameFits, LeftFits, InstanceFits}
+use Rattle.typed_moves.specs.Frames.{AnswerFits, Calls, CallFits, FrameFits, LeftFits, InstanceFits}
 use Rattle.typed_moves.specs.TypedConfig.{TypesHaveValues}
 use Rattle.typed_moves.proofs.EachLists.{each-change}
 use Rattle.typed_moves.proofs.Left.{inner, past-fits}
 use Rattle.typed_moves.proofs.Returns.{leaves-at}
 use Rattle.typed_moves.proofs.Bodies.{begun-fits, answer-type}
-use Rattle.typed_moves.proofs.Moves.{if-is, Fits, same-fits, fire-fits, residual-fits, left-fits, FitsHere, name-in}
+use Rattle.typed_moves.proofs.Moves.{if-is, Fits, same-fits, fire-fits, residual-fits, FitsHere, name-in}
 use Rattle.typed_statements.proofs.Arguments.{store-type, Follows, follows, final-type, parameter-final}
-use Rattle.typed_statements.proofs.Place.{InPlace, StatementFits, left-here, inside-fits}
+use Rattle.typed_statements.proofs.Place.{StatementFits, left-here, inside-fits}
 
 -- ---- a call that ends
 

@@ -1,19 +1,17 @@
 -- The first configuration of a sound design is typed.
-use Rattle.std.proofs.Common.{◌≡◌, ℕ, zero, suc, List, [], ◌∷◌, map, take, length, replicate, slice_get, Option, Some, None, refl, sym, ap, ◌∙◌, subst, arith}
-use Rattle.std.proofs.lemmas.List.{length-replicate}
+use Rattle.std.proofs.Common.{◌≡◌, ℕ, zero, suc, List, [], ◌∷◌, map, take, length, replicate, slice_get, Some, refl, sym, ap, subst, arith}
 use Rattle.model_tree.specs.declared.constructs.Construct.{Construct}
 use Rattle.std.specs.Prelude.{Bool}
-use Rattle.flat_design.specs.Typed.{EachOf, parameters_of}
+use Rattle.flat_design.specs.Typed.{EachOf}
 use Rattle.flat_design.specs.Sound.{SoundDesign, ProcessFits}
 use Rattle.flat_design.specs.declared.code.Local.{Local}
-use Rattle.flat_design.specs.declared.design.SignalPart.{SignalPart}
 use Rattle.flat_design.specs.declared.design.FifoPart.{FifoPart}
 use Rattle.flat_design.specs.declared.design.MemoryPart.{MemoryPart}
 use Rattle.flat_design.specs.declared.design.VariablePart.{VariablePart}
 use Rattle.flat_design.specs.declared.design.ProcessPart.{ProcessPart}
 use Rattle.flat_design.specs.declared.design.Design.{Design}
 use Rattle.fifo_sync.specs.Fifos.{nothing_in}
-use Rattle.sim_model.specs.Configuration.{Config, first_signal, first_instance, start}
+use Rattle.sim_model.specs.Configuration.{first_signal, first_instance, start}
 use Rattle.sim_model.specs.declared.plain.Command.{Command}
 use Rattle.typed_terms.specs.Contents.{Pairwise, LocalFits, VariableFits, SignalFits, FifoFits, IsByte, MemoryFits}
 use Rattle.typed_moves.specs.Frames.{InstanceFits}

@@ -1,10 +1,9 @@
 -- Each step and each taking keeps everything typed.
-use Rattle.std.proofs.Common.{◌≡◌, ◌≢◌, ◌==◌, ◌+◌, ℕ, zero, suc, Bool, true, false, cond, List, [], ◌∷◌, ◌++◌, map, length, slice_get, slice_set, Option, Some, None, refl, sym, ap, ◌∙◌, subst, ⊎_elim}
+use Rattle.std.proofs.Common.{◌≡◌, ◌==◌, ◌+◌, ℕ, suc, Bool, true, false, cond, List, [], ◌∷◌, ◌++◌, map, length, slice_get, Option, Some, None, refl, sym, ap, ◌∙◌, subst, ⊎_elim}
 use Rattle.std.specs.Prelude.{Result, Ok, Err, IfOk}
 use Rattle.std.proofs.lemmas.Bool.{cases_eq}
 use Rattle.std.proofs.lemmas.Option.{none-some, same_Some}
 use Rattle.logic_values.specs.declared.kinds.Value.{Value}
-use Rattle.event_core.specs.declared.event.Ev.{Ev}
 use Rattle.event_core.specs.declared.event.Ev.TheVariants as ev
 use Rattle.event_core.specs.declared.notifications.Pending.{Pending}
 use Rattle.signal_channel.specs.Signals.{written, settled}
@@ -29,13 +28,13 @@ use Rattle.flat_design.specs.declared.faults.RunFault.{RunFault}
 use Rattle.sim_model.specs.Values.{on_ok, time_within}
 use Rattle.sim_model.specs.Residual as residual
 use Rattle.sim_model.specs.Residual.{Residual, Next, skip, settle, put, next_of}
-use Rattle.sim_model.specs.Configuration.{Config, Instance, Channels, Deadline, no_deadline, arena, change, changed_at, change_instance, instance_at, with_runnable, with_stack, with_told, turn}
+use Rattle.sim_model.specs.Configuration.{Config, Instance, Deadline, no_deadline, arena, change, changed_at, change_instance, instance_at, with_runnable, with_stack, with_told, turn}
 use Rattle.sim_model.specs.Storing.{passes}
 use Rattle.sim_model.specs.Waits.{freed, holds, without, fire, fire_all}
-use Rattle.sim_model.specs.Control.{begins, stays_kept, restarts, goes_on, reaches_goal}
-use Rattle.sim_model.specs.Statements.{on_statement, do_next, settled_in, step_of, step_by, statement_step}
-use Rattle.sim_model.specs.Phases.{was_some, notified_if, announced, announce_signals, announce_resolved, announce_fifos, resettled_if, resettled_all, channels_updated, update_phase, due_events, due_instances, without_pending, without_deadline, fire_due, is_delta, is_zero_timeout, initialize_each, now_becomes, run_over, is_at, is_due_at, is_past, earliest, timed_at, update_step, unchanged}
-use Rattle.sim_model.specs.Steps.{Outcome, went, faulted, takes, ended, as_outcome, shows, sets, sets_visible, run_begun, begin_run, carry_out, next_command, evaluate, step_in, step, turn_line, begins_unless_begun, instance_taken, taken_if, taking}
+use Rattle.sim_model.specs.Control.{begins, stays_kept, restarts, reaches_goal}
+use Rattle.sim_model.specs.Statements.{on_statement, do_next, settled_in, step_by, statement_step}
+use Rattle.sim_model.specs.Phases.{was_some, notified_if, announced, announce_signals, announce_resolved, announce_fifos, resettled_all, channels_updated, update_phase, due_events, due_instances, without_pending, without_deadline, fire_due, is_delta, is_zero_timeout, initialize_each, now_becomes, run_over, is_at, is_due_at, is_past, earliest, timed_at, update_step, unchanged}
+use Rattle.sim_model.specs.Steps.{Outcome, ended, as_outcome, shows, sets, sets_visible, run_begun, begin_run, carry_out, next_command, evaluate, step_in, step, turn_line, instance_taken, taken_if, taking}
 use Rattle.sim_model.specs.declared.plain.Goal.{Goal}
 use Rattle.sim_model.specs.declared.plain.Goal.TheVariants as goal_of
 use Rattle.sim_model.specs.declared.plain.Phase.{Phase}
@@ -53,7 +52,7 @@ use Rattle.typed_terms.specs.Contents.{Pairwise, IsOf, SignalFits, FifoFits}
 use Rattle.typed_terms.proofs.Lists.{pair-at, pair-set, pair-map}
 use Rattle.typed_moves.specs.Frames.{LeftFits, InstanceFits}
 use Rattle.typed_moves.specs.TypedConfig.{FitsVisible, FitsObject, CommandFits, TypesHaveValues}
-use Rattle.typed_moves.proofs.EachLists.{each-map, each-get}
+use Rattle.typed_moves.proofs.EachLists.{each-map}
 use Rattle.typed_moves.proofs.Left.{settle-fits, past-fits}
 use Rattle.typed_moves.proofs.Wakes.{Alike, fire-keeps, fire_all-keeps, wake_all-keeps}
 use Rattle.typed_moves.proofs.Moves.{alike-fits, Fits, same-fits, residual-fits}

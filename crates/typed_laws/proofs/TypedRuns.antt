@@ -1,18 +1,11 @@
 -- Every run of a sound design is typed.
-use Rattle.std.proofs.Common.{◌≡◌, ℕ, Bool, List, [], ◌∷◌, map, slice_get, Option, Some, None, refl, sym, ap, ◌∙◌, subst}
-use Rattle.std.proofs.lemmas.Option.{same_Some}
-use Rattle.std.specs.Prelude.{IfOk}
-use Rattle.logic_values.specs.declared.kinds.Value.{Value}
+use Rattle.std.proofs.Common.{◌≡◌, ℕ, Bool, List, Some, refl, sym, subst}
 use Rattle.model_tree.specs.declared.constructs.Construct.{Construct}
-use Rattle.flat_design.specs.Code.{Statement, statement_at}
-use Rattle.flat_design.specs.ValueTypes.{type_of_value}
 use Rattle.flat_design.specs.Typed.{EachOf}
 use Rattle.flat_design.specs.Sound.{SoundDesign}
 use Rattle.flat_design.specs.declared.design.Design.{Design}
-use Rattle.sim_model.specs.Configuration.{Config, Instance, instance_at, arena, start}
-use Rattle.sim_model.specs.Residual.{settle, next_of, statement}
-use Rattle.sim_model.specs.Statements.{settled_in}
-use Rattle.sim_model.specs.Steps.{Outcome, went, faulted, takes, ended, step, taking}
+use Rattle.sim_model.specs.Configuration.{Config, Instance, instance_at, start}
+use Rattle.sim_model.specs.Steps.{Outcome, went, faulted, takes, ended, step}
 use Rattle.sim_model.specs.Runs.{after}
 use Rattle.sim_model.specs.declared.plain.Command.{Command}
 use Rattle.unwinding_laws.proofs.Moves.{Sound}
@@ -20,8 +13,8 @@ use Rattle.unwinding_laws.proofs.Steps.{IfWent, step-sound, taking-sound, start-
 use Rattle.unwinding_laws.proofs.Runs.{holds-after}
 use Rattle.typed_moves.specs.TypedConfig.{CommandFits, TypesHaveValues, IsTypedConfig}
 use Rattle.typed_moves.proofs.Moves.{Fits}
-use Rattle.typed_statements.specs.Terms.{MeetsItsTypes}
-use Rattle.typed_statements.proofs.InTurn.{fits-typed, meets-types}
+use Rattle.typed_statements.specs.Terms.{MeetsItsTypes, NextIsTyped}
+use Rattle.typed_statements.proofs.InTurn.{fits-typed, meets-types, next-typed}
 use Rattle.typed_laws.proofs.Start.{start-fits}
 use Rattle.typed_laws.proofs.Steps.{step-fits, taking-fits}
 
@@ -59,3 +52,9 @@ module _ (missing : Construct → Bool) where
   meets-runs d script sound types fits n choices last reached p i at =
       let g = typed-after d script sound types fits n choices last reached in
       meets-types missing last p i at g.sound.0 (subst (λ x. Fits x last) (sym g.fits.0) g.fits)
+
+  pub next-runs : (d : Design) (script : List Command) → SoundDesign missing d → TypesHaveValues d → EachOf (CommandFits d) script → (n : ℕ) (choices : List ℕ) (last : Config) → after n choices (start d script) ≡ Some last
+      → (p : ℕ) (i : Instance) → instance_at last p ≡ Some i → NextIsTyped last p i
+  next-runs d script sound types fits n choices last reached p i at =
+      let g = typed-after d script sound types fits n choices last reached in
+      next-typed missing last p i at g.sound.0 (subst (λ x. Fits x last) (sym g.fits.0) g.fits)

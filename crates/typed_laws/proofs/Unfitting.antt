@@ -1,25 +1,21 @@
 -- What the laws ask for is needed: two runs that are not typed.
-use Rattle.std.proofs.Common.{◌≡◌, ◌<◌, ◌+◌, ℕ, zero, suc, Bool, true, false, List, [], ◌∷◌, slice_get, Option, Some, None, refl, sym, ap, ◌∙◌, subst, arith, inl, inr, true≢false}
+use Rattle.std.proofs.Common.{◌≡◌, ◌<◌, ◌+◌, ℕ, zero, suc, Bool, true, false, [], ◌∷◌, slice_get, Option, Some, None, refl, sym, ap, ◌∙◌, subst, arith, inl, inr, true≢false}
 use Rattle.std.specs.Prelude.{◌⊎◌}
 use Rattle.std.proofs.lemmas.Option.{none-some, same_Some}
 use Rattle.logic_values.specs.declared.kinds.Value.{Value}
-use Rattle.logic_values.specs.declared.kinds.Value.TheVariants as value
 use Rattle.flat_design.specs.ValueTypes.{type_of_value}
-use Rattle.flat_design.specs.Code.{Statement, statement_at, body_at}
+use Rattle.flat_design.specs.Code.{Statement, body_at}
 use Rattle.flat_design.specs.Denotes.{denoted_at}
 use Rattle.flat_design.specs.Reach.{Reached, here, through, IsIn}
 use Rattle.flat_design.specs.Sound.{SoundDesign, DenotedFits, IsHomeOf, ProcessFits}
-use Rattle.flat_design.specs.Typed.{EachOf}
 use Rattle.flat_design.specs.declared.value_types.ValueType.{ValueType}
 use Rattle.flat_design.specs.declared.value_types.ValueType.TheVariants as type
 use Rattle.flat_design.specs.declared.code.CodeBody.{CodeBody}
 use Rattle.flat_design.specs.declared.objects.Object.{Object}
-use Rattle.flat_design.specs.declared.design.ProcessPart.{ProcessPart}
 use Rattle.sim_model.specs.Configuration.{Config, start}
 use Rattle.sim_model.specs.Runs.{after}
 use Rattle.goal_laws.specs.Standing.{code_of}
-use Rattle.typed_terms.specs.Contents.{Pairwise, IsOf, LocalFits}
-use Rattle.typed_moves.specs.Frames.{FrameFits}
+use Rattle.typed_terms.specs.Contents.{Pairwise, LocalFits}
 use Rattle.typed_moves.specs.TypedConfig.{BodyHasValues, TypesHaveValues, IsTypedConfig}
 use Rattle.typed_laws.specs.Unfit.{tried, runs, sets_a_time, nothing_missing}
 

@@ -1,5 +1,5 @@
 -- A design by which it can be tried what the laws ask for: a bool signal, and a thread with a local variable of so many digits.
-use Rattle.std.specs.Prelude.{◌≡◌, ℕ, Bool, false, [], ◌∷◌, List, None, Some, codes}
+use Rattle.std.specs.Prelude.{ℕ, Bool, false, [], ◌∷◌, List, None, codes}
 use Rattle.logic_values.specs.declared.kinds.Value.TheVariants as value
 use Rattle.model_tree.specs.declared.constructs.Construct.{Construct}
 use Rattle.model_tree.specs.declared.items.ProcessKind.TheVariants as process

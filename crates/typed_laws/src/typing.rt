@@ -8,7 +8,7 @@ ghost use Rattle.sim_model.specs.Configuration.{Config, Instance, instance_at, s
 ghost use Rattle.sim_model.specs.Runs.{after};
 ghost use Rattle.sim_model.specs.declared.plain.Command.{Command};
 ghost use Rattle.typed_moves.specs.TypedConfig.{CommandFits, TypesHaveValues, IsTypedConfig};
-ghost use Rattle.typed_statements.specs.Terms.{MeetsItsTypes};
+ghost use Rattle.typed_statements.specs.Terms.{MeetsItsTypes, NextIsTyped};
 
 /// The first configuration of a sound design is typed, where the script sets only values of their signals' types.
 pub fn start_is_typed()
@@ -26,11 +26,15 @@ pub fn runs_are_typed()
         → (steps : ℕ) (choices : List ℕ) (last : Config) → after steps choices (start design script) ≡ Some last → IsTypedConfig last }
 {}
 
-/// In every such run, in the next step of each instance: wherever an operator, an index, a conversion or a concatenation in
-/// an expression of its statement is evaluated, it meets operands of the types that its table asks for. So no value that is
-/// stated for another type is ever used.
+/// In every such run the statement of the next step of each instance is typed where it is carried out, among local variables
+/// of their types (`next`); so each of its expressions has the type that its place asks for, or is a run fault
+/// (`typed_terms_have_their_types`). And wherever an operator, an index, a conversion or a concatenation in one of them is
+/// evaluated, it meets operands of the types that its table asks for (`operands`).
 pub fn operators_meet_their_types()
-    ensures { (missing : Construct → Bool) (design : Design) (script : List Command) → SoundDesign missing design → TypesHaveValues design → EachOf (CommandFits design) script
+    ensures next { (missing : Construct → Bool) (design : Design) (script : List Command) → SoundDesign missing design → TypesHaveValues design → EachOf (CommandFits design) script
+        → (steps : ℕ) (choices : List ℕ) (last : Config) → after steps choices (start design script) ≡ Some last
+        → (p : ℕ) (i : Instance) → instance_at last p ≡ Some i → NextIsTyped last p i }
+    ensures operands { (missing : Construct → Bool) (design : Design) (script : List Command) → SoundDesign missing design → TypesHaveValues design → EachOf (CommandFits design) script
         → (steps : ℕ) (choices : List ℕ) (last : Config) → after steps choices (start design script) ≡ Some last
         → (p : ℕ) (i : Instance) → instance_at last p ≡ Some i → MeetsItsTypes last p i }
 {}

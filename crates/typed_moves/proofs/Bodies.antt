@@ -1,32 +1,32 @@
 -- Bodies that begin: their statements are their own, and their parameters and local variables have values of their types.
-use Rattle.std.proofs.Common.{◌≡◌, ◌+◌, ◌≤◌, ℕ, zero, suc, Bool, true, false, cond, List, [], ◌∷◌, ◌++◌, map, take, drop, length, replicate, Contains, slice_get, option_map, unwrap_or, Option, Some, None, refl, sym, ap, ◌∙◌, subst, arith}
-use Rattle.std.specs.Prelude.{Result, Ok, Err, IfOk, nat_lt}
+use Rattle.std.proofs.Common.{◌≡◌, ◌≤◌, ℕ, zero, suc, cond, List, [], ◌∷◌, map, take, length, replicate, Contains, unwrap_or, Option, Some, None, refl, sym, ap, ◌∙◌, subst, arith}
+use Rattle.std.specs.Prelude.{nat_lt}
 use Rattle.std.proofs.lemmas.Bool.Decides.{nat_tests}
 use Rattle.std.proofs.lemmas.List.{length-take}
-use Rattle.std.proofs.lemmas.Option.{none-some, same_Some}
+use Rattle.std.proofs.lemmas.Option.{same_Some}
 use Rattle.logic_values.specs.declared.kinds.Digit.{Digit}
 use Rattle.logic_values.specs.declared.kinds.Digit.TheVariants as digit
 use Rattle.logic_values.specs.declared.kinds.Value.{Value}
 use Rattle.logic_values.specs.Planes.{clipped}
 use Rattle.flat_design.specs.Code.{Statement, block_at, statement_at, body_at}
-use Rattle.flat_design.specs.ValueTypes.{default_value, type_of_value}
+use Rattle.flat_design.specs.ValueTypes.{default_value}
 use Rattle.flat_design.specs.Typed.{EachOf, parameters_of}
-use Rattle.flat_design.specs.Reach.{Inside, itself, deeper, Holds, InBody, inner_blocks}
-use Rattle.flat_design.specs.Sound.{IsHomeOf, HasParameters}
+use Rattle.flat_design.specs.Reach.{itself, deeper, InBody, inner_blocks}
+use Rattle.flat_design.specs.Sound.{IsHomeOf}
 use Rattle.flat_design.specs.declared.value_types.ValueType.{ValueType}
 use Rattle.flat_design.specs.declared.value_types.ValueType.TheVariants as type
 use Rattle.flat_design.specs.declared.code.CodeBody.{CodeBody}
 use Rattle.flat_design.specs.declared.code.Local.{Local}
 use Rattle.flat_design.specs.declared.design.Design.{Design}
-use Rattle.sim_model.specs.Residual.{Residual, Frame, skip, block, frame, first_locals, frame_of, entered_in, entered, begun}
+use Rattle.sim_model.specs.Residual.{Frame, first_locals, entered_in, entered, begun}
 use Rattle.sim_model.specs.Reading.{home_of_via}
 use Rattle.sim_model.specs.Clean.{EachInBlock}
-use Rattle.sim_model.specs.Calls.{answer_in, answer_type, default_answer, answer_of}
+use Rattle.sim_model.specs.Calls.{answer_in, default_answer, answer_of}
 use Rattle.sim_model.specs.declared.plain.Via.{Via}
 use Rattle.goal_laws.specs.Standing.{code_of, IsOverHop}
 use Rattle.goal_laws.proofs.Blocks.{each-from}
 use Rattle.typed_terms.specs.Contents.{Pairwise, IsOf, LocalFits}
-use Rattle.typed_moves.specs.Frames.{IsInside, AnswerFits, CallFits, FrameFits, LeftFits}
+use Rattle.typed_moves.specs.Frames.{IsInside, AnswerFits, CallFits, LeftFits}
 use Rattle.typed_moves.specs.TypedConfig.{HasValues, AnswerHasValues, BodyHasValues}
 use Rattle.typed_moves.proofs.Left.{statements-fit}
 

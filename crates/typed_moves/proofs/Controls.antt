@@ -6,12 +6,12 @@ use Rattle.model_tree.specs.declared.statements.Control.{Control}
 use Rattle.model_tree.specs.declared.statements.Control.TheVariants as control
 use Rattle.flat_design.specs.declared.design.Design.{Design}
 use Rattle.flat_design.specs.declared.faults.RunFault.{RunFault}
-use Rattle.sim_model.specs.Residual.{Residual, goal, has_goal, in_nb}
+use Rattle.sim_model.specs.Residual.{Residual, goal, has_goal}
 use Rattle.sim_model.specs.Unwinding.{unw, catches, raise, left_by_unw, left_by_raise}
 use Rattle.sim_model.specs.Configuration.{Config, Instance, arena, change_instance, instance_at, with_runnable, with_residual}
 use Rattle.sim_model.specs.Waits.{freed, holds, without, leaves_stack}
 use Rattle.sim_model.specs.Calls.{with_entry, with_left, thrown}
-use Rattle.sim_model.specs.Control.{is_top, is_below_top, is_thread, with_kept, yields, suspended, suspends, resumes, disables, pushed, pushed_unless_top, unwinds, ends_or_restarts, injected, throws_at, controlled_by, unless_ended, control_call, throw_call}
+use Rattle.sim_model.specs.Control.{is_top, is_below_top, is_thread, with_kept, yields, suspends, resumes, pushed, pushed_unless_top, unwinds, ends_or_restarts, injected, throws_at, controlled_by, unless_ended, control_call, throw_call}
 use Rattle.sim_model.specs.declared.plain.Goal.{Goal}
 use Rattle.sim_model.specs.declared.plain.Goal.TheVariants as goal_of
 use Rattle.sim_model.specs.declared.plain.Via.{Via}

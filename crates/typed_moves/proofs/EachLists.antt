@@ -1,5 +1,5 @@
 -- Lists each of whose elements is so.
-use Rattle.std.proofs.Common.{◌≡◌, ℕ, zero, suc, List, [], ◌∷◌, ◌++◌, map, length, replicate, drop, slice_get, slice_set, Option, Some, None, refl, sym, ap, ◌∙◌, subst}
+use Rattle.std.proofs.Common.{◌≡◌, ℕ, zero, suc, List, [], ◌∷◌, ◌++◌, map, length, replicate, drop, slice_get, slice_set, Option, Some, None, refl, ap, subst}
 use Rattle.std.proofs.lemmas.Option.{none-some, same_Some}
 use Rattle.flat_design.specs.Typed.{EachOf}
 use Rattle.sim_model.specs.Configuration.{change, changed_at}

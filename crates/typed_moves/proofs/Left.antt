@@ -1,28 +1,22 @@
 -- Each move of what is left of a body keeps it typed.
-use Rattle.std.proofs.Common.{◌≡◌, ◌==◌, ℕ, Bool, true, false, cond, List, [], ◌∷◌, slice_get, Option, Some, None, refl, sym, ap, ◌∙◌, subst, true≢false}
+use Rattle.std.proofs.Common.{◌≡◌, ℕ, List, [], ◌∷◌, Option, Some, None, refl, sym, ◌∙◌, subst}
 use Rattle.std.proofs.lemmas.Option.{none-some, same_Some}
-use Rattle.logic_values.specs.declared.kinds.Value.{Value}
 use Rattle.flat_design.specs.Code.{body_at, block_at}
 use Rattle.flat_design.specs.Typed.{EachOf}
 use Rattle.flat_design.specs.Sound.{IsHomeOf}
 use Rattle.flat_design.specs.declared.code.CodeBody.{CodeBody}
 use Rattle.flat_design.specs.declared.code.Handler.{Handler}
-use Rattle.flat_design.specs.declared.code.Local.{Local}
 use Rattle.flat_design.specs.declared.design.Design.{Design}
-use Rattle.sim_model.specs.Residual.{Residual, Frame, Next, skip, one, seq, owing, guard, try_, frame, shell, run, goal, followed, statements, block, then_on, in_run, then_owed, in_guard, in_try, in_shell, settle, changed_if, or_frame, innermost, in_innermost, or_via, within, frame_or, goal_or, put, in_frame, frame_end, before_goal, next_of, statement, leaves, done, reaches, nothing}
-use Rattle.sim_model.specs.Unwinding.{unw, catches, handles, handler_block, handler_of, handled, raise, has_exit, returned}
+use Rattle.sim_model.specs.Residual.{Residual, Frame, skip, one, seq, owing, guard, try_, frame, shell, run, goal, followed, statements, block, then_on, in_run, then_owed, in_guard, in_try, in_shell, settle, or_frame, innermost, or_via, within, frame_or, goal_or, put, next_of, statement}
 use Rattle.sim_model.specs.Reading.{home_of_via}
-use Rattle.sim_model.specs.Storing.{with_local}
 use Rattle.sim_model.specs.Clean.{EachInBlock, EachInHandlers}
 use Rattle.sim_model.specs.declared.plain.Goal.{Goal}
 use Rattle.sim_model.specs.declared.plain.Via.{Via}
 use Rattle.run_laws.proofs.MarkLemmas.{before_statement, frame_statement}
 use Rattle.goal_laws.specs.Standing.{code_of, IsOverHop, place_of}
 use Rattle.goal_laws.proofs.Places.{place-inside}
-use Rattle.goal_laws.proofs.Tight.{IsLeft, IsTight}
 use Rattle.typed_terms.specs.Contents.{Pairwise, LocalFits}
-use Rattle.typed_terms.proofs.Lists.{pair-set}
-use Rattle.typed_moves.specs.Frames.{IsInside, AnswerFits, FrameFits, LeftFits}
+use Rattle.typed_moves.specs.Frames.{IsInside, FrameFits, LeftFits}
 
 -- ---- the body that the statement in place stands in, by its number
 

@@ -1,9 +1,9 @@
 -- What each move of a configuration keeps: contents, instances and the script stay typed; and of the instance that moves, the
 -- call in place is of the same body.
-use Rattle.std.proofs.Common.{◌≡◌, ◌≢◌, ℕ, Bool, true, false, cond, List, [], ◌∷◌, ◌++◌, slice_get, slice_set, option_map, Option, Some, None, refl, sym, ap, ◌∙◌, subst, ⊎_elim}
+use Rattle.std.proofs.Common.{◌≡◌, ℕ, List, [], ◌∷◌, ◌++◌, slice_get, slice_set, option_map, Some, None, sym, ap, ◌∙◌, subst, ⊎_elim}
 use Rattle.std.specs.Prelude.{Result, Ok, Err, IfOk}
 use Rattle.std.proofs.lemmas.Bool.{cases_eq}
-use Rattle.std.proofs.lemmas.Option.{none-some, same_Some}
+use Rattle.std.proofs.lemmas.Option.{same_Some}
 use Rattle.logic_values.specs.declared.kinds.Value.{Value}
 use Rattle.event_core.specs.declared.event.Ev.{Ev}
 use Rattle.flat_design.specs.Code.{body_at}
@@ -15,21 +15,20 @@ use Rattle.flat_design.specs.declared.names.NameUse.{NameUse}
 use Rattle.flat_design.specs.declared.names.NameUse.TheVariants as name_use
 use Rattle.flat_design.specs.declared.code.CodeBody.{CodeBody}
 use Rattle.flat_design.specs.declared.code.Local.{Local}
-use Rattle.flat_design.specs.declared.code.Store.{Store as Target}
 use Rattle.flat_design.specs.declared.design.VariablePart.{VariablePart}
 use Rattle.flat_design.specs.declared.design.Denoted.{Denoted}
 use Rattle.flat_design.specs.declared.design.Denoted.TheVariants as denoted
 use Rattle.flat_design.specs.declared.design.Design.{Design}
 use Rattle.flat_design.specs.declared.faults.RunFault.{RunFault}
-use Rattle.sim_model.specs.Values.{on_ok, cut_to}
+use Rattle.sim_model.specs.Values.{on_ok}
 use Rattle.sim_model.specs.Residual.{Residual, in_innermost}
-use Rattle.sim_model.specs.Configuration.{Config, Instance, Processes, change, change_instance, with_runnable, with_residual}
+use Rattle.sim_model.specs.Configuration.{Config, Instance, change, change_instance, with_residual}
 use Rattle.sim_model.specs.Reading.{Here, denotes}
 use Rattle.sim_model.specs.Waits.{fire}
-use Rattle.sim_model.specs.Storing.{with_local, set_local, set_variable, set_denoted, set_name, stored, stored_if}
+use Rattle.sim_model.specs.Storing.{with_local, set_local, set_variable, set_denoted, set_name}
 use Rattle.clean_laws.proofs.Changes.{change-here, change-other}
 use Rattle.goal_laws.specs.Standing.{code_of}
-use Rattle.typed_terms.specs.Contents.{Pairwise, IsOf, LocalFits, VariableFits, Contents, context_of}
+use Rattle.typed_terms.specs.Contents.{Pairwise, IsOf, LocalFits, VariableFits, Contents}
 use Rattle.typed_terms.proofs.Lists.{pair-set}
 use Rattle.typed_moves.specs.Frames.{LeftFits, InstanceFits}
 use Rattle.typed_moves.specs.TypedConfig.{CommandFits}

@@ -1,11 +1,11 @@
 -- What is left stays typed after a return; and a call that ends stood where its statement stands.
 use Rattle.std.proofs.Common.{◌≡◌, ℕ, Bool, true, false, cond, List, [], ◌∷◌, Option, Some, None, refl, sym, ap, ◌∙◌, subst, true≢false}
-use Rattle.std.proofs.lemmas.Option.{none-some, same_Some}
+use Rattle.std.proofs.lemmas.Option.{same_Some}
 use Rattle.logic_values.specs.declared.kinds.Value.{Value}
 use Rattle.flat_design.specs.Code.{body_at}
 use Rattle.flat_design.specs.declared.code.CodeBody.{CodeBody}
 use Rattle.flat_design.specs.declared.design.Design.{Design}
-use Rattle.sim_model.specs.Residual.{Residual, Frame, Next, skip, one, seq, owing, guard, try_, frame, shell, run, goal, followed, or_frame, innermost, or_via, within, frame_or, goal_or, put, in_frame, frame_end, before_goal, next_of, statement, leaves, done, reaches, nothing}
+use Rattle.sim_model.specs.Residual.{Residual, Frame, Next, skip, one, seq, owing, guard, try_, frame, shell, run, goal, followed, innermost, frame_or, goal_or, put, in_frame, frame_end, before_goal, next_of, statement, leaves, done, reaches, nothing}
 use Rattle.sim_model.specs.Unwinding.{has_exit, returned}
 use Rattle.sim_model.specs.Reading.{home_of_via}
 use Rattle.sim_model.specs.declared.plain.Goal.{Goal}
@@ -13,7 +13,7 @@ use Rattle.run_laws.proofs.MarkLemmas.{before_statement, frame_statement}
 use Rattle.goal_laws.specs.Standing.{code_of, place_of, OfUnwindBlock, IsOrdinary, IsUnwinding, IsStanding}
 use Rattle.goal_laws.proofs.Tight.{IsLeft, IsTight}
 use Rattle.typed_moves.specs.Frames.{AnswerFits, FrameFits, LeftFits}
-use Rattle.typed_moves.proofs.Left.{number_or, inner, inner-call, moved-in, followed-fits, past-fits}
+use Rattle.typed_moves.proofs.Left.{number_or, inner, inner-call, moved-in, past-fits}
 
 -- ---- inside a call that is being unwound no statement is in place but in an unwind block
 

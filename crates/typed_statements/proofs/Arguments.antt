@@ -1,13 +1,13 @@
 -- Arguments of calls have the types of the parameters, and what is handed back has the types of the caller's variables.
-use Rattle.std.proofs.Common.{◌≡◌, ◌+◌, ℕ, zero, suc, Bool, List, [], ◌∷◌, take, slice_get, option_map, unwrap_or, Option, Some, None, refl, sym, ap, ◌∙◌, subst, arith}
+use Rattle.std.proofs.Common.{◌≡◌, ◌+◌, ℕ, zero, suc, Bool, List, [], ◌∷◌, take, slice_get, option_map, unwrap_or, Some, refl, sym, ap, ◌∙◌, subst, arith}
 use Rattle.std.specs.Prelude.{Result, Ok, Err, IfOk}
 use Rattle.std.proofs.lemmas.Option.{none-some, same_Some}
 use Rattle.logic_values.specs.declared.kinds.Value.{Value}
 use Rattle.model_tree.specs.declared.constructs.Construct.{Construct}
 use Rattle.flat_design.specs.Code as code
 use Rattle.flat_design.specs.Code.{Term, ArgumentTerm}
-use Rattle.flat_design.specs.ValueTypes.{type_of_value, in_expressions}
-use Rattle.flat_design.specs.Typed.{Gives, FitsIn, HasType, IsArgument, AreArguments, AreFirstArguments}
+use Rattle.flat_design.specs.ValueTypes.{in_expressions}
+use Rattle.flat_design.specs.Typed.{Gives, FitsIn, IsArgument, AreArguments, AreFirstArguments}
 use Rattle.flat_design.specs.Sound.{SoundDesign, HasParameters}
 use Rattle.flat_design.specs.declared.value_types.ValueType.{ValueType}
 use Rattle.flat_design.specs.declared.value_types.ValueType.TheVariants as type
@@ -15,7 +15,7 @@ use Rattle.flat_design.specs.declared.code.Local.{Local}
 use Rattle.flat_design.specs.declared.faults.RunFault.{RunFault}
 use Rattle.sim_model.specs.Values.{cut_to}
 use Rattle.sim_model.specs.Residual.{Frame}
-use Rattle.sim_model.specs.Reading.{Here, val, val_if}
+use Rattle.sim_model.specs.Reading.{Here, val}
 use Rattle.sim_model.specs.Calls.{for_parameter, argument_value, argument_values, first_arguments, final_value}
 use Rattle.typed_terms.specs.Contents.{Pairwise, IsOf, LocalFits, PlaceFits, context_of}
 use Rattle.typed_terms.proofs.Lists.{partner-at}

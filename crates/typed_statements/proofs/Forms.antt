@@ -1,5 +1,5 @@
 -- One statement of the instance on top of the stack, by its form: everything stays typed.
-use Rattle.std.proofs.Common.{◌≡◌, ◌+◌, ◌≤◌, ℕ, zero, suc, Bool, true, false, cond, List, [], ◌∷◌, ◌++◌, length, map, Contains, slice_get, slice_set, option_map, unwrap_or, Option, Some, None, refl, sym, ap, ◌∙◌, subst, arith, ⊎_elim, inl, inr}
+use Rattle.std.proofs.Common.{◌≡◌, ◌+◌, ◌≤◌, ℕ, zero, suc, Bool, true, false, cond, List, [], ◌∷◌, length, map, Contains, slice_get, slice_set, option_map, unwrap_or, Option, Some, None, refl, sym, ap, ◌∙◌, subst, arith, ⊎_elim, inl, inr}
 use Rattle.std.specs.Prelude.{◌⊎◌, Result, Ok, Err, IfOk, is_some, nat_le, ◌&&◌, ◌==◌}
 use Rattle.std.proofs.lemmas.Option.{none-some, same_Some}
 use Rattle.std.proofs.lemmas.Bool.Decides.{nat_tests}
@@ -19,12 +19,11 @@ use Rattle.model_tree.specs.declared.constructs.Construct.{Construct}
 use Rattle.model_tree.specs.declared.statements.Control.{Control}
 use Rattle.flat_design.specs.Code as code
 use Rattle.flat_design.specs.Code.{Term, DestinationTerm, AwaitTerm, ArgumentTerm, SpawnTerm, ChannelTerm, Statement, block_at, statement_at, body_at}
-use Rattle.flat_design.specs.Denotes.{type_of_variable, Context, declared, variable_type, denoted_at}
-use Rattle.flat_design.specs.ValueTypes.{in_expressions, default_value}
-use Rattle.flat_design.specs.Typed.{EachOf, Gives, HasType, Stores, IfWritten, UsesAs, Offers, ChannelOffers, IsTyped, parameters_of, IsFunctionHere, StoresAnswer, IsReturned, IsDestination, AreArguments, IsMemory}
+use Rattle.flat_design.specs.Denotes.{type_of_variable, Context, variable_type}
+use Rattle.flat_design.specs.Typed.{Gives, Stores, IfWritten, UsesAs, ChannelOffers, IsTyped, parameters_of, IsFunctionHere, IsReturned, IsDestination, IsMemory}
 use Rattle.flat_design.specs.Reach.{inner_blocks}
 use Rattle.sim_model.specs.Clean.{EachInBlock, EachInHandlers}
-use Rattle.flat_design.specs.Sound.{SoundDesign, IsHomeOf, ChannelFits, IsHandler, HandlerFits, HasParameters, blocking_parameters, nonblocking_parameters}
+use Rattle.flat_design.specs.Sound.{SoundDesign, IsHomeOf, IsHandler, HandlerFits, HasParameters, blocking_parameters, nonblocking_parameters}
 use Rattle.flat_design.specs.declared.value_types.ValueType.{ValueType}
 use Rattle.flat_design.specs.declared.value_types.ValueType.TheVariants as type
 use Rattle.flat_design.specs.declared.names.NameUse.{NameUse}
@@ -57,32 +56,31 @@ use Rattle.sim_model.specs.Payloads.{with_made, with_acquired, with_released, wi
 use Rattle.payload_pool.specs.Transfer.{memory_after, carried}
 use Rattle.sim_model.specs.Values.{on_ok, bits, moment, signed, cut_to, index_within}
 use Rattle.sim_model.specs.Residual.{Residual, Frame, skip, guard, try_, followed, block, entered, put, innermost, next_of, statement}
-use Rattle.sim_model.specs.Unwinding.{returned, return_marks}
-use Rattle.sim_model.specs.Configuration.{Config, Instance, Trigger, Wait, waits_for_any, Deadline, no_deadline, change, change_instance, with_marks, arena, instance_at, with_residual}
-use Rattle.sim_model.specs.Reading.{far_home, read_denoted, Here, here, denotes, val, val_if, place_in, channel_here, channel_of, payload_number, live_payload, memory_number, memory_here, keeper_at}
-use Rattle.sim_model.specs.Storing.{passes, set_local, set_name, stored, stored_if, set_memory, set_payload, low_byte, with_field, with_byte, first_value, chosen, looped, do_var, do_assign, do_print, do_if, do_while}
+use Rattle.sim_model.specs.Unwinding.{returned}
+use Rattle.sim_model.specs.Configuration.{Config, Instance, Wait, waits_for_any, Deadline, no_deadline, change_instance, instance_at, with_residual}
+use Rattle.sim_model.specs.Reading.{far_home, read_denoted, Here, here, denotes, val, val_if, place_in, payload_number, live_payload, memory_number, memory_here, keeper_at}
+use Rattle.sim_model.specs.Storing.{passes, set_name, stored, stored_if, set_memory, set_payload, low_byte, with_field, with_byte, first_value, chosen, looped, do_var, do_assign, do_print, do_if, do_while}
 use Rattle.sim_model.specs.Waits.{notify, waits, fire}
-use Rattle.sim_model.specs.Waiting.{channel_event, awaited, when_after, cancelled, on_event, event_number, notified_now, do_wait, do_next_trigger, do_notify, do_notify_delta, do_notify_after, do_cancel, do_stop}
-use Rattle.sim_model.specs.Channels.{mutex_of, semaphore_of, element, set_fifo, taken_from, blocks, written_unless, write_signal, write_fifo, write_channel, channel_in, do_write, fifo_of, fifo_here, with_fifo, read_value, read_fifo, do_read, nb_read_value, nb_read_fifo, do_nb_read, nb_write_fifo, do_nb_write, answered, set_mutex, set_semaphore, lock_mutex, lock_at, do_lock, trylock_mutex, trylock_at, do_trylock, unlock_mutex, unlock_at, do_unlock, sem_wait_value, sem_wait_at, do_sem_wait, sem_trywait_value, sem_trywait_at, do_sem_trywait, post_value, post_at, do_post}
-use Rattle.sim_model.specs.Calls.{enters, thrown, argument_values, locals_in, may_enter, answer_in, answer_type, cut_answer, do_call, do_return, do_guard, do_try, new_instance, added, runnable_unless, handle_stored, spawns, first_arguments, may_spawn, do_spawn}
-use Rattle.sim_model.specs.Transport.{socket_of, may_enter_handler, value_or, value_named, int_of, path_of_call, is_complete, history, judged_by, enters_handler, blocking_handler, nonblocking_handler, b_transport_on, do_b_transport, nb_transport_on, do_nb_transport, may_make, keeper_named, size_within, size_or, with_pool, do_make, do_acquire, do_release, do_carry, with_keeper, kept, on_keeper, do_qk_global, do_qk_inc, do_qk_set, do_qk_reset}
+use Rattle.sim_model.specs.Waiting.{channel_event, awaited, when_after, cancelled, on_event, event_number, notified_now, do_wait, do_next_trigger, do_notify, do_notify_delta, do_notify_after, do_cancel}
+use Rattle.sim_model.specs.Channels.{mutex_of, semaphore_of, element, set_fifo, taken_from, blocks, written_unless, write_signal, write_fifo, write_channel, channel_in, do_write, fifo_of, fifo_here, with_fifo, read_value, read_fifo, do_read, nb_read_value, nb_read_fifo, do_nb_read, nb_write_fifo, do_nb_write, answered, set_mutex, set_semaphore, lock_mutex, lock_at, trylock_mutex, trylock_at, unlock_mutex, unlock_at, sem_wait_value, sem_wait_at, sem_trywait_value, sem_trywait_at, post_value, post_at}
+use Rattle.sim_model.specs.Calls.{thrown, argument_values, locals_in, may_enter, answer_in, answer_type, cut_answer, do_call, do_return, do_guard, do_try, new_instance, added, runnable_unless, handle_stored, first_arguments, may_spawn, do_spawn}
+use Rattle.sim_model.specs.Transport.{socket_of, may_enter_handler, value_or, value_named, int_of, path_of_call, is_complete, history, judged_by, enters_handler, blocking_handler, nonblocking_handler, b_transport_on, nb_transport_on, may_make, keeper_named, size_within, size_or, with_pool, do_make, do_acquire, do_release, do_carry, kept, on_keeper, do_qk_global, do_qk_inc, do_qk_set, do_qk_reset}
 use Rattle.sim_model.specs.Control.{target_of, control_call, throw_call, do_control, do_throw_it}
 use Rattle.clean_laws.proofs.Changes.{change-here}
 use Rattle.goal_laws.specs.Standing.{code_of, place_of, IsStanding}
-use Rattle.goal_laws.proofs.Blocks.{each-from}
-use Rattle.typed_terms.specs.Contents.{Pairwise, IsOf, LocalFits, SignalFits, FifoFits, PlaceFits, PayloadFits, MemoryFits, context_of}
+use Rattle.typed_terms.specs.Contents.{Pairwise, IsOf, LocalFits, SignalFits, FifoFits, PayloadFits, context_of}
 use Rattle.typed_terms.proofs.Lists.{pair-at}
 use Rattle.typed_terms.proofs.Names.{OffersOf, channel-offers}
 use Rattle.typed_moves.specs.Frames.{IsInside, Calls, AnswerFits, LeftFits, InstanceFits}
 use Rattle.typed_moves.specs.TypedConfig.{HasValues, TypesHaveValues}
 use Rattle.typed_moves.proofs.EachLists.{each-get, each-more}
-use Rattle.typed_moves.proofs.Left.{number_or, inner, put-fits, past-fits, followed-fits, statements-fit}
+use Rattle.typed_moves.proofs.Left.{number_or, put-fits, past-fits, statements-fit}
 use Rattle.typed_moves.proofs.Unwound.{past-inner}
 use Rattle.typed_moves.proofs.Returns.{standing-quiet, returned-fits}
 use Rattle.typed_moves.proofs.Bodies.{default-type, inner-inside, entered-fits}
-use Rattle.typed_moves.proofs.Moves.{if-any, if-is, Fits, same-fits, fire-fits, residual-fits, IsIn, FitsHere, same-in, fire-in, more-in, name-in}
+use Rattle.typed_moves.proofs.Moves.{if-any, if-is, Fits, same-fits, fire-fits, residual-fits, FitsHere, fire-in, more-in, name-in}
 use Rattle.typed_statements.proofs.Parts.{live-fits, payload-written, payload-acquired, payload-released, payload-made, field-written, byte-written, payload-carried, memory-carried, memory-bytes, oldest-fits, read-fits, write-fits, signal-fits, drive-fits, fifo-fits, mutex-fits, semaphore-fits, pool-fits, memory-fits, memory-here, keeper-fits}
-use Rattle.typed_statements.proofs.Arguments.{OfFirst, handler-fits, cut-same, store-type, Follows, follows, cut-value, arguments-fit, first-arguments}
+use Rattle.typed_statements.proofs.Arguments.{OfFirst, handler-fits, store-type, follows, cut-value, arguments-fit, first-arguments}
 use Rattle.typed_moves.proofs.Controls.{control-fits, throw-fits, thrown-fits}
 use Rattle.typed_statements.proofs.Place.{InPlace, StatementFits, left-here, statement-fits}
 

@@ -1,5 +1,5 @@
 -- The statement in place, in a typed configuration: its operators meet operands of their types, and it leaves everything typed.
-use Rattle.std.proofs.Common.{◌≡◌, ℕ, Bool, List, [], ◌∷◌, slice_get, Option, Some, None, refl, sym, ap, ◌∙◌, subst}
+use Rattle.std.proofs.Common.{◌≡◌, ℕ, Bool, List, [], ◌∷◌, Some, None, refl, sym, ap, ◌∙◌, subst}
 use Rattle.std.specs.Prelude.{Result, Ok, Err, IfOk}
 use Rattle.std.proofs.lemmas.Option.{same_Some}
 use Rattle.model_tree.specs.declared.constructs.Construct.{Construct}
@@ -10,7 +10,7 @@ use Rattle.flat_design.specs.declared.faults.RunFault.{RunFault}
 use Rattle.flat_design.specs.declared.design.Design.{Design}
 use Rattle.sim_model.specs.Residual as residual
 use Rattle.sim_model.specs.Residual.{Residual, settle, next_of}
-use Rattle.sim_model.specs.Configuration.{Config, Instance, arena, instance_at, change}
+use Rattle.sim_model.specs.Configuration.{Config, Instance, arena, instance_at}
 use Rattle.sim_model.specs.Reading.{Here, here}
 use Rattle.sim_model.specs.Statements.{do_statement, settled_in}
 use Rattle.clean_laws.proofs.Changes.{change-here}
@@ -18,11 +18,11 @@ use Rattle.goal_laws.specs.Standing.{code_of, IsStanding}
 use Rattle.typed_terms.specs.Contents.{context_of}
 use Rattle.typed_terms.specs.Operands.{OperandsFit}
 use Rattle.typed_terms.proofs.TermTypes.{operands-fit}
-use Rattle.typed_moves.specs.Frames.{LeftFits, InstanceFits}
+use Rattle.typed_moves.specs.Frames.{LeftFits}
 use Rattle.typed_moves.specs.TypedConfig.{TypesHaveValues, IsTypedConfig}
 use Rattle.typed_moves.proofs.Left.{settle-fits}
 use Rattle.typed_moves.proofs.Moves.{Fits, residual-fits}
-use Rattle.typed_statements.specs.Terms.{terms_of, MeetsItsTypes}
+use Rattle.typed_statements.specs.Terms.{terms_of, MeetsItsTypes, NextIsTyped}
 use Rattle.typed_statements.proofs.Place.{StatementFits, left-here, statement-fits}
 use Rattle.typed_statements.proofs.Forms.{form-kept}
 use Rattle.typed_statements.proofs.TermsOf.{IsSome, terms-typed}
@@ -60,6 +60,13 @@ module _ (missing : Construct → Bool) (c : Config) (p : ℕ) (i : Instance) (a
           → EachOf (OperandsFit (here later p (record i { residual = r }) r)) es
       each h stands [] e = tt
       each h stands (x ∷ xs) e = (operands-fit missing (here later p (record i { residual = r }) r) sound stands.place.body.locals stands.place.place_fits x e.0.0 e.0.1, each h stands xs e.1)
+
+  pub next-typed : NextIsTyped c p i
+  next-typed n s next found =
+      let k2 = settled-fits c p i at k in
+      let at2 = change-here c.processes.instances p (λ j. record j { residual = r }) i at in
+      let stands = statement-fits missing later p (record i { residual = r }) r n sound k2 (left-here later p (record i { residual = r }) r k2 at2 refl) next in
+      record { body = stands.place.body; home_of = stands.place.home_of; place_fits = stands.place.place_fits; typed = stands.typed s found }
 
 typed_ok : (d : Design) (m : Result Config RunFault) → IfOk m (Fits d) → IfOk m IsTypedConfig
 typed_ok d (Ok e) k = fits-typed d e k

@@ -1,24 +1,20 @@
 -- The parts of the contents, one of them changed.
-use Rattle.std.proofs.Common.{◌≡◌, ◌<◌, ◌≤◌, ℕ, zero, suc, Bool, true, false, cond, List, [], ◌∷◌, ◌++◌, map, length, slice_get, slice_set, unwrap_or, Option, Some, None, refl, sym, ap, ◌∙◌, subst, arith}
-use Rattle.std.specs.Prelude.{Result, Ok, Err, IfOk, slice_index, get_or, ◌^◌, ◌%◌, ◌==◌, ◌-◌, ◌+◌, drop}
+use Rattle.std.proofs.Common.{◌≡◌, ◌≤◌, ℕ, zero, suc, Bool, true, false, cond, List, [], ◌∷◌, ◌++◌, map, length, slice_get, slice_set, unwrap_or, Option, Some, None, refl, sym, ◌∙◌, subst, arith}
+use Rattle.std.specs.Prelude.{IfOk, slice_index, ◌==◌, ◌-◌, ◌+◌, drop}
 use Rattle.std.proofs.Math.Nat.{mod-lt}
 use Rattle.std.proofs.lemmas.List.{length-map}
 use Rattle.std.proofs.lemmas.List.FromFn.{length-range_with_len}
 use Rattle.payload_pool.specs.declared.payload.TheConstants.{WRITE}
-use Rattle.std.proofs.lemmas.Option.{none-some, same_Some}
+use Rattle.std.proofs.lemmas.Option.{none-some}
 use Rattle.logic_values.specs.declared.kinds.Value.{Value}
-use Rattle.logic_values.specs.declared.kinds.Digit.{Digit}
-use Rattle.signal_channel.specs.Signals.{written, settled}
-use Rattle.signal_channel.specs.Drivers.{Driven}
 use Rattle.signal_channel.specs.declared.signal.Signal.{Signal}
-use Rattle.fifo_sync.specs.Fifos.{Queued, available, free, readable, after_read, after_write, after_update}
+use Rattle.fifo_sync.specs.Fifos.{Queued, available, free, readable, after_read, after_write}
 use Rattle.payload_pool.specs.Payloads.{new_payload, payload_in, one_more, one_less, rewritten}
-use Rattle.payload_pool.specs.Transfer.{places, is_enabled, address_of, moves, last_of, byte_or, written_at, read_at, memory_after, bytes_after, carried}
+use Rattle.payload_pool.specs.Transfer.{places, is_enabled, address_of, moves, byte_or, written_at, read_at, memory_after, carried}
 use Rattle.payload_pool.specs.declared.payload.Payload.{Payload}
 use Rattle.payload_pool.specs.declared.pool.Counted.{Counted}
 use Rattle.quantum_keeper.specs.declared.keeper.Keeper.{Keeper}
 use Rattle.flat_design.specs.Typed.{EachOf}
-use Rattle.flat_design.specs.declared.value_types.ValueType.{ValueType}
 use Rattle.flat_design.specs.declared.names.PayloadField.{PayloadField}
 use Rattle.flat_design.specs.declared.names.PayloadField.TheVariants as field
 use Rattle.flat_design.specs.declared.names.PayloadBytes.{PayloadBytes}
@@ -27,17 +23,16 @@ use Rattle.flat_design.specs.declared.design.SignalPart.{SignalPart}
 use Rattle.flat_design.specs.declared.design.FifoPart.{FifoPart}
 use Rattle.flat_design.specs.declared.design.MemoryPart.{MemoryPart}
 use Rattle.flat_design.specs.declared.design.Design.{Design}
-use Rattle.flat_design.specs.declared.faults.RunFault.{RunFault}
 use Rattle.sim_model.specs.Values.{bits}
-use Rattle.sim_model.specs.Payloads.{Payloads, counted_at, payload_of, with_made, with_acquired, with_released, with_payload}
-use Rattle.sim_model.specs.Configuration.{Config, Store, Channels, change}
+use Rattle.sim_model.specs.Payloads.{Payloads, counted_at, with_made, with_acquired, with_released, with_payload}
+use Rattle.sim_model.specs.Configuration.{Config, Channels}
 use Rattle.sim_model.specs.Reading.{not_freed, live_payload, memory_at}
-use Rattle.sim_model.specs.Storing.{low_byte, set_memory, set_payload, with_field, bytes_in, with_byte}
-use Rattle.sim_model.specs.Channels.{set_signal, drive, set_fifo, with_fifo, set_mutex, set_semaphore}
+use Rattle.sim_model.specs.Storing.{low_byte, set_memory, with_field, with_byte}
+use Rattle.sim_model.specs.Channels.{set_signal, drive, set_fifo, set_mutex, set_semaphore}
 use Rattle.sim_model.specs.Transport.{with_pool, with_keeper}
 use Rattle.typed_terms.specs.Contents.{Pairwise, IsOf, SignalFits, FifoFits, IsByte, MemoryFits, PayloadFits, CountedFits, Contents}
 use Rattle.typed_terms.proofs.Lists.{partner-at, pair-set}
-use Rattle.typed_moves.proofs.EachLists.{each-set, each-get, each-more, each-map, each-drop, each-replicate, length-set, length-change}
+use Rattle.typed_moves.proofs.EachLists.{each-set, each-get, each-more, each-drop, each-replicate, length-set, length-change}
 use Rattle.typed_moves.proofs.Moves.{Fits}
 
 -- ---- bytes

@@ -1,20 +1,18 @@
 -- The statement in place is one of the body whose call is in place, among local variables of its types.
-use Rattle.std.proofs.Common.{◌≡◌, ℕ, Bool, List, slice_get, Option, Some, None, refl, sym, ap, ◌∙◌, subst}
-use Rattle.std.proofs.lemmas.Option.{none-some, same_Some}
+use Rattle.std.proofs.Common.{◌≡◌, ℕ, Bool, Option, Some, None, refl, sym, ap, subst}
 use Rattle.model_tree.specs.declared.constructs.Construct.{Construct}
 use Rattle.flat_design.specs.Code.{Statement, statement_at, body_at}
 use Rattle.flat_design.specs.Typed.{IsTyped}
 use Rattle.flat_design.specs.Sound.{SoundDesign, IsHomeOf}
 use Rattle.flat_design.specs.declared.code.CodeBody.{CodeBody}
-use Rattle.flat_design.specs.declared.design.Design.{Design}
-use Rattle.sim_model.specs.Residual.{Residual, Frame, innermost, within, next_of, statement}
+use Rattle.sim_model.specs.Residual.{Residual, Frame, innermost, next_of, statement}
 use Rattle.sim_model.specs.Configuration.{Config, Instance, instance_at}
-use Rattle.sim_model.specs.Reading.{Here, here, locals_of}
+use Rattle.sim_model.specs.Reading.{here, locals_of}
 use Rattle.goal_laws.specs.Standing.{code_of, place_of}
 use Rattle.typed_terms.specs.Contents.{Pairwise, LocalFits, PlaceFits, context_of}
 use Rattle.typed_moves.specs.Frames.{IsInside, LeftFits, InstanceFits}
 use Rattle.typed_moves.proofs.EachLists.{each-get}
-use Rattle.typed_moves.proofs.Left.{number_or, inner, next-inside, Runs, innermost-runs}
+use Rattle.typed_moves.proofs.Left.{number_or, inner, next-inside, innermost-runs}
 use Rattle.typed_moves.proofs.Moves.{Fits}
 
 -- where the instance p, of which r is left, has a call in place: the body, by its number

@@ -1,6 +1,5 @@
 -- Each expression of a typed statement has a type.
-use Rattle.std.proofs.Common.{◌≡◌, ℕ, List, [], ◌∷◌, ◌++◌, Option, Some, None, refl, ⊎_elim}
-use Rattle.std.specs.Prelude.{◌⊎◌}
+use Rattle.std.proofs.Common.{ℕ, List, [], ◌∷◌, ◌++◌, Option, Some, None, ⊎_elim}
 use Rattle.flat_design.specs.Code as code
 use Rattle.flat_design.specs.Code.{Term, ChannelTerm, EventTerm, AwaitTerm, ArgumentTerm, Statement, Arena}
 use Rattle.flat_design.specs.Denotes.{Context}

@@ -2,13 +2,16 @@
 use Rattle.std.specs.Prelude.{◌≡◌, ℕ, List, [], ◌∷◌, ◌++◌, Some}
 use Rattle.flat_design.specs.Code as code
 use Rattle.flat_design.specs.Code.{Term, EventTerm, AwaitTerm, ArgumentTerm, DestinationTerm, Statement, statement_at}
-use Rattle.flat_design.specs.Typed.{EachOf}
+use Rattle.flat_design.specs.Typed.{EachOf, IsTyped}
 use Rattle.flat_design.specs.Reach.{listed}
+use Rattle.flat_design.specs.Sound.{IsHomeOf}
+use Rattle.flat_design.specs.declared.code.CodeBody.{CodeBody}
 use Rattle.sim_model.specs.Residual as residual
 use Rattle.sim_model.specs.Residual.{settle, next_of}
 use Rattle.sim_model.specs.Configuration.{Config, Instance, arena}
-use Rattle.sim_model.specs.Reading.{here}
+use Rattle.sim_model.specs.Reading.{Here, here}
 use Rattle.sim_model.specs.Statements.{settled_in}
+use Rattle.typed_terms.specs.Contents.{PlaceFits, context_of}
 use Rattle.typed_terms.specs.Operands.{OperandsFit}
 
 abbrev pub terms_of_events : List EventTerm → List Term
@@ -82,3 +85,17 @@ abbrev pub MeetsItsTypes : Config → ℕ → Instance → Type 0
 MeetsItsTypes c p i =
     (n : ℕ) (s : Statement) → next_of (settle (arena c) i.residual) ≡ residual.statement n → statement_at (arena c) n ≡ Some s
     → EachOf (OperandsFit (here (settled_in c p i.residual) p (record i { residual = settle (arena c) i.residual }) (settle (arena c) i.residual))) (terms_of s)
+
+-- a statement is typed where it is carried out: it is one of a body of the module of the instance there, and its local variables
+-- have the types that the body declares
+pub record IsTypedAt (h : Here) (s : Statement) : Type 0 where
+  pub body : CodeBody
+  pub home_of : IsHomeOf h.config.design h.home body
+  pub place_fits : PlaceFits body.locals h
+  pub typed : IsTyped (arena h.config) body.module_place body.answer (context_of body.locals h) s
+
+-- so is the statement of the next step of the instance p, which is i
+abbrev pub NextIsTyped : Config → ℕ → Instance → Type 0
+NextIsTyped c p i =
+    (n : ℕ) (s : Statement) → next_of (settle (arena c) i.residual) ≡ residual.statement n → statement_at (arena c) n ≡ Some s
+    → IsTypedAt (here (settled_in c p i.residual) p (record i { residual = settle (arena c) i.residual }) (settle (arena c) i.residual)) s

@@ -9,12 +9,15 @@ ghost use Rattle.sim_model.specs.Reading.{here};
 ghost use Rattle.sim_model.specs.Statements.{do_statement};
 ghost use Rattle.goal_laws.specs.Standing.{code_of, IsStanding};
 ghost use Rattle.typed_moves.specs.TypedConfig.{TypesHaveValues, IsTypedConfig};
-ghost use Rattle.typed_statements.specs.Terms.{MeetsItsTypes};
+ghost use Rattle.typed_statements.specs.Terms.{MeetsItsTypes, NextIsTyped};
 
-/// In a typed configuration of a sound design, each expression of the statement that an instance carries out next meets
-/// operands of the types that its operators ask for.
+/// In a typed configuration of a sound design, the statement that an instance carries out next is typed where it is carried
+/// out, among local variables of their types (`next`): so by `typed_terms_have_their_types` each of its expressions has the
+/// type that its place asks for, or is a run fault. And in each of its expressions operators meet operands of the types that
+/// they ask for (`operands`).
 pub fn each_statement_meets_its_types()
-    ensures { (missing : Construct → Bool) (c : Config) (p : ℕ) (i : Instance) → SoundDesign missing c.design → IsTypedConfig c → instance_at c p ≡ Some i → MeetsItsTypes c p i }
+    ensures next { (missing : Construct → Bool) (c : Config) (p : ℕ) (i : Instance) → SoundDesign missing c.design → IsTypedConfig c → instance_at c p ≡ Some i → NextIsTyped c p i }
+    ensures operands { (missing : Construct → Bool) (c : Config) (p : ℕ) (i : Instance) → SoundDesign missing c.design → IsTypedConfig c → instance_at c p ≡ Some i → MeetsItsTypes c p i }
 {}
 
 /// A statement of any form, where what is left of its instance stands in the bodies of the design, leaves a typed

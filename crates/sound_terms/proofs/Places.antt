@@ -21,8 +21,8 @@ use Rattle.model_scopes.specs.declared.meanings.Meaning.TheVariants as meaning
 use Rattle.model_faults.specs.Names.{is_variable}
 use Rattle.rule_laws.proofs.Coded.{same_some, below, positioned}
 use Rattle.code_laws.proofs.Named.{declared_by}
-use Rattle.typed_code.specs.Standing.{IsSignal, IsFifo, IsPortTo, IsPortOf, Standing, LocalStands, NamesStand}
-use Rattle.typed_code.proofs.Has.{Has}
+use Rattle.sound_terms.specs.Standing.{IsSignal, IsFifo, IsPortTo, IsPortOf, Standing, LocalStands, NamesStand}
+use Rattle.sound_terms.proofs.Has.{Has}
 
 -- what a name of the code stands for: a local variable is a variable
 abbrev pub UseStands : Context → NameUse → Meaning → Type 0

@@ -48,14 +48,14 @@ use Rattle.rule_laws.proofs.Typed.{neither, not_named, parts_none, head_none}
 use Rattle.code_laws.specs.HasCode.{AreNumbered}
 use Rattle.code_laws.proofs.Named.{is_function_named, has_number}
 use Rattle.code_laws.proofs.Deeds.{member_leads}
-use Rattle.typed_code.specs.Standing.{Standing, NamesStand}
-use Rattle.typed_code.specs.Functions.{FunctionStands, FunctionsStand, VariablesStand}
-use Rattle.typed_code.proofs.Has.{Has, map_has, bind_has, two_has, three_has, four_has, weaker}
-use Rattle.typed_code.proofs.Operands.{both_true, seen_type}
-use Rattle.typed_code.proofs.Places.{UseStands, use_stands}
-use Rattle.typed_code.proofs.Channels.{within_is, is_there, fits_in, mutex_offers, semaphore_offers, taken_offers, put_offers, written_offers, use_variable, held_is, follows, type_there, integer_there, time_there, gives_there, of_type, store_there, process_there, payload_there, standing_there}
-use Rattle.typed_code.proofs.Events.{channel_is, uses_as, await_there, statics_there}
-use Rattle.typed_code.proofs.Calls.{print_there, integer_option, gives_option, arguments_there, firsts_there, ResultIs, result_there, stores, stores_answer, returned, Goes, index_is, indexes, variable_target, field_target, byte_target, element_target, payload_member, memory_there}
+use Rattle.sound_terms.specs.Standing.{Standing, NamesStand}
+use Rattle.sound_statements.specs.Functions.{FunctionStands, FunctionsStand, VariablesStand}
+use Rattle.sound_terms.proofs.Has.{Has, map_has, bind_has, two_has, three_has, four_has, weaker}
+use Rattle.sound_terms.proofs.Operands.{both_true, seen_type}
+use Rattle.sound_terms.proofs.Places.{UseStands, use_stands}
+use Rattle.sound_statements.proofs.Channels.{within_is, is_there, fits_in, mutex_offers, semaphore_offers, taken_offers, put_offers, written_offers, use_variable, held_is, follows, type_there, integer_there, time_there, gives_there, of_type, store_there, process_there, payload_there, standing_there}
+use Rattle.sound_statements.proofs.Events.{channel_is, uses_as, await_there, statics_there}
+use Rattle.sound_statements.proofs.Calls.{print_there, integer_option, gives_option, arguments_there, firsts_there, ResultIs, result_there, stores, stores_answer, returned, Goes, index_is, indexes, variable_target, field_target, byte_target, element_target, payload_member, memory_there}
 
 same_number : (m n : ℕ) → not (m == n) ≡ false → m ≡ n
 same_number m n h = grind (arith, nat_tests)

@@ -33,12 +33,12 @@ use Rattle.rule_laws.specs.Met.{IsMet}
 use Rattle.rule_laws.proofs.Coded.{some_none}
 use Rattle.rule_laws.proofs.Typed.{typed, same_false}
 use Rattle.code_laws.proofs.Named.{no_variable}
-use Rattle.typed_code.specs.Standing.{Standing, NamesStand}
-use Rattle.typed_code.proofs.Has.{Has, map_has}
-use Rattle.typed_code.proofs.Operands.{both_true, same_width, integer_type, takes_fit, time_type}
-use Rattle.typed_code.proofs.Places.{UseStands, use_stands, place_stands, signal_offers, fifo_offers, port_offers, port_is, resolved_offers}
-use Rattle.typed_code.proofs.Seen.{process_variable}
-use Rattle.typed_code.proofs.Terms.{Follows, term_typed}
+use Rattle.sound_terms.specs.Standing.{Standing, NamesStand}
+use Rattle.sound_terms.proofs.Has.{Has, map_has}
+use Rattle.sound_terms.proofs.Operands.{both_true, same_width, integer_type, takes_fit, time_type}
+use Rattle.sound_terms.proofs.Places.{UseStands, use_stands, place_stands, signal_offers, fifo_offers, port_offers, port_is, resolved_offers}
+use Rattle.sound_terms.proofs.Seen.{process_variable}
+use Rattle.sound_terms.proofs.Terms.{Follows, term_typed}
 
 -- an expression within the limits is formed
 pub formed : (n : ℕ) (e : tree.Expression) → fits n e ≡ true → is_formed e 0 ≡ true

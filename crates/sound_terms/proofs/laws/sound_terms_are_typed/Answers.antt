@@ -2,8 +2,8 @@ use Rattle.std.proofs.Common.{sym, subst, ◌∙◌}
 use Rattle.flat_design.specs.Typed.{HasType}
 use Rattle.model_scopes.specs.Operators.{evaluated_as}
 use Rattle.rule_laws.proofs.Coded.{same_some}
-use Rattle.typed_code.proofs.Terms.{term_typed}
-use Rattle.typed_code.proofs.laws.sound_terms_are_typed.Goals as goal
+use Rattle.sound_terms.proofs.Terms.{term_typed}
+use Rattle.sound_terms.proofs.laws.sound_terms_are_typed.Goals as goal
 
 pub returns : goal.returns
 returns g = λ s c e at t x names formed typed is.

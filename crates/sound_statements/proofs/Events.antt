@@ -40,13 +40,13 @@ use Rattle.rule_laws.proofs.Coded.{same_some}
 use Rattle.rule_laws.proofs.Typed.{neither, same_false, not_named, parts_none, head_none, and_true, IsChannelKept, channel_kept}
 use Rattle.code_laws.proofs.Named.{no_variable}
 use Rattle.code_laws.proofs.Deeds.{placed_right}
-use Rattle.typed_code.specs.Standing.{Standing, NamesStand}
-use Rattle.typed_code.proofs.Has.{Has, map_has, two_has}
-use Rattle.typed_code.proofs.Operands.{both_true}
-use Rattle.typed_code.proofs.Places.{UseStands, use_stands, place_stands, signal_offers, fifo_offers, port_offers, resolved_offers, in_offers, out_offers}
-use Rattle.typed_code.proofs.Seen.{process_variable, entry_has}
-use Rattle.typed_code.proofs.Terms.{number_has}
-use Rattle.typed_code.proofs.Channels.{within_is, standing_port, use_variable, integer_there, time_there}
+use Rattle.sound_terms.specs.Standing.{Standing, NamesStand}
+use Rattle.sound_terms.proofs.Has.{Has, map_has, two_has}
+use Rattle.sound_terms.proofs.Operands.{both_true}
+use Rattle.sound_terms.proofs.Places.{UseStands, use_stands, place_stands, signal_offers, fifo_offers, port_offers, resolved_offers, in_offers, out_offers}
+use Rattle.sound_terms.proofs.Seen.{process_variable, entry_has}
+use Rattle.sound_terms.proofs.Terms.{number_has}
+use Rattle.sound_statements.proofs.Channels.{within_is, standing_port, use_variable, integer_there, time_there}
 
 -- an event that is found among the members
 pub record EventFound (r : Option Row) (name : List ℕ) : Type 0 where

@@ -24,9 +24,9 @@ use Rattle.model_scopes.specs.declared.meanings.Row.TheVariants as row
 use Rattle.model_scopes.specs.declared.meanings.ValueMember.{ValueMember}
 use Rattle.model_scopes.specs.declared.meanings.ValueMember.TheVariants as reached
 use Rattle.rule_laws.proofs.Coded.{same_some}
-use Rattle.typed_code.specs.Standing.{Standing}
-use Rattle.typed_code.proofs.Operands.{seen_type}
-use Rattle.typed_code.proofs.Places.{UseStands, signal_offers, fifo_offers, port_offers, port_is, resolved_offers, in_offers, out_offers}
+use Rattle.sound_terms.specs.Standing.{Standing}
+use Rattle.sound_terms.proofs.Operands.{seen_type}
+use Rattle.sound_terms.proofs.Places.{UseStands, signal_offers, fifo_offers, port_offers, port_is, resolved_offers, in_offers, out_offers}
 
 -- an object, at its place where it is a port
 abbrev pub ObjectStands : Context → NameUse → Option Term → Meaning → Type 0

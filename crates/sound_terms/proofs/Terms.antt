@@ -32,11 +32,11 @@ use Rattle.model_scopes.specs.declared.meanings.Seen.{Seen}
 use Rattle.model_scopes.specs.declared.meanings.Seen.TheVariants as seen
 use Rattle.code_of_model.specs.Terms.{logic_value, constant_bits, Typed, typed, Made, object, bytes, value_made, value_if, object_if, placed_made, placed_term, name_term, term_made, member_if, member_made, memory_element, digit_term, object_element, element_at, converted_to, convert_term, joined, if_typed, binary_term, number, made_of, term_of}
 use Rattle.rule_laws.proofs.Coded.{same_some, if_some, number_placed}
-use Rattle.typed_code.specs.Standing.{NamesStand}
-use Rattle.typed_code.proofs.Has.{Has}
-use Rattle.typed_code.proofs.Operands.{both_true, integer_type, taken_has, operands_fit, unary_fit, conversion_fit, vector_fit, Joins, concat_fit, digit_fit, slice_fit}
-use Rattle.typed_code.proofs.Places.{UseStands, mapped_is, use_stands}
-use Rattle.typed_code.proofs.Seen.{ObjectStands, MemberFits, entry_has, use_reads, placed_reads, members_fit}
+use Rattle.sound_terms.specs.Standing.{NamesStand}
+use Rattle.sound_terms.proofs.Has.{Has}
+use Rattle.sound_terms.proofs.Operands.{both_true, integer_type, taken_has, operands_fit, unary_fit, conversion_fit, vector_fit, Joins, concat_fit, digit_fit, slice_fit}
+use Rattle.sound_terms.proofs.Places.{UseStands, mapped_is, use_stands}
+use Rattle.sound_terms.proofs.Seen.{ObjectStands, MemberFits, entry_has, use_reads, placed_reads, members_fit}
 
 -- a term that has a type
 abbrev pub TermHas : Context → Option Term → ExpressionType → Type 0

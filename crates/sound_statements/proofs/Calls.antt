@@ -39,11 +39,11 @@ use Rattle.code_of_model.specs.Bodies.{IsAnswer}
 use Rattle.rule_laws.specs.Known.{TypesAreKnown}
 use Rattle.rule_laws.specs.Met.{IsMet}
 use Rattle.rule_laws.proofs.Typed.{neither, parts_none, head_none, channel_kept}
-use Rattle.typed_code.specs.Standing.{Standing, NamesStand}
-use Rattle.typed_code.specs.Functions.{AreParameters}
-use Rattle.typed_code.proofs.Has.{Has, map_has, two_has, weaker}
-use Rattle.typed_code.proofs.Operands.{both_true, seen_type}
-use Rattle.typed_code.proofs.Channels.{within_is, fits_in, tested, type_there, integer_there, gives_there, follows, of_type, store_there, standing_there, IsStore}
+use Rattle.sound_terms.specs.Standing.{Standing, NamesStand}
+use Rattle.sound_statements.specs.Functions.{AreParameters}
+use Rattle.sound_terms.proofs.Has.{Has, map_has, two_has, weaker}
+use Rattle.sound_terms.proofs.Operands.{both_true, seen_type}
+use Rattle.sound_statements.proofs.Channels.{within_is, fits_in, tested, type_there, integer_there, gives_there, follows, of_type, store_there, standing_there, IsStore}
 
 -- a printed type
 printed : (e : ExpressionType) → is_printed e ≡ true → ((evaluated_as e ≡ type.Process) → ⊥) × ((evaluated_as e ≡ type.Payload) → ⊥)

@@ -1,0 +1,5 @@
+pub mod Operands
+pub mod Has
+pub mod Places
+pub mod Seen
+pub mod Terms
