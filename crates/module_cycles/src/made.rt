@@ -1,42 +1,27 @@
 //! The instances in each module.
-ghost use Rattle.std.specs.Prelude.{◌≡◌, ◌<◌, map, IfOk, OnOk, ◌++◌};
+ghost use Rattle.std.specs.Prelude.{◌≡◌, map, IfOk, OnOk, ◌++◌};
 ghost use Rattle.std.specs.List.{flat_map};
-ghost use Rattle.model_tree.specs.Views.{item_of, module_of, modules_of};
-ghost use Rattle.object_rules.specs.Forms.{is_named, module_place};
+ghost use Rattle.model_tree.specs.Views.{item_of, modules_of};
 ghost use Rattle.object_rules.specs.Faults.{made_by};
 ghost use Rattle.module_cycles.specs.Marks.{made_of};
 
 use model_tree::{Item, Module};
+use name_places::ModulePlaces;
 use object_rules::Made;
 use plain_lists::Items;
 use std::alloc::{AllocError, Global};
 
-/// Whether a module has this name.
-fn is_named(name: &[u8], module: &Module) -> bool
-    ensures { result ≡ is_named name.now (module_of «module».now) }
-{
-    module.name.bytes() == name
-}
-
-/// The place in the text of the first module of this name; their number where there is none.
-fn module_place(modules: &[Module], name: &[u8]) -> usize
-    ensures { result ≡ module_place (modules_of modules.now) name.now }
-{
-    for (i, module) in modules.iter().enumerate() {
-        if is_named(name, module) {
-            return i;
-        }
-    }
-    modules.len()
-}
-
 /// Adds an item to the instances, if it is one.
-fn add_made(modules: &[Module], item: &Item, made: &mut Items<Made>) -> Result<(), AllocError>
+fn add_made(
+    modules: &ModulePlaces<'_>,
+    item: &Item,
+    made: &mut Items<Made>,
+) -> Result<(), AllocError>
     ensures { OnOk result (made.new ≡ made.old ++ made_by (modules_of modules.now) (item_of item.now)) }
 {
     match item {
         Item::Instance(line, kind, _) => {
-            let Ok(place) = u32::try_from(module_place(modules, kind.bytes())) else {
+            let Ok(place) = u32::try_from(modules.find(kind.bytes())) else {
                 return Err(AllocError);
             };
             made.push(Made { line: *line, place })?;
@@ -61,7 +46,11 @@ fn add_made(modules: &[Module], item: &Item, made: &mut Items<Made>) -> Result<(
 }
 
 /// The instances among items, in text order.
-fn made_among(alloc: Global, modules: &[Module], items: &[Item]) -> Result<Items<Made>, AllocError>
+fn made_among(
+    alloc: Global,
+    modules: &ModulePlaces<'_>,
+    items: &[Item],
+) -> Result<Items<Made>, AllocError>
     ensures { IfOk result (λ made. made ≡ flat_map (made_by (modules_of modules.now)) (map item_of items.now)) }
 {
     let mut made = Items::new(alloc);
@@ -71,13 +60,21 @@ fn made_among(alloc: Global, modules: &[Module], items: &[Item]) -> Result<Items
     Ok(made)
 }
 
+/// The instances in each module.
+fn made_in(alloc: Global, modules: &ModulePlaces<'_>) -> Result<Vec<Items<Made>>, AllocError>
+    ensures { IfOk result (λ made. made.items ≡ made_of (modules_of modules.now)) }
+{
+    let mut made = Vec::new(alloc);
+    for module in modules.modules() {
+        made.push(made_among(alloc, modules, module.items.as_slice())?)?;
+    }
+    Ok(made)
+}
+
 /// The instances in each module. Out of memory is also answered where a place does not fit 32 bits.
 pub(crate) fn made_of(alloc: Global, modules: &[Module]) -> Result<Vec<Items<Made>>, AllocError>
     ensures { IfOk result (λ made. made.items ≡ made_of (modules_of modules.now)) }
 {
-    let mut made = Vec::new(alloc);
-    for module in modules {
-        made.push(made_among(alloc, modules, module.items.as_slice())?)?;
-    }
-    Ok(made)
+    let places = ModulePlaces::new(alloc, modules)?;
+    made_in(alloc, &places)
 }

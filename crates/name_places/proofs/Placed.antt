@@ -1,14 +1,13 @@
 -- The place of a module by the place of its name.
-use Rattle.std.proofs.Common.{◌≡◌, ◌≤◌, ℕ, ◌+◌, Bool, true, false, cond, List, [], ◌∷◌, length, map, Option, Some, None, refl, sym, ap, ◌∙◌, arith}
+use Rattle.std.proofs.Common.{◌≡◌, ◌≤◌, ℕ, ◌+◌, Bool, true, false, cond, List, [], ◌∷◌, length, map, Some, None, refl, sym, ap, ◌∙◌, arith}
 use Rattle.std.specs.Prelude.{bytes_eq, not, unwrap_or, nat_lt}
 use Rattle.std.specs.List.{position_or_len}
 use Rattle.std.proofs.lemmas.Bool.Decides.{nat_tests}
 use Rattle.std.proofs.lemmas.List.{length-map}
 use Rattle.std.proofs.lemmas.List.Sums.{prefix_len-le-length}
-use Rattle.model_tree.specs.Tree as tree
-use Rattle.model_tree.specs.Views.{module_of, modules_of}
+use Rattle.model_tree.specs.Views.{modules_of}
 use Rattle.model_tree.specs.declared.items.Module.{Module}
-use Rattle.object_rules.specs.Forms.{is_named, module_place}
+use Rattle.object_rules.specs.Forms.{module_place}
 use Rattle.name_tables.specs.Tables.{place_in}
 use Rattle.name_places.specs.Places.{names_of_modules}
 

@@ -1,9 +1,8 @@
 -- What is left of frames, and what a turn leaves of it.
-use Rattle.std.proofs.Common.{◌≡◌, ◌≤◌, ℕ, zero, suc, ◌+◌, List, [], ◌∷◌, ◌++◌, length, drop, refl, sym, ap, ◌∙◌, arith, append_assoc}
-use Rattle.std.specs.Prelude.{Option, Some, None, slice_get, get_or}
+use Rattle.std.proofs.Common.{◌≡◌, ℕ, zero, suc, ◌+◌, List, [], ◌∷◌, ◌++◌, length, drop, refl, sym, ap, ◌∙◌, arith, append_assoc}
+use Rattle.std.specs.Prelude.{Some, None, slice_get}
 use Rattle.std.proofs.lemmas.List.{append-nil, length-append}
 use Rattle.flat_design.specs.declared.objects.Object.{Object}
-use Rattle.object_rules.specs.Listing.{Inside}
 use Rattle.object_rows.specs.Rows.{Row}
 use Rattle.object_list.specs.Left.{Rows, rows_at, object_of, inside_form, of_rows, rows_within, left_in, left_of}
 use Rattle.object_list.specs.Walks.{whole_of}

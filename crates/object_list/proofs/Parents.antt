@@ -1,6 +1,6 @@
 -- Each object is in an instance before it.
-use Rattle.std.proofs.Common.{◌≡◌, ◌<◌, ◌⊎◌, ℕ, zero, suc, ◌+◌, List, [], ◌∷◌, ◌++◌, length, refl, sym, ap, subst, ◌∙◌, inl, inr, arith}
-use Rattle.std.specs.Prelude.{⊤, Option, Some, None, slice_get}
+use Rattle.std.proofs.Common.{◌≡◌, ◌<◌, ℕ, zero, suc, ◌+◌, List, [], ◌∷◌, ◌++◌, length, refl, sym, subst, inl, inr, arith}
+use Rattle.std.specs.Prelude.{⊤, Some, slice_get}
 use Rattle.flat_design.specs.declared.objects.Object.{Object}
 use Rattle.flat_design.specs.declared.objects.ObjectForm.{ObjectForm}
 use Rattle.flat_design.specs.declared.objects.ObjectForm.TheVariants as form

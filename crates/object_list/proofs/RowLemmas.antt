@@ -1,9 +1,8 @@
 -- The objects by the rows of the modules are those by their items.
 use Rattle.std.proofs.Common.{◌≡◌, ℕ, zero, suc, ◌+◌, List, [], ◌∷◌, ◌++◌, length, refl, sym, ap, ◌∙◌, arith, append_assoc}
-use Rattle.std.specs.Prelude.{Option, Some, None, unwrap_or, slice_get, take}
+use Rattle.std.specs.Prelude.{take}
 use Rattle.std.proofs.lemmas.List.{append-nil, length-append}
 use Rattle.model_tree.specs.Tree as tree
-use Rattle.model_tree.specs.declared.items.Top.{Top}
 use Rattle.model_tree.specs.declared.items.PlainKind.TheVariants as plain
 use Rattle.model_tree.specs.declared.items.InitiatorRole.TheVariants as initiator
 use Rattle.model_tree.specs.declared.items.TargetRole.TheVariants as target

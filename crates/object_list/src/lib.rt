@@ -4,8 +4,6 @@
 mod frames;
 mod limits;
 mod list;
-#[cfg(test)]
-mod tests;
 mod turns;
 mod walks;
 
