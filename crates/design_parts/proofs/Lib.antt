@@ -1,0 +1,6 @@
+mod Children
+mod Entries
+mod Firsts
+mod PortLemmas
+mod Turns
+mod Walks
