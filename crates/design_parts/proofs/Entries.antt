@@ -75,17 +75,17 @@ pub before_all : (os : List Object) (tables : List Numbers) → tables ≡ repli
 before_all os tables is = (
   ap length is ∙ length-replicate (length os) [],
   λ instance name below.
-    ap (λ ts. option_or (entry name (table_at ts instance)) (position_from (is_child instance name) 1 (drop 1 os))) is
-    ∙ ap (λ t. option_or (entry name t) (position_from (is_child instance name) 1 (drop 1 os))) (empty_at (length os) instance),
+      ap (λ ts. option_or (entry name (table_at ts instance)) (position_from (is_child instance name) 1 (drop 1 os))) is
+      ∙ ap (λ t. option_or (entry name t) (position_from (is_child instance name) 1 (drop 1 os))) (empty_at (length os) instance),
 )
 
 pub after_all : (os : List Object) (tables : List Numbers) (i : ℕ) → length os ≤ i → length tables ≡ length os → So os i tables → AreNamed os tables
 after_all os tables i past long so = record {
   long = long;
   found = λ instance name below.
-    or_none (entry name (table_at tables instance))
-    ∙ sym (ap (λ xs. option_or (entry name (table_at tables instance)) (position_from (is_child instance name) i xs)) (drop_all i os past))
-    ∙ so instance name below;
+      or_none (entry name (table_at tables instance))
+      ∙ sym (ap (λ xs. option_or (entry name (table_at tables instance)) (position_from (is_child instance name) i xs)) (drop_all i os past))
+      ∙ so instance name below;
 }
 
 module _ (os : List Object) (i : ℕ) (o : Object) (within : i < length os) (is : o ≡ get_or os i o) where
@@ -119,8 +119,8 @@ module _ (os : List Object) (i : ℕ) (o : Object) (within : i < length os) (is 
         let same : instance ≡ o.parent = grind (arith, nat_tests, e) in
         let inside : instance < length tables = subst (λ n. instance < n) (sym long) below in
         let put : table_at added instance ≡ with_first (table_at tables instance) o.name i =
-            subst (λ j. table_at (slice_set tables j (with_first (table_at tables j) o.name i)) instance ≡ with_first (table_at tables instance) o.name i) same
-            (table_same tables instance (with_first (table_at tables instance) o.name i) inside) in
+        subst (λ j. table_at (slice_set tables j (with_first (table_at tables j) o.name i)) instance ≡ with_first (table_at tables instance) o.name i) same
+        (table_same tables instance (with_first (table_at tables instance) o.name i) inside) in
         ap (entry name) put ∙ entry_first name (table_at tables instance) o.name i
     under instance name below false e =
         let ne : instance ≢ o.parent = grind (arith, nat_tests, e) in
@@ -130,7 +130,7 @@ module _ (os : List Object) (i : ℕ) (o : Object) (within : i < length os) (is 
     one_named new at = (
       ap length at ∙ length-set tables o.parent (with_first (table_at tables o.parent) o.name i) ∙ long,
       λ instance name below.
-        step instance name below (o.parent == instance) refl new (ap (λ ts. entry name (table_at ts instance)) at ∙ under instance name below (o.parent == instance) refl),
+          step instance name below (o.parent == instance) refl new (ap (λ ts. entry name (table_at ts instance)) at ∙ under instance name below (o.parent == instance) refl),
     )
 
     by_place : (b : Bool) → nat_lt o.parent (length tables) ≡ b → (new : List Numbers) → new ≡ cond b added tables → (length new ≡ length os) × So os (i + 1) new
@@ -138,8 +138,8 @@ module _ (os : List Object) (i : ℕ) (o : Object) (within : i < length os) (is 
     by_place false e new at = (
       ap length at ∙ long,
       λ instance name below.
-        let no : (o.parent == instance) ≡ false = grind (arith, nat_tests, long, e, below) in
-        step instance name below false no new (ap (λ ts. entry name (table_at ts instance)) at),
+          let no : (o.parent == instance) ≡ false = grind (arith, nat_tests, long, e, below) in
+          step instance name below false no new (ap (λ ts. entry name (table_at ts instance)) at),
     )
 
     pub child_added : (new : List Numbers) → new ≡ with_child tables o.parent o.name i → (length new ≡ length os) × So os (i + 1) new

@@ -54,7 +54,7 @@ module _ (key : Joined → ℕ) (table : List (Option ℕ)) (hops : List Joined)
   by true e whole so =
       let same : i ≡ key h = grind (arith, nat_tests, e) in
       let here : number_at (with_first_at table (key h) k) i ≡ option_or (number_at table i) (Some k) =
-          subst (λ j. number_at (with_first_at table j k) i ≡ option_or (number_at table i) (Some k)) same (at_same table i k below) in
+      subst (λ j. number_at (with_first_at table j k) i ≡ option_or (number_at table i) (Some k)) same (at_same table i k below) in
       ap (λ o. option_or o rest) here ∙ some_first (number_at table i) rest k ∙ so
   by false e whole so =
       let ne : i ≢ key h = grind (arith, nat_tests, e) in
@@ -78,8 +78,8 @@ pub firsts_more : (key : Joined → ℕ) (table new : List (Option ℕ)) (hops :
 firsts_more key table new hops k d count within long so is = (
   ap length is ∙ length_first table (key (get_or hops k d)) k ∙ long,
   λ i below.
-    ap (λ t. option_or (number_at t i) (position_from (λ x. key x == i) (k + 1) (drop (k + 1) hops))) is
-    ∙ first_step key table hops k d within i (subst (λ n. i < n) (sym long) below) (position (λ x. key x == i) hops) (so i below),
+      ap (λ t. option_or (number_at t i) (position_from (λ x. key x == i) (k + 1) (drop (k + 1) hops))) is
+      ∙ first_step key table hops k d within i (subst (λ n. i < n) (sym long) below) (position (λ x. key x == i) hops) (so i below),
 )
 
 -- before the first hop no place has a number

@@ -14,11 +14,7 @@ use plain_lists::Items;
 use std::alloc::{AllocError, Global};
 
 /// Adds what an object of this form is among signals, buffers and clocks.
-fn add_signal(
-    found: &mut Items<SignalPart>,
-    n: Counts,
-    form: ObjectForm,
-) -> Result<(), AllocError>
+fn add_signal(found: &mut Items<SignalPart>, n: Counts, form: ObjectForm) -> Result<(), AllocError>
     ensures { OnOk result (found.new ≡ found.old ++ spec.signal_by n form) }
 {
     match form {
@@ -167,11 +163,7 @@ pub(crate) fn semaphores(
 }
 
 /// Adds what an object of this form is among memories.
-fn add_memory(
-    found: &mut Items<MemoryPart>,
-    n: Counts,
-    form: ObjectForm,
-) -> Result<(), AllocError>
+fn add_memory(found: &mut Items<MemoryPart>, n: Counts, form: ObjectForm) -> Result<(), AllocError>
     ensures { OnOk result (found.new ≡ found.old ++ spec.memory_by n form) }
 {
     match form {

@@ -22,11 +22,7 @@ fn channel_in(denoted: Denoted) -> Option<ChannelId>
 }
 
 /// Adds the channel that the object of this number is.
-fn add_channel(
-    channels: &mut Items<ChannelId>,
-    all: &[Denoted],
-    i: u32,
-) -> Result<(), AllocError>
+fn add_channel(channels: &mut Items<ChannelId>, all: &[Denoted], i: u32) -> Result<(), AllocError>
     ensures { OnOk result (channels.new ≡ channels.old ++ spec.channels_among all.now (i ∷ [])) }
 {
     if let Some(channel) = channel_in(object_denoted(all, i as usize)) {

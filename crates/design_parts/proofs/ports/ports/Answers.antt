@@ -24,8 +24,8 @@ loop-object-preserved c =
     let rest = drop (k + 1) os.list in
     let left = held.left ∙ ap (ports_from os k) (next_object part os.list k o within is n) in
     let added =
-        c.in_ok-add_port.ensures ∙ ap (λ cs. c.loop-object.found ++ port_by all cs n.objects o.form) c.bound_channels-ends.ensures
-        ∙ ap (λ ps. c.loop-object.found ++ ps) (same_port os all bs n k held.at rest o.form left) in
+    c.in_ok-add_port.ensures ∙ ap (λ cs. c.loop-object.found ++ port_by all cs n.objects o.form) c.bound_channels-ends.ensures
+    ∙ ap (λ ps. c.loop-object.found ++ ps) (same_port os all bs n k held.at rest o.form left) in
     record {
       found = along_turn part os.list k o within is n c.in_ok-n.n c.loop-object.found c.add_port.new.found _ c.in_ok-n.ensures added held.found;
       at = ap (λ (m : Counts). m.objects) c.in_ok-n.ensures ∙ one_object_more n o.form ∙ ap (λ i. i + 1) held.at;
