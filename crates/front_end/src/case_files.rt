@@ -4,7 +4,8 @@
 //! `case NAME` begins a case. Its text is put together by `text LINE`, which adds a line, `body ITEMS`, which adds a
 //! line with one module of these items, `add PIECE`, which adds to the last line, `times NUMBER PIECE`, which does so
 //! many times, and `byte NUMBER`, which adds one byte. What is wanted is said by `prints LINE`, one for each line that
-//! the tree prints as, `refused LINE`, and `prefixes refused`; a case with none of these is to read.
+//! the tree prints as, `refused LINE`, `prefixes refused`, `accepted`, where it breaks no rule on modules, and
+//! `breaks KIND LINE NAME`, which is its first fault; a case with none of these is to read.
 
 use super::building::{add, add_body, add_byte, add_line, add_printed, add_times};
 use super::cases::{Case, Wanted};
@@ -76,6 +77,11 @@ fn want_prefixes(case: &mut Case, rest: &str) -> Result<(), LineError> {
     Err(LineError::Form)
 }
 
+fn want_breaks(alloc: Global, case: &mut Case, rest: &str) -> Result<(), LineError> {
+    let fault = Vec::from_slice(alloc, rest.as_bytes())?;
+    want(case, Wanted::Breaks(fault))
+}
+
 /// Adds what a line says to the case that it stands in.
 fn take(alloc: Global, case: &mut Case, word: &str, rest: &str) -> Result<(), LineError> {
     match word {
@@ -87,6 +93,8 @@ fn take(alloc: Global, case: &mut Case, word: &str, rest: &str) -> Result<(), Li
         "times" => return add_repeated(case, rest),
         "refused" => return want(case, Wanted::Refused(number(rest)?)),
         "prefixes" => return want_prefixes(case, rest),
+        "accepted" => return want(case, Wanted::Accepted),
+        "breaks" => return want_breaks(alloc, case, rest),
         _ => return Err(LineError::Form),
     }
     Ok(())

@@ -13,6 +13,10 @@ pub enum Wanted {
     Refused(u32),
     /// It reads, and what lacks its last `;` is refused.
     Prefixes,
+    /// It reads, and breaks no rule on modules.
+    Accepted,
+    /// It reads, and its first fault is this: kind, line and name.
+    Breaks(Vec<u8>),
 }
 
 /// One case: a text, and what is wanted of it.

@@ -1,6 +1,7 @@
 //! What came of a case.
 
 use super::cases::{Case, Wanted};
+use super::rules::first_fault;
 use logic_values::Text;
 use model_lexer::{Token, TokenKind, tokens};
 use model_parser::parse;
@@ -30,6 +31,10 @@ pub enum Wrong {
     PrintsAgain(Text),
     /// The first so many bytes of the text read.
     PrefixReads(u64),
+    /// The text breaks no rule, but is to break one.
+    BreaksNone,
+    /// The first fault of the text is this, which is not what is wanted.
+    BreaksThis(String),
 }
 
 /// What came of a case.
@@ -41,6 +46,10 @@ pub enum Verdict {
     Refused(u32),
     /// So many beginnings of the text were refused.
     PrefixesRefused(u64),
+    /// The text breaks no rule on modules.
+    Accepted,
+    /// The first fault of the text is this.
+    Breaks(String),
     /// It came out otherwise than the case says.
     Wrong(Wrong),
 }
@@ -184,11 +193,39 @@ fn judge_prefixes(alloc: Global, case: &Case) -> Result<Verdict, AllocError> {
     }
 }
 
+/// Whether a text may have this first fault.
+fn may_break(wanted: &Wanted, fault: &str) -> bool {
+    match wanted {
+        Wanted::Breaks(text) => text.as_slice() == fault.as_bytes(),
+        _ => false,
+    }
+}
+
+/// Judges a tree by the rules on modules.
+fn judge_rules_of(alloc: Global, wanted: &Wanted, tree: &Tree) -> Result<Verdict, AllocError> {
+    match first_fault(alloc, tree)? {
+        Some(fault) if may_break(wanted, fault.as_str()) => Ok(Verdict::Breaks(fault)),
+        Some(fault) => Ok(Verdict::Wrong(Wrong::BreaksThis(fault))),
+        None if matches!(wanted, Wanted::Accepted) => Ok(Verdict::Accepted),
+        None => Ok(Verdict::Wrong(Wrong::BreaksNone)),
+    }
+}
+
+/// Judges a text that is to break no rule, or this one first.
+fn judge_ruled(alloc: Global, case: &Case) -> Result<Verdict, AllocError> {
+    match reading_of(alloc, case.text.as_slice())? {
+        Reading::Tree(tree) => judge_rules_of(alloc, &case.wanted, &tree),
+        Reading::Refused(line) => Ok(Verdict::Wrong(Wrong::RefusedAt(line))),
+        Reading::TooLong => Ok(Verdict::Wrong(Wrong::TooLong)),
+    }
+}
+
 /// Reads the text of a case, and what else is wanted of it.
 pub fn judge(alloc: Global, case: &Case) -> Result<Verdict, AllocError> {
     match &case.wanted {
         Wanted::Reads | Wanted::Prints(_) => judge_read(alloc, case),
         Wanted::Refused(line) => judge_refused(alloc, case.text.as_slice(), *line),
         Wanted::Prefixes => judge_prefixes(alloc, case),
+        Wanted::Accepted | Wanted::Breaks(_) => judge_ruled(alloc, case),
     }
 }

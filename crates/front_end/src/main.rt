@@ -1,10 +1,12 @@
-//! Reads model texts that are given as data, prints their trees, reads them again, and says of each text what came of it.
+//! Reads model texts that are given as data, prints their trees, reads them again, judges them by the
+//! rules on modules, and says of each text what came of it.
 #![tactic(auto)]
 
 mod building;
 mod case_files;
 mod cases;
 mod judging;
+mod rules;
 mod showing;
 
 use anyhow::Result;

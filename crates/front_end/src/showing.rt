@@ -13,6 +13,10 @@ pub struct Counts {
     pub refused: u64,
     /// The texts of which each beginning was refused.
     pub prefixes: u64,
+    /// The texts that break no rule on modules.
+    pub accepted: u64,
+    /// The texts that break one.
+    pub broken: u64,
     /// The cases that came out otherwise than they say.
     pub wrong: u64,
 }
@@ -24,6 +28,8 @@ impl Counts {
             read: 0,
             refused: 0,
             prefixes: 0,
+            accepted: 0,
+            broken: 0,
             wrong: 0,
         }
     }
@@ -34,6 +40,8 @@ impl Counts {
             Verdict::Read => &mut self.read,
             Verdict::Refused(_) => &mut self.refused,
             Verdict::PrefixesRefused(_) => &mut self.prefixes,
+            Verdict::Accepted => &mut self.accepted,
+            Verdict::Breaks(_) => &mut self.broken,
             Verdict::Wrong(_) => &mut self.wrong,
         };
         *count = count.saturating_add(1);
@@ -46,11 +54,13 @@ impl fmt::Display for Counts {
             read,
             refused,
             prefixes,
+            accepted,
+            broken,
             wrong,
         } = self;
         write!(
             f,
-            "{read} read, {refused} refused, {prefixes} by each beginning, {wrong} WRONG"
+            "{read} read, {refused} refused, {prefixes} by each beginning, {accepted} accepted, {broken} with a fault, {wrong} WRONG"
         )
     }
 }
@@ -87,6 +97,8 @@ fn push_wrong(shown: &mut String, wrong: &Wrong) -> Result<(), AllocError> {
             push_text(shown, text.as_slice())
         }
         Wrong::PrefixReads(length) => write!(shown, "first {length} bytes read"),
+        Wrong::BreaksNone => shown.push_str("breaks no rule"),
+        Wrong::BreaksThis(fault) => write!(shown, "breaks {fault}"),
     }
 }
 
@@ -95,6 +107,8 @@ fn push_verdict(shown: &mut String, verdict: &Verdict) -> Result<(), AllocError>
         Verdict::Read => shown.push_str("read"),
         Verdict::Refused(line) => write!(shown, "refused {line}"),
         Verdict::PrefixesRefused(count) => write!(shown, "{count} beginnings refused"),
+        Verdict::Accepted => shown.push_str("accepted"),
+        Verdict::Breaks(fault) => write!(shown, "breaks {fault}"),
         Verdict::Wrong(wrong) => {
             shown.push_str("WRONG ")?;
             push_wrong(shown, wrong)

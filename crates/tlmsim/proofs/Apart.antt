@@ -5,7 +5,7 @@ use Rattle.model_tree.specs.Tree as tree
 use Rattle.model_tree.specs.declared.faults.Fault.{Fault}
 use Rattle.model_lexer.specs.Reads.{Reads}
 use Rattle.not_built.specs.Missing.{first_not_built}
-use Rattle.model_rules.specs.FirstFault.{first_fault}
+use Rattle.model_faults.specs.Passes.{first_fault}
 use Rattle.method_model.specs.declared.plain.Command.{Command}
 use Rattle.script_text.specs.ScriptText.{read_script}
 use Rattle.script_text.specs.NamedScript.{name_script}
@@ -120,7 +120,7 @@ pub not_unread : (model : List ℕ) → HasNoTree model → HasUnbuilt model ⊎
 not_unread model none b = ⊎_elim (λ u. none u.m u.reads) (λ f. none f.m f.reads) b
 
 pub not_unbuilt : OneTree → (model : List ℕ) → HasUnbuilt model → BreaksRule model → ⊥
-not_unbuilt one model u f = found_both first_not_built f.m u.m (one model f.m u.m f.reads u.reads) f.built u.unbuilt
+not_unbuilt one model u f = found_both first_fault u.m f.m (one model u.m f.m u.reads f.reads) u.faultless f.fault
 
 -- a script is not both accepted and refused
 breaks : (m : tree.Model) (script : List ℕ) (text : List TextCommand) (commands : List Command) → read_script script ≡ Ok text → name_script (shown_objects m) text ≡ Ok commands → IsBrokenScript m script → ⊥

@@ -9,7 +9,7 @@ use Rattle.method_design.specs.Made.{IsMethodsOf, method_objects}
 use Rattle.method_design.specs.declared.designs.Design.{Design}
 use Rattle.model_lexer.specs.Reads.{Reads}
 use Rattle.not_built.specs.Missing.{first_not_built}
-use Rattle.model_rules.specs.FirstFault.{first_fault}
+use Rattle.model_faults.specs.Passes.{first_fault}
 use Rattle.model_tree.specs.Stops.{IfRefused}
 use Rattle.flat_design.specs.declared.code.Code.{Code}
 use Rattle.method_design.specs.declared.designs.Object.{Object}
@@ -59,8 +59,8 @@ unbuilt_construct stop n o e h =
 -- what is wrong with a model breaks it
 pub model_broken_by : (model : List ℕ) (f : ModelFault) → HasModelFault model f → IsBrokenModel model
 model_broken_by model (model_fault.Syntax line) h = inl h
-model_broken_by model (model_fault.NotBuilt n) h = inr (inl (record { m = h.0; reads = h.1; unbuilt = is_some (first_not_built h.0) (n.line, n.name) h.2 }))
-model_broken_by model (model_fault.Rule fault) h = inr (inr (record { m = h.0; reads = h.1; built = h.2; fault = is_some (first_fault h.0) fault h.3 }))
+model_broken_by model (model_fault.NotBuilt n) h = inr (inl (record { m = h.0; reads = h.1; faultless = h.2; unbuilt = is_some (first_not_built h.0) (n.line, n.name) h.3 }))
+model_broken_by model (model_fault.Rule fault) h = inr (inr (record { m = h.0; reads = h.1; fault = is_some (first_fault h.0) fault h.2 }))
 
 -- and what is wrong with a script
 pub script_broken_by : (objects : List Object) (script : List ℕ) (f : ScriptFault) → HasScriptFault objects script f → BreaksScript objects script
@@ -97,8 +97,8 @@ if_ok (Ok x) f h = f x h
 if_ok (Err e) f h = tt
 
 by_findings : (text : List ℕ) (m : tree.Model) → Reads text m → (found : Option (ℕ × List ℕ)) (fault : Option Fault) → first_not_built m ≡ found → first_fault m ≡ fault → AcceptsModel text m ⊎ (HasUnbuilt text ⊎ BreaksRule text)
-by_findings text m reads (Some found) fault u f = inr (inl (record { m = m; reads = reads; unbuilt = is_some (first_not_built m) found u }))
-by_findings text m reads None (Some fault) u f = inr (inr (record { m = m; reads = reads; built = u; fault = is_some (first_fault m) fault f }))
+by_findings text m reads found (Some fault) u f = inr (inr (record { m = m; reads = reads; fault = is_some (first_fault m) fault f }))
+by_findings text m reads (Some found) None u f = inr (inl (record { m = m; reads = reads; faultless = f; unbuilt = is_some (first_not_built m) found u }))
 by_findings text m reads None None u f = inl (record { reads = reads; built = u; faultless = f })
 
 -- a model that reads is accepted or refused

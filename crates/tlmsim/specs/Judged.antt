@@ -5,7 +5,7 @@ use Rattle.model_tree.specs.declared.faults.Fault.{Fault}
 use Rattle.method_design.specs.declared.designs.Object.{Object}
 use Rattle.model_lexer.specs.Reads.{Reads}
 use Rattle.not_built.specs.Missing.{first_not_built}
-use Rattle.model_rules.specs.FirstFault.{first_fault}
+use Rattle.model_faults.specs.Passes.{first_fault}
 use Rattle.flat_design.specs.declared.design.Design.{Design}
 use Rattle.method_design.specs.Made.{IsMethodsOf, method_objects}
 use Rattle.method_design.specs.declared.designs.Design.{Design as MethodDesign}
@@ -24,32 +24,31 @@ use Rattle.tlmsim.specs.declared.faults.ScriptFault.TheVariants as script_fault
 abbrev pub HasNoTree : List ℕ → Type 0
 HasNoTree model = (m : tree.Model) → Reads model m → ⊥
 
--- the model reads as a tree, in which a construct is not built
-pub record HasUnbuilt (model : List ℕ) : Type 0 where
-  pub m : tree.Model
-  pub reads : Reads model m
-  pub unbuilt : IsSome (first_not_built m)
-
--- the model reads as a tree of built constructs alone, and breaks a rule
+-- the model reads as a tree, and breaks a rule
 pub record BreaksRule (model : List ℕ) : Type 0 where
   pub m : tree.Model
   pub reads : Reads model m
-  pub built : first_not_built m ≡ None
   pub fault : IsSome (first_fault m)
+
+-- the model reads as a tree that breaks no rule, in which a construct is not built
+pub record HasUnbuilt (model : List ℕ) : Type 0 where
+  pub m : tree.Model
+  pub reads : Reads model m
+  pub faultless : first_fault m ≡ None
+  pub unbuilt : IsSome (first_not_built m)
 
 -- the model is refused, for one of these causes
 abbrev pub IsBrokenModel : List ℕ → Type 0
 IsBrokenModel model = HasNoTree model ⊎ (HasUnbuilt model ⊎ BreaksRule model)
 
--- what is said of a model that is refused is so: it reads as no tree; or as one in which the first construct that is
--- not built has this line and stands in the module of this name; or as one of built constructs alone, of which this
--- is the first fault
+-- what is said of a model that is refused is so: it reads as no tree; or as one of which this is the first fault; or as one
+-- that breaks no rule, in which the first construct that is not built has this line and stands in the module of this name
 abbrev pub HasModelFault : List ℕ → ModelFault → Type 0
 HasModelFault model (model_fault.Syntax line) = HasNoTree model
-HasModelFault model (model_fault.NotBuilt n) = (m : tree.Model) × Reads model m × (first_not_built m ≡ Some (n.line, n.name))
-HasModelFault model (model_fault.Rule fault) = (m : tree.Model) × Reads model m × (first_not_built m ≡ None) × (first_fault m ≡ Some fault)
+HasModelFault model (model_fault.NotBuilt n) = (m : tree.Model) × Reads model m × (first_fault m ≡ None) × (first_not_built m ≡ Some (n.line, n.name))
+HasModelFault model (model_fault.Rule fault) = (m : tree.Model) × Reads model m × (first_fault m ≡ Some fault)
 
--- the model reads as this tree, in which each construct is built, and which breaks no rule
+-- the model reads as this tree, which breaks no rule, and in which each construct is built
 pub record AcceptsModel (model : List ℕ) (m : tree.Model) : Type 0 where
   pub reads : Reads model m
   pub built : first_not_built m ≡ None

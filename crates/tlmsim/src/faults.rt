@@ -7,10 +7,10 @@ use model_tree::Fault;
 pub enum ModelFault {
     /// It has no tree; the line that says so, counted from 1.
     Syntax(u32),
-    /// A construct of it is not built: the first in text order, with the name of its module.
-    NotBuilt(NotBuilt),
     /// It breaks a rule: its first fault.
     Rule(Fault),
+    /// It breaks no rule, and a construct of it is not built: the first in text order, with the name of its module.
+    NotBuilt(NotBuilt),
 }
 
 /// What is wrong with a script.

@@ -2,6 +2,7 @@ ghost use Rattle.std.specs.Prelude.{◌≡◌, ◌<◌, ◌^◌, IfErr, IfOk, le
 ghost use Rattle.model_tree.specs.Tree as tree;
 ghost use Rattle.model_lexer.specs.Reads.{Reads};
 ghost use Rattle.model_tree.specs.Seen.{model_of};
+ghost use Rattle.model_faults.specs.Passes.{first_fault};
 ghost use Rattle.not_built.specs.Missing.{first_not_built};
 ghost use Rattle.model_rules.specs.FlatDesign.{IsCodeOf};
 ghost use Rattle.method_model.specs.Configuration.{visible};
@@ -11,6 +12,7 @@ ghost use Rattle.tlmsim.specs.Refused.{IfModelFault, IfScriptFault, HasTextFault
 use super::faults::{ModelFault, ScriptFault};
 use super::load::Texts;
 use super::unbuilt::{UnbuiltStop, refuse_unbuilt};
+use built_laws::built_models_break_no_rule;
 use elaborate::elaborate;
 use method_design::{Design, method_design};
 use method_model::Command;
@@ -18,6 +20,7 @@ use model_check::{Checked, check};
 use model_parser::parse;
 use model_tree::{CheckStop, ParseStop, Tree};
 use plain_lists::Items;
+use rule_check::judge_rules;
 use script_text::{commands, name_all};
 use std::alloc::{AllocError, Global};
 
@@ -59,10 +62,11 @@ pub struct Judged {
     pub script: Items<Command>,
 }
 
-/// The tree of a model, in which each construct is built.
+/// The tree of a model, which breaks no rule, and in which each construct is built.
 fn read_model(alloc: Global, text: &[u8]) -> Result<Tree, ModelStop>
     requires { length text.now < 2 ^ 32 }
     ensures reads { IfOk result (λ t. Reads text.now (model_of t)) }
+    ensures faultless { IfOk result (λ t. first_fault (model_of t) ≡ None) }
     ensures built { IfOk result (λ t. first_not_built (model_of t) ≡ None) }
     ensures fault { IfErr result (λ stop. IfModelFault stop (HasModelFault text.now)) }
 {
@@ -71,6 +75,11 @@ fn read_model(alloc: Global, text: &[u8]) -> Result<Tree, ModelStop>
         Err(ParseStop::Syntax { line }) => return Err(ModelStop::Fault(ModelFault::Syntax(line))),
         Err(ParseStop::NoMemory) => return Err(ModelStop::NoMemory),
     };
+    match judge_rules(alloc, &tree) {
+        Ok(()) => {}
+        Err(CheckStop::Refused(fault)) => return Err(ModelStop::Fault(ModelFault::Rule(fault))),
+        Err(CheckStop::NoMemory) => return Err(ModelStop::NoMemory),
+    }
     match refuse_unbuilt(alloc, &tree) {
         Ok(()) => Ok(tree),
         Err(UnbuiltStop::NotBuilt(found)) => Err(ModelStop::Fault(ModelFault::NotBuilt(found))),
@@ -78,7 +87,8 @@ fn read_model(alloc: Global, text: &[u8]) -> Result<Tree, ModelStop>
     }
 }
 
-/// The rules are right for built constructs alone, so what is not built is looked for before them.
+/// Judges a model by the rules, then by what is run today, and makes its code. What is run today and breaks no rule breaks none of
+/// the rules that the code of methods rests on.
 fn judge_model(alloc: Global, text: &[u8]) -> Result<Checked, ModelStop>
     requires { length text.now < 2 ^ 32 }
     ensures accepted { IfOk result (λ checked. AcceptsModel text.now (model_of checked.tree)) }
@@ -89,9 +99,10 @@ fn judge_model(alloc: Global, text: &[u8]) -> Result<Checked, ModelStop>
         Ok(tree) => tree,
         Err(stop) => return Err(stop),
     };
+    built_models_break_no_rule();
     match check(alloc, tree) {
         Ok(checked) => Ok(checked),
-        Err(CheckStop::Refused(fault)) => Err(ModelStop::Fault(ModelFault::Rule(fault))),
+        Err(CheckStop::Refused(_)) => unreachable!(),
         Err(CheckStop::NoMemory) => Err(ModelStop::NoMemory),
     }
 }

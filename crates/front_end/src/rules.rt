@@ -1,0 +1,60 @@
+//! The first fault of a tree, in one line.
+
+use model_tree::{CheckStop, Fault, Kind, Tree};
+use rule_check::judge_rules;
+use std::alloc::{AllocError, Global};
+
+/// The name of a kind of fault.
+fn kind_name(kind: Kind) -> &'static str {
+    match kind {
+        Kind::DoubleName => "DoubleName",
+        Kind::UnknownName => "UnknownName",
+        Kind::WrongKind => "WrongKind",
+        Kind::TypeDiffers => "TypeDiffers",
+        Kind::WidthRange => "WidthRange",
+        Kind::LiteralRange => "LiteralRange",
+        Kind::WaitInMethod => "WaitInMethod",
+        Kind::TriggerInThread => "TriggerInThread",
+        Kind::BlockingInNonblocking => "BlockingInNonblocking",
+        Kind::WaitInUnwind => "WaitInUnwind",
+        Kind::ThrowInUnwind => "ThrowInUnwind",
+        Kind::SpawnInUnwind => "SpawnInUnwind",
+        Kind::TransportInUnwind => "TransportInUnwind",
+        Kind::BadHandler => "BadHandler",
+        Kind::BadSpawn => "BadSpawn",
+        Kind::ArgumentCount => "ArgumentCount",
+        Kind::ReturnDiffers => "ReturnDiffers",
+        Kind::BadClock => "BadClock",
+        Kind::FifoSize => "FifoSize",
+        Kind::SemaphoreRange => "SemaphoreRange",
+        Kind::PortSize => "PortSize",
+        Kind::BadBinding => "BadBinding",
+        Kind::ModuleCycle => "ModuleCycle",
+        Kind::TooManyObjects => "TooManyObjects",
+        Kind::Unbound => "Unbound",
+        Kind::DoubleBound => "DoubleBound",
+        Kind::KindDiffers => "KindDiffers",
+        Kind::TooMany => "TooMany",
+        Kind::BadValue => "BadValue",
+    }
+}
+
+/// A fault as its kind, its line and its name.
+fn shown_fault(alloc: Global, fault: &Fault) -> Result<String, AllocError> {
+    let mut shown = String::from_str(alloc, kind_name(fault.kind))?;
+    let line = fault.line;
+    write!(shown, " {line} ")?;
+    for byte in fault.name.as_slice() {
+        shown.push(*byte as char)?;
+    }
+    Ok(shown)
+}
+
+/// The first fault of a tree by the rules on modules.
+pub fn first_fault(alloc: Global, tree: &Tree) -> Result<Option<String>, AllocError> {
+    match judge_rules(alloc, tree) {
+        Ok(()) => Ok(None),
+        Err(CheckStop::Refused(fault)) => Ok(Some(shown_fault(alloc, &fault)?)),
+        Err(CheckStop::NoMemory) => Err(AllocError),
+    }
+}
