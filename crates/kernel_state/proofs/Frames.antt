@@ -9,14 +9,16 @@ use Rattle.event_core.specs.declared.notifications.Pending.{Pending}
 use Rattle.logic_values.specs.declared.kinds.Value.{Value}
 use Rattle.instance_table.specs.declared.instances.Instance.{Instance as Entry}
 use Rattle.flat_design.specs.Code.{Arena, arena_of}
-use Rattle.sim_model.specs.Residual.{Residual, settle, in_innermost}
+use Rattle.sim_model.specs.Residual.{Residual, settle, in_innermost, goal}
+use Rattle.sim_model.specs.Unwinding.{unw}
+use Rattle.sim_model.specs.declared.plain.Goal.{Goal}
 use Rattle.sim_model.specs.Configuration as model
-use Rattle.sim_model.specs.Configuration.{Config, Instance, Processes, Channels, Trace, changed_at, change, change_instance, instance_at, with_residual, with_marks, arena}
+use Rattle.sim_model.specs.Configuration.{Config, Instance, Processes, Channels, Transactions, Trace, changed_at, change, change_instance, instance_at, with_residual, with_marks, arena}
 use Rattle.sim_model.specs.Waits.{holds, fire, wake, waits, leaves_stack}
 use Rattle.sim_model.specs.Statements.{settled_in}
 use Rattle.sim_model.specs.Storing.{with_local, set_local}
 use Rattle.body_model.specs.Strip.{strip}
-use Rattle.body_model.proofs.Strips.{strip-settle, strip-in_innermost}
+use Rattle.body_model.proofs.Strips.{strip-settle, strip-in_innermost, strip-unw}
 use Rattle.numbered_slots.specs.Numbered.{with_value}
 use Rattle.wake_laws.specs.Woken.{after_wake, joins, after_event, joins_by, at_only, joins_only}
 use Rattle.process_moves.proofs.OtherBody.{puts_body, puts_sound}
@@ -33,9 +35,11 @@ use Rattle.schedule.specs.declared.parts.Process.{Process}
 use Rattle.schedule.specs.declared.parts.Schedule.{Schedule}
 use Rattle.schedule.specs.declared.parts.Trigger.{Trigger}
 use Rattle.process_moves.specs.Moved.{IsTop, same_stack, leaves_top, joins_top, Stays, Ends, Spawns, PutsBody, wait_as, waits_as}
+use Rattle.transaction_board.specs.Board.{StandsForTransactions, SameQuantum, IsWithin}
+use Rattle.transaction_board.specs.declared.TransactionBoard.{TransactionBoard}
 use Rattle.kernel_state.specs.Processes.{Beside, beside, TellsBy, Tells, StandsForProcesses}
 use Rattle.kernel_state.specs.Kernel.{Shows, StandsFor, IsSound, whole_design, path_in}
-use Rattle.kernel_state.specs.Moves.{Moves, Steps, stepped, Lives, HasStatement, KeepsBodies}
+use Rattle.kernel_state.specs.Moves.{Moves, MovesAt, Steps, stepped, Lives, HasStatement, KeepsBodies}
 use Rattle.kernel_state.specs.declared.kernel.Kept.{Kept}
 use Rattle.kernel_state.specs.declared.kernel.Kernel.{Kernel}
 use Rattle.kernel_state.proofs.ProcessFrames.{Agrees, stays, moved_with, stack_same, stack_left, stack_joined, put_stands, roused_stands, rousing_wake, rousing_event}
@@ -43,6 +47,14 @@ use Rattle.kernel_state.proofs.ProcessFrames.{Agrees, stays, moved_with, stack_s
 abbrev unwrap : Option Kept → Kept → Kept
 unwrap None x = x
 unwrap (Some x) y = x
+
+-- what is kept for an instance is kept for one that has not ended
+there_as : {A B : Type 0} (f : A → B) (o : Option A) → is_some (option_map f o) ≡ is_some o
+there_as f None = refl
+there_as f (Some a) = refl
+
+pub lives_by_kept : (s : Schedule Kept) (p : ℕ) (kept : Kept) → kept_at s p ≡ Some kept → map.contains_key s.table.live p ≡ true
+lives_by_kept s p kept at = sym (there_as (λ (z : Entry (Process Kept)). z.body.body) (map.get s.table.live p)) ∙ ap is_some at
 
 -- an element changed twice
 set-twice : {A : Type 0} (xs : List A) (n : ℕ) (a b : A) → slice_set (slice_set xs n a) n b ≡ slice_set xs n b
@@ -68,6 +80,8 @@ module _ (k : Kernel) (c : Config) (h : StandsFor k c) where
     processes = stands;
     events = h.events;
     channels = h.channels;
+    transactions = h.transactions;
+    quantum = h.quantum;
     variables = h.variables;
     memories = h.memories;
   }
@@ -80,6 +94,8 @@ module _ (k : Kernel) (c : Config) (h : StandsFor k c) where
     processes = h.processes;
     events = h.events;
     channels = h.channels;
+    transactions = h.transactions;
+    quantum = h.quantum;
     variables = h.variables;
     memories = h.memories;
   }
@@ -92,9 +108,33 @@ module _ (k : Kernel) (c : Config) (h : StandsFor k c) where
     processes = h.processes;
     events = h.events;
     channels = refl;
+    transactions = h.transactions;
+    quantum = h.quantum;
     variables = h.variables;
     memories = h.memories;
   }
+
+module _ (k : Kernel) (c : Config) (h : StandsFor k c) where
+  pub transactions_move : (b : TransactionBoard) (x : Transactions) → StandsForTransactions b x → SameQuantum k.transactions b → StandsFor (record k { transactions = b }) (record c { transactions = x })
+  transactions_move b x stands same = record {
+    design = h.design;
+    cycle = h.cycle;
+    processes = h.processes;
+    events = h.events;
+    channels = h.channels;
+    transactions = stands;
+    quantum = same ∙ h.quantum;
+    variables = h.variables;
+    memories = h.memories;
+  }
+
+-- what was made, and how many hold it, stays below more
+pub within_more : (n m : ℕ) (b : TransactionBoard) → n ≤ m → IsWithin n b → IsWithin m b
+within_more n m b le within = record {
+  numbers = let few = within.numbers in omega (arith, few, le);
+  counts = λ t x is. let few = within.counts t x is in omega (arith, few, le);
+  live = within.live;
+}
 
 -- the schedule moves, and the bodies stay
 pub keeps_bodies : (k : Kernel) (s : Schedule Kept) → ((q : ℕ) → kept_at s q ≡ kept_at k.schedule q) → KeepsBodies k (record k { schedule = s })
@@ -109,22 +149,27 @@ module _ (k : Kernel) (sound : IsSound k) where
     bodies = λ p kept at. sound.bodies p kept (sym (same p) ∙ at);
     nobody_due = due ∙ sound.nobody_due;
     serials = subst (λ n. n ≤ 2 ^ 16 + k.made) (sym next) sound.serials;
+    payloads = sound.payloads;
+  }
+
+-- ---- what is kept for an instance
+
+module _ (k : Kernel) (p : ℕ) (new : Kept) (s : Schedule Kept) (puts : PutsBody p new k.schedule s) where
+  pub kept_sound : IsSound k → schedules.IsSound s → bodies.IsSound k.program new.body → IsSound (record k { schedule = s })
+  kept_sound sound fine body_fine = record {
+    schedule = fine;
+    bodies = λ q other found. ⊎_elim
+        (λ same. subst (λ v. bodies.IsSound k.program v.body) (ap (λ o. unwrap o new) (sym (puts.body) ∙ ap (kept_at s) (sym same) ∙ found)) body_fine)
+        (λ apart. sound.bodies q other (sym (puts.bodies q apart) ∙ found))
+        (cases_eq q p);
+    nobody_due = ap (λ v. v.items) puts.due ∙ sound.nobody_due;
+    serials = subst (λ n. n ≤ 2 ^ 16 + k.made) (sym puts.next) sound.serials;
+    payloads = sound.payloads;
   }
 
 -- ---- the body of an instance
 
 module _ (k : Kernel) (p : ℕ) (kept : Kept) (b : Body) (at : kept_at k.schedule p ≡ Some kept) (s : Schedule Kept) (puts : PutsBody p (record kept { body = b }) k.schedule s) (keeps : bodies.Keeps kept.body b) where
-  pub body_sound : IsSound k → schedules.IsSound s → bodies.IsSound k.program b → IsSound (record k { schedule = s })
-  body_sound sound fine body_fine = record {
-    schedule = fine;
-    bodies = λ q other found. ⊎_elim
-        (λ same. subst (λ v. bodies.IsSound k.program v.body) (ap (λ o. unwrap o kept) (sym (puts.body) ∙ ap (kept_at s) (sym same) ∙ found)) body_fine)
-        (λ apart. sound.bodies q other (sym (puts.bodies q apart) ∙ found))
-        (cases_eq q p);
-    nobody_due = ap (λ v. v.items) puts.due ∙ sound.nobody_due;
-    serials = subst (λ n. n ≤ 2 ^ 16 + k.made) (sym puts.next) sound.serials;
-  }
-
   -- the residual of the instance becomes what its body stands for
   pub residual_moves : (c : Config) → StandsFor k c → (n : Residual) → strip n ≡ left_in k.program b → StandsFor (record k { schedule = s }) (with_residual c p n)
   residual_moves c h n is = processes_move k c h s (record c.processes { instances = change c.processes.instances p (λ i. record i { residual = n }) })
@@ -181,7 +226,7 @@ module _ (k : Kernel) (p : ℕ) (x : Entry (Process Kept)) (b : Body) (at : map.
   puts = puts_body k.schedule p x (record x.body.body { body = b }) at
 
   pub one_body_sound : IsSound k → bodies.IsSound k.program b → IsSound (record k { schedule = with_body })
-  one_body_sound sound fine = body_sound k p x.body.body b (was k p x at) with_body puts keeps sound (puts_sound k.schedule p x (record x.body.body { body = b }) at sound.schedule) fine
+  one_body_sound sound fine = kept_sound k p (record x.body.body { body = b }) with_body puts sound (puts_sound k.schedule p x (record x.body.body { body = b }) at sound.schedule) fine
 
   -- over the configuration in which finished parts fell away
   pub steps_to : (c : Config) (i : Instance) → StandsFor k c → instance_at c p ≡ Some i → (n : Residual) → strip n ≡ left_in k.program b
@@ -204,6 +249,44 @@ module _ (k : Kernel) (p : ℕ) (x : Entry (Process Kept)) (b : Body) (at : map.
         arguments = o.arguments ∙ sym keeps.arguments;
         residual = strip-in_innermost (with_local n v) i.residual ∙ ap (in_innermost (with_local n v)) o.residual ∙ sym (left (arena_of k.program.code));
         trigger = o.trigger;
+      }))
+
+  -- the instance is there still
+  pub there_still : map.contains_key with_body.table.live p ≡ true
+  there_still = lives_by_kept with_body p (record x.body.body { body = b }) puts.body
+
+  -- what is left is unwound
+  pub unwound_moves : (end : Goal) → ((a : Arena) → bodies.left_of a b ≡ goal (unw (bodies.left_of a x.body.body.body)) end) → MovesAt k (record k { schedule = with_body }) p (λ c i. with_residual c p (goal (unw i.residual) end))
+  unwound_moves end left c i h there = residual_moves k p x.body.body b (was k p x at) with_body puts keeps c h (goal (unw i.residual) end)
+      (ap (λ r. goal r end) (strip-unw i.residual ∙ ap unw (left_before k p x at c i h there)) ∙ sym (left (arena_of k.program.code)))
+
+-- ---- the next trigger of an instance is gone
+
+module _ (k : Kernel) (p : ℕ) (x : Entry (Process Kept)) (at : map.get k.schedule.table.live p ≡ Some x) where
+  abbrev pub without_trigger : Schedule Kept
+  without_trigger = record k.schedule { table = with_value k.schedule.table p (record x { body = record x.body { body = record x.body.body { trigger = None } } }) }
+
+  puts_untriggered : PutsBody p (record x.body.body { trigger = None }) k.schedule without_trigger
+  puts_untriggered = puts_body k.schedule p x (record x.body.body { trigger = None }) at
+
+  pub untriggered_there : map.contains_key without_trigger.table.live p ≡ true
+  untriggered_there = lives_by_kept without_trigger p (record x.body.body { trigger = None }) puts_untriggered.body
+
+  pub untriggered_sound : IsSound k → IsSound (record k { schedule = without_trigger })
+  untriggered_sound sound = kept_sound k p (record x.body.body { trigger = None }) without_trigger puts_untriggered sound (puts_sound k.schedule p x (record x.body.body { trigger = None }) at sound.schedule) (old_body_sound k p x at sound)
+
+  pub untriggered_moves : Moves k (record k { schedule = without_trigger }) (λ c. change_instance c p (λ i. record i { trigger = None }))
+  untriggered_moves c h = processes_move k c h without_trigger (record c.processes { instances = change c.processes.instances p (λ i. record i { trigger = None }) })
+      (put_stands (Shows (whole_design k) k.program) k.schedule without_trigger c.processes h.processes p (record x.body.body { trigger = None }) (λ i. record i { trigger = None }) puts_untriggered (λ i. refl) (λ i. refl) (λ i none. none)
+      (λ a i found there old.
+      let o = subst (λ w. Shows (whole_design k) k.program w (beside i)) (ap (λ o. unwrap o x.body.body) (sym found ∙ was k p x at)) old in
+      record {
+        home = o.home;
+        path = o.path;
+        code = o.code;
+        arguments = o.arguments;
+        residual = o.residual;
+        trigger = refl;
       }))
 
 -- ---- events and wakes
@@ -229,6 +312,15 @@ module _ (k : Kernel) (sound : IsSound k) (s : Schedule Kept) (fine : schedules.
         (subst (StandsForProcesses (Shows (whole_design k) k.program) s) (ap (λ d. d.processes) (wake_rouses c p).others)
         (roused_stands (Shows (whole_design k) k.program) (at_only p after_wake) (joins_only p joins) (rousing_wake (Shows (whole_design k) k.program) p) k.schedule s c (wake c p) r (wake_rouses c p) h.processes)))
 
+-- ---- an instance that has not ended is shown
+
+pub shown_where_lives : (k : Kernel) (p : ℕ) → Lives k p → is_some (shown_at k.schedule p) ≡ true
+shown_where_lives k p lives = by (map.get k.schedule.table.live p) refl lives
+  where
+    by : (o : Option (Entry (Process Kept))) → map.get k.schedule.table.live p ≡ o → is_some o ≡ true → is_some (shown_at k.schedule p) ≡ true
+    by None none is = absurd (true≢false (sym is))
+    by (Some z) some is = ap (λ o. is_some (option_map (λ (x : Entry (Process Kept)). as_instance x (seen k.schedule p).wait) o)) some
+
 -- ---- a wait of the instance on top
 
 module _ (k : Kernel) (p : ℕ) (sound : IsSound k) (top : IsTop p k.schedule.stack.items) where
@@ -239,11 +331,7 @@ module _ (k : Kernel) (p : ℕ) (sound : IsSound k) (top : IsTop p k.schedule.st
   lives_on_top = sound.schedule.active p on_now
 
   shows_on_top : is_some (shown_at k.schedule p) ≡ true
-  shows_on_top = by (map.get k.schedule.table.live p) refl lives_on_top
-    where
-      by : (o : Option (Entry (Process Kept))) → map.get k.schedule.table.live p ≡ o → is_some o ≡ true → is_some (shown_at k.schedule p) ≡ true
-      by None none is = absurd (true≢false (sym is))
-      by (Some z) some is = ap (λ o. is_some (option_map (λ (x : Entry (Process Kept)). as_instance x (seen k.schedule p).wait) o)) some
+  shows_on_top = shown_where_lives k p lives_on_top
 
   not_ready : set.contains k.schedule.ready.members p ≡ false
   not_ready = by (map.get k.schedule.table.live p) refl lives_on_top
@@ -273,10 +361,6 @@ module _ (k : Kernel) (p : ℕ) (sound : IsSound k) (top : IsTop p k.schedule.st
 -- ---- what stays with the bodies
 
 module _ (old new : Kernel) (p : ℕ) (keeps : KeepsBodies old new) where
-  there_as : {A B : Type 0} (f : A → B) (o : Option A) → is_some (option_map f o) ≡ is_some o
-  there_as f None = refl
-  there_as f (Some a) = refl
-
   pub lives_still : Lives old p → Lives new p
   lives_still lives = sym (there_as (λ (z : Entry (Process Kept)). z.body.body) (map.get new.schedule.table.live p)) ∙ ap is_some (keeps.bodies p) ∙ there_as (λ (z : Entry (Process Kept)). z.body.body) (map.get old.schedule.table.live p) ∙ lives
 

@@ -2,4 +2,9 @@ pub mod ProcessFrames
 pub mod Frames
 pub mod Fifos
 pub mod Offsprings
-pub mod FirstOnes
+pub mod Uses
+pub mod Bytes
+pub mod Leaving
+pub mod Stacks
+pub mod Pushing
+pub mod Ending

@@ -28,7 +28,7 @@ use Rattle.kernel_state.specs.declared.kernel.Kept.{Kept}
 use Rattle.kernel_state.specs.declared.kernel.Kernel.{Kernel}
 use Rattle.kernel_state.specs.declared.kernel.Offspring.{Offspring}
 use Rattle.kernel_state.proofs.ProcessFrames.{spawned_stands}
-use Rattle.kernel_state.proofs.Frames.{processes_move}
+use Rattle.kernel_state.proofs.Frames.{processes_move, within_more}
 
 or-nothing : (b : Bool) → (b || false) ≡ b
 or-nothing true = refl
@@ -42,6 +42,8 @@ made_moves k n c h = record {
   processes = h.processes;
   events = h.events;
   channels = h.channels;
+  transactions = h.transactions;
+  quantum = h.quantum;
   variables = h.variables;
   memories = h.memories;
 }
@@ -109,4 +111,5 @@ module _ (k : Kernel) (sound : IsSound k) (o : Offspring) (n : ℕ) (b : Body) (
         (cases_eq q n);
     nobody_due = spawns.due ∙ sound.nobody_due;
     serials = let next = spawns.next in let old = sound.serials in omega (arith, next, old);
+    payloads = within_more k.made (k.made + 1) k.transactions (omega arith) sound.payloads;
   }

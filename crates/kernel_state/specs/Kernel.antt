@@ -15,6 +15,7 @@ use Rattle.schedule.specs.Seen.{body_at as kept_at, deadline_of}
 use Rattle.schedule.specs.Sound as schedules
 use Rattle.schedule.specs.declared.parts.Trigger.{Trigger}
 use Rattle.process_moves.specs.Moved.{wait_as}
+use Rattle.transaction_board.specs.Board.{StandsForTransactions, StandsForQuantum, IsWithin}
 use Rattle.kernel_state.specs.Processes.{Beside, StandsForProcesses}
 use Rattle.kernel_state.specs.declared.kernel.PathOf.{PathOf}
 use Rattle.kernel_state.specs.declared.kernel.PathOf.TheVariants as path_by
@@ -53,6 +54,8 @@ pub record StandsFor (k : Kernel) (c : Config) : Type 0 where
   pub processes : StandsForProcesses (Shows (whole_design k) k.program) k.schedule c.processes
   pub events : c.events ≡ k.events
   pub channels : c.channels ≡ k.channels
+  pub transactions : StandsForTransactions k.transactions c.transactions
+  pub quantum : StandsForQuantum k.transactions c.quantum
   pub variables : c.store.variables ≡ k.variables.items
   pub memories : c.store.memories ≡ k.memories.items
 
@@ -62,3 +65,4 @@ pub record IsSound (k : Kernel) : Type 0 where
   pub bodies : (p : ℕ) (kept : Kept) → kept_at k.schedule p ≡ Some kept → bodies.IsSound k.program kept.body
   pub nobody_due : k.schedule.due.items ≡ []
   pub serials : k.schedule.table.next ≤ 2 ^ 16 + k.made
+  pub payloads : IsWithin k.made k.transactions

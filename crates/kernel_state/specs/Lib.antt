@@ -2,4 +2,3 @@ pub mod Processes
 pub mod Kernel
 pub mod Moves
 pub mod Spawned
-pub mod Made

@@ -1,7 +1,7 @@
 -- What a move of a kernel is: it carries the configuration that the kernel stands for to another.
-use Rattle.std.specs.Prelude.{◌≡◌, ℕ, true, Option, Some, None, slice_get}
+use Rattle.std.specs.Prelude.{◌≡◌, ℕ, true, Option, Some, None, Result, Ok, Err, slice_get}
 use Rattle.std.specs.FinMap as map
-use Rattle.sim_model.specs.Residual as residual
+use Rattle.flat_design.specs.declared.faults.RunFault.{RunFault}
 use Rattle.sim_model.specs.Residual.{Residual, settle}
 use Rattle.sim_model.specs.Configuration.{Config, Instance, instance_at, arena}
 use Rattle.sim_model.specs.Statements.{settled_in}
@@ -23,6 +23,22 @@ stepped f c p i = f (settled_in c p i.residual) p (record i { residual = settle 
 
 abbrev pub Steps : Kernel → Kernel → ℕ → (Config → ℕ → Instance → Residual → Config) → Type 0
 Steps old new p f = (c : Config) (i : Instance) → StandsFor old c → instance_at c p ≡ Some i → StandsFor new (stepped f c p i)
+
+-- the same of a move of one instance
+abbrev pub MovesAt : Kernel → Kernel → ℕ → (Config → Instance → Config) → Type 0
+MovesAt old new p f = (c : Config) (i : Instance) → StandsFor old c → instance_at c p ≡ Some i → StandsFor new (f c i)
+
+-- A run fault is answered as it is, and changes nothing.
+abbrev pub Follows : Kernel → Result Unit RunFault → Config → Result Config RunFault → Type 0
+Follows new (Ok u) c (Ok d) = StandsFor new d
+Follows new (Ok u) c (Err f) = ⊥
+Follows new (Err g) c (Ok d) = ⊥
+Follows new (Err g) c (Err f) = (g ≡ f) × StandsFor new c
+
+-- A step of an instance by a statement that may be at fault.
+abbrev pub Does : Kernel → Kernel → Result Unit RunFault → ℕ → (Config → ℕ → Instance → Residual → Result Config RunFault) → Type 0
+Does old new answer p f = (c : Config) (i : Instance) → StandsFor old c → instance_at c p ≡ Some i
+    → Follows new answer c (f (settled_in c p i.residual) p (record i { residual = settle (arena c) i.residual }) (settle (arena c) i.residual))
 
 -- there is an instance of this serial that has not ended
 abbrev pub Lives : Kernel → ℕ → Type 0

@@ -11,6 +11,7 @@ use process_state::Body;
 use schedule::{Schedule, Trigger};
 use sim_model::Phase;
 use sim_time::Time;
+use transaction_board::TransactionBoard;
 
 /// What the path of an instance is made of.
 #[derive(Clone, Copy, Debug, PartialEq, Eq)]
@@ -66,12 +67,14 @@ pub struct Kernel {
     pub events: EventBoard,
     /// The channels.
     pub channels: ChannelBoard,
+    /// The payloads, what is open on each hop, and the quantum keepers.
+    pub transactions: TransactionBoard,
     /// The variables of instances of modules.
     pub variables: Vec<Value>,
     /// The bytes of memories.
     pub memories: Vec<Bytes>,
-    /// How many steps were made that may have given a number: serials, payload numbers, counts of holders and values of
-    /// semaphores rise by no more than this does.
+    /// How often an instance was spawned, a payload made or one held once more: serials, the numbers of payloads and the counts
+    /// of their holders are within it.
     pub made: u32,
 }
 

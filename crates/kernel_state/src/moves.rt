@@ -20,6 +20,7 @@ pub fn pass(k: &mut Kernel, p: u32)
     requires lives { Lives k.old p }
     requires statement { HasStatement k.old p }
     ensures steps { Steps k.old k.new p (λ c q i r. storing.passes c q r) }
+    ensures stack { k.new.schedule.stack ≡ k.old.schedule.stack }
     ensures sound { IsSound k.new }
 {
     match k.schedule.table.get_mut(p) {

@@ -4,3 +4,4 @@ pub mod Stepping
 pub mod Unwinds
 pub mod Shows
 pub mod Numbers
+pub mod Forgetting

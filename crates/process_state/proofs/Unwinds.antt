@@ -26,7 +26,7 @@ unw_followed : (r : Residual) (ss : List ℕ) → unw (followed r ss) ≡ unw r
 unw_followed r [] = refl
 unw_followed r (s ∷ ss) = refl
 
-unw_around : (a : Arena) (l : Layer) (r : Residual) → unw (around a l r) ≡ around a (unwound l) (unw r)
+pub unw_around : (a : Arena) (l : Layer) (r : Residual) → unw (around a l r) ≡ around a (unwound l) (unw r)
 unw_around a (layer.Rest c) r = unw_followed r (rest_at a c)
 unw_around a (layer.Again s) r = refl
 unw_around a (layer.Owed u) r = refl

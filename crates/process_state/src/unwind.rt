@@ -1,27 +1,51 @@
 //! Unwinding of a body: what a kill, a reset or an exception makes of what is left.
 ghost use Rattle.std.specs.Prelude.{◌≡◌, ◌≤◌, true, false, slice_get, ◌+◌, ◌<◌, ◌^◌, IfSome};
+ghost use Rattle.std.specs.Vec.{vec_capacity, vec_len};
+ghost use Rattle.std.specs.List.{remove};
 ghost use Rattle.flat_design.specs.Code.{Arena, arena_of};
 ghost use Rattle.sim_model.specs.Residual.{goal, has_goal};
 ghost use Rattle.sim_model.specs.Unwinding as spec;
 ghost use Rattle.body_code.specs.declared.program.Program.{Program as Whole};
+ghost use Rattle.body_layers.specs.Sought.{is_goal, NoneIs};
 ghost use Rattle.process_state.specs.Bodies.{left_of, left_in, IsSound, Keeps};
+ghost use Rattle.process_state.specs.Forgotten.{Forgets};
 
 use crate::body::Body;
 use body_code::{Cursor, Program};
-use body_layers::{Layer, begin_unwinding, handler_in, last_try, left_by};
+use body_layers::{Layer, Sought, begin_unwinding, handler_in, last, last_try, left_by};
 use flat_design::NameId;
 use sim_model::{Goal, Via};
 
+/// Takes a layer away.
+fn take_away(layers: &mut Vec<Layer>, place: usize)
+    requires { place < vec_len layers.old }
+    ensures items { layers.new.items ≡ remove layers.old.items place }
+    ensures capacity { vec_capacity layers.new ≡ vec_capacity layers.old }
+{
+    let _ = layers.remove(place);
+}
+
+/// Takes the goals of unwindings away.
+fn forget_goals(layers: &mut Vec<Layer>)
+    ensures none { NoneIs is_goal layers.new.items }
+    ensures forgets { Forgets layers.old.items layers.new.items }
+    ensures capacity { vec_capacity layers.new ≡ vec_capacity layers.old }
+{
+    while let Some(place) = last(layers.as_slice(), Sought::Goal) {
+        take_away(layers, place);
+    }
+}
+
 impl Body {
     /// Unwinds all that is left, before this goal: the unwind blocks of its guards are owed, the innermost first (IEEE
-    /// 1666-2011, 5.6.6). It takes no memory.
+    /// 1666-2011, 5.6.6). What was being unwound before another goal is unwound before this one. It takes no memory.
     pub fn unwind(&mut self, end: Goal)
-        requires sound { (p : Whole) × IsSound p self.old }
-        requires free { (a : Arena) → has_goal (left_of a self.old) ≡ false }
+        requires { (p : Whole) × IsSound p self.old }
         ensures left { (a : Arena) → left_of a self.new ≡ goal (spec.unw (left_of a self.old)) end }
         ensures sound { (p : Whole) → IsSound p self.old → IsSound p self.new }
         ensures kept { Keeps self.old self.new }
     {
+        forget_goals(&mut self.layers);
         begin_unwinding(&mut self.layers, 0, end);
         self.statement = None;
     }

@@ -1,0 +1,62 @@
+-- The parts that a kernel begins with, together.
+use Rattle.std.proofs.Common.{◌≡◌, ◌≤◌, ◌+◌, ◌^◌, List, [], length, map, replicate, refl, sym, ap, ◌∙◌, subst, arith}
+use Rattle.std.specs.Global.{Vec}
+use Rattle.instance_table.specs.declared.TheConstants.{MAX_LIVE}
+use Rattle.event_core.specs.declared.notifications.Pending.TheVariants as pending
+use Rattle.quantum_keeper.specs.Keepers.{at_start}
+use Rattle.flat_design.specs.declared.design.Design.{Design}
+use Rattle.flat_design.specs.declared.design.ProcessPart.{ProcessPart}
+use Rattle.flat_design.specs.declared.design.VariablePart.{VariablePart}
+use Rattle.flat_design.specs.declared.design.MemoryPart.{MemoryPart}
+use Rattle.sim_model.specs.Configuration.{start, first_channels, first_instance}
+use Rattle.sim_model.specs.declared.plain.Command.{Command}
+use Rattle.body_code.specs.declared.program.Program.{Program}
+use Rattle.schedule.specs.declared.parts.Schedule.{Schedule}
+use Rattle.transaction_board.specs.Board.{StandsForTransactions, StandsForQuantum, IsWithin}
+use Rattle.kernel_state.specs.Processes.{StandsForProcesses}
+use Rattle.kernel_state.specs.Kernel.{Shows, StandsFor, IsSound, cycle_of}
+use Rattle.kernel_state.specs.declared.kernel.Cycle.{Cycle}
+use Rattle.kernel_state.specs.declared.kernel.Kept.{Kept}
+use Rattle.kernel_state.specs.declared.kernel.Kernel.{Kernel}
+use Rattle.kernel_start.specs.Made.{IsMade, AddsAll, first_cycle}
+use Rattle.kernel_start.specs.declared.parts.First.{First}
+
+module _ (x : Design) (program : Program) (cycle : Cycle) (s : Schedule Kept) (f : First) where
+  abbrev pub together : Kernel
+  together = record { design = x; program = program; cycle = cycle; schedule = s; events = f.events; channels = f.channels; transactions = f.transactions; variables = f.variables; memories = f.memories; made = 0 }
+
+  -- x is the design d with other code, and the program has the code of d
+  module _ (d : Design) (parted : x ≡ record d { code = x.code }) (same : program.code ≡ d.code) (first : cycle_of cycle ≡ first_cycle)
+      (ps : List ProcessPart) (processes : AddsAll program ps s) (listed : ps ≡ x.processes)
+      (events : f.events ≡ replicate d.events pending.Nothing) (channels : f.channels ≡ first_channels d)
+      (transactions : StandsForTransactions f.transactions (record { pool = []; hops = replicate (length d.hops) [] })) (quantum : StandsForQuantum f.transactions (record { keepers = replicate d.keepers at_start; global = 0 }))
+      (variables : f.variables.items ≡ map (λ (p : VariablePart). p.initial) d.variables) (memories : f.memories.items ≡ map (λ (p : MemoryPart). replicate p.size 0) d.memories) where
+    whole : record x { code = program.code } ≡ d
+    whole = ap {A = Design} (λ y. record y { code = program.code }) parted ∙ ap (λ y. record d { code = y }) same
+
+    first_ones : StandsForProcesses (Shows (record x { code = program.code }) program) s (record { runnable = []; stack = []; instances = map (first_instance d) d.processes })
+    first_ones = subst (λ (y : Design). StandsForProcesses (Shows (record x { code = program.code }) program) s (record { runnable = []; stack = []; instances = map (first_instance y) d.processes })) whole
+        (subst (λ ys. StandsForProcesses (Shows (record x { code = program.code }) program) s (record { runnable = []; stack = []; instances = map (first_instance (record x { code = program.code })) ys })) (listed ∙ ap (λ (y : Design). y.processes) parted)
+        (processes (record x { code = program.code }) refl))
+
+    pub first_stands : (script : List Command) → StandsFor together (start d script)
+    first_stands script = record {
+      design = sym whole;
+      cycle = sym first;
+      processes = first_ones;
+      events = sym events;
+      channels = sym channels;
+      transactions = transactions;
+      quantum = quantum;
+      variables = sym variables;
+      memories = sym memories;
+    }
+
+  pub first_sound : (ps : List ProcessPart) → IsMade program s → s.table.next ≡ length ps → length ps ≤ MAX_LIVE → IsWithin 0 f.transactions → IsSound together
+  first_sound ps made next few within = record {
+    schedule = made.schedule;
+    bodies = made.bodies;
+    nobody_due = made.nobody_due;
+    serials = omega (arith, next, few);
+    payloads = within;
+  }

@@ -1,0 +1,29 @@
+use Rattle.std.proofs.Common.{◌≡◌, ◌≤◌, List, length, refl, sym, ap, ◌∙◌, subst}
+use Rattle.instance_table.specs.declared.TheConstants.{MAX_LIVE}
+use Rattle.flat_design.specs.Code.{arena_of}
+use Rattle.flat_design.specs.Reach.{IsIn}
+use Rattle.flat_design.specs.declared.design.Design.{Design}
+use Rattle.flat_design.specs.declared.design.ProcessPart.{ProcessPart}
+use Rattle.flat_design.specs.declared.design.VariablePart.{VariablePart}
+use Rattle.flat_design.specs.declared.design.MemoryPart.{MemoryPart}
+use Rattle.sim_model.specs.Configuration.{start}
+use Rattle.kernel_state.specs.Kernel.{StandsFor, IsSound}
+use Rattle.kernel_start.proofs.Together.{first_stands, first_sound}
+use Rattle.kernel_start.proofs.making.first_kernel.Goals as goal
+
+pub new-requires : goal.new-requires
+new-requires c = λ b j s is inner. c.requires.nested b j s (subst (λ x. IsIn (arena_of x) b s) c.without_code-design.ensures.code is) inner
+
+pub first_processes-requires : goal.first_processes-requires
+first_processes-requires c = subst (λ (ps : List ProcessPart). length ps ≤ MAX_LIVE) (sym (c.as_slice.ensures ∙ ap (λ (x : Design). x.processes) c.without_code-design.ensures.others)) c.requires.few
+
+pub returns-in-Ok-first_processes-clause-first : goal.returns-in-Ok-first_processes-clause-first
+returns-in-Ok-first_processes-clause-first c script = subst (λ k. StandsFor k (start c.args.design script)) (sym c.assembled.ensures.parts)
+    (first_stands c.without_code-design.result.design c.in-Ok-new.program c.assembled.result.cycle c.in-Ok-first_processes.schedule c.in-Ok.first c.args.design
+    c.without_code-design.ensures.others (c.in-Ok-new.ensures ∙ c.without_code-design.ensures.code) c.assembled.ensures.cycle _ c.in-Ok-first_processes.ensures.adds c.as_slice.ensures
+    c.in-Ok.ensures.events c.in-Ok.ensures.channels c.in-Ok.ensures.transactions c.in-Ok.ensures.quantum c.in-Ok.ensures.variables c.in-Ok.ensures.memories script)
+
+pub returns-in-Ok-first_processes-clause-sound : goal.returns-in-Ok-first_processes-clause-sound
+returns-in-Ok-first_processes-clause-sound c = subst IsSound (sym c.assembled.ensures.parts)
+    (first_sound c.without_code-design.result.design c.in-Ok-new.program c.assembled.result.cycle c.in-Ok-first_processes.schedule c.in-Ok.first _ c.in-Ok-first_processes.ensures.sound c.in-Ok-first_processes.ensures.next
+    (subst (λ (ps : List ProcessPart). length ps ≤ MAX_LIVE) (sym (c.as_slice.ensures ∙ ap (λ (x : Design). x.processes) c.without_code-design.ensures.others)) c.requires.few) c.in-Ok.ensures.within)

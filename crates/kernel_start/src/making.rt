@@ -1,0 +1,113 @@
+//! The parts of the first kernel, together.
+ghost use Rattle.std.specs.Prelude.{◌≡◌, ◌≤◌, ◌<◌, ℕ, List, IfOk, Contains, length};
+ghost use Rattle.instance_table.specs.declared.TheConstants.{MAX_LIVE};
+ghost use Rattle.flat_design.specs.Code as code;
+ghost use Rattle.flat_design.specs.Code.{arena_of};
+ghost use Rattle.flat_design.specs.Reach.{IsIn, inner_blocks};
+ghost use Rattle.sim_model.specs.Configuration.{start};
+ghost use Rattle.sim_model.specs.declared.plain.Command.{Command};
+ghost use Rattle.kernel_state.specs.Kernel.{StandsFor, IsSound, cycle_of};
+ghost use Rattle.kernel_start.specs.Made.{first_cycle};
+
+use crate::parts::{First, first_parts};
+use crate::processes::first_processes;
+use body_code::Program;
+use flat_design::{Code, Design};
+use kernel_state::{Cycle, Kept, Kernel};
+use plain_lists::Items;
+use schedule::Schedule;
+use sim_model::Phase;
+use sim_time::Time;
+use std::alloc::{AllocError, Global};
+use std::mem;
+
+/// A design and its code, apart.
+#[derive(Drop)]
+struct Parted {
+    /// The design, with other code.
+    design: Design,
+    /// Its code.
+    code: Code,
+}
+
+/// No code.
+fn no_code(alloc: Global) -> Code {
+    Code {
+        bodies: Items::new(alloc),
+        blocks: Items::new(alloc),
+        statements: Items::new(alloc),
+    }
+}
+
+/// Takes the code out of a design.
+fn without_code(alloc: Global, design: Design) -> Parted
+    ensures code { result.code ≡ design.code }
+    ensures others { result.design ≡ record design { code = result.design.code } }
+{
+    let mut design = design;
+    let code = mem::replace(&mut design.code, no_code(alloc));
+    Parted { design, code }
+}
+
+/// Idle at time 0.
+fn first_cycle() -> Cycle
+    ensures { cycle_of result ≡ first_cycle }
+{
+    Cycle {
+        phase: Phase::Idle,
+        begun: false,
+        now: Time(0),
+        end: None,
+        stop_asked: false,
+        stopped: false,
+    }
+}
+
+/// The parts together, Idle at time 0.
+fn assembled(design: Design, program: Program, schedule: Schedule<Kept>, first: First) -> Kernel
+    ensures parts { result ≡ record { design = design; program = program; cycle = result.cycle; schedule = schedule; events = first.events; channels = first.channels; transactions = first.transactions; variables = first.variables; memories = first.memories; made = 0 } }
+    ensures cycle { cycle_of result.cycle ≡ first_cycle }
+{
+    let First {
+        events,
+        channels,
+        transactions,
+        variables,
+        memories,
+    } = first;
+    Kernel {
+        design,
+        program,
+        cycle: first_cycle(),
+        schedule,
+        events,
+        channels,
+        transactions,
+        variables,
+        memories,
+        made: 0,
+    }
+}
+
+/// The kernel of a sound design before the first command: no run has begun, it is time 0, and each value is the first.
+pub fn first_kernel(alloc: Global, design: Design) -> Result<Kernel, AllocError>
+    requires nested { (b j : ℕ) (s : code.Statement) → IsIn (arena_of design.code) b s → Contains (inner_blocks s) j → j < b }
+    requires few { length design.processes ≤ MAX_LIVE }
+    ensures first { IfOk result (λ k. (script : List Command) → StandsFor k (start design script)) }
+    ensures sound { IfOk result IsSound }
+    ensures made { IfOk result (λ k. k.made ≡ 0) }
+{
+    let first = match first_parts(alloc, &design) {
+        Ok(first) => first,
+        Err(_) => return Err(AllocError),
+    };
+    let Parted { design, code } = without_code(alloc, design);
+    let program = match Program::new(alloc, code) {
+        Ok(program) => program,
+        Err(_) => return Err(AllocError),
+    };
+    match first_processes(alloc, &program, design.processes.as_slice()) {
+        Ok(schedule) => Ok(assembled(design, program, schedule, first)),
+        Err(_) => Err(AllocError),
+    }
+}

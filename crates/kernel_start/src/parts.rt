@@ -1,0 +1,100 @@
+//! What there is beside the processes before the first command.
+ghost use Rattle.std.specs.Prelude.{◌≡◌, [], IfOk, length, map, replicate};
+ghost use Rattle.quantum_keeper.specs.Keepers.{at_start};
+ghost use Rattle.flat_design.specs.declared.design.VariablePart.{VariablePart as Variable};
+ghost use Rattle.flat_design.specs.declared.design.MemoryPart.{MemoryPart as Memory};
+ghost use Rattle.sim_model.specs.Configuration.{first_channels};
+ghost use Rattle.transaction_board.specs.Board.{StandsForTransactions, StandsForQuantum, IsWithin};
+
+use channel_board::ChannelBoard;
+use event_board::EventBoard;
+use event_core::Pending;
+use flat_design::{Design, MemoryPart, VariablePart};
+use logic_values::Value;
+use plain_lists::{Bytes, Items};
+use std::alloc::{AllocError, Global};
+use transaction_board::TransactionBoard;
+
+/// What there is beside the processes before the first command.
+#[derive(Drop)]
+pub(crate) struct First {
+    /// What is pending for each event.
+    pub events: EventBoard,
+    /// The channels.
+    pub channels: ChannelBoard,
+    /// The transactions and the quantum keepers.
+    pub transactions: TransactionBoard,
+    /// The variables of instances of modules.
+    pub variables: Vec<Value>,
+    /// The bytes of memories.
+    pub memories: Vec<Bytes>,
+}
+
+/// The first values of variables.
+fn first_values(alloc: Global, parts: &[VariablePart]) -> Result<Vec<Value>, AllocError>
+    ensures { IfOk result (λ values. values.items ≡ map (λ (p : Variable). p.initial) parts.now) }
+{
+    let mut values = Vec::new(alloc);
+    for part in parts {
+        values.push(part.initial)?;
+    }
+    Ok(values)
+}
+
+/// The bytes of a memory, each 0.
+fn zeros(alloc: Global, size: u64) -> Result<Bytes, AllocError>
+    ensures { IfOk result (λ bytes. bytes ≡ replicate size 0) }
+{
+    let bytes = vec![in alloc; 0; size as usize]?;
+    Ok(Items::from_vec(bytes))
+}
+
+/// The first bytes of memories.
+fn first_bytes(alloc: Global, parts: &[MemoryPart]) -> Result<Vec<Bytes>, AllocError>
+    ensures { IfOk result (λ memories. memories.items ≡ map (λ (p : Memory). replicate p.size 0) parts.now) }
+{
+    let mut memories = Vec::new(alloc);
+    for part in parts {
+        memories.push(zeros(alloc, part.size)?)?;
+    }
+    Ok(memories)
+}
+
+/// No payloads, nothing on any hop, and keepers at their start. Memory is wanting, too, where there are 2^32 hops or more.
+fn first_transactions(alloc: Global, design: &Design) -> Result<TransactionBoard, AllocError>
+    ensures transactions { IfOk result (λ b. StandsForTransactions b (record { pool = []; hops = replicate (length design.now.hops) [] })) }
+    ensures quantum { IfOk result (λ b. StandsForQuantum b (record { keepers = replicate design.now.keepers at_start; global = 0 })) }
+    ensures within { IfOk result (λ b. IsWithin 0 b) }
+{
+    match u32::try_from(design.hops.as_slice().len()) {
+        Ok(hops) => match TransactionBoard::new(alloc, hops, design.keepers) {
+            Ok(board) => Ok(board),
+            Err(_) => Err(AllocError),
+        },
+        Err(_) => Err(AllocError),
+    }
+}
+
+/// Nothing pending, first values, and no transactions.
+pub(crate) fn first_parts(alloc: Global, design: &Design) -> Result<First, AllocError>
+    ensures events { IfOk result (λ f. f.events ≡ replicate design.now.events Pending.Nothing) }
+    ensures channels { IfOk result (λ f. f.channels ≡ first_channels design.now) }
+    ensures transactions { IfOk result (λ f. StandsForTransactions f.transactions (record { pool = []; hops = replicate (length design.now.hops) [] })) }
+    ensures quantum { IfOk result (λ f. StandsForQuantum f.transactions (record { keepers = replicate design.now.keepers at_start; global = 0 })) }
+    ensures within { IfOk result (λ f. IsWithin 0 f.transactions) }
+    ensures variables { IfOk result (λ f. f.variables.items ≡ map (λ (p : Variable). p.initial) design.now.variables) }
+    ensures memories { IfOk result (λ f. f.memories.items ≡ map (λ (p : Memory). replicate p.size 0) design.now.memories) }
+{
+    let variables = first_values(alloc, design.variables.as_slice())?;
+    let memories = first_bytes(alloc, design.memories.as_slice())?;
+    let events = EventBoard::new(alloc, design.events)?;
+    let channels = ChannelBoard::new(alloc, design)?;
+    let transactions = first_transactions(alloc, design)?;
+    Ok(First {
+        events,
+        channels,
+        transactions,
+        variables,
+        memories,
+    })
+}

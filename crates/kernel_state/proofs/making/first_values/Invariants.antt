@@ -1,6 +1,0 @@
-use Rattle.std.proofs.Common.{◌≡◌, map, take}
-use Rattle.flat_design.specs.declared.design.VariablePart.{VariablePart}
-use Rattle.kernel_state.proofs.making.first_values.Given as goal
-
-abbrev pub invariant-loop-part : goal.invariant-loop-part
-invariant-loop-part l = l.values.items ≡ map (λ (p : VariablePart). p.initial) (take l.part-index l.parts)

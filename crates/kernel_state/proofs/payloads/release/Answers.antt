@@ -1,0 +1,21 @@
+use Rattle.std.proofs.Common.{sym, ◌∙◌, arith}
+use Rattle.std.specs.Prelude.{Ok}
+use Rattle.sim_model.specs.Payloads.{with_released}
+use Rattle.sim_model.specs.Storing.{passes}
+use Rattle.sim_model.specs.Transport.{with_pool}
+use Rattle.kernel_state.proofs.Uses.{pool_sound, pool_does, refused_sound, refused_does}
+use Rattle.kernel_state.proofs.payloads.release.Goals as goal
+
+pub pass-requires-clause-sound : goal.pass-requires-clause-sound
+pass-requires-clause-sound c = pool_sound c.args.k.now c.release.new.self c.args.k.now.made c.requires.sound (omega arith) (c.release.ensures.within c.args.k.now.made c.requires.sound.payloads)
+
+pub returns-in-Ok-clause-does : goal.returns-in-Ok-clause-does
+returns-in-Ok-clause-does c = pool_does c.args.k.now c.release.new.self c.args.k.now.made (λ ps. with_released ps c.args.t) c.release.ensures.moves c.release.ensures.quantum c.args.t c.args.p c.pass.new.k
+    (λ d h. sym (c.release.ensures.answer d h) ∙ c.in-Ok.is) c.pass.ensures.steps
+
+pub returns-in-Err-clause-does : goal.returns-in-Err-clause-does
+returns-in-Err-clause-does c = refused_does c.args.k.now c.release.new.self c.in-Err.ensures.refused c.args.t c.args.p c.in-Err.fault (λ d q i r x. Ok (with_pool (passes d q r) (with_released d.transactions.pool c.args.t)))
+    (λ d h. sym (c.release.ensures.answer d h) ∙ c.in-Err.is)
+
+pub returns-in-Err-clause-sound : goal.returns-in-Err-clause-sound
+returns-in-Err-clause-sound c = refused_sound c.args.k.now c.release.new.self c.in-Err.ensures.refused c.requires.sound

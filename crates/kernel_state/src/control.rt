@@ -1,0 +1,225 @@
+//! Process control of one instance by another: a kill and a reset (IEEE 1666-2011, 5.6.6). None of it takes memory.
+ghost use Rattle.std.specs.Prelude.{◌≡◌, ◌+◌, ◌<◌, ◌&&◌, not, true, false, List, Ok, None};
+ghost use Rattle.std.specs.FinMap as map;
+ghost use Rattle.flat_design.specs.Code.{Arena};
+ghost use Rattle.model_tree.specs.declared.statements.Control.TheVariants as order;
+ghost use Rattle.sim_model.specs.Residual as residual;
+ghost use Rattle.sim_model.specs.Residual.{goal};
+ghost use Rattle.sim_model.specs.Unwinding.{unw, left_by_unw};
+ghost use Rattle.sim_model.specs.Configuration.{Config, Instance, instance_at, change_instance, with_residual};
+ghost use Rattle.sim_model.specs.Calls.{with_left};
+ghost use Rattle.sim_model.specs.Control as spec;
+ghost use Rattle.sim_model.specs.Control.{is_top, pushed, unwinds, unless_ended, ends_or_restarts, control_call};
+ghost use Rattle.sim_model.specs.Storing.{passes};
+ghost use Rattle.schedule.specs.Seen.{is_on};
+ghost use Rattle.process_moves.specs.Moved.{IsTop};
+ghost use Rattle.process_state.specs.Bodies.{left_of};
+ghost use Rattle.transaction_board.specs.Board as board;
+ghost use Rattle.transaction_board.specs.Board.{StaysWithin, SameQuantum, left};
+ghost use Rattle.kernel_state.specs.Kernel.{StandsFor, IsSound};
+ghost use Rattle.kernel_state.specs.Moves.{Moves, MovesAt, Follows, Does, Lives, HasStatement};
+
+use crate::kernel::Kernel;
+use crate::moves::pass;
+use flat_design::RunFault;
+use process_moves::top;
+use process_state::Body;
+use schedule::is_active;
+use sim_model::Goal;
+use transaction_board::{TransactionBoard, left_calls_end};
+
+/// The transport calls that an unwinding of a body leaves end their transactions on their hops.
+fn leave_calls(transactions: &mut TransactionBoard, body: &Body)
+    ensures moves { (a : Arena) → board.Moves transactions.old transactions.new (λ x. left x (left_by_unw (left_of a body.now))) }
+    ensures within { StaysWithin transactions.old transactions.new }
+    ensures quantum { SameQuantum transactions.old transactions.new }
+{
+    let mut number = 0;
+    while let Some(via) = body.left_by_unwind(number) {
+        transactions.abandon(via.hop, via.payload);
+        number += 1;
+    }
+}
+
+/// The transport calls that an unwinding of an instance leaves end their transactions on their hops.
+fn leave(k: &mut Kernel, q: u32)
+    requires sound { IsSound k.old }
+    requires lives { Lives k.old q }
+    ensures moves { MovesAt k.old k.new q (λ c i. with_left c (left_by_unw i.residual)) }
+    ensures schedule { k.new.schedule ≡ k.old.schedule }
+    ensures sound { IsSound k.new }
+{
+    left_calls_end();
+    match k.schedule.table.get(q) {
+        Some(x) => leave_calls(&mut k.transactions, &x.body.body.body),
+        None => {}
+    }
+}
+
+/// What is left of an instance is unwound, before this goal.
+fn unwind_body(k: &mut Kernel, q: u32, end: Goal)
+    requires sound { IsSound k.old }
+    requires lives { Lives k.old q }
+    ensures moves { MovesAt k.old k.new q (λ c i. with_residual c q (goal (unw i.residual) end)) }
+    ensures stack { k.new.schedule.stack ≡ k.old.schedule.stack }
+    ensures lives { Lives k.new q }
+    ensures sound { IsSound k.new }
+{
+    match k.schedule.table.get_mut(q) {
+        Some(x) => x.body.body.body.unwind(end),
+        None => {}
+    }
+}
+
+/// An instance has no next trigger any more.
+fn clear_trigger(k: &mut Kernel, q: u32)
+    requires sound { IsSound k.old }
+    requires lives { Lives k.old q }
+    ensures moves { Moves k.old k.new (λ c. change_instance c q (λ i. record i { trigger = None })) }
+    ensures stack { k.new.schedule.stack ≡ k.old.schedule.stack }
+    ensures lives { Lives k.new q }
+    ensures sound { IsSound k.new }
+{
+    match k.schedule.table.get_mut(q) {
+        Some(x) => x.body.body.trigger = None,
+        None => {}
+    }
+}
+
+/// An instance that is not active gets on top of the stack: what it waited for, its next trigger, its mark that it is kept
+/// and its place among the runnable ones are gone.
+fn push(k: &mut Kernel, q: u32)
+    requires sound { IsSound k.old }
+    requires lives { Lives k.old q }
+    requires rests { is_on k.old.schedule.stack.items q ≡ false }
+    ensures moves { Moves k.old k.new (λ c. pushed c q) }
+    ensures sound { IsSound k.new }
+{
+    clear_trigger(k, q);
+    process_moves::push(&mut k.schedule, q);
+}
+
+/// What is left of an instance is unwound before this goal, and it gets on top of the stack, if it is not there.
+fn unwind(k: &mut Kernel, q: u32, end: Goal)
+    requires sound { IsSound k.old }
+    requires lives { Lives k.old q }
+    requires place { is_on k.old.schedule.stack.items q ≡ true → IsTop q k.old.schedule.stack.items }
+    ensures moves { MovesAt k.old k.new q (λ c i. unwinds c q i end) }
+    ensures sound { IsSound k.new }
+{
+    left_calls_end();
+    leave(k, q);
+    unwind_body(k, q, end);
+    if is_active(k.schedule.stack.as_slice(), q) {
+        return;
+    }
+    push(k, q);
+}
+
+/// Whether there is an instance of this serial that has not ended.
+fn lives(k: &Kernel, q: u32) -> bool
+    ensures { result ≡ map.contains_key k.now.schedule.table.live q }
+{
+    match k.schedule.table.get(q) {
+        Some(_) => true,
+        None => false,
+    }
+}
+
+/// Whether an instance is being unwound.
+fn has_goal(k: &Kernel, q: u32) -> bool
+    requires { Lives k.now q }
+    ensures { (c : Config) (i : Instance) → StandsFor k.now c → instance_at c q ≡ Some i → result ≡ residual.has_goal i.residual }
+{
+    match k.schedule.table.get(q) {
+        Some(x) => x.body.body.body.has_goal(),
+        None => false,
+    }
+}
+
+/// Whether an instance is active below the top of the stack.
+fn is_below_top(k: &Kernel, q: u32) -> bool
+    requires { IsSound k.now }
+    ensures below { (c : Config) → StandsFor k.now c → result ≡ spec.is_below_top c q }
+    ensures on { result ≡ true → is_on k.now.schedule.stack.items q ≡ true }
+    ensures place { result ≡ false → is_on k.now.schedule.stack.items q ≡ true → IsTop q k.now.schedule.stack.items }
+{
+    match top(&k.schedule) {
+        Some(p) => {
+            if p == q {
+                return false;
+            }
+            is_active(k.schedule.stack.as_slice(), q)
+        }
+        None => false,
+    }
+}
+
+/// Whether an instance is on top and is being unwound.
+fn is_in_unwinding(k: &Kernel, q: u32) -> bool
+    requires lives { Lives k.now q }
+    requires place { is_on k.now.schedule.stack.items q ≡ true → IsTop q k.now.schedule.stack.items }
+    ensures { (c : Config) (i : Instance) → StandsFor k.now c → instance_at c q ≡ Some i → result ≡ (is_top c q && residual.has_goal i.residual) }
+{
+    if !is_active(k.schedule.stack.as_slice(), q) {
+        return false;
+    }
+    has_goal(k, q)
+}
+
+/// An instance that is not active below the top is unwound before this goal. It is left alone where it has ended, or is on
+/// top in an unwinding.
+fn end_or_restart(k: &mut Kernel, q: u32, end: Goal)
+    requires sound { IsSound k.old }
+    requires place { is_on k.old.schedule.stack.items q ≡ true → IsTop q k.old.schedule.stack.items }
+    ensures follows { (c : Config) → StandsFor k.old c → Follows k.new (Ok tt) c (unless_ended c (instance_at c q) (λ i. ends_or_restarts c q i end)) }
+    ensures sound { IsSound k.new }
+{
+    if !lives(k, q) {
+        return;
+    }
+    if is_in_unwinding(k, q) {
+        return;
+    }
+    unwind(k, q, end);
+}
+
+/// The statement in place of an instance has another one unwound before this goal, or itself.
+fn unwind_other(k: &mut Kernel, p: u32, q: u32, end: Goal) -> Result<(), RunFault>
+    requires sound { IsSound k.old }
+    requires lives { Lives k.old p }
+    requires statement { HasStatement k.old p }
+    ensures does { Does k.old k.new result p (λ c s i r. unless_ended (passes c s r) (instance_at (passes c s r) q) (λ j. ends_or_restarts (passes c s r) q j end)) }
+    ensures sound { IsSound k.new }
+{
+    if is_below_top(k, q) {
+        return Err(RunFault::ControlOnActive { serial: q });
+    }
+    pass(k, p);
+    end_or_restart(k, q, end);
+    Ok(())
+}
+
+/// A kill (IEEE 1666-2011, 5.6.6.3): instance `q` is unwound, and ends. It is a fault where `q` is active below the top of the
+/// stack, and then nothing changes. It takes no memory.
+pub fn kill(k: &mut Kernel, p: u32, q: u32) -> Result<(), RunFault>
+    requires sound { IsSound k.old }
+    requires lives { Lives k.old p }
+    requires statement { HasStatement k.old p }
+    ensures does { Does k.old k.new result p (λ c s i r. control_call (passes c s r) q order.Kill) }
+    ensures sound { IsSound k.new }
+{
+    unwind_other(k, p, q, Goal::End)
+}
+
+/// A reset (IEEE 1666-2011, 5.6.6.3): instance `q` is unwound, and begins again. It is a fault where `q` is active below the
+/// top of the stack, and then nothing changes. It takes no memory.
+pub fn reset(k: &mut Kernel, p: u32, q: u32) -> Result<(), RunFault>
+    requires sound { IsSound k.old }
+    requires lives { Lives k.old p }
+    requires statement { HasStatement k.old p }
+    ensures does { Does k.old k.new result p (λ c s i r. control_call (passes c s r) q order.Reset) }
+    ensures sound { IsSound k.new }
+{
+    unwind_other(k, p, q, Goal::Restart)
+}
