@@ -1,7 +1,8 @@
-ghost use Rattle.std.specs.Prelude.{◌≡◌, ◌<◌, ◌^◌, IfErr, IfOk, length, None};
+ghost use Rattle.std.specs.Prelude.{◌≡◌, ◌<◌, ◌^◌, IfErr, IfOk, length, None, Some};
 ghost use Rattle.model_tree.specs.Tree as tree;
 ghost use Rattle.model_lexer.specs.Reads.{Reads};
 ghost use Rattle.model_tree.specs.Seen.{model_of};
+ghost use Rattle.model_tree.specs.Stops.{IfRefused};
 ghost use Rattle.model_faults.specs.Passes.{first_fault};
 ghost use Rattle.not_built.specs.Missing.{first_not_built};
 ghost use Rattle.model_rules.specs.FlatDesign.{IsCodeOf};
@@ -62,6 +63,18 @@ pub struct Judged {
     pub script: Items<Command>,
 }
 
+/// A tree that breaks no rule on its modules.
+fn ruled(alloc: Global, tree: Tree) -> Result<Tree, CheckStop>
+    ensures same { IfOk result (λ t. t ≡ tree) }
+    ensures accepted { IfOk result (λ _. first_fault (model_of tree) ≡ None) }
+    ensures refused { IfErr result (λ stop. IfRefused stop (λ fault. first_fault (model_of tree) ≡ Some fault)) }
+{
+    match judge_rules(alloc, &tree) {
+        Ok(()) => Ok(tree),
+        Err(stop) => Err(stop),
+    }
+}
+
 /// The tree of a model, which breaks no rule, and in which each construct is built.
 fn read_model(alloc: Global, text: &[u8]) -> Result<Tree, ModelStop>
     requires { length text.now < 2 ^ 32 }
@@ -75,11 +88,11 @@ fn read_model(alloc: Global, text: &[u8]) -> Result<Tree, ModelStop>
         Err(ParseStop::Syntax { line }) => return Err(ModelStop::Fault(ModelFault::Syntax(line))),
         Err(ParseStop::NoMemory) => return Err(ModelStop::NoMemory),
     };
-    match judge_rules(alloc, &tree) {
-        Ok(()) => {}
+    let tree = match ruled(alloc, tree) {
+        Ok(tree) => tree,
         Err(CheckStop::Refused(fault)) => return Err(ModelStop::Fault(ModelFault::Rule(fault))),
         Err(CheckStop::NoMemory) => return Err(ModelStop::NoMemory),
-    }
+    };
     match refuse_unbuilt(alloc, &tree) {
         Ok(()) => Ok(tree),
         Err(UnbuiltStop::NotBuilt(found)) => Err(ModelStop::Fault(ModelFault::NotBuilt(found))),
