@@ -75,23 +75,48 @@ fn ruled(alloc: Global, tree: Tree) -> Result<Tree, CheckStop>
     }
 }
 
-/// The tree of a model, which breaks no rule, and in which each construct is built.
+/// The tree of a model.
 fn read_model(alloc: Global, text: &[u8]) -> Result<Tree, ModelStop>
+    requires { length text.now < 2 ^ 32 }
+    ensures reads { IfOk result (λ t. Reads text.now (model_of t)) }
+    ensures fault { IfErr result (λ stop. IfModelFault stop (HasModelFault text.now)) }
+{
+    match parse(alloc, text) {
+        Ok(tree) => Ok(tree),
+        Err(ParseStop::Syntax { line }) => Err(ModelStop::Fault(ModelFault::Syntax(line))),
+        Err(ParseStop::NoMemory) => Err(ModelStop::NoMemory),
+    }
+}
+
+/// The tree of a model, which breaks no rule.
+fn ruled_model(alloc: Global, text: &[u8]) -> Result<Tree, ModelStop>
+    requires { length text.now < 2 ^ 32 }
+    ensures reads { IfOk result (λ t. Reads text.now (model_of t)) }
+    ensures faultless { IfOk result (λ t. first_fault (model_of t) ≡ None) }
+    ensures fault { IfErr result (λ stop. IfModelFault stop (HasModelFault text.now)) }
+{
+    let tree = match read_model(alloc, text) {
+        Ok(tree) => tree,
+        Err(stop) => return Err(stop),
+    };
+    match ruled(alloc, tree) {
+        Ok(tree) => Ok(tree),
+        Err(CheckStop::Refused(fault)) => Err(ModelStop::Fault(ModelFault::Rule(fault))),
+        Err(CheckStop::NoMemory) => Err(ModelStop::NoMemory),
+    }
+}
+
+/// The tree of a model, which breaks no rule, and in which each construct is built.
+fn built_model(alloc: Global, text: &[u8]) -> Result<Tree, ModelStop>
     requires { length text.now < 2 ^ 32 }
     ensures reads { IfOk result (λ t. Reads text.now (model_of t)) }
     ensures faultless { IfOk result (λ t. first_fault (model_of t) ≡ None) }
     ensures built { IfOk result (λ t. first_not_built (model_of t) ≡ None) }
     ensures fault { IfErr result (λ stop. IfModelFault stop (HasModelFault text.now)) }
 {
-    let tree = match parse(alloc, text) {
+    let tree = match ruled_model(alloc, text) {
         Ok(tree) => tree,
-        Err(ParseStop::Syntax { line }) => return Err(ModelStop::Fault(ModelFault::Syntax(line))),
-        Err(ParseStop::NoMemory) => return Err(ModelStop::NoMemory),
-    };
-    let tree = match ruled(alloc, tree) {
-        Ok(tree) => tree,
-        Err(CheckStop::Refused(fault)) => return Err(ModelStop::Fault(ModelFault::Rule(fault))),
-        Err(CheckStop::NoMemory) => return Err(ModelStop::NoMemory),
+        Err(stop) => return Err(stop),
     };
     match refuse_unbuilt(alloc, &tree) {
         Ok(()) => Ok(tree),
@@ -108,7 +133,7 @@ fn judge_model(alloc: Global, text: &[u8]) -> Result<Checked, ModelStop>
     ensures code { IfOk result (λ checked. IsCodeOf (model_of checked.tree) checked.code) }
     ensures fault { IfErr result (λ stop. IfModelFault stop (HasModelFault text.now)) }
 {
-    let tree = match read_model(alloc, text) {
+    let tree = match built_model(alloc, text) {
         Ok(tree) => tree,
         Err(stop) => return Err(stop),
     };
