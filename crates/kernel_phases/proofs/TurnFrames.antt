@@ -1,0 +1,196 @@
+-- A runnable instance is taken, and its body begins.
+use Rattle.std.proofs.Common.{◌≡◌, ◌≢◌, ◌==◌, ◌||◌, not, cond, ℕ, zero, suc, Bool, true, false, List, [], ◌∷◌, slice_get, slice_set, Option, Some, None, option_map, refl, sym, ap, ◌∙◌, subst, true≢false, eqb-true, ne_eqb}
+use Rattle.std.specs.Prelude.{is_some, reverse, unwrap_or, if◌then◌else◌}
+use Rattle.std.specs.FinMap as map
+use Rattle.std.specs.FinSet as set
+use Rattle.instance_table.specs.declared.instances.Instance.{Instance as Entry}
+use Rattle.flat_design.specs.Code.{arena_of}
+use Rattle.sim_model.specs.Residual.{begun}
+use Rattle.sim_model.specs.Configuration.{Config, Instance, turn, change, changed_at, change_instance, instance_at, with_residual, with_stack, with_runnable, with_told, arena}
+use Rattle.sim_model.specs.Waits.{holds, without}
+use Rattle.sim_model.specs.Control.{begins}
+use Rattle.sim_model.specs.Steps.{turn_line, instance_taken}
+use Rattle.body_model.proofs.Strips.{strip-entered}
+use Rattle.wake_laws.proofs.Wakes.{change-here}
+use Rattle.process_state.specs.Bodies as bodies
+use Rattle.process_state.specs.Bodies.{left_in}
+use Rattle.process_state.specs.declared.body.Body.{Body}
+use Rattle.schedule.specs.Seen.{seen, shown_at, as_instance}
+use Rattle.schedule.specs.Seen.{body_at as kept_at}
+use Rattle.schedule.specs.Sound as schedules
+use Rattle.schedule.specs.Moves.{MovesOne}
+use Rattle.schedule.specs.declared.parts.Process.{Process}
+use Rattle.schedule.specs.declared.parts.Schedule.{Schedule}
+use Rattle.process_moves.specs.Moved.{joins_top, same_stack, started_as}
+use Rattle.process_moves.proofs.OtherBody.{puts_body}
+use Rattle.kernel_state.specs.Processes.{beside, TellsBy, Tells}
+use Rattle.kernel_state.specs.Kernel.{Shows, StandsFor, IsSound, whole_design}
+use Rattle.kernel_state.specs.Moves.{Moves, MovesAt, Lives}
+use Rattle.kernel_state.specs.declared.kernel.Kept.{Kept}
+use Rattle.kernel_state.specs.declared.kernel.Kernel.{Kernel}
+use Rattle.kernel_state.proofs.ProcessFrames.{moved_with, stack_same, stack_joined}
+use Rattle.kernel_state.proofs.Frames.{change-twice, processes_move, trace_moves, schedule_sound, shown_where_lives, residual_moves, with_body}
+use Rattle.kernel_phases.specs.Turns.{is_begun}
+
+-- ---- what is shown of a live instance
+
+module _ (k : Kernel) (p : ℕ) (x : Entry (Process Kept)) (at : map.get k.schedule.table.live p ≡ Some x) where
+  shown : shown_at k.schedule p ≡ Some (as_instance x (seen k.schedule p).wait)
+  shown = ap (option_map (λ (z : Entry (Process Kept)). as_instance z (seen k.schedule p).wait)) at
+
+  kept : kept_at k.schedule p ≡ Some x.body.body
+  kept = ap (option_map (λ (z : Entry (Process Kept)). z.body.body)) at
+
+  shows_by : (i : Instance) (e : Bool) → TellsBy (Shows (whole_design k) k.program) e (shown_at k.schedule p) (kept_at k.schedule p) i → Shows (whole_design k) k.program x.body.body (beside i)
+  shows_by i true gone = absurd (true≢false (sym (ap is_some shown) ∙ ap is_some gone.0))
+  shows_by i false lives = subst (λ v. Shows (whole_design k) k.program v (beside i)) (ap (λ o. unwrap_or o x.body.body) (sym lives.kept.1.0 ∙ kept)) lives.kept.1.1
+
+  started_by : (i : Instance) (e : Bool) → TellsBy (Shows (whole_design k) k.program) e (shown_at k.schedule p) (kept_at k.schedule p) i → i.started ≡ x.started
+  started_by i true gone = absurd (true≢false (sym (ap is_some shown) ∙ ap is_some gone.0))
+  started_by i false lives = ap (λ o. (unwrap_or o i).started) (sym lives.shown ∙ shown)
+
+  module _ (c : Config) (h : StandsFor k c) (i : Instance) (there : instance_at c p ≡ Some i) where
+    tells : TellsBy (Shows (whole_design k) k.program) i.ended (shown_at k.schedule p) (kept_at k.schedule p) i
+    tells = subst (Tells (Shows (whole_design k) k.program) (shown_at k.schedule p) (kept_at k.schedule p)) there (h.processes.each p)
+
+    pub shows_at : Shows (whole_design k) k.program x.body.body (beside i)
+    shows_at = shows_by i i.ended tells
+
+    pub started_at : i.started ≡ x.started
+    started_at = started_by i i.ended tells
+
+-- ---- the body
+
+module _ (k : Kernel) (p : ℕ) (x : Entry (Process Kept)) (b : Body) (at : map.get k.schedule.table.live p ≡ Some x) (keeps : bodies.Keeps x.body.body.body b) where
+  pub restarts_at : left_in k.program b ≡ begun (arena_of k.program.code) x.body.body.body.code x.body.body.body.arguments.items
+      → MovesAt k (record k { schedule = with_body k p x b at keeps }) p (λ c i. with_residual c p (begun (arena c) i.code i.arguments))
+  restarts_at left c i h there =
+      let s = shows_at k p x at c h i there in
+      residual_moves k p x.body.body b (kept k p x at) (with_body k p x b at keeps) (puts_body k.schedule p x (record x.body.body { body = b }) at) keeps c h (begun (arena c) i.code i.arguments)
+      (strip-entered (arena c) i.code i.arguments None None ∙ ap (λ d. begun (arena_of d.code) i.code i.arguments) h.design ∙ ap (λ n. begun (arena_of k.program.code) n i.arguments) s.code ∙ ap (begun (arena_of k.program.code) x.body.body.body.code) s.arguments ∙ sym left)
+
+-- and it has begun
+module _ (k : Kernel) (p : ℕ) (s : Schedule Kept) (m : MovesOne p (started_as true) (set.contains k.schedule.ready.members p) same_stack k.schedule s) (lives : Lives k p) where
+  pub starts : Moves k (record k { schedule = s }) (λ c. change_instance c p (λ j. record j { started = true }))
+  starts c h = processes_move k c h s (record c.processes { instances = change c.processes.instances p (started_as true) })
+      (moved_with (Shows (whole_design k) k.program) k.schedule s c.processes h.processes p (started_as true) (started_as true) (record { bares = λ i. refl; ends = λ i. refl; shows = λ b i told. told })
+      (set.contains k.schedule.ready.members p) same_stack m (shown_where_lives k p lives)
+      (record c.processes { instances = change c.processes.instances p (started_as true) }) refl (sym (h.processes.ready p)) (λ q apart. refl)
+      (stack_same (Shows (whole_design k) k.program) k.schedule s c.processes h.processes m.stack))
+
+pub begins_at : (k j l : Kernel) (p : ℕ) → MovesAt k j p (λ c i. with_residual c p (begun (arena c) i.code i.arguments)) → Moves j l (λ c. change_instance c p (λ i. record i { started = true })) → MovesAt k l p (λ c i. begins c p i)
+begins_at k j l p first next c i h there = subst (λ is. StandsFor l (record c { processes = record c.processes { instances = is } }))
+    (change-twice c.processes.instances p (λ z. record z { residual = begun (arena c) i.code i.arguments }) (λ z. record z { started = true }))
+    (next (with_residual c p (begun (arena c) i.code i.arguments)) (first c i h there))
+
+-- ---- the taking
+
+cut_here : (b : Bool) (p x : ℕ) (xs : List ℕ) → (x == p) ≡ b → holds xs p ≡ false → holds (cond (not b) (x ∷ xs) xs) p ≡ false
+cut_here true p x xs is none = none
+cut_here false p x xs is none = ap (λ b. b || holds xs p) is ∙ none
+
+lacks_itself : (xs : List ℕ) (p : ℕ) → holds (without xs p) p ≡ false
+lacks_itself [] p = refl
+lacks_itself (x ∷ xs) p = cut_here (x == p) p x (without xs p) refl (lacks_itself xs p)
+
+cut_other : (b : Bool) (p q x : ℕ) (ys xs : List ℕ) → (x == p) ≡ b → q ≢ p → holds ys q ≡ holds xs q → holds (cond (not b) (x ∷ ys) ys) q ≡ holds (x ∷ xs) q
+cut_other true p q x ys xs is apart same = same ∙ sym (ap (λ b. b || holds xs q) (ne_eqb x q (λ here. apart (sym here ∙ eqb-true x p is))))
+cut_other false p q x ys xs is apart same = ap (λ b. (x == q) || b) same
+
+has_others : (xs : List ℕ) (p q : ℕ) → q ≢ p → holds (without xs p) q ≡ holds xs q
+has_others [] p q apart = refl
+has_others (x ∷ xs) p q apart = cut_other (x == p) p q x (without xs p) xs refl apart (has_others xs p q apart)
+
+set_same : {A : Type 0} (xs : List A) (n : ℕ) (x : A) → slice_get xs n ≡ Some x → slice_set xs n x ≡ xs
+set_same [] n x at = refl
+set_same (y ∷ xs) zero x at = ap (λ o. unwrap_or o y ∷ xs) (sym at)
+set_same (y ∷ xs) (suc n) x at = ap (λ ys. y ∷ ys) (set_same xs n x at)
+
+option_same : (o : Option Instance) → option_map (λ i. i) o ≡ o
+option_same None = refl
+option_same (Some i) = refl
+
+-- who is runnable is there
+pub runnable_lives : (k : Kernel) (p : ℕ) → IsSound k → set.contains k.schedule.ready.members p ≡ true → Lives k p
+runnable_lives k p sound runs = by (map.get k.schedule.table.live p) refl (sound.schedule.each p)
+  where
+    by : (o : Option (Entry (Process Kept))) → map.get k.schedule.table.live p ≡ o → schedules.FitsAs o (seen k.schedule p) → is_some (map.get k.schedule.table.live p) ≡ true
+    by None none nobody = absurd (true≢false (sym runs ∙ nobody.ready))
+    by (Some x) some fits = ap is_some some
+
+there_shown : (z : Schedule Kept) (q : ℕ) → map.contains_key z.table.live q ≡ is_some (shown_at z q)
+there_shown z q = by (map.get z.table.live q)
+  where
+    by : (o : Option (Entry (Process Kept))) → is_some o ≡ is_some (option_map (λ (x : Entry (Process Kept)). as_instance x (seen z q).wait) o)
+    by None = refl
+    by (Some x) = refl
+
+module _ (k : Kernel) (p : ℕ) (sound : IsSound k) (runs : set.contains k.schedule.ready.members p ≡ true) (nobody : k.schedule.stack.items ≡ [])
+    (s : Schedule Kept) (fine : schedules.IsSound s) (m : MovesOne p (λ i. i) false (joins_top p) k.schedule s) where
+  pub taken_sound : IsSound (record k { schedule = s })
+  taken_sound = schedule_sound k sound s fine m.bodies (ap (λ v. v.items) m.due) m.next
+
+  pub taken_lives : Lives (record k { schedule = s }) p
+  taken_lives = there_shown s p ∙ ap is_some (m.here ∙ option_same (shown_at k.schedule p)) ∙ sym (there_shown k.schedule p) ∙ runnable_lives k p sound runs
+
+  same_change : (is : List Instance) → change is p (λ i. i) ≡ is
+  same_change is = by (slice_get is p) refl
+    where
+      by : (o : Option Instance) → slice_get is p ≡ o → changed_at is p (λ i. i) (slice_get is p) ≡ is
+      by None at = ap (changed_at is p (λ i. i)) at
+      by (Some i) at = ap (changed_at is p (λ i. i)) at ∙ set_same is p i at
+
+  pub takes_moves : Moves k (record k { schedule = s }) (λ c. with_stack (with_runnable c (without c.processes.runnable p)) (p ∷ []))
+  takes_moves c h = processes_move k c h s (record c.processes { runnable = without c.processes.runnable p; stack = p ∷ [] })
+      (moved_with (Shows (whole_design k) k.program) k.schedule s c.processes h.processes p (λ i. i) (λ i. i) (record { bares = λ i. refl; ends = λ i. refl; shows = λ b i told. told })
+      false (joins_top p) m (shown_where_lives k p (runnable_lives k p sound runs))
+      (record c.processes { runnable = without c.processes.runnable p; stack = p ∷ [] }) (sym (same_change c.processes.instances)) (lacks_itself c.processes.runnable p) (λ q apart. has_others c.processes.runnable p q apart)
+      (ap (λ xs. p ∷ xs) (sym (h.processes.stack ∙ ap reverse nobody)) ∙ stack_joined (Shows (whole_design k) k.program) k.schedule s c.processes h.processes p m.stack))
+
+-- ---- all of a turn
+
+-- a live instance is in the configuration
+pub instance_there : (k : Kernel) (c : Config) → StandsFor k c → (p : ℕ) → Lives k p → (i : Instance) × (instance_at c p ≡ Some i)
+instance_there k c h p lives = by (slice_get c.processes.instances p) refl (h.processes.each p)
+  where
+    by : (o : Option Instance) → slice_get c.processes.instances p ≡ o → Tells (Shows (whole_design k) k.program) (shown_at k.schedule p) (kept_at k.schedule p) o → (i : Instance) × (instance_at c p ≡ Some i)
+    by None at none = absurd (true≢false (sym lives ∙ there_shown k.schedule p ∙ ap is_some none))
+    by (Some i) at _ = (i, at)
+
+abbrev told_turn : Config → ℕ → Instance → Config
+told_turn c p i = with_told (with_stack (with_runnable c (without c.processes.runnable p)) (p ∷ [])) (turn (turn_line c.cycle.now i.path p))
+
+module _ (k j : Kernel) (p : ℕ) (taken : Moves k j (λ c. with_stack (with_runnable c (without c.processes.runnable p)) (p ∷ []))) where
+  told : (c : Config) (i : Instance) → StandsFor k c → StandsFor j (told_turn c p i)
+  told c i h = let so = taken c h in trace_moves j (with_stack (with_runnable c (without c.processes.runnable p)) (p ∷ [])) so (told_turn c p i).trace
+
+  module _ (lives : Lives j p) where
+    in_place : (c : Config) → StandsFor k c → (i : Instance) × (instance_at c p ≡ Some i)
+    in_place c h = instance_there j (with_stack (with_runnable c (without c.processes.runnable p)) (p ∷ [])) (taken c h) p lives
+
+    -- whether it has begun is as the kernel keeps it
+    begun_as : (c : Config) (h : StandsFor k c) → (in_place c h).0.started ≡ is_begun (map.get j.schedule.table.live p)
+    begun_as c h = by (map.get j.schedule.table.live p) refl lives
+      where
+        by : (o : Option (Entry (Process Kept))) → map.get j.schedule.table.live p ≡ o → is_some o ≡ true → (in_place c h).0.started ≡ is_begun (map.get j.schedule.table.live p)
+        by None none no_one = absurd (true≢false (sym no_one))
+        by (Some x) some there = started_at j p x some (told_turn c p (in_place c h).0) (told c (in_place c h).0 h) (in_place c h).0 (in_place c h).1 ∙ sym (ap is_begun some)
+
+    -- its body has begun before
+    pub goes_on : is_begun (map.get j.schedule.table.live p) ≡ true → Moves k j (λ c. instance_taken c p (instance_at c p))
+    goes_on is c h =
+        let i = in_place c h in
+        subst (λ o. StandsFor j (instance_taken c p o)) (sym i.1)
+        (subst (λ b. StandsFor j (if b then told_turn c p i.0 else begins (change_instance (told_turn c p i.0) p (λ z. record z { trigger = None })) p i.0))
+        (sym (begun_as c h ∙ is)) (told c i.0 h))
+
+    -- or begins now
+    pub goes_first : is_begun (map.get j.schedule.table.live p) ≡ false → (m n : Kernel) → Moves j m (λ c. change_instance c p (λ i. record i { trigger = None })) → MovesAt m n p (λ c i. begins c p i) → Moves k n (λ c. instance_taken c p (instance_at c p))
+    goes_first is m n cleared begun c h =
+        let i = in_place c h in
+        let d = change_instance (told_turn c p i.0) p (λ z. record z { trigger = None }) in
+        subst (λ o. StandsFor n (instance_taken c p o)) (sym i.1)
+        (subst (λ b. StandsFor n (if b then told_turn c p i.0 else begins d p i.0))
+        (sym (begun_as c h ∙ is))
+        (begun d (record i.0 { trigger = None }) (cleared (told_turn c p i.0) (told c i.0 h))
+        (change-here c.processes.instances p (λ z. record z { trigger = None }) ∙ ap (option_map (λ (z : Instance). record z { trigger = None })) i.1)))

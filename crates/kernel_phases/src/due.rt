@@ -1,0 +1,88 @@
+//! What is due fires, and what waited until then wakes.
+ghost use Rattle.std.specs.Prelude.{◌≡◌, ◌≤◌, [], ℕ, List, length, vec_capacity};
+ghost use Rattle.event_board.specs.Numbered.{fixed};
+ghost use Rattle.sim_model.specs.Configuration.{Config};
+ghost use Rattle.sim_model.specs.Phases as phases;
+ghost use Rattle.sim_model.specs.Waits.{fire_all, wake_all};
+ghost use Rattle.schedule.specs.Seen.{is_on};
+ghost use Rattle.kernel_state.specs.Kernel.{StandsFor, IsSound};
+ghost use Rattle.kernel_state.specs.Moves.{Moves, KeepsBodies};
+ghost use Rattle.kernel_phases.specs.Due.{IsBetween, HasRoom, SetsOff};
+
+use super::updates::set_phase;
+use event_core::Ev;
+use kernel_state::Kernel;
+use process_moves::{take_zero, wake_due};
+use ready_set::least_of_a_set;
+use schedule::fire;
+use sim_model::Phase;
+
+/// Fires events one after another.
+fn fire_events(k: &mut Kernel, events: &[u32])
+    requires { IsBetween k.old }
+    ensures moves { Moves k.old k.new (fire_all (fixed events.now)) }
+    ensures due { k.new.schedule.due ≡ k.old.schedule.due }
+    ensures kept { KeepsBodies k.old k.new }
+    ensures events { k.new.events ≡ k.old.events }
+    ensures between { IsBetween k.new }
+{
+    for event in events {
+        fire(&mut k.schedule, Ev::Fixed(*event));
+    }
+}
+
+/// These events fire, and the instances that are due wake.
+pub(crate) fn set_off(k: &mut Kernel, events: &mut Vec<u32>)
+    requires { IsBetween k.old }
+    ensures moves { SetsOff events.old.items k.old k.new }
+    ensures kept { KeepsBodies k.old k.new }
+    ensures events { k.new.events ≡ k.old.events }
+    ensures none { events.new.items ≡ [] }
+    ensures capacity { vec_capacity events.new ≡ vec_capacity events.old }
+    ensures sound { IsSound k.new }
+{
+    fire_events(k, events.as_slice());
+    wake_due(&mut k.schedule);
+    events.clear();
+}
+
+/// The phase that follows a notification phase.
+pub(crate) fn phase_after(k: &Kernel) -> Phase
+    ensures { (c : Config) → StandsFor k.now c → result ≡ phases.phase_after c.processes.runnable }
+{
+    least_of_a_set();
+    match k.schedule.ready.least() {
+        None => Phase::Timed,
+        Some(_) => Phase::Evaluate,
+    }
+}
+
+/// The pending delta notifications fire and the zero time-outs end. It takes no memory: `events` is a list without members
+/// that has room for all events.
+pub(crate) fn notify_deltas(k: &mut Kernel, events: &mut Vec<u32>)
+    requires sound { IsSound k.old }
+    requires room { HasRoom k.old events.old }
+    ensures moves { Moves k.old k.new phases.delta_phase }
+    ensures kept { KeepsBodies k.old k.new }
+    ensures sound { IsSound k.new }
+    ensures room { HasRoom k.new events.new }
+{
+    k.events.take_deltas(events);
+    take_zero(&mut k.schedule);
+    set_off(k, events);
+}
+
+/// The delta notification phase (IEEE 1666-2011, 4.2.1.4). It takes no memory: `events` is a list without members that has
+/// room for all events.
+pub fn delta(k: &mut Kernel, events: &mut Vec<u32>)
+    requires sound { IsSound k.old }
+    requires room { HasRoom k.old events.old }
+    ensures moves { Moves k.old k.new phases.delta_step }
+    ensures kept { KeepsBodies k.old k.new }
+    ensures sound { IsSound k.new }
+    ensures room { HasRoom k.new events.new }
+{
+    notify_deltas(k, events);
+    let next = phase_after(k);
+    set_phase(k, next);
+}

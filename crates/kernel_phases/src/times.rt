@@ -1,0 +1,160 @@
+//! The timed notification phase.
+ghost use Rattle.std.specs.Prelude.{◌≡◌, ◌==◌, not, option_map};
+ghost use Rattle.sim_model.specs.Configuration.{Config, with_phase};
+ghost use Rattle.sim_model.specs.Phases as phases;
+ghost use Rattle.kernel_state.specs.Kernel.{StandsFor, IsSound};
+ghost use Rattle.kernel_state.specs.Moves.{Moves, KeepsBodies};
+ghost use Rattle.kernel_phases.specs.Due.{HasRoom};
+
+use super::due::{phase_after, set_off};
+use super::updates::set_phase;
+use kernel_state::Kernel;
+use process_moves::{earliest as earliest_deadline, take_due};
+use sim_model::Phase;
+use sim_time::Time;
+
+/// The earlier of a time and one that there may be.
+fn earlier(a: Option<Time>, b: Time) -> Option<Time>
+    ensures { option_map (λ t. t.0) result ≡ phases.earlier (option_map (λ t. t.0) a) b.0 }
+{
+    match a {
+        None => Some(b),
+        Some(a) => { if b.0 < a.0 { Some(b) } else { Some(a) } }
+    }
+}
+
+/// The earliest time at which something is notified or a wait ends; none where nothing is pending.
+pub fn earliest(k: &Kernel) -> Option<Time>
+    requires { IsSound k.now }
+    ensures { (c : Config) → StandsFor k.now c → option_map (λ t. t.0) result ≡ phases.earliest c }
+{
+    let event = k.events.earliest();
+    match earliest_deadline(&k.schedule) {
+        None => event,
+        Some(t) => earlier(event, t),
+    }
+}
+
+/// Now becomes a time; at another time than before nothing has changed yet.
+fn now_becomes(k: &mut Kernel, t: Time)
+    requires { IsSound k.old }
+    ensures moves { Moves k.old k.new (λ c. phases.now_becomes c t.0) }
+    ensures schedule { k.new.schedule ≡ k.old.schedule }
+    ensures events { k.new.events ≡ k.old.events }
+    ensures kept { KeepsBodies k.old k.new }
+    ensures now { k.new.cycle ≡ record k.old.cycle { now = t } }
+    ensures sound { IsSound k.new }
+{
+    if t.0 != k.cycle.now.0 {
+        k.cycle.now = t;
+        k.channels.clear_changed();
+    }
+}
+
+/// The run is over: now becomes its end, if it has one.
+fn run_over(k: &mut Kernel)
+    requires { IsSound k.old }
+    ensures moves { Moves k.old k.new phases.run_over }
+    ensures events { k.new.events ≡ k.old.events }
+    ensures kept { KeepsBodies k.old k.new }
+    ensures sound { IsSound k.new }
+{
+    match k.cycle.end {
+        None => {}
+        Some(end) => now_becomes(k, end),
+    }
+    set_phase(k, Phase::Idle);
+}
+
+/// Whether a time is past the end of the run.
+fn is_past(t: Time, end: Option<Time>) -> bool
+    ensures { result ≡ phases.is_past t.0 (option_map (λ u. u.0) end) }
+{
+    match end {
+        None => false,
+        Some(end) => end.0 < t.0,
+    }
+}
+
+/// Whether a time is the end of the run.
+fn is_end(t: Time, end: Option<Time>) -> bool
+    ensures { result ≡ phases.is_end t.0 (option_map (λ u. u.0) end) }
+{
+    match end {
+        None => false,
+        Some(end) => end.0 == t.0,
+    }
+}
+
+/// What is due at a time fires, and now becomes that time.
+fn notify_at(k: &mut Kernel, events: &mut Vec<u32>, t: Time)
+    requires sound { IsSound k.old }
+    requires room { HasRoom k.old events.old }
+    ensures moves { Moves k.old k.new (λ c. phases.fired_at c t.0) }
+    ensures kept { KeepsBodies k.old k.new }
+    ensures sound { IsSound k.new }
+    ensures room { HasRoom k.new events.new }
+{
+    now_becomes(k, t);
+    k.events.take_at(t, events);
+    take_due(&mut k.schedule, t);
+    set_off(k, events);
+}
+
+/// What is due at a time fires; the run is over at its end.
+fn go_to(k: &mut Kernel, events: &mut Vec<u32>, t: Time)
+    requires sound { IsSound k.old }
+    requires room { HasRoom k.old events.old }
+    ensures moves { (c : Config) → StandsFor k.old c → StandsFor k.new (with_phase (phases.fired_at c t.0) (phases.phase_at t.0 c.cycle.end (phases.fired_at c t.0).processes.runnable)) }
+    ensures kept { KeepsBodies k.old k.new }
+    ensures sound { IsSound k.new }
+    ensures room { HasRoom k.new events.new }
+{
+    let at_end = is_end(t, k.cycle.end);
+    notify_at(k, events, t);
+    if at_end {
+        set_phase(k, Phase::Idle);
+    } else {
+        let next = phase_after(k);
+        set_phase(k, next);
+    }
+}
+
+/// What is due at the earliest time fires, or the run is over.
+fn go_on(k: &mut Kernel, events: &mut Vec<u32>, next: Option<Time>)
+    requires sound { IsSound k.old }
+    requires room { HasRoom k.old events.old }
+    ensures moves { Moves k.old k.new (λ c. phases.timed_at c (option_map (λ t. t.0) next)) }
+    ensures kept { KeepsBodies k.old k.new }
+    ensures sound { IsSound k.new }
+    ensures room { HasRoom k.new events.new }
+{
+    match next {
+        None => run_over(k),
+        Some(t) => {
+            if is_past(t, k.cycle.end) {
+                run_over(k);
+            } else {
+                go_to(k, events, t);
+            }
+        }
+    }
+}
+
+/// The timed notification phase: now becomes the earliest time at which something is pending, which fires, or the run is over
+/// (IEEE 1666-2011, 4.2.1.5). Answers whether now has moved. It takes no memory: `events` is a list without members that has
+/// room for all events.
+pub fn timed(k: &mut Kernel, events: &mut Vec<u32>) -> bool
+    requires sound { IsSound k.old }
+    requires room { HasRoom k.old events.old }
+    ensures moves { Moves k.old k.new phases.timed_step }
+    ensures moved { result ≡ not (k.new.cycle.now.0 == k.old.cycle.now.0) }
+    ensures kept { KeepsBodies k.old k.new }
+    ensures sound { IsSound k.new }
+    ensures room { HasRoom k.new events.new }
+{
+    let before = k.cycle.now;
+    let next = earliest(k);
+    go_on(k, events, next);
+    k.cycle.now.0 != before.0
+}

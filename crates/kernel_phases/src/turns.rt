@@ -1,0 +1,79 @@
+//! The turns of processes.
+ghost use Rattle.std.specs.Prelude.{◌≡◌, [], true, IfSome, IfNone, is_some};
+ghost use Rattle.std.specs.FinMap as map;
+ghost use Rattle.std.specs.FinSet as set;
+ghost use Rattle.sim_model.specs.Configuration.{change_instance, with_residual, instance_at, arena};
+ghost use Rattle.sim_model.specs.Control as control;
+ghost use Rattle.sim_model.specs.Residual.{begun};
+ghost use Rattle.sim_model.specs.Steps.{instance_taken};
+ghost use Rattle.kernel_state.specs.Kernel.{IsSound};
+ghost use Rattle.kernel_state.specs.Moves.{Moves, MovesAt, Lives};
+ghost use Rattle.kernel_phases.specs.Turns.{is_begun};
+
+use kernel_state::Kernel;
+use process_moves::{begin, take};
+
+/// Whether the body of an instance has begun.
+fn is_begun(k: &Kernel, p: u32) -> bool
+    ensures { result ≡ is_begun (map.get k.now.schedule.table.live p) }
+{
+    match k.schedule.table.get(p) {
+        Some(x) => x.started,
+        None => true,
+    }
+}
+
+/// No next trigger is set for an instance.
+fn clear_trigger(k: &mut Kernel, p: u32)
+    requires sound { IsSound k.old }
+    requires lives { Lives k.old p }
+    ensures moves { Moves k.old k.new (λ c. change_instance c p (λ i. record i { trigger = None })) }
+    ensures lives { Lives k.new p }
+    ensures sound { IsSound k.new }
+{
+    match k.schedule.table.get_mut(p) {
+        Some(x) => x.body.body.trigger = None,
+        None => {}
+    }
+}
+
+/// The body of an instance is at its first statement.
+fn restart_body(k: &mut Kernel, p: u32)
+    requires sound { IsSound k.old }
+    requires lives { Lives k.old p }
+    ensures moves { MovesAt k.old k.new p (λ c i. with_residual c p (begun (arena c) i.code i.arguments)) }
+    ensures lives { Lives k.new p }
+    ensures sound { IsSound k.new }
+{
+    match k.schedule.table.get_mut(p) {
+        Some(x) => x.body.body.body.restart(&k.program),
+        None => {}
+    }
+}
+
+/// The body of an instance begins.
+fn begin_body(k: &mut Kernel, p: u32)
+    requires sound { IsSound k.old }
+    requires lives { Lives k.old p }
+    ensures moves { MovesAt k.old k.new p (λ c i. control.begins c p i) }
+    ensures sound { IsSound k.new }
+{
+    restart_body(k, p);
+    begin(&mut k.schedule, p, true);
+}
+
+/// A runnable instance is taken: it is the only active one, and its body begins where it has not begun (IEEE 1666-2011,
+/// 4.2.1.2). It takes no memory.
+pub fn turn(k: &mut Kernel, p: u32)
+    requires sound { IsSound k.old }
+    requires runs { set.contains k.old.schedule.ready.members p ≡ true }
+    requires nobody { k.old.schedule.stack.items ≡ [] }
+    ensures moves { Moves k.old k.new (λ c. instance_taken c p (instance_at c p)) }
+    ensures sound { IsSound k.new }
+{
+    take(&mut k.schedule, p);
+    if !is_begun(k, p) {
+        clear_trigger(k, p);
+        begin_body(k, p);
+    }
+}

@@ -1,0 +1,50 @@
+//! The update phase.
+ghost use Rattle.std.specs.Prelude.{◌≡◌, length};
+ghost use Rattle.sim_model.specs.Configuration.{with_phase};
+ghost use Rattle.sim_model.specs.Phases as phases;
+ghost use Rattle.kernel_state.specs.Kernel.{IsSound};
+ghost use Rattle.kernel_state.specs.Moves.{Moves, KeepsBodies};
+
+use channel_board::what_an_update_phase_announces;
+use kernel_state::Kernel;
+use sim_model::Phase;
+
+/// Another phase comes next.
+pub(crate) fn set_phase(k: &mut Kernel, x: Phase)
+    requires { IsSound k.old }
+    ensures moves { Moves k.old k.new (λ c. with_phase c x) }
+    ensures left { k.new ≡ record k.old { cycle = record k.old.cycle { phase = x } } }
+    ensures sound { IsSound k.new }
+{
+    k.cycle.phase = x;
+}
+
+/// Updates each channel that asked for it, and notifies what that changed.
+pub(crate) fn update_channels(k: &mut Kernel)
+    requires { IsSound k.old }
+    ensures moves { Moves k.old k.new phases.update_phase }
+    ensures schedule { k.new.schedule ≡ k.old.schedule }
+    ensures many { length k.new.events ≡ length k.old.events }
+    ensures design { k.new.design ≡ k.old.design }
+    ensures program { k.new.program ≡ k.old.program }
+    ensures sound { IsSound k.new }
+{
+    what_an_update_phase_announces();
+    k.channels.update(&k.design, &mut k.events);
+}
+
+/// The end of an evaluation phase: the update phase, or the end of the session where the model asked for it (IEEE
+/// 1666-2011, 4.2.1.3 and 4.5.3). It takes no memory.
+pub fn update(k: &mut Kernel)
+    requires { IsSound k.old }
+    ensures moves { Moves k.old k.new phases.update_step }
+    ensures kept { KeepsBodies k.old k.new }
+    ensures sound { IsSound k.new }
+{
+    if k.cycle.stop_asked {
+        k.cycle.stopped = true;
+    } else {
+        update_channels(k);
+        set_phase(k, Phase::Notify);
+    }
+}
