@@ -1,0 +1,11 @@
+//! The kernel as what expressions are evaluated over: for an instance, where its next statement stands.
+#![tactic(auto)]
+
+mod channels;
+mod evaluating;
+mod members;
+mod names;
+mod standings;
+
+pub use evaluating::{channel_at, denoted_at, eval_at, eval_if_at, eval_place_at, payload_at};
+pub use standings::Standing;

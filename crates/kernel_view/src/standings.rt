@@ -1,0 +1,82 @@
+//! Where an expression stands in a kernel.
+ghost use Rattle.std.specs.Prelude.{◌≡◌, None, IfSome, IfNone};
+ghost use Rattle.std.specs.FinMap as map;
+ghost use Rattle.sim_model.specs.Residual as residual;
+ghost use Rattle.sim_model.specs.Reading as reading;
+ghost use Rattle.process_state.specs.Bodies.{settled_in};
+ghost use Rattle.kernel_view.specs.Standings.{is_gone, ShowsHere, Everywhere};
+
+use flat_design::{Design, Hop};
+use kernel_state::{Kept, Kernel};
+use process_state::Body;
+use sim_model::Via;
+
+/// Where the next statement of an instance stands in a kernel.
+#[derive(Clone, Copy)]
+pub struct Standing<'a> {
+    /// The kernel.
+    pub kernel: &'a Kernel,
+    /// What is left of the instance.
+    pub body: &'a Body,
+    /// The serial of the instance.
+    pub serial: u32,
+    /// The number, among the instances of modules, of the one that the statement stands in.
+    pub home: u32,
+}
+
+/// The instance of a module that the other end of a hop is in.
+fn far_home(forward: bool, hop: &Hop) -> u32
+    ensures { result ≡ reading.far_home forward hop.now }
+{
+    if forward {
+        hop.target_home
+    } else {
+        hop.initiator_home
+    }
+}
+
+/// The instance of a module that a statement stands in: within a transport call that of its other end.
+fn home_within(design: &Design, home: u32, within: Option<Via>) -> u32
+    ensures { result ≡ reading.home_of_via design.now home within }
+{
+    match within {
+        Some(via) => match design.hops.as_slice().get(via.hop as usize) {
+            Some(hop) => far_home(via.forward, hop),
+            None => home,
+        },
+        None => home,
+    }
+}
+
+/// The instance of a module that the next statement of a body stands in.
+fn home_of(k: &Kernel, kept: &Kept) -> u32
+    ensures { result ≡ reading.home_of_via k.now.design kept.now.home (residual.within (settled_in k.now.program kept.now.body)) }
+{
+    home_within(&k.design, kept.home, kept.body.within(&k.program))
+}
+
+/// Where the next statement of an instance stands, where the instance has not ended.
+pub(crate) fn standing_at<'a>(k: &'a Kernel, p: u32) -> Option<Standing<'a>>
+    ensures shows { IfSome result (λ x. Everywhere k.now p (ShowsHere x)) }
+    ensures ended { IfNone result (map.get k.now.schedule.table.live p ≡ None) }
+{
+    match k.schedule.table.get(p) {
+        Some(x) => Some(Standing {
+            kernel: k,
+            body: &x.body.body.body,
+            serial: p,
+            home: home_of(k, &x.body.body),
+        }),
+        None => None,
+    }
+}
+
+/// Whether there was an instance of this serial, which has ended.
+pub(crate) fn has_ended(k: &Kernel, q: u32) -> bool
+    ensures { result ≡ is_gone k.now q }
+{
+    match k.schedule.table.get(q) {
+        Some(_) => false,
+        None => q < k.schedule.table.next_serial(),
+    }
+}
