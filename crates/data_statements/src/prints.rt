@@ -1,0 +1,38 @@
+//! Prints.
+ghost use Rattle.std.specs.Prelude.{ℕ, List, Option};
+ghost use Rattle.flat_design.specs.Code.{Term};
+ghost use Rattle.kernel_state.specs.Kernel.{IsSound};
+ghost use Rattle.kernel_state.specs.Moves.{HasStatement, IsOnTop};
+ghost use Rattle.kernel_view.specs.Standings.{GivesIf};
+ghost use Rattle.data_statements.specs.Told.{Prints};
+
+use crate::storing::top_lives;
+use flat_design::RunFault;
+use kernel_state::{Kernel, pass};
+use logic_values::Value;
+
+/// `print`: the line has the time, the path of the instance, the text and, where one is written, the value that is answered.
+///
+/// # Errors
+/// The fault of its expression, and then nothing changes.
+pub fn print(
+    k: &mut Kernel,
+    p: u32,
+    v: Result<Option<Value>, RunFault>,
+) -> Result<Option<Value>, RunFault>
+    requires sound { IsSound k.old }
+    requires top { IsOnTop k.old p }
+    requires statement { HasStatement k.old p }
+    ensures prints { (text : List ℕ) (e : Option Term) → GivesIf k.old p v e → Prints k.old k.new result p text e }
+    ensures sound { IsSound k.new }
+{
+    match v {
+        Ok(x) => {
+            top_lives(k, p);
+            pass(k, p);
+            let shown = x;
+            Ok(shown)
+        }
+        Err(fault) => Err(fault),
+    }
+}
