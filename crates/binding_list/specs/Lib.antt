@@ -1,0 +1,4 @@
+pub mod Links
+pub mod Left
+pub mod Work
+pub mod Listed
