@@ -1,0 +1,4 @@
+pub mod Along
+pub mod Numbered
+pub mod Fits
+pub mod Events
