@@ -1,0 +1,3 @@
+pub mod SizedItems
+pub mod SizedObjects
+pub mod Few

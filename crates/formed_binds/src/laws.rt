@@ -1,0 +1,27 @@
+//! Laws of the objects of models without a fault.
+ghost use Rattle.std.specs.Prelude.{◌≡◌, ◌<◌, ◌^◌, ℕ, All, None, Some, length};
+ghost use Rattle.model_tree.specs.Tree.{Model};
+ghost use Rattle.model_faults.specs.Passes.{first_fault};
+ghost use Rattle.flat_design.specs.declared.objects.Object.{Object};
+ghost use Rattle.object_rules.specs.Listing.{list_of, objects_of};
+ghost use Rattle.object_rules.specs.Faults.{limit_fault};
+ghost use Rattle.object_list.specs.Parents.{AreInside};
+ghost use Rattle.binding_rules.specs.Objects.{object_at};
+ghost use Rattle.binding_rules.specs.Formed.{HasForm, HasSize, AreFormed};
+
+/// The objects of a model within the limits are numbered in 32 bits.
+pub fn objects_are_few()
+    ensures { (m : Model) → limit_fault m ≡ None → length (list_of m) < 2 ^ 32 }
+{}
+
+/// Where a model has no first fault, each port among its objects has a size from 1 to 64.
+pub fn sizes_are_in_range()
+    ensures { (m : Model) → first_fault m ≡ None → (i : ℕ) (o : Object) → object_at (objects_of m) i ≡ Some o → HasSize o.form }
+{}
+
+/// Where a model has no first fault and keeps the limits, its objects are formed as bindings need it, once each of them is in
+/// an instance before it and the ends of each binding are what they may be.
+pub fn bound_models_are_formed()
+    ensures { (m : Model) → first_fault m ≡ None → limit_fault m ≡ None → AreInside (list_of m) → All (HasForm (objects_of m)) (objects_of m).binds
+        → AreFormed (objects_of m) }
+{}
