@@ -1,3 +1,4 @@
 pub mod SizedItems
 pub mod SizedObjects
 pub mod Few
+pub mod Deep

@@ -14,7 +14,7 @@ use Rattle.rule_laws.proofs.Typed.{not_named, parts_none, head_none, same_false}
 use Rattle.code_laws.proofs.Models.{constructs_none}
 use Rattle.formed_binds.specs.Sizes.{IsSized, AreSized, ModulesAreSized}
 
-mapped_none : {A B : Type 0} (f : A → B) (o : Option A) → option_map f o ≡ None → o ≡ None
+pub mapped_none : {A B : Type 0} (f : A → B) (o : Option A) → option_map f o ≡ None → o ≡ None
 mapped_none f None h = refl
 mapped_none f (Some x) h = cc
 

@@ -3,4 +3,6 @@
 
 mod laws;
 
-pub use laws::{bound_models_are_formed, objects_are_few, sizes_are_in_range};
+pub use laws::{
+    bound_models_are_formed, no_instance_is_left_out, objects_are_few, sizes_are_in_range,
+};
