@@ -1,18 +1,28 @@
 //! Laws of the objects of models without a fault.
-ghost use Rattle.std.specs.Prelude.{◌≡◌, ◌<◌, ◌≤◌, ◌^◌, ℕ, All, None, Some, length};
+ghost use Rattle.std.specs.Prelude.{◌≡◌, ◌<◌, ◌≤◌, ◌^◌, ℕ, All, None, Some, filter, length};
+ghost use Rattle.std.specs.List.{flat_map};
 ghost use Rattle.model_tree.specs.Tree.{Model};
 ghost use Rattle.model_faults.specs.Passes.{first_fault};
 ghost use Rattle.flat_design.specs.declared.objects.Object.{Object};
+ghost use Rattle.object_rules.specs.Forms.{around, items_at};
 ghost use Rattle.object_rules.specs.Listing.{inside, inside_within, list_of, objects_of};
 ghost use Rattle.object_rules.specs.Faults.{cycle_fault, limit_fault};
 ghost use Rattle.object_list.specs.Parents.{AreInside};
 ghost use Rattle.binding_rules.specs.Objects.{object_at};
 ghost use Rattle.binding_rules.specs.Formed.{HasForm, HasSize, AreFormed};
+ghost use Rattle.formed_binds.specs.Declared.{is_in, declared_in};
 
 /// Where no module has itself among its instances, no instance is left out: as many of them as there are modules stand in each
 /// other at most, so that more levels add no object.
 pub fn no_instance_is_left_out()
     ensures { (m : Model) → cycle_fault m ≡ None → (n : ℕ) → length m.modules ≤ n → (at place : ℕ) → inside_within n m.modules at place ≡ inside m.modules at place }
+{}
+
+/// Where no module has itself among its instances, the objects that are in an instance itself, and not in one inside it, are
+/// those that the items of its module declare, in text order.
+pub fn objects_are_those_declared()
+    ensures { (m : Model) → cycle_fault m ≡ None → (at place : ℕ)
+        → filter (is_in at) (inside m.modules at place) ≡ flat_map (declared_in (around m.modules place) at) (items_at m.modules place) }
 {}
 
 /// The objects of a model within the limits are numbered in 32 bits.

@@ -4,5 +4,6 @@
 mod laws;
 
 pub use laws::{
-    bound_models_are_formed, no_instance_is_left_out, objects_are_few, sizes_are_in_range,
+    bound_models_are_formed, no_instance_is_left_out, objects_are_few, objects_are_those_declared,
+    sizes_are_in_range,
 };
