@@ -1,0 +1,3 @@
+pub mod Widths
+pub mod Forms
+pub mod Parts
