@@ -8,7 +8,7 @@ use Rattle.sim_model.specs.Reading.{Here, here}
 use Rattle.sim_model.specs.Statements.{settled_in}
 use Rattle.kernel_state.specs.Moves.{Follows, Does}
 use Rattle.kernel_state.specs.declared.kernel.Kernel.{Kernel}
-use Rattle.kernel_view.specs.Standings.{next_here, Everywhere}
+use Rattle.kernel_view.specs.Standings.{Everywhere}
 
 -- the part gives this answer wherever the statement stands, and the rest f goes on with its value
 module _ {A : Type 0} (k : Kernel) (p : ℕ) (answer : Result A RunFault) (part : Here → Result A RunFault) (gives : Everywhere k p (λ h. answer ≡ part h))

@@ -1,3 +1,4 @@
 pub mod Following
 pub mod Payloads
 pub mod Stored
+pub mod Entering

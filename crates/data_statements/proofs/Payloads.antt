@@ -1,5 +1,5 @@
 -- Assignments to payloads, as what they do once each part is evaluated.
-use Rattle.std.proofs.Common.{◌≡◌, ℕ, length, Result, Ok}
+use Rattle.std.proofs.Common.{ℕ, length, Result, Ok}
 use Rattle.logic_values.specs.declared.kinds.Value.{Value}
 use Rattle.flat_design.specs.Code.{Term}
 use Rattle.flat_design.specs.declared.names.NameUse.{NameUse}

@@ -1,4 +1,4 @@
-use Rattle.std.proofs.Common.{Ok, Err, refl, sym, ◌∙◌, subst, ◌∷◌, [], ◌++◌}
+use Rattle.std.proofs.Common.{Ok, Err, refl, sym, ◌∙◌, subst}
 use Rattle.sim_model.specs.Residual.{settle}
 use Rattle.sim_model.specs.Configuration.{line, with_told, arena}
 use Rattle.sim_model.specs.Values.{on_ok}
