@@ -1,0 +1,35 @@
+-- The word of each kind of fault.
+use Rattle.std.specs.Prelude.{ℕ, List, codes}
+use Rattle.model_tree.specs.declared.faults.Kind.{Kind}
+use Rattle.model_tree.specs.declared.faults.Kind.TheVariants as kind
+
+abbrev pub kind_word : Kind → List ℕ
+kind_word kind.DoubleName = codes "DoubleName"
+kind_word kind.UnknownName = codes "UnknownName"
+kind_word kind.WrongKind = codes "WrongKind"
+kind_word kind.TypeDiffers = codes "TypeDiffers"
+kind_word kind.WidthRange = codes "WidthRange"
+kind_word kind.LiteralRange = codes "LiteralRange"
+kind_word kind.WaitInMethod = codes "WaitInMethod"
+kind_word kind.TriggerInThread = codes "TriggerInThread"
+kind_word kind.BlockingInNonblocking = codes "BlockingInNonblocking"
+kind_word kind.WaitInUnwind = codes "WaitInUnwind"
+kind_word kind.ThrowInUnwind = codes "ThrowInUnwind"
+kind_word kind.SpawnInUnwind = codes "SpawnInUnwind"
+kind_word kind.TransportInUnwind = codes "TransportInUnwind"
+kind_word kind.BadHandler = codes "BadHandler"
+kind_word kind.BadSpawn = codes "BadSpawn"
+kind_word kind.ArgumentCount = codes "ArgumentCount"
+kind_word kind.ReturnDiffers = codes "ReturnDiffers"
+kind_word kind.BadClock = codes "BadClock"
+kind_word kind.FifoSize = codes "FifoSize"
+kind_word kind.SemaphoreRange = codes "SemaphoreRange"
+kind_word kind.PortSize = codes "PortSize"
+kind_word kind.BadBinding = codes "BadBinding"
+kind_word kind.ModuleCycle = codes "ModuleCycle"
+kind_word kind.TooManyObjects = codes "TooManyObjects"
+kind_word kind.Unbound = codes "Unbound"
+kind_word kind.DoubleBound = codes "DoubleBound"
+kind_word kind.KindDiffers = codes "KindDiffers"
+kind_word kind.TooMany = codes "TooMany"
+kind_word kind.BadValue = codes "BadValue"

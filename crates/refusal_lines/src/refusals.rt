@@ -1,0 +1,47 @@
+//! What is wrong with input that is refused, to be said of it.
+use logic_values::Text;
+use model_tree::Fault;
+
+/// A construct of a model that is not built.
+#[derive(Drop)]
+pub struct NotBuilt {
+    /// The line of its first token, counted from 1.
+    pub line: u32,
+    /// The name of its module.
+    pub name: Text,
+}
+
+/// What is wrong with a model.
+#[derive(Drop)]
+pub enum ModelFault {
+    /// It has no tree; the line that says so, counted from 1.
+    Syntax(u32),
+    /// It breaks a rule: its first fault.
+    Rule(Fault),
+    /// It breaks no rule, and a construct of it is not built: the first in text order, with the name of its module.
+    NotBuilt(NotBuilt),
+}
+
+/// What is wrong with a script.
+#[derive(Drop)]
+pub enum ScriptFault {
+    /// It has no command list; the line at which it does not read, counted from 1.
+    Syntax(u32),
+    /// A command cannot be carried out: the fault of the first such one.
+    Command(Fault),
+}
+
+/// Why no session began, where it is the input that is refused.
+#[derive(Drop)]
+pub enum Refusal {
+    /// The words are refused.
+    Usage,
+    /// The file of this name could not be read.
+    Read(Text),
+    /// The model is refused for what is wrong with it.
+    Model(ModelFault),
+    /// The script is refused for what is wrong with it.
+    Script(ScriptFault),
+    /// The file of this name has more bytes than its limit.
+    TooLarge(Text),
+}
