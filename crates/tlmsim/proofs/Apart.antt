@@ -64,18 +64,20 @@ lacks_none before old name name' bytes b n there lacks =
     let told : old name' ≡ None = subst Q n (subst P b lacks) in
     cc
 
-pub not_read : (c : Call) (old new : Files) (model script : List ℕ) → Given c old new model script → ReadFailed c → ⊥
-not_read c old new model script g r =
+pub not_read : (c : Call) (old new : Files) (model script file : List ℕ) → Given c old new model script → ReadFailed c file → ⊥
+not_read c old new model script file g r =
     let names = same_names c.words r.names g.names r.line g.line in
-    ⊎_elim g.no_fault (⊎_elim (lacks_none c.before.files old r.names.model g.names.model model g.told (ap (λ n. n.model) names) g.model_is)
-    (λ lacks. lacks_none c.before.files old r.names.script g.names.script script g.told (ap (λ n. n.script) names) g.script_is lacks.3)) r.cause
+    ⊎_elim
+    (λ first. ⊎_elim g.no_fault (lacks_none c.before.files old r.names.model g.names.model model g.told (ap (λ n. n.model) names) g.model_is) first.1)
+    (λ second. ⊎_elim g.no_fault (lacks_none c.before.files old r.names.script g.names.script script g.told (ap (λ n. n.script) names) g.script_is) second.1.3)
+    r.cause
 
-pub not_large : (c : Call) (old new : Files) (model script : List ℕ) → Given c old new model script → length model ≤ model_limit → length script ≤ script_limit → TooLarge c → ⊥
-not_large c old new model script g m_within s_within l =
+pub not_large : (c : Call) (old new : Files) (model script file : List ℕ) → Given c old new model script → length model ≤ model_limit → length script ≤ script_limit → TooLarge c file → ⊥
+not_large c old new model script file g m_within s_within l =
     let names = same_names c.words l.names g.names l.line g.line in
     ⊎_elim
-    (λ large. let h : model_limit < length model = large_at c.before.files c.after.files old new l.names.model g.names.model model model_limit g.told g.told_after (ap (λ n. n.model) names) g.model_is large in omega arith)
-    (λ large. let h : script_limit < length script = large_at c.before.files c.after.files old new l.names.script g.names.script script script_limit g.told g.told_after (ap (λ n. n.script) names) g.script_is large.3 in omega arith)
+    (λ large. let h : model_limit < length model = large_at c.before.files c.after.files old new l.names.model g.names.model model model_limit g.told g.told_after (ap (λ n. n.model) names) g.model_is large.1 in omega arith)
+    (λ large. let h : script_limit < length script = large_at c.before.files c.after.files old new l.names.script g.names.script script script_limit g.told g.told_after (ap (λ n. n.script) names) g.script_is large.1.3 in omega arith)
     l.cause
 
 -- a model that is given and past its limit was not read within it
@@ -90,15 +92,17 @@ long_texts c old new model g past model' script' t =
 pub long_usage : (c : Call) (old new : Files) (model : List ℕ) → ModelGiven c old new model → line_of c.words ≡ None → ⊥
 long_usage c old new model g e = let line = g.line in cc
 
-pub long_read : (c : Call) (old new : Files) (model : List ℕ) → ModelGiven c old new model → model_limit < length model → ReadFailed c → ⊥
-long_read c old new model g past r =
+pub long_read : (c : Call) (old new : Files) (model file : List ℕ) → ModelGiven c old new model → model_limit < length model → ReadFailed c file → ⊥
+long_read c old new model file g past r =
     let names = same_names c.words r.names g.names r.line g.line in
     let h : model_limit < length model = past in
-    ⊎_elim g.no_fault (⊎_elim (lacks_none c.before.files old r.names.model g.names.model model g.told (ap (λ n. n.model) names) g.model_is)
-    (λ lacks.
-    let same = ap length (text_at c.before.files c.after.files old new r.names.model g.names.model lacks.0 model g.told g.told_after (ap (λ n. n.model) names) g.model_is lacks.1) in
-    let within : length lacks.0 ≤ model_limit = lacks.2 in
-    omega arith)) r.cause
+    ⊎_elim
+    (λ first. ⊎_elim g.no_fault (lacks_none c.before.files old r.names.model g.names.model model g.told (ap (λ n. n.model) names) g.model_is) first.1)
+    (λ second.
+    let same = ap length (text_at c.before.files c.after.files old new r.names.model g.names.model second.1.0 model g.told g.told_after (ap (λ n. n.model) names) g.model_is second.1.1) in
+    let within : length second.1.0 ≤ model_limit = second.1.2 in
+    omega arith)
+    r.cause
 
 -- nothing is found, and something is
 found_none : {T : Type 0} (found : Option T) → found ≡ None → IsSome found → ⊥

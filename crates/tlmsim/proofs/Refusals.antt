@@ -21,11 +21,11 @@ use Rattle.tlmsim.specs.Call.{Call, Texts}
 use Rattle.tlmsim.specs.Loaded.{AreTexts}
 use Rattle.tlmsim.specs.Judged.{HasUnbuilt, BreaksRule, IsBrokenModel, HasModelFault, AcceptsModel, Accepts, BreaksScript, HasScriptFault, NamesScript, IsRunOf, shown_objects}
 use Rattle.tlmsim.specs.Unbuilt.{IfNotBuilt}
-use Rattle.tlmsim.specs.declared.faults.ModelFault.{ModelFault}
-use Rattle.tlmsim.specs.declared.faults.ModelFault.TheVariants as model_fault
-use Rattle.tlmsim.specs.declared.faults.ScriptFault.{ScriptFault}
-use Rattle.tlmsim.specs.declared.faults.ScriptFault.TheVariants as script_fault
-use Rattle.tlmsim.specs.declared.unbuilt.NotBuilt.{NotBuilt}
+use Rattle.refusal_lines.specs.declared.refusals.ModelFault.{ModelFault}
+use Rattle.refusal_lines.specs.declared.refusals.ModelFault.TheVariants as model_fault
+use Rattle.refusal_lines.specs.declared.refusals.ScriptFault.{ScriptFault}
+use Rattle.refusal_lines.specs.declared.refusals.ScriptFault.TheVariants as script_fault
+use Rattle.refusal_lines.specs.declared.refusals.NotBuilt.{NotBuilt}
 use Rattle.tlmsim.specs.declared.unbuilt.UnbuiltStop.{UnbuiltStop}
 use Rattle.tlmsim.specs.declared.unbuilt.UnbuiltStop.TheVariants as unbuilt
 

@@ -31,15 +31,13 @@ outside_of files reads writes holds faults shelf out err err_faults = record {
   err_faults = err_faults;
 }
 
--- what a call leaves of the outside, whatever it answers: no file is made or changed, `err` is as it was, and no
--- count falls
+-- what a call leaves of the outside, whatever it answers: no file is made or changed, and no count falls
 pub record Keeps (c : Call) : Type 0 where
   pub files : AfterTold c.before.files c.after.files Same
   pub writes : c.after.writes ≡ c.before.writes
   pub reads : c.before.reads ≤ c.after.reads
   pub out_faults : c.before.out_faults ≤ c.after.out_faults
-  pub err : c.after.err ≡ c.before.err
-  pub err_faults : c.after.err_faults ≡ c.before.err_faults
+  pub err_faults : c.before.err_faults ≤ c.after.err_faults
 
 -- the most bytes that a model and a script may have
 abbrev pub model_limit : ℕ

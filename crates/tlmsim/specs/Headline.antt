@@ -1,6 +1,6 @@
--- The answers of the top call, and the cause of each.
+-- The answers of the top call, the cause of each, and what `err` gets with it.
 use Rattle.std.specs.Prelude.{◌≡◌, ◌≤◌, ◌⊎◌, ◌<◌, ℕ, List, [], Some, None, length}
-use Rattle.sim_io.specs.Told.{Files, Lacks}
+use Rattle.sim_io.specs.Told.{Files, Grew}
 use Rattle.sim_io.specs.Cause.{Rose}
 use Rattle.flat_design.specs.declared.faults.RunFault.{RunFault}
 use Rattle.model_tree.specs.Tree as tree
@@ -9,45 +9,59 @@ use Rattle.method_model.specs.Configuration.{start}
 use Rattle.method_model.specs.declared.plain.Command.{Command}
 use Rattle.method_model.specs.declared.plain.Stop.{Stop}
 use Rattle.method_model.specs.declared.plain.Stop.TheVariants as stop
-use Rattle.session.specs.Course.{Ran}
+use Rattle.session.specs.Course.{Ran, WroteFront}
 use Rattle.session.specs.declared.run.Rule.TheVariants as rule
 use Rattle.tlmsim.specs.Line.{Names, line_of}
 use Rattle.tlmsim.specs.Call.{Call, Keeps, Texts, model_limit, script_limit}
-use Rattle.tlmsim.specs.Loaded.{LacksScript, IsTooLarge}
-use Rattle.tlmsim.specs.Judged.{IsBrokenModel, AcceptsModel, IsBrokenScript, Accepts, IsRunOf}
+use Rattle.tlmsim.specs.Loaded.{IsUnread, IsTooLarge}
+use Rattle.tlmsim.specs.Judged.{IsBrokenModel, HasModelFault, AcceptsModel, IsBrokenScript, HasScriptFault, Accepts, IsRunOf, shown_objects}
+use Rattle.tlmsim.specs.Telling.{WroteCut}
+use Rattle.refusal_lines.specs.ErrLines.{usage_line, read_line, model_line, script_line, large_line, err_line, write_line, memory_line}
+use Rattle.refusal_lines.specs.declared.refusals.ModelFault.{ModelFault}
+use Rattle.refusal_lines.specs.declared.refusals.ScriptFault.{ScriptFault}
+use Rattle.refusal_lines.specs.declared.refusals.Refusal.{Refusal}
+use Rattle.refusal_lines.specs.declared.refusals.Refusal.TheVariants as refusal
 
 -- the most steps of a session
 abbrev pub default_budget : ℕ
 default_budget = 10000000
 
--- the shelf's read count rose in this call; or it tells its files and lacks the model that the words name,
--- or the script, once the model was read within its limit
-pub record ReadFailed (c : Call) : Type 0 where
+-- this file could not be read: the model that the words name; or the script, once the model was read within its limit. The
+-- shelf's read count rose in this call, or it tells its files and lacks this one
+pub record ReadFailed (c : Call) (file : List ℕ) : Type 0 where
   pub names : Names
   pub line : line_of c.words ≡ Some names
-  pub cause : Rose c.before.reads c.after.reads ⊎ (Lacks c.before.files names.model ⊎ LacksScript c.before.files c.after.files names.model names.script)
+  pub cause : IsUnread c.before.files c.after.files (Rose c.before.reads c.after.reads) names.model names.script file
 
--- more bytes than its limit were read of the model; or the model was read, and more than its limit of the script
-pub record TooLarge (c : Call) : Type 0 where
+-- more bytes than its limit were read of this file: the model; or the script, once the model was read within its limit
+pub record TooLarge (c : Call) (file : List ℕ) : Type 0 where
   pub names : Names
   pub line : line_of c.words ≡ Some names
-  pub cause : IsTooLarge c.before.files c.after.files names.model names.script
+  pub cause : IsTooLarge c.before.files c.after.files names.model names.script file
 
--- both texts were read, and the model has no tree, or a construct that is not built, or breaks a rule
-pub record ModelRefused (c : Call) : Type 0 where
+-- both texts were read, and this is wrong with the model: it has no tree, or a construct that is not built, or breaks a rule
+pub record ModelRefused (c : Call) (f : ModelFault) : Type 0 where
   pub model : List ℕ
   pub script : List ℕ
   pub texts : Texts c model script
-  pub broken : IsBrokenModel model
+  pub fault : HasModelFault model f
 
--- both texts were read, the model is accepted, and the script is not
-pub record ScriptRefused (c : Call) : Type 0 where
+-- both texts were read, the model is accepted, and this is wrong with the script
+pub record ScriptRefused (c : Call) (f : ScriptFault) : Type 0 where
   pub model : List ℕ
   pub script : List ℕ
   pub texts : Texts c model script
   pub m : tree.Model
   pub accepted : AcceptsModel model m
-  pub broken : IsBrokenScript m script
+  pub fault : HasScriptFault (shown_objects m) script f
+
+-- the cause of a refusal
+abbrev pub RefusedFor : Call → Refusal → Type 0
+RefusedFor c refusal.Usage = line_of c.words ≡ None
+RefusedFor c (refusal.Read file) = ReadFailed c file
+RefusedFor c (refusal.Model f) = ModelRefused c f
+RefusedFor c (refusal.Script f) = ScriptRefused c f
+RefusedFor c (refusal.TooLarge file) = TooLarge c file
 
 -- both texts are accepted, and this is their session: the run of the design of methods that a design of the source tree
 -- gives, under the script, with these choices and steps, which ended so, and whose text `out` took; each choice is one of
@@ -110,30 +124,70 @@ IsRefusal status = (status ≡ 1) ⊎ ((status ≡ 2) ⊎ ((status ≡ 3) ⊎ ((
 abbrev pub IsRunStatus : ℕ → Type 0
 IsRunStatus status = (status ≡ 0) ⊎ ((status ≡ 5) ⊎ ((status ≡ 6) ⊎ (status ≡ 9)))
 
--- each status and its cause, what is kept at every status, and each cause and its status
+-- `err` got just this line
+abbrev pub Gets : Call → List ℕ → Type 0
+Gets c line = Grew c.before.err c.after.err line
+
+-- `err` and its count are as they were
+pub record IsSilent (c : Call) : Type 0 where
+  pub err : c.after.err ≡ c.before.err
+  pub faults : c.after.err_faults ≡ c.before.err_faults
+
+-- a write to `out` failed in a session, and `err` got a front of the line that says so
+pub record ReportCut (c : Call) (choices : List ℕ) (steps : ℕ) : Type 0 where
+  pub session : Session c choices steps stop.WriteFault
+  pub rose : Rose c.before.out_faults c.after.out_faults
+  pub told : WroteFront c.before.err c.after.err write_line
+
+-- a write to `err` failed in the line of a refusal: `err` got a front of it that lacks a byte, and a front of the line that
+-- says so
+pub record LineCut (c : Call) (choices : List ℕ) (steps : ℕ) : Type 0 where
+  pub untouched : Untouched c choices steps
+  pub refused : Refusal
+  pub cause : RefusedFor c refused
+  pub rose : Rose c.before.err_faults c.after.err_faults
+  pub told : WroteCut c.before.err c.after.err (err_line refused) write_line
+
+-- memory was refused before the end of a refusal's line: `err` got a front of the line that says so, behind a front of the
+-- refusal's where that one was begun
+pub record LineLacking (c : Call) (choices : List ℕ) (steps : ℕ) : Type 0 where
+  pub untouched : Untouched c choices steps
+  pub told : WroteFront c.before.err c.after.err memory_line ⊎ ((r : Refusal) × RefusedFor c r × WroteCut c.before.err c.after.err (err_line r) memory_line)
+
+-- memory was refused in a session, and `err` got a front of the line that says so
+pub record ReportLacking (c : Call) (choices : List ℕ) (steps : ℕ) : Type 0 where
+  pub session : Session c choices steps stop.NoMemory
+  pub told : WroteFront c.before.err c.after.err memory_line
+
+-- a cause gives this status, but where memory was refused, or a write to `err` failed in the line of the refusal
+abbrev pub Gives : Call → ℕ → ℕ → Type 0
+Gives c status due = (status ≡ due) ⊎ ((status ≡ 8) ⊎ ((status ≡ 7) × Rose c.before.err_faults c.after.err_faults))
+
+-- each status and its cause, with what `err` gets; what is kept at every status; and each cause and its status
 pub record Answers (c : Call) (status : ℕ) (choices : List ℕ) (steps : ℕ) : Type 0 where
   pub done : status ≡ 0 → Finished c choices steps
-  pub usage : status ≡ 1 → line_of c.words ≡ None
-  pub read : status ≡ 2 → ReadFailed c
-  pub model : status ≡ 3 → ModelRefused c
-  pub script : status ≡ 4 → ScriptRefused c
+  pub usage : status ≡ 1 → (line_of c.words ≡ None) × Gets c usage_line
+  pub read : status ≡ 2 → (file : List ℕ) × ReadFailed c file × Gets c (read_line file)
+  pub model : status ≡ 3 → (f : ModelFault) × ModelRefused c f × Gets c (model_line f)
+  pub script : status ≡ 4 → (f : ScriptFault) × ScriptRefused c f × Gets c (script_line f)
   pub fault : status ≡ 5 → (f : RunFault) × Session c choices steps (stop.Fault f)
   pub budget : status ≡ 6 → Session c choices steps stop.Budget × (steps ≡ default_budget)
-  pub write : status ≡ 7 → Session c choices steps stop.WriteFault × Rose c.before.out_faults c.after.out_faults
-  pub memory : status ≡ 8 → Untouched c choices steps ⊎ Session c choices steps stop.NoMemory
+  pub write : status ≡ 7 → ReportCut c choices steps ⊎ LineCut c choices steps
+  pub memory : status ≡ 8 → LineLacking c choices steps ⊎ ReportLacking c choices steps
   pub replay : status ≡ 9 → (place : ℕ) × Session c choices steps (stop.Replay place)
-  pub large : status ≡ 10 → TooLarge c
+  pub large : status ≡ 10 → (file : List ℕ) × TooLarge c file × Gets c (large_line file)
   pub refused : IsRefusal status → Untouched c choices steps
+  pub silent : IsRunStatus status → IsSilent c
   pub bound : status ≤ 10
   pub kept : Keeps c
-  pub usage_comes : line_of c.words ≡ None → (status ≡ 1) ⊎ (status ≡ 8)
+  pub usage_comes : line_of c.words ≡ None → Gives c status 1
   pub large_comes : (old new : Files) (model script : List ℕ) → Given c old new model script
-      → (model_limit < length model) ⊎ (script_limit < length script) → (status ≡ 10) ⊎ (status ≡ 8)
-  pub large_model_comes : (old new : Files) (model : List ℕ) → ModelGiven c old new model → model_limit < length model → (status ≡ 10) ⊎ (status ≡ 8)
+      → (model_limit < length model) ⊎ (script_limit < length script) → Gives c status 10
+  pub large_model_comes : (old new : Files) (model : List ℕ) → ModelGiven c old new model → model_limit < length model → Gives c status 10
   pub model_comes : (old new : Files) (model script : List ℕ) → Given c old new model script
-      → length model ≤ model_limit → length script ≤ script_limit → IsBrokenModel model → (status ≡ 3) ⊎ (status ≡ 8)
+      → length model ≤ model_limit → length script ≤ script_limit → IsBrokenModel model → Gives c status 3
   pub script_comes : (old new : Files) (model script : List ℕ) → Given c old new model script
-      → length model ≤ model_limit → length script ≤ script_limit → (m : tree.Model) → AcceptsModel model m → IsBrokenScript m script → (status ≡ 4) ⊎ (status ≡ 8)
+      → length model ≤ model_limit → length script ≤ script_limit → (m : tree.Model) → AcceptsModel model m → IsBrokenScript m script → Gives c status 4
   pub complete : (old new : Files) (model script : List ℕ) → Given c old new model script
       → length model ≤ model_limit → length script ≤ script_limit → (m : tree.Model) (commands : List Command) → Accepts model script m commands
       → (Rose c.before.out_faults c.after.out_faults → ⊥) → IsRunStatus status ⊎ (status ≡ 8)

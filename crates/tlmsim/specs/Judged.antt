@@ -15,10 +15,10 @@ use Rattle.method_model.specs.declared.plain.Command.{Command}
 use Rattle.script_text.specs.ScriptText.{read_script}
 use Rattle.script_text.specs.NamedScript.{name_script}
 use Rattle.script_text.specs.declared.forms.TextCommand.{TextCommand}
-use Rattle.tlmsim.specs.declared.faults.ModelFault.{ModelFault}
-use Rattle.tlmsim.specs.declared.faults.ModelFault.TheVariants as model_fault
-use Rattle.tlmsim.specs.declared.faults.ScriptFault.{ScriptFault}
-use Rattle.tlmsim.specs.declared.faults.ScriptFault.TheVariants as script_fault
+use Rattle.refusal_lines.specs.declared.refusals.ModelFault.{ModelFault}
+use Rattle.refusal_lines.specs.declared.refusals.ModelFault.TheVariants as model_fault
+use Rattle.refusal_lines.specs.declared.refusals.ScriptFault.{ScriptFault}
+use Rattle.refusal_lines.specs.declared.refusals.ScriptFault.TheVariants as script_fault
 
 -- the model reads as no tree
 abbrev pub HasNoTree : List ℕ → Type 0

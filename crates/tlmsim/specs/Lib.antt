@@ -5,5 +5,6 @@ pub mod Loaded
 pub mod Unbuilt
 pub mod Judged
 pub mod Refused
+pub mod Telling
 pub mod Headline
 pub mod Simulated

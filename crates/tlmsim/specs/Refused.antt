@@ -2,8 +2,8 @@
 use Rattle.std.specs.Prelude.{ℕ, List, ⊤}
 use Rattle.model_tree.specs.Tree as tree
 use Rattle.tlmsim.specs.Judged.{AcceptsModel, HasModelFault, HasScriptFault, shown_objects}
-use Rattle.tlmsim.specs.declared.faults.ModelFault.{ModelFault}
-use Rattle.tlmsim.specs.declared.faults.ScriptFault.{ScriptFault}
+use Rattle.refusal_lines.specs.declared.refusals.ModelFault.{ModelFault}
+use Rattle.refusal_lines.specs.declared.refusals.ScriptFault.{ScriptFault}
 use Rattle.tlmsim.specs.declared.judge.ModelStop.{ModelStop}
 use Rattle.tlmsim.specs.declared.judge.ModelStop.TheVariants as model_stop
 use Rattle.tlmsim.specs.declared.judge.ScriptStop.{ScriptStop}

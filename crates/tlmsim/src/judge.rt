@@ -10,7 +10,6 @@ ghost use Rattle.method_model.specs.Configuration.{visible};
 ghost use Rattle.tlmsim.specs.Judged.{AcceptsModel, NamesScript, Accepts, IsRunOf, HasModelFault, HasScriptFault};
 ghost use Rattle.tlmsim.specs.Refused.{IfModelFault, IfScriptFault, HasTextFault};
 
-use super::faults::{ModelFault, ScriptFault};
 use super::load::Texts;
 use super::unbuilt::{UnbuiltStop, refuse_unbuilt};
 use built_laws::built_models_break_no_rule;
@@ -21,6 +20,7 @@ use model_check::{Checked, check};
 use model_parser::parse;
 use model_tree::{CheckStop, ParseStop, Tree};
 use plain_lists::Items;
+use refusal_lines::{ModelFault, ScriptFault};
 use rule_check::judge_rules;
 use script_text::{commands, name_all};
 use std::alloc::{AllocError, Global};

@@ -1,13 +1,13 @@
 //! The simulator: the words of a command line, and the one call that runs a model under a script.
 #![tactic(auto)]
 
-mod faults;
 mod judge;
 mod laws;
 mod load;
 mod main_call;
 mod simulate;
 mod statuses;
+mod telling;
 mod unbuilt;
 mod words;
 

@@ -1,11 +1,11 @@
-ghost use Rattle.std.specs.Prelude.{◌≡◌, ◌≤◌, ◌⊎◌, ℕ, IfOk, IsErrOf, length};
-ghost use Rattle.sim_io.specs.Told.{AfterTold, Same, IsText, IsLarge, Lacks};
+ghost use Rattle.std.specs.Prelude.{◌≡◌, ◌≤◌, IfErr, IfOk, length};
+ghost use Rattle.sim_io.specs.Told.{AfterTold, IsWhole, Same};
 ghost use Rattle.sim_io.specs.Cause.{Rose};
-ghost use Rattle.tlmsim.specs.Call.{model_limit, script_limit};
-ghost use Rattle.tlmsim.specs.Loaded.{AreTexts, IsTooLarge, LacksScript};
+ghost use Rattle.tlmsim.specs.Loaded.{AreTexts, TextCause, LoadCause};
 
+use logic_values::Text;
 use sim_io::{Bytes, ReadStop, Shelf, read_all};
-use std::alloc::Global;
+use std::alloc::{AllocError, Global};
 
 /// The most bytes that a model may have.
 pub const MODEL_LIMIT: u64 = 1_048_576;
@@ -22,26 +22,71 @@ pub struct Texts {
     pub script: Bytes,
 }
 
+/// Why two texts were not read.
+#[derive(Drop)]
+pub enum LoadStop {
+    /// The file of this name could not be read.
+    Failed(Text),
+    /// The file of this name has more bytes than its limit.
+    TooLarge(Text),
+    /// Memory was refused.
+    NoMemory,
+}
+
+/// A name, in memory of its own.
+fn name_text(alloc: Global, name: &str) -> Result<Text, AllocError>
+    ensures { IfOk result (λ text. text ≡ name.now) }
+{
+    let bytes = Vec::from_slice(alloc, name.as_bytes())?;
+    Ok(Text::from_vec(bytes))
+}
+
+/// Reads a file to its end within its limit. What stops it has the name of the file.
+fn load_text<S: Shelf>(
+    alloc: Global,
+    shelf: &mut S,
+    name: &str,
+    limit: u64,
+) -> Result<Bytes, LoadStop>
+    ensures whole { IfOk result (λ bytes. IsWhole (S.files shelf.old) name.now bytes) }
+    ensures within { IfOk result (λ bytes. length bytes ≤ limit) }
+    ensures cause { IfErr result (TextCause (S.files shelf.old) (Rose (S.reads shelf.old) (S.reads shelf.new)) name.now limit) }
+    ensures later { S.reads shelf.old ≤ S.reads shelf.new }
+    ensures files { AfterTold (S.files shelf.old) (S.files shelf.new) Same }
+    ensures writes { S.writes shelf.new ≡ S.writes shelf.old }
+{
+    match read_all(alloc, shelf, name, limit) {
+        Ok(bytes) => Ok(bytes),
+        Err(ReadStop::Failed) => match name_text(alloc, name) {
+            Ok(file) => Err(LoadStop::Failed(file)),
+            Err(_) => Err(LoadStop::NoMemory),
+        },
+        Err(ReadStop::TooLarge { limit: _ }) => match name_text(alloc, name) {
+            Ok(file) => Err(LoadStop::TooLarge(file)),
+            Err(_) => Err(LoadStop::NoMemory),
+        },
+        Err(ReadStop::NoMemory) => Err(LoadStop::NoMemory),
+    }
+}
+
 /// Reads the model and then the script, each to its end within its limit.
 pub fn load<S: Shelf>(
     alloc: Global,
     shelf: &mut S,
     model: &str,
     script: &str,
-) -> Result<Texts, ReadStop>
+) -> Result<Texts, LoadStop>
     ensures texts { IfOk result (λ texts. AreTexts (S.files shelf.old) (S.files shelf.new) model.now script.now texts.model texts.script) }
-    ensures large { (most : ℕ) → IsErrOf result (ReadStop.TooLarge most) → IsTooLarge (S.files shelf.old) (S.files shelf.new) model.now script.now }
-    ensures failed { IsErrOf result ReadStop.Failed →
-        Rose (S.reads shelf.old) (S.reads shelf.new) ⊎ (Lacks (S.files shelf.old) model.now ⊎ LacksScript (S.files shelf.old) (S.files shelf.new) model.now script.now) }
+    ensures cause { IfErr result (LoadCause (S.files shelf.old) (S.files shelf.new) (Rose (S.reads shelf.old) (S.reads shelf.new)) model.now script.now) }
     ensures later { S.reads shelf.old ≤ S.reads shelf.new }
     ensures files { AfterTold (S.files shelf.old) (S.files shelf.new) Same }
     ensures writes { S.writes shelf.new ≡ S.writes shelf.old }
 {
-    let model = match read_all(alloc, shelf, model, MODEL_LIMIT) {
+    let model = match load_text(alloc, shelf, model, MODEL_LIMIT) {
         Ok(bytes) => bytes,
         Err(stop) => return Err(stop),
     };
-    match read_all(alloc, shelf, script, SCRIPT_LIMIT) {
+    match load_text(alloc, shelf, script, SCRIPT_LIMIT) {
         Ok(script) => Ok(Texts { model, script }),
         Err(stop) => Err(stop),
     }

@@ -1,14 +1,19 @@
 ghost use Rattle.std.specs.Prelude.{◌≡◌};
 ghost use Rattle.tlmsim.specs.Call.{outside_of};
-ghost use Rattle.tlmsim.specs.Headline.{Answers};
+ghost use Rattle.tlmsim.specs.Headline.{Answers, IsRunStatus};
 
-use super::simulate::simulate;
-use super::statuses::{refusal_status, stop_status};
+use super::simulate::{SimulateStop, simulate};
+use super::statuses::stop_status;
+use super::telling::{tell_refusal, tell_stop, try_line};
 use super::words::Words;
 use flat_design::Choices;
 use model_parser::one_tree;
+use refusal_lines::memory_line;
 use sim_io::{Shelf, Sink};
 use std::alloc::Global;
+
+/// The status of a call that was refused memory.
+const NO_MEMORY: u8 = 8;
 
 /// What the top call answers.
 #[derive(Drop)]
@@ -27,7 +32,11 @@ pub struct Ended {
 /// file could not be read; 3, the model is refused: it does not read, or a construct of it is not built
 /// yet, or it breaks a rule; 4, the script is refused; 5, a run fault; 6, the step budget is used up; 7, a
 /// write failed; 8, memory was refused; 9, a listed choice could not be taken; 10, a file is too large.
-/// Nothing is written to `err` yet.
+///
+/// `err` gets one line for a refusal of the input, which are 1, 2, 3, 4 and 10, and a line is tried there for 7 and 8:
+/// `usage: tlmsim MODEL SCRIPT [options]`; `read fault FILE`; `model LINE KIND NAME` or `model LINE Syntax`; the same two
+/// for `script`; `too large FILE`; `write fault`; `no memory`. A refusal whose line cannot be written is 7, or 8 for want of
+/// memory. With 0, 5, 6 and 9 `err` is left alone.
 pub fn sim_main<S: Shelf, O: Sink, E: Sink>(
     alloc: Global,
     words: &Words,
@@ -40,21 +49,31 @@ pub fn sim_main<S: Shelf, O: Sink, E: Sink>(
       before = outside_of S.files S.reads S.writes O.holds O.faults shelf.old out.old (E.holds err.old) (E.faults err.old);
       after = outside_of S.files S.reads S.writes O.holds O.faults shelf.new out.new (E.holds err.new) (E.faults err.new);
     }) result.status result.choices result.steps }
-    ensures silent { err.new ≡ err.old }
+    ensures silent { IsRunStatus result.status → err.new ≡ err.old }
 {
-    let _ = err;
     one_tree();
     let choices = Choices::new(alloc);
     match simulate(alloc, words, shelf, out) {
-        Ok(outcome) => Ended {
-            status: stop_status(outcome.stop),
-            choices: outcome.choices,
-            steps: outcome.steps,
-        },
-        Err(refusal) => Ended {
-            status: refusal_status(&refusal),
+        Ok(outcome) => {
+            tell_stop(outcome.stop, err);
+            Ended {
+                status: stop_status(outcome.stop),
+                choices: outcome.choices,
+                steps: outcome.steps,
+            }
+        }
+        Err(SimulateStop::Refused(refusal)) => Ended {
+            status: tell_refusal(alloc, &refusal, err),
             choices,
             steps: 0,
         },
+        Err(SimulateStop::NoMemory) => {
+            try_line(err, memory_line());
+            Ended {
+                status: NO_MEMORY,
+                choices,
+                steps: 0,
+            }
+        }
     }
 }

@@ -7,12 +7,12 @@ ghost use Rattle.session.specs.Course.{Ran};
 ghost use Rattle.tlmsim.specs.Call.{outside_of};
 ghost use Rattle.tlmsim.specs.Simulated.{Causes};
 
-use super::faults::{ModelFault, ScriptFault};
 use super::judge::{JudgeStop, Judged, judge};
-use super::load::{Texts, load};
+use super::load::{LoadStop, Texts, load};
 use super::words::{Words, line_of};
+use refusal_lines::Refusal;
 use session::{Log, Outcome, Plan, Rule, run_session};
-use sim_io::{ReadStop, Shelf, Sink};
+use sim_io::{Shelf, Sink};
 use std::alloc::Global;
 
 /// The most steps of a session.
@@ -20,19 +20,11 @@ pub const DEFAULT_BUDGET: u64 = 10_000_000;
 
 /// Why no session began.
 #[derive(Drop)]
-pub enum Refusal {
-    /// The words are refused.
-    Usage,
-    /// A file could not be read.
-    Read,
-    /// The model is refused for what is wrong with it.
-    Model(ModelFault),
-    /// The script is refused for what is wrong with it.
-    Script(ScriptFault),
+pub enum SimulateStop {
+    /// The input is refused.
+    Refused(Refusal),
     /// Memory was refused.
     NoMemory,
-    /// A file has more bytes than its limit.
-    TooLarge,
 }
 
 /// Runs the session of accepted texts.
@@ -50,13 +42,13 @@ fn run<O: Sink>(alloc: Global, judged: Judged, out: &mut O) -> Outcome
 }
 
 /// The work in its order: the words, the files, the model, the script, the session. What `err` holds has no part
-/// in it; a refusal of a text has what is wrong with the text, to be said there.
+/// in it; a refusal has what is to be said there.
 pub fn simulate<S: Shelf, O: Sink>(
     alloc: Global,
     words: &Words,
     shelf: &mut S,
     out: &mut O,
-) -> Result<Outcome, Refusal>
+) -> Result<Outcome, SimulateStop>
     ensures causes { (err err' : Option (List ℕ)) (faults faults' : ℕ) → Causes (record {
       words = words.now;
       before = outside_of S.files S.reads S.writes O.holds O.faults shelf.old out.old err faults;
@@ -69,18 +61,18 @@ pub fn simulate<S: Shelf, O: Sink>(
     ensures out_faults { O.faults out.old ≤ O.faults out.new }
 {
     let Some((model, script)) = line_of(words) else {
-        return Err(Refusal::Usage);
+        return Err(SimulateStop::Refused(Refusal::Usage));
     };
     let texts = match load(alloc, shelf, model, script) {
         Ok(texts) => texts,
-        Err(ReadStop::Failed) => return Err(Refusal::Read),
-        Err(ReadStop::TooLarge { limit: _ }) => return Err(Refusal::TooLarge),
-        Err(ReadStop::NoMemory) => return Err(Refusal::NoMemory),
+        Err(LoadStop::Failed(file)) => return Err(SimulateStop::Refused(Refusal::Read(file))),
+        Err(LoadStop::TooLarge(file)) => return Err(SimulateStop::Refused(Refusal::TooLarge(file))),
+        Err(LoadStop::NoMemory) => return Err(SimulateStop::NoMemory),
     };
     match judge(alloc, &texts) {
         Ok(judged) => Ok(run(alloc, judged, out)),
-        Err(JudgeStop::Model(fault)) => Err(Refusal::Model(fault)),
-        Err(JudgeStop::Script(fault)) => Err(Refusal::Script(fault)),
-        Err(JudgeStop::NoMemory) => Err(Refusal::NoMemory),
+        Err(JudgeStop::Model(fault)) => Err(SimulateStop::Refused(Refusal::Model(fault))),
+        Err(JudgeStop::Script(fault)) => Err(SimulateStop::Refused(Refusal::Script(fault))),
+        Err(JudgeStop::NoMemory) => Err(SimulateStop::NoMemory),
     }
 }

@@ -1,9 +1,9 @@
 ghost use Rattle.std.specs.Prelude.{◌≡◌};
 ghost use Rattle.tlmsim.specs.Headline as headline;
-ghost use Rattle.tlmsim.specs.Simulated as spec;
+ghost use Rattle.tlmsim.specs.Telling as telling;
 
-use super::simulate::Refusal;
 use method_model::Stop;
+use refusal_lines::Refusal;
 
 /// The status of a session that ended so.
 pub fn stop_status(stop: Stop) -> u8
@@ -21,14 +21,13 @@ pub fn stop_status(stop: Stop) -> u8
 
 /// The status of a refusal.
 pub fn refusal_status(refusal: &Refusal) -> u8
-    ensures { result ≡ spec.refusal_status refusal.now }
+    ensures { result ≡ telling.refusal_status refusal.now }
 {
     match refusal {
         Refusal::Usage => 1,
-        Refusal::Read => 2,
+        Refusal::Read(_) => 2,
         Refusal::Model(_) => 3,
         Refusal::Script(_) => 4,
-        Refusal::NoMemory => 8,
-        Refusal::TooLarge => 10,
+        Refusal::TooLarge(_) => 10,
     }
 }

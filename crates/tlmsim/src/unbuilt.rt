@@ -6,16 +6,8 @@ ghost use Rattle.tlmsim.specs.Unbuilt.{IfNotBuilt};
 use logic_values::Text;
 use model_tree::Tree;
 use not_built::not_built;
+use refusal_lines::NotBuilt;
 use std::alloc::Global;
-
-/// A construct of a model that is not built.
-#[derive(Drop)]
-pub struct NotBuilt {
-    /// The line of its first token, counted from 1.
-    pub line: u32,
-    /// The name of its module.
-    pub name: Text,
-}
 
 /// Why a tree is not run.
 #[derive(Drop)]

@@ -1,4 +1,3 @@
-use Rattle.std.proofs.Common.{Result, Ok, Err, IfOk}
 use Rattle.model_tree.specs.Seen.{model_of}
 use Rattle.tlmsim.proofs.Refusals.{run_over, if_ok}
 use Rattle.tlmsim.proofs.judge.methods_of_model.Goals as goal

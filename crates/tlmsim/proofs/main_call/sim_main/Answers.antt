@@ -1,31 +1,51 @@
-use Rattle.std.proofs.Common.{refl}
-use Rattle.tlmsim.proofs.Answered.{of_session, of_refusal}
+use Rattle.std.proofs.Common.{refl, ap}
+use Rattle.tlmsim.proofs.Lines.{end_of, told_no_end, memory_no_end}
+use Rattle.tlmsim.proofs.Answered.{of_outcome, of_refusal, of_memory, refused_for}
 use Rattle.tlmsim.proofs.main_call.sim_main.Goals as goal
 
 pub returns-in-Ok-clause-answers : goal.returns-in-Ok-clause-answers
 returns-in-Ok-clause-answers g c =
-    let of_it = c.in-Ok.ensures.causes (g.E.Sink.holds c.args.err.now) (g.E.Sink.holds c.args.err.now) (g.E.Sink.faults c.args.err.now) (g.E.Sink.faults c.args.err.now) in
     rw c.stop_status.ensures
-    (of_session c.one_tree.ensures _ _ _ c.in-Ok.outcome.stop of_it.0 of_it.1
+    (of_outcome c.one_tree.ensures _ c.in-Ok.outcome (c.in-Ok.ensures.causes _ _ _ _) c.tell_stop.ensures.told (λ end. ap g.E.Sink.faults (c.tell_stop.ensures.silent end))
     (record {
       files = c.in-Ok.ensures.files;
       writes = c.in-Ok.ensures.writes;
       reads = c.in-Ok.ensures.reads;
       out_faults = c.in-Ok.ensures.out_faults;
-      err = refl;
-      err_faults = refl;
+      err_faults = c.tell_stop.ensures.later;
     }))
 
-pub returns-in-Err-clause-answers : goal.returns-in-Err-clause-answers
-returns-in-Err-clause-answers g c =
-    let of_it = c.in-Err.ensures.causes (g.E.Sink.holds c.args.err.now) (g.E.Sink.holds c.args.err.now) (g.E.Sink.faults c.args.err.now) (g.E.Sink.faults c.args.err.now) in
-    rw (c.refusal_status.ensures, c.new-choices.ensures)
-    (of_refusal c.one_tree.ensures _ _ _ c.in-Err.refusal of_it (record { no_choices = refl; no_steps = refl; out = c.in-Err.ensures.untouched })
+pub returns-in-Ok-clause-silent : goal.returns-in-Ok-clause-silent
+returns-in-Ok-clause-silent g c = rw c.stop_status.ensures (λ h. c.tell_stop.ensures.silent (end_of c.in-Ok.outcome.stop h))
+
+pub returns-in-Err-Refused-clause-answers : goal.returns-in-Err-Refused-clause-answers
+returns-in-Err-Refused-clause-answers g c =
+    rw c.new-choices.ensures
+    (of_refusal c.one_tree.ensures _ _ _ _ _ (refused_for _ _ _ c.in-Err-Refused.field-0-is (c.in-Err-Refused.ensures.causes _ _ _ _)) c.tell_refusal.ensures.told
+    (record { no_choices = refl; no_steps = refl; out = c.in-Err-Refused.ensures.untouched })
     (record {
-      files = c.in-Err.ensures.files;
-      writes = c.in-Err.ensures.writes;
-      reads = c.in-Err.ensures.reads;
-      out_faults = c.in-Err.ensures.out_faults;
-      err = refl;
-      err_faults = refl;
+      files = c.in-Err-Refused.ensures.files;
+      writes = c.in-Err-Refused.ensures.writes;
+      reads = c.in-Err-Refused.ensures.reads;
+      out_faults = c.in-Err-Refused.ensures.out_faults;
+      err_faults = c.tell_refusal.ensures.later;
     }))
+
+pub returns-in-Err-Refused-clause-silent : goal.returns-in-Err-Refused-clause-silent
+returns-in-Err-Refused-clause-silent g c = λ h. absurd (told_no_end _ _ _ _ _ _ c.tell_refusal.ensures.told h)
+
+pub returns-in-Err-NoMemory-clause-answers : goal.returns-in-Err-NoMemory-clause-answers
+returns-in-Err-NoMemory-clause-answers g c =
+    rw c.new-choices.ensures
+    (of_memory _ _ _ (rw c.memory_line.ensures at c.try_line.ensures.front)
+    (record { no_choices = refl; no_steps = refl; out = c.in-Err-NoMemory.ensures.untouched })
+    (record {
+      files = c.in-Err-NoMemory.ensures.files;
+      writes = c.in-Err-NoMemory.ensures.writes;
+      reads = c.in-Err-NoMemory.ensures.reads;
+      out_faults = c.in-Err-NoMemory.ensures.out_faults;
+      err_faults = c.try_line.ensures.later;
+    }))
+
+pub returns-in-Err-NoMemory-clause-silent : goal.returns-in-Err-NoMemory-clause-silent
+returns-in-Err-NoMemory-clause-silent g c = λ h. absurd (memory_no_end h)
