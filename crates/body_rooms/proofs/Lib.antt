@@ -1,0 +1,6 @@
+pub mod Greatest
+pub mod Inside
+pub mod Tabled
+pub mod Still
+pub mod Needed
+pub mod Suffices
