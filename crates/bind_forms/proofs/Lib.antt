@@ -1,0 +1,4 @@
+pub mod Roles
+pub mod Firsts
+pub mod Ends
+pub mod Bindings
