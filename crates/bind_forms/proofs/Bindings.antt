@@ -1,4 +1,4 @@
--- The bindings of a model without a fault have forms.
+-- The bindings of a model without a fault have forms, so that its objects are formed.
 use Rattle.std.proofs.Common.{◌≡◌, ℕ, zero, suc, List, [], ◌∷◌, length, None, refl}
 use Rattle.std.specs.Prelude.{All, Contains}
 use Rattle.std.proofs.lemmas.List.Elements.{All-nil, All-cons, All-append}
@@ -16,9 +16,12 @@ use Rattle.rule_laws.proofs.Kept.{keeps}
 use Rattle.rule_laws.proofs.Typed.{head_none}
 use Rattle.object_rules.specs.Forms.{Name, around, items_at, module_place}
 use Rattle.object_rules.specs.Listing.{InsideBinds, child, end_of, binds_of_item, binds_of_items, binds_within, objects_of, top_object, top_place}
-use Rattle.object_rules.specs.Faults.{cycle_fault}
-use Rattle.binding_rules.specs.Formed.{HasForm}
+use Rattle.object_rules.specs.Faults.{cycle_fault, limit_fault}
+use Rattle.binding_rules.specs.Formed.{HasForm, AreFormed}
+use Rattle.formed_binds.proofs.Few.{objects_few}
+use Rattle.formed_binds.proofs.SizedObjects.{objects_sized}
 use Rattle.formed_laws.proofs.Children.{head_in, tail_in}
+use Rattle.formed_laws.proofs.Parents.{are_inside}
 use Rattle.bind_forms.proofs.Firsts.{alone}
 use Rattle.bind_forms.proofs.Ends.{below, IsInstance, IsInside, both_ends, kept_at, distinct_at, inner, end_at}
 
@@ -66,3 +69,6 @@ module _ (m : tree.Model) (clean : first_fault m ≡ None) (acyclic : cycle_faul
 
   pub all_formed : All (HasForm (objects_of m)) (objects_of m).binds
   all_formed = within (length m.modules) 0 (top_place m) (record { object = top_object m; found = refl; is_instance = refl })
+
+  pub are_formed : limit_fault m ≡ None → AreFormed (objects_of m)
+  are_formed limits = record { few = objects_few m limits; parents = are_inside m; sizes = objects_sized m clean; bindings = all_formed }
