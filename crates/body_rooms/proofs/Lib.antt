@@ -4,3 +4,4 @@ pub mod Tabled
 pub mod Still
 pub mod Needed
 pub mod Suffices
+pub mod Plain
