@@ -1,0 +1,5 @@
+pub mod Stored
+pub mod Trying
+pub mod TriedMutexes
+pub mod TriedSemaphores
+pub mod TriedFifos
