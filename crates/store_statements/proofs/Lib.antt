@@ -1,0 +1,4 @@
+pub mod Memories
+pub mod Asking
+pub mod Stopped
+pub mod Fitting

@@ -1,0 +1,43 @@
+-- What a statement that may take memory does where a part of it was evaluated.
+use Rattle.std.proofs.Common.{◌≡◌, ℕ, Result, Ok, Err, refl, sym, ◌∙◌, subst}
+use Rattle.flat_design.specs.declared.faults.RunFault.{RunFault}
+use Rattle.sim_model.specs.Values.{on_ok}
+use Rattle.sim_model.specs.Residual.{Residual, settle}
+use Rattle.sim_model.specs.Configuration.{Config, Instance, arena}
+use Rattle.sim_model.specs.Reading.{Here, here}
+use Rattle.sim_model.specs.Statements.{settled_in}
+use Rattle.kernel_state.specs.Moves.{Follows, Does}
+use Rattle.kernel_state.specs.declared.kernel.Kernel.{Kernel}
+use Rattle.kernel_view.specs.Standings.{Everywhere}
+use Rattle.store_statements.specs.Stopping.{FollowsOrStops, DoesOrStops}
+use Rattle.store_statements.specs.declared.stops.StatementStop.{StatementStop}
+use Rattle.store_statements.specs.declared.stops.StatementStop.TheVariants as stop
+
+-- what takes no memory
+abbrev pub stop_of : Result Unit RunFault → Result Unit StatementStop
+stop_of (Ok u) = Ok u
+stop_of (Err f) = Err (stop.Fault f)
+
+pub follows_too : (l : Kernel) (c : Config) (done : Result Unit RunFault) (o : Result Config RunFault) → Follows l done c o → FollowsOrStops l (stop_of done) c o
+follows_too l c (Ok u) (Ok d) follows = follows
+follows_too l c (Ok u) (Err f) follows = follows
+follows_too l c (Err g) (Ok d) follows = follows
+follows_too l c (Err g) (Err f) follows = follows
+
+pub does_too : (k l : Kernel) (p : ℕ) (done : Result Unit RunFault) (f : Config → ℕ → Instance → Residual → Result Config RunFault) → Does k l done p f → DoesOrStops k l (stop_of done) p f
+does_too k l p done f does c i h there = follows_too l c done (f (settled_in c p i.residual) p (record i { residual = settle (arena c) i.residual }) (settle (arena c) i.residual)) (does c i h there)
+
+-- the part gives this answer wherever the statement stands, and the rest f goes on with its value
+module _ {A : Type 0} (k : Kernel) (p : ℕ) (answer : Result A RunFault) (part : Here → Result A RunFault) (gives : Everywhere k p (λ h. answer ≡ part h))
+    (f : Config → ℕ → Instance → Residual → A → Result Config RunFault) where
+  -- it has a value
+  pub evaluated : (l : Kernel) (done : Result Unit StatementStop) (a : A) → answer ≡ Ok a → DoesOrStops k l done p (λ c q i r. f c q i r a) → DoesOrStops k l done p (λ c q i r. on_ok (part (here c q i r)) (f c q i r))
+  evaluated l done a is does c i h there =
+      subst (λ o. FollowsOrStops l done c (on_ok o (f (settled_in c p i.residual) p (record i { residual = settle (arena c) i.residual }) (settle (arena c) i.residual))))
+      (sym is ∙ gives c i h there) (does c i h there)
+
+  -- it is at fault
+  pub at_fault : (e : RunFault) → answer ≡ Err e → DoesOrStops k k (Err (stop.Fault e)) p (λ c q i r. on_ok (part (here c q i r)) (f c q i r))
+  at_fault e is c i h there =
+      subst (λ o. FollowsOrStops k (Err (stop.Fault e)) c (on_ok o (f (settled_in c p i.residual) p (record i { residual = settle (arena c) i.residual }) (settle (arena c) i.residual))))
+      (sym is ∙ gives c i h there) (refl, h)
