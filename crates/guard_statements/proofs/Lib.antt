@@ -1,0 +1,4 @@
+pub mod OneInstance
+pub mod Throwing
+pub mod Ended
+pub mod Reset

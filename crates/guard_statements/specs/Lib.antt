@@ -1,0 +1,3 @@
+pub mod Unwound
+pub mod Resting
+pub mod Others
