@@ -108,7 +108,7 @@ passes_by : {X : Type 0} (p : X → Bool) (x y : X) (xs : List X) (b : Bool) →
 passes_by p x y xs true e h rest = subst (λ z. p z ≡ true) (same_some x y h) e
 passes_by p x y xs false e h rest = rest h
 
-passes : {X : Type 0} (p : X → Bool) (xs : List X) (y : X) → find p xs ≡ Some y → p y ≡ true
+pub passes : {X : Type 0} (p : X → Bool) (xs : List X) (y : X) → find p xs ≡ Some y → p y ≡ true
 passes p [] y h = cc
 passes p (x ∷ xs) y h = passes_by p x y xs (p x) refl h (passes p xs y)
 
@@ -118,7 +118,7 @@ one_row : (x : tree.Item) (o : Option ObjectForm) (r : Row) → Contains (row_if
 one_row x None r c = absurd (nothing_in r c)
 one_row x (Some f) r c = sym (ap (λ (q : Row). Some q.form) (only_in r _ c))
 
-row_item : (a : Around) (is : List tree.Item) (r : Row) → Contains (rows_in a is) r → (i : tree.Item) × Contains is i × (object_form a i ≡ Some r.form)
+pub row_item : (a : Around) (is : List tree.Item) (r : Row) → Contains (rows_in a is) r → (i : tree.Item) × Contains is i × (object_form a i ≡ Some r.form)
 row_item a [] r c = absurd (nothing_in r c)
 row_item a (x ∷ is) r c =
     elim (Contains-append_cases (row_if x (object_form a x)) (rows_in a is) r c) [
@@ -134,7 +134,7 @@ module _ (m : tree.Model) where
     pub listed : Contains (items_at m.modules place) item
     pub selected : sel (handlers_of (object_form (around m.modules place) item)) ≡ Some f
 
-  abbrev form_of : Option Object → Option ObjectForm
+  abbrev pub form_of : Option Object → Option ObjectForm
   form_of o = option_map (λ (x : Object). x.form) o
 
   names_by : (sel : Handlers → Option ℕ) (f : ℕ) → sel no_handlers ≡ None → (i : ℕ) (o : Option Object) → slice_get (list_of m) i ≡ o → sel (handlers_of (form_of o)) ≡ Some f → Names sel f
@@ -180,31 +180,31 @@ module _ (m : tree.Model) where
         (bodies_of (place + 1) (n + body_count y.items) ms (pre ++ u.0) r.0 (total ∙ ap (λ bs. pre ++ bs) u.1 ∙ sym (append_assoc pre u.0 r.0)) (omega (arith, l, len, c)) r.2 k x at)
 
 module _ (m : tree.Model) (clean : first_fault m ≡ None) (d : Design) (design : IsDesignOf m d) where
-  abbrev a : Arena
+  abbrev pub a : Arena
   a = arena_of d.code
 
-  module_there : (place : ℕ) (i : tree.Item) (o : Option tree.Module) → slice_get m.modules place ≡ o → Contains (items_in o) i → (x : tree.Module) × (slice_get m.modules place ≡ Some x)
+  pub module_there : (place : ℕ) (i : tree.Item) (o : Option tree.Module) → slice_get m.modules place ≡ o → Contains (items_in o) i → (x : tree.Module) × (slice_get m.modules place ≡ Some x)
   module_there place i None e c = absurd (nothing_in i c)
   module_there place i (Some x) e c = (x, e)
 
   -- a body by its number among those of its module
-  placed : (before bodies : List CodeBody) (n q k f : ℕ) (t : CodeBody) → a.bodies ≡ before ++ bodies → length before ≡ n → q ≡ k → n + k ≡ f → slice_get bodies q ≡ Some t → body_at a f ≡ Some t
+  pub placed : (before bodies : List CodeBody) (n q k f : ℕ) (t : CodeBody) → a.bodies ≡ before ++ bodies → length before ≡ n → q ≡ k → n + k ≡ f → slice_get bodies q ≡ Some t → body_at a f ≡ Some t
   placed before bodies n q k f t total count same number there =
       let e : f ≡ length before + q = omega (arith, count, same, number) in
       ap (λ bs. slice_get bs f) total ∙ ap (slice_get (before ++ bodies)) e ∙ slice_behind before bodies q ∙ there
 
   -- the number of the first body of the module at a place, and where its code is read
-  abbrev first_at : ℕ → ℕ
+  abbrev pub first_at : ℕ → ℕ
   first_at place = bodies_in (take place m.modules)
 
-  abbrev home_at : ℕ → Home
+  abbrev pub home_at : ℕ → Home
   home_at place = record { first_body = first_at place; exceptions = exceptions_of m }
 
   module _ (place : ℕ) (x : tree.Module) (there : slice_get m.modules place ≡ Some x) where
-    bodies_there : ModuleBodies m a x place (first_at place)
+    pub bodies_there : ModuleBodies m a x place (first_at place)
     bodies_there = moved m a x (0 + place) place (0 + first_at place) (first_at place) (omega arith) (omega arith) (bodies_of m a 0 0 m.modules [] a.bodies refl refl design.code place x there)
 
-    differ : IsDistinct bytes_eq (names_of x.items)
+    pub differ : IsDistinct bytes_eq (names_of x.items)
     differ = subst (λ (is : List tree.Item). IsDistinct bytes_eq (names_of is)) (ap items_in there) (distinct_at m clean place)
 
     numbered_body : (name : Name) (g : tree.FunctionItem) → function_named x.items name ≡ Some g → (f : ℕ) → body_number (record { first_body = first_at place; exceptions = [] }) x.items g.name ≡ Some f
@@ -219,7 +219,7 @@ module _ (m : tree.Model) (clean : first_fault m ≡ None) (d : Design) (design 
         subst (IsBody place (home_at place) a (item_scope m.modules x.items g.name) (source.of_function g)) (same_some t.0 b (sym at ∙ found)) t.2
 
   -- the function that a handler's name is that of
-  function_of : (place : ℕ) (i : tree.Item) → Contains (items_at m.modules place) i → (name : Name) → ((s : Scope) → AllByRecursion (IsMet s) (item_uses i) → IsMet s (name, need_of.Function))
+  pub function_of : (place : ℕ) (i : tree.Item) → Contains (items_at m.modules place) i → (name : Name) → ((s : Scope) → AllByRecursion (IsMet s) (item_uses i) → IsMet s (name, need_of.Function))
       → (g : tree.FunctionItem) × (function_named (items_at m.modules place) name ≡ Some g)
   function_of place i listed name used =
       let is = items_at m.modules place in

@@ -13,7 +13,7 @@ use Rattle.hop_laws.proofs.Sockets.{begins_hop, ends_hop}
 use Rattle.standing_laws.specs.Sockets.{SocketsHaveHops}
 
 module _ (m : tree.Model) (clean : first_fault m ≡ None) (acyclic : cycle_fault m ≡ None) (limits : limit_fault m ≡ None) where
-  formed : AreFormed (objects_of m)
+  pub formed : AreFormed (objects_of m)
   formed = are_formed m clean acyclic limits
 
   pub sockets_have_hops : (d : Design) → binding.first_fault (objects_of m) ≡ None → IsDesignOf m d → SocketsHaveHops d.objects
