@@ -1,6 +1,6 @@
 -- A fifo that is tried.
-use Rattle.std.proofs.Common.{◌≡◌, ◌+◌, ◌-◌, ◌==◌, ◌++◌, ℕ, zero, suc, not, Bool, true, false, List, [], ◌∷◌, length, drop, slice_get, Option, Some, None, option_map, refl, sym, ap, ◌∙◌, subst, true≢false, arith}
-use Rattle.std.specs.Prelude.{is_some, unwrap_or, if◌then◌else◌}
+use Rattle.std.proofs.Common.{◌≡◌, ◌+◌, ◌-◌, ◌==◌, ◌++◌, ℕ, not, Bool, true, false, List, [], ◌∷◌, length, drop, slice_get, Option, Some, None, option_map, refl, sym, ap, ◌∙◌, subst, true≢false, arith}
+use Rattle.std.specs.Prelude.{is_some, if◌then◌else◌}
 use Rattle.std.proofs.lemmas.Bool.Decides.{nat_tests}
 use Rattle.logic_values.specs.declared.kinds.Value.{Value}
 use Rattle.logic_values.specs.declared.kinds.Value.TheVariants as value
@@ -15,7 +15,7 @@ use Rattle.sim_model.specs.Statements.{settled_in}
 use Rattle.sim_model.specs.Reading.{Here, here}
 use Rattle.sim_model.specs.Storing.{passes, stored, stored_if}
 use Rattle.sim_model.specs.Waiting.{channel_event}
-use Rattle.sim_model.specs.Channels.{with_channels, blocks, element, fifo_of, fifo_here, set_fifo, with_fifo, read_value, read_fifo, nb_read_value, nb_read_fifo, nb_write_fifo}
+use Rattle.sim_model.specs.Channels.{with_channels, blocks, element, fifo_of, fifo_here, with_fifo, read_value, read_fifo, nb_read_value, nb_read_fifo, nb_write_fifo}
 use Rattle.kernel_state.specs.Kernel.{StandsFor}
 use Rattle.kernel_state.specs.Moves.{Moves, Steps}
 use Rattle.kernel_state.specs.declared.kernel.Kernel.{Kernel}

@@ -7,7 +7,7 @@ use Rattle.flat_design.specs.declared.code.Store.{Store as Target}
 use Rattle.flat_design.specs.declared.names.EventMember.TheVariants as event
 use Rattle.flat_design.specs.declared.design.ChannelId.{ChannelId}
 use Rattle.sim_model.specs.Residual.{Residual}
-use Rattle.sim_model.specs.Configuration.{Config, Channels, Instance}
+use Rattle.sim_model.specs.Configuration.{Config, Channels}
 use Rattle.sim_model.specs.Reading.{Here}
 use Rattle.sim_model.specs.Storing.{passes}
 use Rattle.sim_model.specs.Waits.{fire}

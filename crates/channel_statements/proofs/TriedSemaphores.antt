@@ -1,5 +1,5 @@
 -- A semaphore that is tried.
-use Rattle.std.proofs.Common.{◌≡◌, ◌<◌, ◌+◌, ◌-◌, ◌^◌, ◌==◌, ℕ, zero, suc, not, Bool, true, false, List, [], ◌∷◌, slice_get, Option, Some, None, option_map, refl, sym, ap, ◌∙◌, subst, true≢false, ⊎_elim, length, arith}
+use Rattle.std.proofs.Common.{◌≡◌, ◌<◌, ◌+◌, ◌-◌, ◌^◌, ℕ, not, Bool, true, false, List, slice_get, Option, Some, None, option_map, refl, sym, ap, ◌∙◌, subst, true≢false, ⊎_elim, length, arith}
 use Rattle.std.specs.Prelude.{All, is_some, unwrap_or, if◌then◌else◌}
 use Rattle.std.proofs.lemmas.Bool.{cases_lt}
 use Rattle.std.proofs.lemmas.Bool.Decides.{nat_tests}
@@ -11,7 +11,7 @@ use Rattle.flat_design.specs.declared.code.Store.{Store as Target}
 use Rattle.flat_design.specs.declared.names.EventMember.TheVariants as event
 use Rattle.flat_design.specs.declared.design.ChannelId.{ChannelId}
 use Rattle.sim_model.specs.Residual.{Residual}
-use Rattle.sim_model.specs.Configuration.{Config, Channels, Instance}
+use Rattle.sim_model.specs.Configuration.{Config, Channels}
 use Rattle.sim_model.specs.Reading.{Here}
 use Rattle.sim_model.specs.Storing.{passes}
 use Rattle.sim_model.specs.Waits.{fire}

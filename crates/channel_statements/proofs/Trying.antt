@@ -1,5 +1,5 @@
 -- A channel is tried, and then its statement goes on.
-use Rattle.std.proofs.Common.{◌≡◌, ℕ, zero, suc, Bool, List, [], ◌∷◌, slice_get, slice_set, Option, Some, None, option_map, Result, Ok, Err, refl, sym, ap, ◌∙◌, subst, true≢false}
+use Rattle.std.proofs.Common.{◌≡◌, ℕ, zero, suc, List, [], ◌∷◌, slice_get, slice_set, Option, Some, None, option_map, Result, Ok, Err, refl, sym, ap, ◌∙◌, subst, true≢false}
 use Rattle.std.specs.Prelude.{is_some, unwrap_or}
 use Rattle.flat_design.specs.Code.{ChannelTerm}
 use Rattle.flat_design.specs.declared.design.ChannelId.{ChannelId}

@@ -1,4 +1,4 @@
-use Rattle.std.proofs.Common.{Some, None, sym, ap, ◌∙◌}
+use Rattle.std.proofs.Common.{Some, sym, ap, ◌∙◌}
 use Rattle.sim_model.specs.Residual.{settle}
 use Rattle.sim_model.specs.Configuration.{arena}
 use Rattle.sim_model.specs.Statements.{settled_in}

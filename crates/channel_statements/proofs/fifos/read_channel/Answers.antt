@@ -1,4 +1,4 @@
-use Rattle.std.proofs.Common.{Some, None, sym, ap, ◌∙◌}
+use Rattle.std.proofs.Common.{Some, sym, ap, ◌∙◌}
 use Rattle.kernel_view.specs.Standings.{next_here}
 use Rattle.channel_statements.proofs.TriedFifos.{read_steps, blocked_steps, refused_moves, no_fifo_steps}
 use Rattle.channel_statements.proofs.fifos.read_channel.Goals as goal
