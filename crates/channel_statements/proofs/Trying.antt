@@ -15,7 +15,7 @@ use Rattle.kernel_state.specs.Kernel.{StandsFor}
 use Rattle.kernel_state.specs.Moves.{Moves, Steps, Follows, Does}
 use Rattle.kernel_state.specs.declared.kernel.Kernel.{Kernel}
 use Rattle.kernel_state.proofs.Frames.{channels_move}
-use Rattle.kernel_view.specs.Standings.{Everywhere}
+use Rattle.kernel_view.specs.Standings.{next_here, Everywhere}
 use Rattle.channel_statements.specs.Tried.{used_here, changed_in}
 
 -- ---- the element that is tried
@@ -102,15 +102,13 @@ module _ (k : Kernel) (p : ℕ) (at : ChannelTerm) (answer : Result ChannelId Ru
   -- there is a channel
   pub does_for : (l : Kernel) (ch : ChannelId) → answer ≡ Ok ch → Steps k l p (g ch) → Does k l (Ok tt) p (λ c q i r. on_ok (place_in (here c q i r) at.place) (λ n. on_ok (channel_in (here c q i r) at n) (λ x. Ok (g x c q i r))))
   does_for l ch is steps c i h there =
-      subst (λ o. Follows l (Ok tt) c o)
-      (ap (λ o. on_ok o (λ x. Ok (g x (settled_in c p i.residual) p (record i { residual = settle (arena c) i.residual }) (settle (arena c) i.residual)))) (sym is ∙ gives c i h there)
-      ∙ sym (used_is (here (settled_in c p i.residual) p (record i { residual = settle (arena c) i.residual }) (settle (arena c) i.residual)) at (λ x. Ok (g x (settled_in c p i.residual) p (record i { residual = settle (arena c) i.residual }) (settle (arena c) i.residual)))))
-      (steps c i h there)
+      subst (Follows l (Ok tt) c)
+      (sym (used_is (next_here c p i) at (λ x. Ok (g x (settled_in c p i.residual) p (record i { residual = settle (arena c) i.residual }) (settle (arena c) i.residual)))))
+      (evaluated k p answer (λ y. used_here y at) gives (λ d q j r x. Ok (g x d q j r)) l (Ok tt) ch is steps c i h there)
 
   -- there is none
   pub at_fault : (e : RunFault) → answer ≡ Err e → Does k k (Err e) p (λ c q i r. on_ok (place_in (here c q i r) at.place) (λ n. on_ok (channel_in (here c q i r) at n) (λ x. Ok (g x c q i r))))
   at_fault e is c i h there =
-      subst (λ o. Follows k (Err e) c o)
-      (ap (λ o. on_ok o (λ x. Ok (g x (settled_in c p i.residual) p (record i { residual = settle (arena c) i.residual }) (settle (arena c) i.residual)))) (sym is ∙ gives c i h there)
-      ∙ sym (used_is (here (settled_in c p i.residual) p (record i { residual = settle (arena c) i.residual }) (settle (arena c) i.residual)) at (λ x. Ok (g x (settled_in c p i.residual) p (record i { residual = settle (arena c) i.residual }) (settle (arena c) i.residual)))))
-      (refl, h)
+      subst (Follows k (Err e) c)
+      (sym (used_is (next_here c p i) at (λ x. Ok (g x (settled_in c p i.residual) p (record i { residual = settle (arena c) i.residual }) (settle (arena c) i.residual)))))
+      (faulted k p answer (λ y. used_here y at) gives (λ d q j r x. Ok (g x d q j r)) e is c i h there)
