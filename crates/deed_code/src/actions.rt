@@ -7,12 +7,11 @@ ghost use Rattle.model_scopes.specs.Scopes.{place_of as place_in, use_of as use_
 ghost use Rattle.model_scopes.specs.Targets.{written_to as written_in};
 ghost use Rattle.name_tables.specs.Places.{scope_of};
 ghost use Rattle.target_code.specs.Statements.{statements_of};
-ghost use Rattle.deed_code.specs.Homes as spec;
+ghost use Rattle.call_code.specs.Homes as spec;
 
-use super::calls::{controlled_by, exception_number, spawn_code};
-use super::events::{await_code, notification_code};
-use super::homes::Home;
-use super::written::written_to;
+use call_code::{
+    Home, await_code, controlled_by, exception_number, notification_code, spawn_code, written_to,
+};
 use flat_design::{Await, Expr, Member, NameUse, Statement};
 use model_tree::{
     Action, Channel, Control, Expression, Name, Notification, PrintText, Spawn, Waiting, Who,

@@ -9,11 +9,9 @@ ghost use Rattle.model_scopes.specs.Scopes.{place_of as place_in, use_of as use_
 ghost use Rattle.model_scopes.specs.Targets.{put_into as put_in};
 ghost use Rattle.name_tables.specs.Places.{scope_of};
 ghost use Rattle.target_code.specs.Statements.{statements_of};
-ghost use Rattle.deed_code.specs.Homes as spec;
+ghost use Rattle.call_code.specs.Homes as spec;
 
-use super::calls::{call_arguments, function_number};
-use super::homes::Home;
-use super::written::put_into;
+use call_code::{Home, call_arguments, function_number, put_into};
 use flat_design::{Statement, Store};
 use model_tree::{Channel, Expression, Name, Operation};
 use name_tables::Place;

@@ -3,7 +3,7 @@ use Rattle.model_tree.specs.Views.{action_of}
 use Rattle.model_tree.specs.declared.statements.Action.{Action}
 use Rattle.code_of_model.specs.Deeds.{single, action_code as code_in}
 use Rattle.name_tables.specs.Places.{scope_of}
-use Rattle.deed_code.specs.Homes.{home_of}
+use Rattle.call_code.specs.Homes.{home_of}
 use Rattle.deed_code.proofs.actions.action_code.Goals as goal
 
 pub returns-in_ok-print_code-in-Print : goal.returns-in_ok-print_code-in-Print

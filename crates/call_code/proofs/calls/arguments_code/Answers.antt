@@ -7,7 +7,7 @@ use Rattle.flat_design.specs.Code.{ArgumentTerm}
 use Rattle.model_scopes.specs.Scopes.{Scope}
 use Rattle.code_of_model.specs.Deeds.{with_two, argument, arguments}
 use Rattle.name_tables.specs.Places.{scope_of}
-use Rattle.deed_code.proofs.calls.arguments_code.Goals as goal
+use Rattle.call_code.proofs.calls.arguments_code.Goals as goal
 
 without_rest : (y : Option ArgumentTerm) → with_two (λ (z : ArgumentTerm) zs. z ∷ zs) y None ≡ None
 without_rest None = refl

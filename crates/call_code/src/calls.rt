@@ -4,7 +4,7 @@ ghost use Rattle.flat_design.specs.Code as code;
 ghost use Rattle.code_of_model.specs.Deeds as deeds;
 ghost use Rattle.model_scopes.specs.Scopes.{use_of as use_in};
 ghost use Rattle.name_tables.specs.Places.{scope_of};
-ghost use Rattle.deed_code.specs.Homes as spec;
+ghost use Rattle.call_code.specs.Homes as spec;
 
 use super::events::{statics_code, terms_code};
 use super::homes::Home;
@@ -49,7 +49,7 @@ fn body_number(home: Home<'_>, name: &[u8]) -> Result<Option<CodeId>, AllocError
 }
 
 /// The number of the body of the first function of a name; none where the module around has none.
-pub(crate) fn function_number(
+pub fn function_number(
     place: &Place<'_>,
     home: Home<'_>,
     name: &[u8],
@@ -147,7 +147,7 @@ fn arguments_code(
 }
 
 /// The code of the arguments of a call of a function of this name.
-pub(crate) fn call_arguments(
+pub fn call_arguments(
     alloc: Global,
     place: &Place<'_>,
     name: &[u8],
@@ -162,7 +162,7 @@ pub(crate) fn call_arguments(
 }
 
 /// The process that a control call is for.
-pub(crate) fn controlled_by(place: &Place<'_>, who: &Who) -> Result<Option<Controlled>, AllocError>
+pub fn controlled_by(place: &Place<'_>, who: &Who) -> Result<Option<Controlled>, AllocError>
     ensures { IfOk result (λ found. found ≡ deeds.controlled_by (scope_of place.now) who.now) }
 {
     match who {
@@ -202,7 +202,7 @@ fn spawned_kind(method: bool) -> ProcessKind
 }
 
 /// The code of a new instance of a function; none where a part of it has none.
-pub(crate) fn spawn_code(
+pub fn spawn_code(
     alloc: Global,
     place: &Place<'_>,
     home: Home<'_>,

@@ -6,7 +6,7 @@ use Rattle.flat_design.specs.declared.code.Argument.{Argument}
 use Rattle.model_scopes.specs.Scopes.{Scope}
 use Rattle.code_of_model.specs.Deeds as deeds
 use Rattle.code_names.specs.Names.{place_of, body_names}
-use Rattle.deed_code.specs.declared.homes.Home.{Home}
+use Rattle.call_code.specs.declared.homes.Home.{Home}
 
 abbrev pub home_of : Home → deeds.Home
 home_of h = record { first_body = h.first_body; exceptions = h.exceptions.now }

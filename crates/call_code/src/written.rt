@@ -32,7 +32,7 @@ fn put_type(meaning: Meaning) -> Option<ValueType>
 }
 
 /// The type of what a statement writes to its channel.
-pub(crate) fn written_to(place: &Place<'_>, channel: &Channel) -> Option<ValueType>
+pub fn written_to(place: &Place<'_>, channel: &Channel) -> Option<ValueType>
     ensures { result ≡ targets.written_to (scope_of place.now) (channel_of channel.now) }
 {
     match judge_channel(place, Need::Object, channel).meaning {
@@ -42,7 +42,7 @@ pub(crate) fn written_to(place: &Place<'_>, channel: &Channel) -> Option<ValueTy
 }
 
 /// The type of what a statement puts into its channel.
-pub(crate) fn put_into(place: &Place<'_>, channel: &Channel) -> Option<ValueType>
+pub fn put_into(place: &Place<'_>, channel: &Channel) -> Option<ValueType>
     ensures { result ≡ targets.put_into (scope_of place.now) (channel_of channel.now) }
 {
     match judge_channel(place, Need::Object, channel).meaning {

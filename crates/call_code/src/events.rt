@@ -5,7 +5,7 @@ ghost use Rattle.flat_design.specs.Code as code;
 ghost use Rattle.code_of_model.specs.Deeds as deeds;
 ghost use Rattle.code_of_model.specs.Terms.{term_of};
 ghost use Rattle.name_tables.specs.Places.{scope_of};
-ghost use Rattle.deed_code.specs.Homes as spec;
+ghost use Rattle.call_code.specs.Homes as spec;
 
 use flat_design::{Await, EventUse, Expr, Statement, StaticUse};
 use model_tree::{Event, Expression, Notification, Waiting};
@@ -91,7 +91,7 @@ fn one_code(
 }
 
 /// The code of what a wait or a next trigger waits for; none where a part of it has none.
-pub(crate) fn await_code(
+pub fn await_code(
     alloc: Global,
     place: &Place<'_>,
     waiting: &Waiting,
@@ -124,7 +124,7 @@ pub(crate) fn await_code(
 }
 
 /// The code of a notification of the event at this place.
-pub(crate) fn notification_code(
+pub fn notification_code(
     alloc: Global,
     place: &Place<'_>,
     notification: &Notification,

@@ -3,8 +3,8 @@ use Rattle.model_tree.specs.Views.{events_of}
 use Rattle.flat_design.specs.Code as code
 use Rattle.code_of_model.specs.Deeds as deeds
 use Rattle.name_tables.specs.Places.{scope_of}
-use Rattle.deed_code.proofs.Each.{behind}
-use Rattle.deed_code.proofs.events.events_code.Given as goal
+use Rattle.call_code.proofs.Each.{behind}
+use Rattle.call_code.proofs.events.events_code.Given as goal
 
 abbrev pub invariant-loop-event : goal.invariant-loop-event
 invariant-loop-event l =

@@ -2,9 +2,9 @@ use Rattle.std.proofs.Common.{◌≡◌, drop}
 use Rattle.model_tree.specs.Views.{expressions_of}
 use Rattle.code_of_model.specs.Deeds as deeds
 use Rattle.name_tables.specs.Places.{scope_of}
-use Rattle.deed_code.specs.Homes.{arguments_of}
-use Rattle.deed_code.proofs.Each.{behind}
-use Rattle.deed_code.proofs.calls.arguments_code.Given as goal
+use Rattle.call_code.specs.Homes.{arguments_of}
+use Rattle.call_code.proofs.Each.{behind}
+use Rattle.call_code.proofs.calls.arguments_code.Given as goal
 
 abbrev pub invariant-loop-i : goal.invariant-loop-i
 invariant-loop-i l =
