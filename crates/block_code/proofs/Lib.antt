@@ -1,0 +1,6 @@
+pub mod Growth
+mod Forms
+mod Sees
+pub mod Results
+pub mod Owned
+mod Walks
