@@ -1,0 +1,4 @@
+pub mod LocalLemmas
+pub mod BodyLemmas
+pub mod LaidLemmas
+pub mod Standing
