@@ -1,4 +1,4 @@
-ghost use Rattle.std.specs.Prelude.{◌≡◌, ◌++◌, ◌∷◌, [], OnOk, length};
+ghost use Rattle.std.specs.Prelude.{◌≡◌, ◌++◌, ◌∷◌, [], OnOk, length, map};
 ghost use Rattle.code_names.specs.Names as spec;
 
 use name_tables::NameTable;
@@ -39,6 +39,13 @@ impl<'a> NameList<'a> {
         ensures { result ≡ spec.place_of self.now name.now }
     {
         self.places.find(name)
+    }
+
+    /// The names, in order.
+    pub fn as_slice(&self) -> &[&'a [u8]]
+        ensures { map (λ name. name.now) result.now ≡ self.now }
+    {
+        self.names.as_slice()
     }
 
     /// How many names there are.
