@@ -130,7 +130,8 @@ pub fn design_of(
     requires bindings { bindings ≡ bound objects }
     requires exceptions { exceptions ≡ exceptions_of (model_of tree.now) }
     requires code { IsCodeOf (model_of tree.now) code }
-    ensures { IfOk result (λ design. IsDesignOf (model_of tree.now) design) }
+    ensures design { IfOk result (λ design. IsDesignOf (model_of tree.now) design) }
+    ensures code { IfOk result (λ design. design.code ≡ code) }
 {
     let Ok(counts) = totals(objects.list.as_slice()) else {
         return Err(AllocError);
