@@ -6,26 +6,11 @@ use Rattle.sim_model.specs.Residual.{Residual, settle}
 use Rattle.sim_model.specs.Configuration.{Config, Instance, arena}
 use Rattle.sim_model.specs.Reading.{Here, here}
 use Rattle.sim_model.specs.Statements.{settled_in}
-use Rattle.kernel_state.specs.Moves.{Follows, Does}
 use Rattle.kernel_state.specs.declared.kernel.Kernel.{Kernel}
 use Rattle.kernel_view.specs.Standings.{Everywhere}
 use Rattle.store_statements.specs.Stopping.{FollowsOrStops, DoesOrStops}
 use Rattle.store_statements.specs.declared.stops.StatementStop.{StatementStop}
 use Rattle.store_statements.specs.declared.stops.StatementStop.TheVariants as stop
-
--- what takes no memory
-abbrev pub stop_of : Result Unit RunFault → Result Unit StatementStop
-stop_of (Ok u) = Ok u
-stop_of (Err f) = Err (stop.Fault f)
-
-pub follows_too : (l : Kernel) (c : Config) (done : Result Unit RunFault) (o : Result Config RunFault) → Follows l done c o → FollowsOrStops l (stop_of done) c o
-follows_too l c (Ok u) (Ok d) follows = follows
-follows_too l c (Ok u) (Err f) follows = follows
-follows_too l c (Err g) (Ok d) follows = follows
-follows_too l c (Err g) (Err f) follows = follows
-
-pub does_too : (k l : Kernel) (p : ℕ) (done : Result Unit RunFault) (f : Config → ℕ → Instance → Residual → Result Config RunFault) → Does k l done p f → DoesOrStops k l (stop_of done) p f
-does_too k l p done f does c i h there = follows_too l c done (f (settled_in c p i.residual) p (record i { residual = settle (arena c) i.residual }) (settle (arena c) i.residual)) (does c i h there)
 
 -- the part gives this answer wherever the statement stands, and the rest f goes on with its value
 module _ {A : Type 0} (k : Kernel) (p : ℕ) (answer : Result A RunFault) (part : Here → Result A RunFault) (gives : Everywhere k p (λ h. answer ≡ part h))
