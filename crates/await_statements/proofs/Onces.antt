@@ -8,7 +8,7 @@ use Rattle.std.proofs.lemmas.Map.Views.{any-filter_same}
 use Rattle.event_core.specs.Ev.{same_event}
 use Rattle.event_core.specs.declared.event.Ev.{Ev}
 use Rattle.event_core.specs.declared.event.Ev.TheVariants as ev
-use Rattle.sim_model.specs.Configuration.{Wait, waits_for_any, waits_for_all}
+use Rattle.sim_model.specs.Configuration.{waits_for_any, waits_for_all}
 use Rattle.sim_model.specs.Waits.{is_among, struck, once}
 use Rattle.await_statements.specs.Named.{with_event}
 use Rattle.await_statements.specs.Asked.{wait_for, waiting_for}

@@ -143,12 +143,7 @@ fn for_time(k: &Kernel, alloc: Global, p: u32, time: &Expr) -> Result<Trigger, R
 ///
 /// # Errors
 /// The first fault of what it names; a time past 2^64 - 1 ps; want of memory.
-pub(crate) fn awaited(
-    k: &Kernel,
-    alloc: Global,
-    p: u32,
-    how: &Await,
-) -> Result<Trigger, AwaitStop>
+pub(crate) fn awaited(k: &Kernel, alloc: Global, p: u32, how: &Await) -> Result<Trigger, AwaitStop>
     requires lives { Lives k.now p }
     requires numbers { NumbersEvents (whole_design k.now) }
     ensures { Everywhere k.now p (λ h. Gives trigger_of result (waiting.awaited h (await_term how.now))) }
