@@ -1,7 +1,7 @@
 -- The quantum keepers of a kernel move.
 use Rattle.std.proofs.Common.{◌≡◌, ℕ, Some, Result, Ok, refl, sym, subst}
 use Rattle.flat_design.specs.declared.faults.RunFault.{RunFault}
-use Rattle.sim_model.specs.Residual.{Residual, settle}
+use Rattle.sim_model.specs.Residual.{settle}
 use Rattle.sim_model.specs.Configuration.{Config, Instance, Quantum, instance_at, arena}
 use Rattle.sim_model.specs.Statements.{settled_in}
 use Rattle.sim_model.specs.Storing.{passes}

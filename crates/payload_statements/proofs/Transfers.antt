@@ -8,7 +8,7 @@ use Rattle.flat_design.specs.declared.faults.RunFault.{RunFault}
 use Rattle.sim_model.specs.Values.{on_ok}
 use Rattle.sim_model.specs.Residual.{Residual, settle}
 use Rattle.sim_model.specs.Payloads.{payload_of, with_payload}
-use Rattle.sim_model.specs.Configuration.{Config, Transactions, Instance, arena}
+use Rattle.sim_model.specs.Configuration.{Config, Transactions, arena}
 use Rattle.sim_model.specs.Statements.{settled_in}
 use Rattle.sim_model.specs.Reading.{live_payload, memory_at}
 use Rattle.sim_model.specs.Storing.{passes, set_memory, set_payload}
