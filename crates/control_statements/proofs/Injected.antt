@@ -1,10 +1,9 @@
 -- An exception in another instance, before and behind the statement that throws it.
-use Rattle.std.proofs.Common.{◌≡◌, ◌≢◌, ℕ, zero, suc, Bool, true, false, List, [], ◌∷◌, slice_get, Option, Some, None, option_map, refl, sym, ap, ◌∙◌, subst, true≢false}
-use Rattle.std.specs.Prelude.{is_some, if◌then◌else◌, Result, Ok, Err}
+use Rattle.std.proofs.Common.{◌≡◌, ◌≢◌, ℕ, zero, suc, true, false, List, [], ◌∷◌, slice_get, Option, Some, None, option_map, refl, sym, ap, ◌∙◌, subst}
+use Rattle.std.specs.Prelude.{is_some, if◌then◌else◌, Ok, Err}
 use Rattle.std.specs.FinMap as map
-use Rattle.flat_design.specs.declared.faults.RunFault.{RunFault}
 use Rattle.flat_design.specs.declared.faults.RunFault.TheVariants as fault
-use Rattle.sim_model.specs.Residual.{Residual, put, skip, settle}
+use Rattle.sim_model.specs.Residual.{put, skip, settle}
 use Rattle.sim_model.specs.Unwinding.{catches, raise, left_by_raise}
 use Rattle.sim_model.specs.Configuration.{Config, Instance, changed_at, change, instance_at, with_residual, arena}
 use Rattle.sim_model.specs.Waits.{freed, without}
@@ -14,11 +13,9 @@ use Rattle.sim_model.specs.Statements.{settled_in}
 use Rattle.sim_model.specs.declared.plain.Goal.TheVariants as goal_of
 use Rattle.wake_laws.proofs.Wakes.{change-other}
 use Rattle.process_state.specs.Bodies as bodies
-use Rattle.schedule.specs.Seen.{body_at as kept_at}
 use Rattle.transaction_board.specs.Board.{left}
 use Rattle.kernel_state.specs.Kernel.{StandsFor}
 use Rattle.kernel_state.specs.Moves.{Lives, HasStatement}
-use Rattle.kernel_state.specs.declared.kernel.Kept.{Kept}
 use Rattle.kernel_state.specs.declared.kernel.Kernel.{Kernel}
 use Rattle.kernel_state.proofs.Leaving.{LeftCallsEnd}
 use Rattle.guard_statements.specs.Others.{KeepsOthers}

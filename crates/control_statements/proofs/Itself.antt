@@ -1,9 +1,6 @@
 -- An exception that the instance on top throws at itself, behind its statement.
-use Rattle.std.proofs.Common.{◌≡◌, ℕ, Bool, true, false, Option, Some, refl, sym, ap, ◌∙◌, subst}
-use Rattle.std.specs.Prelude.{if◌then◌else◌, Result, Ok, Err}
-use Rattle.std.specs.FinMap as map
-use Rattle.instance_table.specs.declared.instances.Instance.{Instance as Entry}
-use Rattle.flat_design.specs.declared.faults.RunFault.{RunFault}
+use Rattle.std.proofs.Common.{◌≡◌, ℕ, true, false, Option, Some, sym, ap, ◌∙◌, subst}
+use Rattle.std.specs.Prelude.{if◌then◌else◌, Ok, Err}
 use Rattle.flat_design.specs.declared.faults.RunFault.TheVariants as fault
 use Rattle.body_layers.specs.Layers.{shown}
 use Rattle.sim_model.specs.Residual.{Residual, put, skip, settle, next_of, has_goal}
@@ -13,11 +10,9 @@ use Rattle.sim_model.specs.Calls.{with_left, thrown}
 use Rattle.sim_model.specs.Control.{throw_call}
 use Rattle.sim_model.specs.declared.plain.Goal.TheVariants as goal_of
 use Rattle.process_state.specs.Bodies as bodies
-use Rattle.schedule.specs.declared.parts.Process.{Process}
 use Rattle.process_moves.specs.Moved.{IsTop}
 use Rattle.kernel_state.specs.Kernel.{StandsFor, IsSound}
-use Rattle.kernel_state.specs.Moves.{Follows, Lives, HasStatement}
-use Rattle.kernel_state.specs.declared.kernel.Kept.{Kept}
+use Rattle.kernel_state.specs.Moves.{Follows, HasStatement}
 use Rattle.kernel_state.specs.declared.kernel.Kernel.{Kernel}
 use Rattle.kernel_state.proofs.Frames.{lives_on_top, settled_before}
 use Rattle.kernel_state.proofs.Ending.{alive_in, follows_as}
@@ -47,6 +42,7 @@ module _ (k : Kernel) (c : Config) (p : ℕ) (i : Instance) (e : ℕ) (h : Stand
       some_or : Instance → Option Instance → Instance
       some_or x (Some y) = y
       some_or x o = x
+
       some_is : (x y : Instance) → Some x ≡ Some y → x ≡ y
       some_is x y same = ap (some_or x) same
 

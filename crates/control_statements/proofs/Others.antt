@@ -5,7 +5,7 @@ use Rattle.std.specs.FinMap as map
 use Rattle.flat_design.specs.declared.faults.RunFault.{RunFault}
 use Rattle.flat_design.specs.declared.faults.RunFault.TheVariants as fault
 use Rattle.sim_model.specs.Configuration.{Config, Instance, instance_at}
-use Rattle.sim_model.specs.Control.{is_thread, is_below_top, is_top, throws_at, throw_call, unless_ended, injected}
+use Rattle.sim_model.specs.Control.{is_thread, throws_at, throw_call, unless_ended, injected}
 use Rattle.schedule.specs.Seen.{is_on, shown_at}
 use Rattle.schedule.specs.Seen.{body_at as kept_at}
 use Rattle.process_moves.specs.Moved.{IsTop}
@@ -14,7 +14,7 @@ use Rattle.kernel_state.specs.Kernel.{Shows, StandsFor, IsSound, whole_design}
 use Rattle.kernel_state.specs.Moves.{Follows}
 use Rattle.kernel_state.specs.declared.kernel.Kernel.{Kernel}
 use Rattle.kernel_state.proofs.Frames.{lives_by_kept}
-use Rattle.kernel_state.proofs.Ending.{alive_in, follows_as, follows_any}
+use Rattle.kernel_state.proofs.Ending.{follows_as}
 use Rattle.kernel_state.proofs.Stacks.{off_stack_is, below_top_is, not_below}
 use Rattle.control_statements.specs.Thrown.{past, injects}
 use Rattle.control_statements.proofs.Passing.{others_passed, is_refused, to_other, nothing_thrown, is_injected}

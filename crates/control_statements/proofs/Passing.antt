@@ -1,20 +1,17 @@
 -- A statement that is past leaves tries and goals where they are; and what an exception makes of an instance then.
 use Rattle.std.proofs.Common.{◌≡◌, ◌≢◌, ◌||◌, ◌&&◌, not, ℕ, Bool, true, false, List, [], ◌∷◌, Option, Some, None, option_map, refl, sym, ap, ◌∙◌, subst, true≢false}
-use Rattle.std.specs.Prelude.{if◌then◌else◌, is_some, Result, Ok, Err}
-use Rattle.flat_design.specs.declared.faults.RunFault.{RunFault}
+use Rattle.std.specs.Prelude.{if◌then◌else◌, is_some, Ok, Err}
 use Rattle.flat_design.specs.declared.faults.RunFault.TheVariants as fault
-use Rattle.flat_design.specs.Code.{Arena}
 use Rattle.body_model.specs.Strip.{strip}
 use Rattle.body_model.proofs.Strips.{strip-next}
 use Rattle.body_layers.specs.Layers.{shown}
 use Rattle.sim_model.specs.Residual as residual
 use Rattle.sim_model.specs.Residual.{Residual, Frame, Next, skip, one, seq, owing, guard, try_, frame, shell, run, goal, followed, next_of, frame_end, in_frame, before_goal, put, frame_or, goal_or, settle, has_goal}
-use Rattle.sim_model.specs.Unwinding.{catches, handles, raise, left_by_raise}
-use Rattle.sim_model.specs.Configuration.{Config, Instance, change, instance_at, with_residual, arena}
-use Rattle.sim_model.specs.Calls.{with_left, thrown}
+use Rattle.sim_model.specs.Unwinding.{catches, handles}
+use Rattle.sim_model.specs.Configuration.{Config, Instance, change, instance_at, arena}
+use Rattle.sim_model.specs.Calls.{thrown}
 use Rattle.sim_model.specs.Control.{is_thread, is_top, is_below_top, throws_at, injected, unless_ended, throw_call}
 use Rattle.sim_model.specs.declared.plain.Goal.{Goal}
-use Rattle.sim_model.specs.declared.plain.Goal.TheVariants as goal_of
 use Rattle.process_state.specs.Bodies as bodies
 use Rattle.wake_laws.proofs.Wakes.{change-here, change-other}
 use Rattle.std.specs.FinMap as map

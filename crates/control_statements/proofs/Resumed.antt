@@ -1,6 +1,6 @@
 -- An instance is controlled unless it has ended: it is resumed, disabled or enabled.
-use Rattle.std.proofs.Common.{◌≡◌, ◌≢◌, ◌==◌, ◌||◌, ℕ, Bool, true, false, List, [], ◌∷◌, ◌++◌, Option, Some, None, refl, sym, ap, ◌∙◌, subst, true≢false, ne_eqb}
-use Rattle.std.specs.Prelude.{is_some, if◌then◌else◌, Result, Ok, Err}
+use Rattle.std.proofs.Common.{◌≡◌, ◌||◌, ℕ, Bool, true, false, [], ◌∷◌, ◌++◌, Option, Some, None, refl, sym, ap, ◌∙◌, subst, true≢false, ne_eqb}
+use Rattle.std.specs.Prelude.{is_some, if◌then◌else◌, Result, Ok}
 use Rattle.std.specs.FinMap as map
 use Rattle.std.specs.FinSet as set
 use Rattle.instance_table.specs.declared.instances.Instance.{Instance as Entry}

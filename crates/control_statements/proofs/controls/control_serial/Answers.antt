@@ -1,5 +1,4 @@
 use Rattle.std.proofs.Common.{sym, subst}
-use Rattle.model_tree.specs.declared.statements.Control.TheVariants as order
 use Rattle.sim_model.specs.Control.{control_call}
 use Rattle.sim_model.specs.Storing.{passes}
 use Rattle.std.specs.Prelude.{Ok}

@@ -1,5 +1,5 @@
-use Rattle.std.proofs.Common.{◌≡◌, true, false, refl, sym, ap, ◌∙◌, subst}
-use Rattle.std.specs.Prelude.{Ok, Err}
+use Rattle.std.proofs.Common.{refl, sym, ap, ◌∙◌, subst}
+use Rattle.std.specs.Prelude.{Err}
 use Rattle.flat_design.specs.declared.faults.RunFault.TheVariants as fault
 use Rattle.schedule.specs.Seen.{is_on}
 use Rattle.sim_model.specs.Control.{throw_call}

@@ -1,8 +1,7 @@
-use Rattle.std.proofs.Common.{◌≡◌, true, false, refl, sym, ap, ◌∙◌, subst}
-use Rattle.std.specs.Prelude.{Ok, Err, if◌then◌else◌}
+use Rattle.std.proofs.Common.{refl, sym, ◌∙◌}
+use Rattle.std.specs.Prelude.{Ok, Err}
 use Rattle.flat_design.specs.declared.faults.RunFault.TheVariants as fault
 use Rattle.kernel_state.proofs.Ending.{follows_as}
-use Rattle.process_moves.specs.Moved.{IsTop}
 use Rattle.sim_model.specs.Control.{throw_call}
 use Rattle.control_statements.specs.Thrown.{past}
 use Rattle.control_statements.proofs.Passing.{passed, there_passed}

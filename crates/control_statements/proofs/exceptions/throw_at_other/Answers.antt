@@ -1,8 +1,5 @@
-use Rattle.std.proofs.Common.{◌≡◌, true, false, refl, sym, ap, ◌∙◌, subst}
-use Rattle.std.specs.Prelude.{Ok}
-use Rattle.sim_model.specs.Control.{throw_call}
-use Rattle.kernel_state.proofs.Ending.{alive_in, follows_as, follows_any}
-use Rattle.control_statements.specs.Thrown.{past}
+use Rattle.std.proofs.Common.{sym, ◌∙◌}
+use Rattle.kernel_state.proofs.Ending.{alive_in}
 use Rattle.control_statements.proofs.Others.{over_past, no_thread_past, thrown_past}
 use Rattle.control_statements.proofs.exceptions.throw_at_other.Goals as goal
 

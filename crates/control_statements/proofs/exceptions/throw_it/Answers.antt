@@ -1,4 +1,3 @@
-use Rattle.std.proofs.Common.{sym}
 use Rattle.sim_model.specs.Control.{throw_call, target_of}
 use Rattle.sim_model.specs.Storing.{passes}
 use Rattle.data_statements.proofs.Following.{evaluated, at_fault}

@@ -1,4 +1,4 @@
-use Rattle.std.proofs.Common.{sym, ap, ◌∙◌}
+use Rattle.std.proofs.Common.{sym, ◌∙◌}
 use Rattle.std.specs.Prelude.{Ok}
 use Rattle.sim_model.specs.Control.{disables}
 use Rattle.control_statements.proofs.Resumed.{follows_alive, follows_over}
