@@ -1,0 +1,107 @@
+-- What a step answers, from what its statement answers.
+use Rattle.std.proofs.Common.{◌≡◌, ℕ, false, List, Some, Result, Ok, Err, refl, sym, ap, ◌∙◌, subst}
+use Rattle.std.specs.Prelude.{IfOk, OnErr}
+use Rattle.flat_design.specs.Code.{arena_of, statement_at, statement_of}
+use Rattle.flat_design.specs.declared.code.Handler.{Handler}
+use Rattle.flat_design.specs.declared.code.Statement.TheVariants as kept
+use Rattle.body_code.specs.Depths.{handlers_if, handlers_of}
+use Rattle.sim_model.specs.Calls.{do_try}
+use Rattle.flat_design.specs.declared.code.Statement.{Statement as Kept}
+use Rattle.flat_design.specs.declared.faults.RunFault.{RunFault}
+use Rattle.sim_model.specs.Reading.{here}
+use Rattle.sim_model.specs.Residual.{Residual, settle}
+use Rattle.sim_model.specs.Configuration.{Config, Instance, arena}
+use Rattle.sim_model.specs.Statements.{settled_in, do_statement}
+use Rattle.kernel_state.specs.Moves.{Moves, Does}
+use Rattle.kernel_state.specs.declared.kernel.Kernel.{Kernel}
+use Rattle.await_statements.specs.Asked.{DoesOr}
+use Rattle.await_statements.specs.declared.stops.AwaitStop.{AwaitStop}
+use Rattle.await_statements.specs.declared.stops.AwaitStop.TheVariants as await_stop
+use Rattle.store_statements.specs.Stopping.{FollowsOrStops, DoesOrStops}
+use Rattle.store_statements.specs.declared.stops.StatementStop.{StatementStop}
+use Rattle.store_statements.specs.declared.stops.StatementStop.TheVariants as statement_stop
+use Rattle.kernel_steps.specs.Built.{IsBuilt}
+use Rattle.kernel_steps.specs.Kept.{QuietIfOk, is_print}
+use Rattle.kernel_steps.specs.Told.{Tells, TellsAll, Makes, Carries, CarriesAll, plain_answer, await_answer, store_answer, block_answer}
+use Rattle.kernel_steps.specs.declared.answers.StepAnswer.TheVariants as answer
+use Rattle.kernel_steps.proofs.Silent.{statement_quiet}
+use Rattle.kernel_steps.specs.declared.answers.StepAnswer.{StepAnswer}
+
+module _ (old new : Kernel) (p : ℕ) (f : Config → ℕ → Instance → Residual → Result Config RunFault) where
+  by_plain : (done : Result Unit RunFault) → Does old new done p f → Makes old new (plain_answer done) p f
+  by_plain (Ok u) does = does
+  by_plain (Err e) does = does
+
+  by_await : (done : Result Unit AwaitStop) → DoesOr old new done p f → Makes old new (await_answer done) p f
+  by_await (Ok u) does = does
+  by_await (Err (await_stop.Fault e)) does = does
+  by_await (Err await_stop.NoMemory) does = does
+
+  stored_tells : (c : Config) (i : Instance) (done : Result Unit StatementStop) (r : Result Config RunFault) → FollowsOrStops new done c r → Tells new (store_answer done) c i r
+  stored_tells c i (Ok u) (Ok d) follows = follows
+  stored_tells c i (Ok u) (Err e) follows = follows
+  stored_tells c i (Err (statement_stop.Fault g)) (Ok d) follows = follows
+  stored_tells c i (Err (statement_stop.Fault g)) (Err e) follows = follows
+  stored_tells c i (Err statement_stop.NoMemory) (Ok d) follows = follows
+  stored_tells c i (Err statement_stop.NoMemory) (Err e) follows = absurd follows
+
+  by_store : (done : Result Unit StatementStop) → DoesOrStops old new done p f → Makes old new (store_answer done) p f
+  by_store done does c i h there = stored_tells c i done (f (settled_in c p i.residual) p (record i { residual = settle (arena c) i.residual }) (settle (arena c) i.residual)) (does c i h there)
+
+  by_block : {E : Type 0} (done : Result (Result Unit RunFault) E) → IfOk done (λ a. Does old new a p f) → OnErr done (Moves old new (λ c. c)) → Makes old new (block_answer done) p f
+  by_block (Ok done) does stays = by_plain done does
+  by_block (Err e) does stays = λ c i h there. stays c h
+
+  module _ (a : StepAnswer) where
+    pub plain_made : (done : Result Unit RunFault) → a ≡ plain_answer done → Does old new done p f → Makes old new a p f
+    plain_made done is does = subst (λ b. Makes old new b p f) (sym is) (by_plain done does)
+
+    pub await_made : (done : Result Unit AwaitStop) → a ≡ await_answer done → DoesOr old new done p f → Makes old new a p f
+    await_made done is does = subst (λ b. Makes old new b p f) (sym is) (by_await done does)
+
+    pub store_made : (done : Result Unit StatementStop) → a ≡ store_answer done → DoesOrStops old new done p f → Makes old new a p f
+    store_made done is does = subst (λ b. Makes old new b p f) (sym is) (by_store done does)
+
+    pub block_made : {E : Type 0} (done : Result (Result Unit RunFault) E) → a ≡ block_answer done → IfOk done (λ b. Does old new b p f) → OnErr done (Moves old new (λ c. c)) → Makes old new a p f
+    block_made done is does stays = subst (λ b. Makes old new b p f) (sym is) (by_block done does stays)
+
+-- the form of the statement is known: it is a print, or tells nothing
+module _ (new : Kernel) (c : Config) (i : Instance) where
+  all_told : (a : StepAnswer) (r : Result Config RunFault) → QuietIfOk c r → Tells new a c i r → TellsAll new a c i r
+  all_told answer.Went (Ok d) quiet tells = (tells, quiet)
+  all_told answer.Went (Err f) quiet tells = tells
+  all_told (answer.Printed s v) (Ok d) quiet tells = (tells.0, quiet.0, tells.1)
+  all_told (answer.Printed s v) (Err f) quiet tells = tells
+  all_told (answer.Fault f) r quiet tells = tells
+  all_told answer.NoMemory r quiet tells = tells
+
+module _ (old new : Kernel) (a : StepAnswer) (p s : ℕ) (x y : Kept) (is : x ≡ y) where
+  pub carried : IsBuilt (statement_of y) → is_print (statement_of y) ≡ false → Carries old new a p s (statement_of y) → CarriesAll old new a p s (statement_of x)
+  carried built other made = subst (λ z. CarriesAll old new a p s (statement_of z)) (sym is) (λ c i h there.
+      let d = settled_in c p i.residual in
+      let j = record i { residual = settle (arena c) i.residual } in
+      let r = settle (arena c) i.residual in
+      all_told new c i a (do_statement d p j r (here d p j r) s (statement_of y)) (statement_quiet d p j r (here d p j r) s (statement_of y) built other) (made c i h there))
+
+  pub plain_carried : IsBuilt (statement_of y) → is_print (statement_of y) ≡ false → (done : Result Unit RunFault) → a ≡ plain_answer done
+      → Does old new done p (λ c q i r. do_statement c q i r (here c q i r) s (statement_of y)) → CarriesAll old new a p s (statement_of x)
+  plain_carried built other done by does = carried built other (plain_made old new p (λ c q i r. do_statement c q i r (here c q i r) s (statement_of y)) a done by does)
+
+  pub await_carried : IsBuilt (statement_of y) → is_print (statement_of y) ≡ false → (done : Result Unit AwaitStop) → a ≡ await_answer done
+      → DoesOr old new done p (λ c q i r. do_statement c q i r (here c q i r) s (statement_of y)) → CarriesAll old new a p s (statement_of x)
+  await_carried built other done by does = carried built other (await_made old new p (λ c q i r. do_statement c q i r (here c q i r) s (statement_of y)) a done by does)
+
+  pub store_carried : IsBuilt (statement_of y) → is_print (statement_of y) ≡ false → (done : Result Unit StatementStop) → a ≡ store_answer done
+      → DoesOrStops old new done p (λ c q i r. do_statement c q i r (here c q i r) s (statement_of y)) → CarriesAll old new a p s (statement_of x)
+  store_carried built other done by does = carried built other (store_made old new p (λ c q i r. do_statement c q i r (here c q i r) s (statement_of y)) a done by does)
+
+  pub block_carried : {E : Type 0} → IsBuilt (statement_of y) → is_print (statement_of y) ≡ false → (done : Result (Result Unit RunFault) E) → a ≡ block_answer done
+      → IfOk done (λ b. Does old new b p (λ c q i r. do_statement c q i r (here c q i r) s (statement_of y))) → OnErr done (Moves old new (λ c. c)) → CarriesAll old new a p s (statement_of x)
+  block_carried built other done by does stays = carried built other (block_made old new p (λ c q i r. do_statement c q i r (here c q i r) s (statement_of y)) a done by does stays)
+
+-- a try has the handlers of its statement
+pub try_carried : (old new : Kernel) (p s b : ℕ) (x : Kept) (handlers : List Handler) → x ≡ kept.Try b handlers → statement_at (arena_of old.program.code) s ≡ Some (statement_of x)
+    → Does old new (Ok tt) p (λ c q i r. do_try c q r b (handlers_of (arena_of old.program.code) s)) → CarriesAll old new answer.Went p s (statement_of x)
+try_carried old new p s b x handlers is there does =
+    carried old new answer.Went p s x (kept.Try b handlers) is tt refl
+    (subst (λ hs. Does old new (Ok tt) p (λ c q i r. do_try c q r b hs)) (ap handlers_if (there ∙ ap (λ z. Some (statement_of z)) is)) does)

@@ -1,0 +1,48 @@
+-- What comes next in a body, and the step that this makes.
+use Rattle.std.proofs.Common.{◌≡◌, ℕ, Some, option_map, sym, ap, ◌∙◌, subst}
+use Rattle.std.specs.Prelude.{unwrap_or}
+use Rattle.std.specs.FinMap as map
+use Rattle.instance_table.specs.declared.instances.Instance.{Instance as Entry}
+use Rattle.flat_design.specs.Code.{arena_of, statement_at}
+use Rattle.body_layers.specs.Layers.{shown}
+use Rattle.body_model.proofs.Strips.{strip-next}
+use Rattle.process_state.specs.Bodies as bodies
+use Rattle.schedule.specs.declared.parts.Process.{Process}
+use Rattle.schedule.specs.Seen.{body_at as kept_at}
+use Rattle.sim_model.specs.Residual as residual
+use Rattle.sim_model.specs.Residual.{Next, next_of, settle}
+use Rattle.sim_model.specs.Configuration.{Config, Instance, instance_at, arena}
+use Rattle.sim_model.specs.Statements.{settled_in, on_statement, do_next, step_by, statement_step}
+use Rattle.kernel_state.specs.Moves.{KeptAt, HasStatement}
+use Rattle.kernel_state.specs.declared.kernel.Kept.{Kept}
+use Rattle.kernel_state.specs.declared.kernel.Kernel.{Kernel}
+use Rattle.kernel_state.proofs.Frames.{settled_before}
+use Rattle.data_statements.specs.Entered.{Shows}
+use Rattle.kernel_steps.specs.Shown.{ComesNext}
+use Rattle.kernel_steps.specs.Told.{TellsAll, MakesAll, MakesStep}
+use Rattle.kernel_steps.specs.declared.answers.StepAnswer.{StepAnswer}
+
+pub has_statement : (k : Kernel) (p s : ℕ) → Shows k p s → HasStatement k p
+has_statement k p s shows kept at = subst bodies.IsStatement (sym (ap shown (shows kept at))) tt
+
+module _ (k : Kernel) (p : ℕ) (x : Entry (Process Kept)) (at : map.get k.schedule.table.live p ≡ Some x) where
+  pub was : kept_at k.schedule p ≡ Some x.body.body
+  was = ap (option_map (λ (z : Entry (Process Kept)). z.body.body)) at
+
+  pub kept_is : (P : Kept → Type 0) → P x.body.body → KeptAt k p P
+  kept_is P holds kept is = subst P (ap (λ o. unwrap_or o kept) (sym was ∙ is)) holds
+
+  pub comes_next : (n : Next) → next_of (bodies.settled_in k.program x.body.body.body) ≡ n → ComesNext k p n
+  comes_next n is c i h there = sym (strip-next (settle (arena c) i.residual)) ∙ ap next_of (settled_before k p x at c i h there) ∙ is
+
+step_is : (c : Config) (i : Instance) (p : ℕ) (n : Next) → instance_at c p ≡ Some i → next_of (settle (arena c) i.residual) ≡ n
+    → do_next (settled_in c p i.residual) p (record i { residual = settle (arena c) i.residual }) (settle (arena c) i.residual) n ≡ statement_step c p
+step_is c i p n there is = sym (ap (step_by c p) there ∙ ap (do_next (settled_in c p i.residual) p (record i { residual = settle (arena c) i.residual }) (settle (arena c) i.residual)) is)
+
+module _ (k new : Kernel) (a : StepAnswer) (p : ℕ) where
+  pub next_made : (n : Next) → ComesNext k p n → MakesAll k new a p (λ c q i r. do_next c q i r n) → MakesStep k new a p
+  next_made n comes makes c i h there = subst (TellsAll new a c i) (step_is c i p n there (comes c i h there)) (makes c i h there)
+
+  pub statement_made : (s : ℕ) → ComesNext k p (residual.statement s) → MakesAll k new a p (λ c q i r. on_statement c q i r s (statement_at (arena_of k.program.code) s)) → MakesStep k new a p
+  statement_made s comes makes = next_made (residual.statement s) comes (λ c i h there.
+      subst (λ d. TellsAll new a c i (on_statement (settled_in c p i.residual) p (record i { residual = settle (arena c) i.residual }) (settle (arena c) i.residual) s (statement_at (arena_of d.code) s))) (sym h.design) (makes c i h there))

@@ -1,0 +1,24 @@
+use Rattle.std.proofs.Common.{◌∷◌, ap, sym, subst}
+use Rattle.std.specs.Prelude.{Contains, IfSome}
+use Rattle.flat_design.specs.Code.{term_of}
+use Rattle.body_code.specs.Around.{around_if}
+use Rattle.body_code.specs.Depths.{blocks_in}
+use Rattle.sim_model.specs.Reading.{here}
+use Rattle.sim_model.specs.Storing.{do_if}
+use Rattle.kernel_steps.proofs.Answered.{plain_made}
+use Rattle.kernel_steps.proofs.Blocks.{is_first, is_other}
+use Rattle.kernel_steps.proofs.data.if_step.Goals as goal
+
+pub if_then-requires-clause-plain : goal.if_then-requires-clause-plain
+if_then-requires-clause-plain c = ap around_if c.requires.there
+
+pub if_then-requires-clause-inner : goal.if_then-requires-clause-inner
+if_then-requires-clause-inner c = subst (λ o. Contains (blocks_in o) c.args.b) (sym c.requires.there) (is_first c.args.b _)
+
+pub if_then-requires-clause-other : goal.if_then-requires-clause-other
+if_then-requires-clause-other c = subst (λ o. IfSome c.args.other (Contains (blocks_in o))) (sym c.requires.there) (is_other c.args.b c.args.other)
+
+pub returns-clause-carries : goal.returns-clause-carries
+returns-clause-carries c =
+    plain_made c.args.k.now c.if_then.new.k c.args.p (λ d q i r. do_if d q r (here d q i r) (term_of c.args.e.now) c.args.b c.args.other) c.plain.result c.if_then.result c.plain.ensures
+    (c.if_then.ensures.does (term_of c.args.e.now) c.eval_at-value.ensures)

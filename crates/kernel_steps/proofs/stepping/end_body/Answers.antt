@@ -1,0 +1,11 @@
+use Rattle.sim_model.specs.Residual.{settle}
+use Rattle.sim_model.specs.Configuration.{arena}
+use Rattle.sim_model.specs.Statements.{settled_in}
+use Rattle.kernel_steps.proofs.Silent.{done_quiet}
+use Rattle.kernel_steps.proofs.stepping.end_body.Goals as goal
+
+pub returns-in-Ok-clause-makes : goal.returns-in-Ok-clause-makes
+returns-in-Ok-clause-makes c d i h there = (c.in-Ok.ensures.steps d i h there, done_quiet (settled_in d c.args.p i.residual) c.args.p (record i { residual = settle (arena d) i.residual }) i.kind)
+
+pub returns-in-Err-clause-makes : goal.returns-in-Err-clause-makes
+returns-in-Err-clause-makes c d i h there = c.in-Err.ensures.stays d h

@@ -1,0 +1,38 @@
+use Rattle.std.proofs.Common.{◌≡◌, sym, ap, ◌∙◌, subst}
+use Rattle.std.specs.Option.{option_copied}
+use Rattle.flat_design.specs.Code.{arena_of}
+use Rattle.process_state.specs.Bodies.{settled_in}
+use Rattle.sim_model.specs.Residual as residual
+use Rattle.sim_model.specs.Residual.{next_of}
+use Rattle.kernel_steps.specs.Built.{IsBuiltNext}
+use Rattle.kernel_steps.proofs.Shows.{was, kept_is, comes_next}
+use Rattle.kernel_steps.proofs.stepping.next_at.Goals as goal
+
+pub returns-in-Some-clause-statement : goal.returns-in-Some-clause-statement
+returns-in-Some-clause-statement c = λ s is.
+    kept_is c.args.k.now c.args.p c.in-Some.x.now (sym c.get.ensures.value ∙ ap option_copied c.in-Some.is) (λ kept. next_of (settled_in c.args.k.now.program kept.body) ≡ residual.statement s) (c.next.ensures.statement s is)
+
+pub returns-in-Some-clause-goal : goal.returns-in-Some-clause-goal
+returns-in-Some-clause-goal c = λ g is.
+    kept_is c.args.k.now c.args.p c.in-Some.x.now (sym c.get.ensures.value ∙ ap option_copied c.in-Some.is) (λ kept. next_of (settled_in c.args.k.now.program kept.body) ≡ residual.reaches g) (c.next.ensures.goal g is)
+
+pub returns-in-Some-clause-shows_statement : goal.returns-in-Some-clause-shows_statement
+returns-in-Some-clause-shows_statement c = λ s is.
+    comes_next c.args.k.now c.args.p c.in-Some.x.now (sym c.get.ensures.value ∙ ap option_copied c.in-Some.is) (residual.statement s) (c.next.ensures.statement s is)
+
+pub returns-in-Some-clause-shows_goal : goal.returns-in-Some-clause-shows_goal
+returns-in-Some-clause-shows_goal c = λ g is.
+    comes_next c.args.k.now c.args.p c.in-Some.x.now (sym c.get.ensures.value ∙ ap option_copied c.in-Some.is) (residual.reaches g) (c.next.ensures.goal g is)
+
+pub returns-in-Some-clause-shows_done : goal.returns-in-Some-clause-shows_done
+returns-in-Some-clause-shows_done c = λ is.
+    comes_next c.args.k.now c.args.p c.in-Some.x.now (sym c.get.ensures.value ∙ ap option_copied c.in-Some.is) residual.done (c.next.ensures.done is)
+
+pub returns-in-Some-clause-shows_nothing : goal.returns-in-Some-clause-shows_nothing
+returns-in-Some-clause-shows_nothing c = λ is.
+    comes_next c.args.k.now c.args.p c.in-Some.x.now (sym c.get.ensures.value ∙ ap option_copied c.in-Some.is) residual.nothing (c.next.ensures.nothing is)
+
+pub returns-in-Some-clause-built : goal.returns-in-Some-clause-built
+returns-in-Some-clause-built c =
+    subst (IsBuiltNext (arena_of c.args.k.now.program.code)) (sym c.next.ensures.value)
+    (c.requires.built c.in-Some.x.now.body.body (was c.args.k.now c.args.p c.in-Some.x.now (sym c.get.ensures.value ∙ ap option_copied c.in-Some.is)))

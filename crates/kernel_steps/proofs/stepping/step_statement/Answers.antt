@@ -1,0 +1,38 @@
+use Rattle.std.proofs.Common.{subst}
+use Rattle.flat_design.specs.Code.{arena_of}
+use Rattle.sim_model.specs.Residual as residual
+use Rattle.sim_model.specs.Residual.{settle}
+use Rattle.sim_model.specs.Configuration.{arena}
+use Rattle.sim_model.specs.Statements.{settled_in}
+use Rattle.kernel_steps.specs.Built.{IsBuiltNext}
+use Rattle.kernel_steps.specs.declared.answers.StepAnswer.TheVariants as answer
+use Rattle.kernel_steps.proofs.Silent.{goal_quiet}
+use Rattle.kernel_steps.proofs.Shows.{next_made, statement_made}
+use Rattle.kernel_steps.proofs.stepping.step_statement.Goals as goal
+
+pub on_statement-requires-clause-next : goal.on_statement-requires-clause-next
+on_statement-requires-clause-next c = c.next_at.ensures.statement c.in-Statement.s c.in-Statement.is
+
+pub on_statement-requires-clause-free : goal.on_statement-requires-clause-free
+on_statement-requires-clause-free c = c.requires.free c.in-Statement.s (c.next_at.ensures.statement c.in-Statement.s c.in-Statement.is)
+
+pub on_statement-requires-clause-built : goal.on_statement-requires-clause-built
+on_statement-requires-clause-built c = subst (IsBuiltNext (arena_of c.args.k.now.program.code)) c.in-Statement.is c.next_at.ensures.built
+
+pub reach_goal-requires-clause-reaches : goal.reach_goal-requires-clause-reaches
+reach_goal-requires-clause-reaches c = c.next_at.ensures.goal c.in-Goal.goal c.in-Goal.is
+
+pub returns-in-Statement-clause-makes : goal.returns-in-Statement-clause-makes
+returns-in-Statement-clause-makes c =
+    statement_made c.args.k.now c.on_statement.new.k c.on_statement.result c.args.p c.in-Statement.s (c.next_at.ensures.shows_statement c.in-Statement.s c.in-Statement.is) c.on_statement.ensures.makes
+
+pub returns-in-Done-clause-makes : goal.returns-in-Done-clause-makes
+returns-in-Done-clause-makes c = next_made c.args.k.now c.end_body.new.k c.end_body.result c.args.p residual.done (c.next_at.ensures.shows_done c.in-Done.is) c.end_body.ensures.makes
+
+pub returns-in-Goal-clause-makes : goal.returns-in-Goal-clause-makes
+returns-in-Goal-clause-makes c =
+    next_made c.args.k.now c.reach_goal.new.k answer.Went c.args.p (residual.reaches c.in-Goal.goal) (c.next_at.ensures.shows_goal c.in-Goal.goal c.in-Goal.is)
+    (λ d i h there. (c.reach_goal.ensures.steps d i h there, goal_quiet (settled_in d c.args.p i.residual) c.args.p (record i { residual = settle (arena d) i.residual }) (settle (arena d) i.residual) c.in-Goal.goal))
+
+pub returns-in-Nothing-clause-makes : goal.returns-in-Nothing-clause-makes
+returns-in-Nothing-clause-makes c = next_made c.args.k.now c.end_body-in-Nothing.new.k c.end_body-in-Nothing.result c.args.p residual.nothing (c.next_at.ensures.shows_nothing c.in-Nothing.is) c.end_body-in-Nothing.ensures.makes

@@ -1,0 +1,87 @@
+-- What a step of an instance answers.
+use Rattle.std.specs.Prelude.{◌≡◌, ℕ, List, ◌∷◌, [], ◌++◌, Option, Some, Result, Ok, Err}
+use Rattle.logic_values.specs.declared.kinds.Value.{Value}
+use Rattle.flat_design.specs.Code as code
+use Rattle.flat_design.specs.Code.{Term, Statement, statement_at}
+use Rattle.flat_design.specs.declared.faults.RunFault.{RunFault}
+use Rattle.sim_model.specs.Configuration.{Config, Instance, line, instance_at, arena}
+use Rattle.sim_model.specs.Residual.{Residual, settle}
+use Rattle.sim_model.specs.Reading.{here}
+use Rattle.sim_model.specs.Statements.{settled_in, do_statement, statement_step}
+use Rattle.sim_model.specs.Storing.{print_line}
+use Rattle.kernel_state.specs.Kernel.{StandsFor}
+use Rattle.kernel_state.specs.Moves.{Follows}
+use Rattle.kernel_state.specs.declared.kernel.Kernel.{Kernel}
+use Rattle.await_statements.specs.declared.stops.AwaitStop.{AwaitStop}
+use Rattle.await_statements.specs.declared.stops.AwaitStop.TheVariants as await_stop
+use Rattle.store_statements.specs.declared.stops.StatementStop.{StatementStop}
+use Rattle.store_statements.specs.declared.stops.StatementStop.TheVariants as statement_stop
+use Rattle.kernel_steps.specs.declared.answers.StepAnswer.{StepAnswer}
+use Rattle.kernel_steps.specs.declared.answers.StepAnswer.TheVariants as answer
+use Rattle.kernel_steps.specs.Kept.{Quiet}
+
+-- The one report that is added, in the step from c to d of instance i, is the line of a print, which is statement s, with this
+-- value.
+pub record AddsLine (c d : Config) (i : Instance) (s : ℕ) (v : Option Value) : Type 0 where
+  pub text : List ℕ
+  pub shown : Option Term
+  pub prints : statement_at (arena c) s ≡ Some (code.print text shown)
+  pub told : d.trace.told ≡ c.trace.told ++ line (print_line c.cycle.now i.path text v) ∷ []
+
+-- A step that was made follows the definition. A run fault is answered as it is, and changes nothing, nor does a refusal of
+-- memory.
+abbrev pub Tells : Kernel → StepAnswer → Config → Instance → Result Config RunFault → Type 0
+Tells new answer.Went c i r = Follows new (Ok tt) c r
+Tells new (answer.Printed s v) c i (Ok d) = StandsFor new d × AddsLine c d i s v
+Tells new (answer.Printed s v) c i (Err f) = ⊥
+Tells new (answer.Fault f) c i r = Follows new (Err f) c r
+Tells new answer.NoMemory c i r = StandsFor new c
+
+-- The same, and the design stays, and nothing is told but the line of a print.
+abbrev pub TellsAll : Kernel → StepAnswer → Config → Instance → Result Config RunFault → Type 0
+TellsAll new answer.Went c i (Ok d) = StandsFor new d × Quiet c d
+TellsAll new answer.Went c i (Err f) = ⊥
+TellsAll new (answer.Printed s v) c i (Ok d) = StandsFor new d × (d.design ≡ c.design) × AddsLine c d i s v
+TellsAll new (answer.Printed s v) c i (Err f) = ⊥
+TellsAll new (answer.Fault f) c i r = Follows new (Err f) c r
+TellsAll new answer.NoMemory c i r = StandsFor new c
+
+-- a step of instance p, by its first move and then by f
+abbrev pub Makes : Kernel → Kernel → StepAnswer → ℕ → (Config → ℕ → Instance → Residual → Result Config RunFault) → Type 0
+Makes old new answer p f = (c : Config) (i : Instance) → StandsFor old c → instance_at c p ≡ Some i
+    → Tells new answer c i (f (settled_in c p i.residual) p (record i { residual = settle (arena c) i.residual }) (settle (arena c) i.residual))
+
+abbrev pub MakesAll : Kernel → Kernel → StepAnswer → ℕ → (Config → ℕ → Instance → Residual → Result Config RunFault) → Type 0
+MakesAll old new answer p f = (c : Config) (i : Instance) → StandsFor old c → instance_at c p ≡ Some i
+    → TellsAll new answer c i (f (settled_in c p i.residual) p (record i { residual = settle (arena c) i.residual }) (settle (arena c) i.residual))
+
+-- by statement s, which is x
+abbrev pub Carries : Kernel → Kernel → StepAnswer → ℕ → ℕ → Statement → Type 0
+Carries old new answer p s x = Makes old new answer p (λ c q i r. do_statement c q i r (here c q i r) s x)
+
+abbrev pub CarriesAll : Kernel → Kernel → StepAnswer → ℕ → ℕ → Statement → Type 0
+CarriesAll old new answer p s x = MakesAll old new answer p (λ c q i r. do_statement c q i r (here c q i r) s x)
+
+-- the whole step
+abbrev pub MakesStep : Kernel → Kernel → StepAnswer → ℕ → Type 0
+MakesStep old new answer p = (c : Config) (i : Instance) → StandsFor old c → instance_at c p ≡ Some i → TellsAll new answer c i (statement_step c p)
+
+-- the answers of statements as that of the step: of those that take no memory, of waits and next triggers, of writes, and of
+-- those that may block
+abbrev pub plain_answer : Result Unit RunFault → StepAnswer
+plain_answer (Ok u) = answer.Went
+plain_answer (Err f) = answer.Fault f
+
+abbrev pub await_answer : Result Unit AwaitStop → StepAnswer
+await_answer (Ok u) = answer.Went
+await_answer (Err (await_stop.Fault f)) = answer.Fault f
+await_answer (Err await_stop.NoMemory) = answer.NoMemory
+
+abbrev pub store_answer : Result Unit StatementStop → StepAnswer
+store_answer (Ok u) = answer.Went
+store_answer (Err (statement_stop.Fault f)) = answer.Fault f
+store_answer (Err statement_stop.NoMemory) = answer.NoMemory
+
+abbrev pub block_answer : {E : Type 0} → Result (Result Unit RunFault) E → StepAnswer
+block_answer (Ok done) = plain_answer done
+block_answer (Err e) = answer.NoMemory

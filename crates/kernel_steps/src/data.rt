@@ -1,0 +1,103 @@
+//! Statements of data, whole: their expressions are evaluated, and then the statement acts.
+ghost use Rattle.std.specs.Prelude.{◌≡◌, Some, option_map};
+ghost use Rattle.flat_design.specs.Code as code;
+ghost use Rattle.flat_design.specs.Code.{arena_of, statement_at, term_of};
+ghost use Rattle.kernel_state.specs.Kernel.{IsSound};
+ghost use Rattle.kernel_state.specs.Moves.{HasStatement, IsOnTop, Lives};
+ghost use Rattle.data_statements.specs.Entered.{Shows};
+ghost use Rattle.kernel_steps.specs.Told.{Carries, CarriesAll};
+
+use crate::answers::{StepAnswer, plain};
+use data_statements::{if_then, var, while_do};
+use flat_design::{BlockId, Expr, StmtId, ValueType};
+use kernel_state::Kernel;
+use kernel_view::{eval_at, eval_if_at};
+use model_tree::PrintText;
+
+/// The instance on top has not ended.
+pub(crate) fn top_lives(k: &Kernel, p: u32)
+    requires sound { IsSound k.now }
+    requires top { IsOnTop k.now p }
+    ensures { Lives k.now p }
+{}
+
+/// `var`.
+pub(crate) fn var_step(
+    k: &mut Kernel,
+    p: u32,
+    s: StmtId,
+    n: u32,
+    t: ValueType,
+    e: &Option<Expr>,
+) -> StepAnswer
+    requires sound { IsSound k.old }
+    requires top { IsOnTop k.old p }
+    requires statement { HasStatement k.old p }
+    ensures carries { Carries k.old k.new result p s (code.var n t (option_map term_of e.now)) }
+    ensures sound { IsSound k.new }
+{
+    top_lives(k, p);
+    let value = eval_if_at(k, p, e);
+    plain(var(k, p, n, t, value))
+}
+
+/// `print`.
+pub(crate) fn print_step(
+    k: &mut Kernel,
+    p: u32,
+    s: StmtId,
+    text: &PrintText,
+    e: &Option<Expr>,
+) -> StepAnswer
+    requires sound { IsSound k.old }
+    requires top { IsOnTop k.old p }
+    requires statement { HasStatement k.old p }
+    requires there { statement_at (arena_of k.old.program.code) s ≡ Some (code.print text.now (option_map term_of e.now)) }
+    ensures carries { CarriesAll k.old k.new result p s (code.print text.now (option_map term_of e.now)) }
+    ensures sound { IsSound k.new }
+{
+    let _ = text;
+    top_lives(k, p);
+    let value = eval_if_at(k, p, e);
+    match data_statements::print(k, p, value) {
+        Ok(shown) => StepAnswer::Printed(s, shown),
+        Err(fault) => StepAnswer::Fault(fault),
+    }
+}
+
+/// `if`.
+pub(crate) fn if_step(
+    k: &mut Kernel,
+    p: u32,
+    s: StmtId,
+    e: &Expr,
+    b: BlockId,
+    other: Option<BlockId>,
+) -> StepAnswer
+    requires sound { IsSound k.old }
+    requires top { IsOnTop k.old p }
+    requires statement { HasStatement k.old p }
+    requires next { Shows k.old p s }
+    requires there { statement_at (arena_of k.old.program.code) s ≡ Some (code.if_ (term_of e.now) b other) }
+    ensures carries { Carries k.old k.new result p s (code.if_ (term_of e.now) b other) }
+    ensures sound { IsSound k.new }
+{
+    top_lives(k, p);
+    let value = eval_at(k, p, e);
+    plain(if_then(k, p, s, b, other, value))
+}
+
+/// `while`.
+pub(crate) fn while_step(k: &mut Kernel, p: u32, s: StmtId, e: &Expr, b: BlockId) -> StepAnswer
+    requires sound { IsSound k.old }
+    requires top { IsOnTop k.old p }
+    requires statement { HasStatement k.old p }
+    requires next { Shows k.old p s }
+    requires there { statement_at (arena_of k.old.program.code) s ≡ Some (code.while_ (term_of e.now) b) }
+    ensures carries { Carries k.old k.new result p s (code.while_ (term_of e.now) b) }
+    ensures sound { IsSound k.new }
+{
+    top_lives(k, p);
+    let value = eval_at(k, p, e);
+    plain(while_do(k, p, s, b, value))
+}

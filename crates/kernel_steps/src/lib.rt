@@ -1,0 +1,10 @@
+//! One step of an instance: what comes next in its body is found and carried out.
+#![tactic(auto)]
+
+mod answers;
+mod carrying;
+mod data;
+mod stepping;
+
+pub use answers::StepAnswer;
+pub use stepping::step_statement;

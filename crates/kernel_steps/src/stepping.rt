@@ -1,0 +1,104 @@
+//! The step of an instance.
+ghost use Rattle.std.specs.Prelude.{◌≡◌, ◌<◌, ◌-◌, ◌^◌, ℕ, All, Ok};
+ghost use Rattle.flat_design.specs.Code.{arena_of, statement_at};
+ghost use Rattle.sim_model.specs.Residual as residual;
+ghost use Rattle.sim_model.specs.Control as control;
+ghost use Rattle.sim_model.specs.Statements as statements;
+ghost use Rattle.sim_model.specs.declared.plain.Goal.{Goal as Aim};
+ghost use Rattle.kernel_state.specs.Kernel.{IsSound};
+ghost use Rattle.kernel_state.specs.Moves.{IsOnTop, Lives};
+ghost use Rattle.data_statements.specs.Entered.{Shows};
+ghost use Rattle.guard_statements.specs.Unwound.{Reaches};
+ghost use Rattle.kernel_steps.specs.Built.{IsBuiltIf, IsBuiltNext, ShowsBuilt};
+ghost use Rattle.kernel_steps.specs.Ready.{Ready, ThrowsFreeIf, ThrowsFreeNext};
+ghost use Rattle.kernel_steps.specs.Shown.{ComesNext};
+ghost use Rattle.kernel_steps.specs.Told.{MakesAll, MakesStep};
+
+use crate::answers::StepAnswer;
+use crate::carrying::carry_out;
+use crate::data::top_lives;
+use body_code::Program;
+use body_layers::Next;
+use flat_design::StmtId;
+use guard_statements::{body_ends, reach_goal};
+use kernel_state::{Kernel, pass};
+use sim_model::Goal;
+use std::alloc::Global;
+
+/// What comes next in the body of an instance, once finished parts have fallen away.
+fn next_at(k: &Kernel, p: u32) -> Next
+    requires lives { Lives k.now p }
+    requires built { ShowsBuilt k.now p }
+    ensures statement { (s : ℕ) → result ≡ Next.Statement s → Shows k.now p s }
+    ensures goal { (g : Aim) → result ≡ Next.Goal g → Reaches k.now p g }
+    ensures shows_statement { (s : ℕ) → result ≡ Next.Statement s → ComesNext k.now p (residual.statement s) }
+    ensures shows_goal { (g : Aim) → result ≡ Next.Goal g → ComesNext k.now p (residual.reaches g) }
+    ensures shows_done { result ≡ Next.Done → ComesNext k.now p residual.done }
+    ensures shows_nothing { result ≡ Next.Nothing → ComesNext k.now p residual.nothing }
+    ensures built { IsBuiltNext (arena_of k.now.program.code) result }
+{
+    match k.schedule.table.get(p) {
+        Some(x) => x.body.body.body.next(&k.program),
+        None => Next::Nothing,
+    }
+}
+
+/// The statement of this number comes next, and is carried out; where there is none it is past.
+fn on_statement(k: &mut Kernel, program: &Program, alloc: Global, p: u32, s: StmtId) -> StepAnswer
+    requires sound { IsSound k.old }
+    requires top { IsOnTop k.old p }
+    requires ready { Ready k.old program.now }
+    requires room { All (λ v. v < 2 ^ 64 - 1) k.old.channels.semaphores }
+    requires next { Shows k.old p s }
+    requires free { ThrowsFreeIf k.old p (statement_at (arena_of k.old.program.code) s) }
+    requires built { IsBuiltIf (statement_at (arena_of k.old.program.code) s) }
+    ensures makes { MakesAll k.old k.new result p (λ c q i r. statements.on_statement c q i r s (statement_at (arena_of k.old.program.code) s)) }
+    ensures sound { IsSound k.new }
+{
+    top_lives(k, p);
+    match program.statement(s) {
+        Some(x) => carry_out(k, alloc, p, s, x),
+        None => {
+            pass(k, p);
+            StepAnswer::Went
+        }
+    }
+}
+
+/// The body of the instance on top has ended.
+fn end_body(k: &mut Kernel, p: u32) -> StepAnswer
+    requires sound { IsSound k.old }
+    requires top { IsOnTop k.old p }
+    ensures makes { MakesAll k.old k.new result p (λ c q i r. Ok (control.done_by c q i i.kind)) }
+    ensures sound { IsSound k.new }
+{
+    match body_ends(k, p) {
+        Ok(()) => StepAnswer::Went,
+        Err(_) => StepAnswer::NoMemory,
+    }
+}
+
+/// One step of the instance on top (IEEE 1666-2011, 4.2.1.2): finished parts of its body fall away, and what comes next is
+/// carried out. The program is the kernel's own, held apart, so that no statement is copied.
+pub fn step_statement(k: &mut Kernel, program: &Program, alloc: Global, p: u32) -> StepAnswer
+    requires sound { IsSound k.old }
+    requires top { IsOnTop k.old p }
+    requires ready { Ready k.old program.now }
+    requires room { All (λ v. v < 2 ^ 64 - 1) k.old.channels.semaphores }
+    requires free { ThrowsFreeNext k.old p }
+    requires built { ShowsBuilt k.old p }
+    ensures makes { MakesStep k.old k.new result p }
+    ensures sound { IsSound k.new }
+{
+    top_lives(k, p);
+    match next_at(k, p) {
+        Next::Statement(s) => on_statement(k, program, alloc, p, s),
+        Next::Leave => unreachable!(),
+        Next::Done => end_body(k, p),
+        Next::Goal(goal) => {
+            reach_goal(k, p, goal);
+            StepAnswer::Went
+        }
+        Next::Nothing => end_body(k, p),
+    }
+}
