@@ -10,8 +10,8 @@ ghost use Rattle.model_code.specs.Parts.{AddsBodies, AllStand, IsNestedCode, bod
 use super::bodies::in_32_bits;
 use super::items::add_items;
 use block_code::Laid;
-use code_names::{NameList, body_names, exceptions_of};
 use call_code::Home;
+use code_names::{NameList, body_names, exceptions_of};
 use flat_design::{Code, CodeBody};
 use model_tree::{Module, Tree};
 use name_tables::ModelNames;

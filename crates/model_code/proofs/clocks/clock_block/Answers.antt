@@ -68,7 +68,7 @@ returns-clause-owned c =
     let started = c.in_ok-add_start.ensures in
     let added = c.in_ok-add.ensures in
     let kept : EachFrom first c.add_start.new.laid (λ a n. Inside a inner n) =
-        each_of_two first begun c.add_start.new.laid (λ a n. Inside a inner n) started.grows c.in_ok-inner.ensures.owned (none_from begun c.add_start.new.laid (λ a n. Inside a inner n) started.blocks)
+    each_of_two first begun c.add_start.new.laid (λ a n. Inside a inner n) started.grows c.in_ok-inner.ensures.owned (none_from begun c.add_start.new.laid (λ a n. Inside a inner n) started.blocks)
     in
     let hangs = added_owned first c.add_start.new.laid old c.add_start.new.ids ids c.in_ok-add.field-0 (code.while_ (code.literal (value.Bool true)) inner) added.grows added.blocks added.numbers added.at (one_owned first c.add_start.new.laid inner [] kept) in
     if_three (Grows old l) (λ b. (b ≡ length old.blocks) × (length l.blocks ≡ b + 1)) (λ b. FromNowOn l (λ a. slice_get a.blocks b ≡ Some ids)) (λ b. EachFrom first l (λ a n. Inside a b n)) c.push_block.result
