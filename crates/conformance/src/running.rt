@@ -1,10 +1,9 @@
 //! What is run for a case.
 
 use super::cases::{Case, File, SinkForm, bytes_of};
-use elaborate::elaborate;
 use method_design::{Design, method_design};
 use method_model::Command;
-use model_check::check;
+use model_elaborate::elaborate;
 use model_parser::parse;
 use not_built::not_built;
 use plain_lists::Items;
@@ -13,6 +12,7 @@ use session::{Log, Outcome, Plan, Rule, run_session};
 use sim_io::{MemoryShelf, MemorySink};
 use std::alloc::{AllocError, Global};
 use tlmsim::{Ended, MODEL_LIMIT, Words, sim_main};
+use tree_check::{Checked, check};
 
 /// A run of the whole program, and what the outside holds after it.
 #[derive(Drop)]
@@ -89,8 +89,8 @@ fn design_of(alloc: Global, model: &[u8]) -> Option<Design> {
     if not_built(&tree).is_some() {
         return None;
     }
-    let checked = check(alloc, tree).ok()?;
-    let flat = elaborate(alloc, checked).ok()?;
+    let Checked { tree, code } = check(alloc, tree).ok()?;
+    let flat = elaborate(alloc, &tree, code).ok()?;
     method_design(alloc, flat).ok()
 }
 

@@ -6,13 +6,14 @@ use Rattle.model_tree.specs.declared.faults.Fault.{Fault}
 use Rattle.model_lexer.specs.Reads.{Reads}
 use Rattle.not_built.specs.Missing.{first_not_built}
 use Rattle.model_faults.specs.Passes.{first_fault}
+use Rattle.model_elaborate.specs.Elaborated.{elaboration_fault}
 use Rattle.method_model.specs.declared.plain.Command.{Command}
 use Rattle.script_text.specs.ScriptText.{read_script}
 use Rattle.script_text.specs.NamedScript.{name_script}
 use Rattle.script_text.specs.declared.forms.TextCommand.{TextCommand}
 use Rattle.tlmsim.specs.Line.{Names, line_of}
 use Rattle.tlmsim.specs.Call.{Call, Texts, model_limit, script_limit}
-use Rattle.tlmsim.specs.Judged.{HasNoTree, HasUnbuilt, BreaksRule, IsBrokenModel, AcceptsModel, IsBrokenScript, Accepts, shown_objects}
+use Rattle.tlmsim.specs.Judged.{HasNoTree, HasUnbuilt, BreaksRule, BreaksWhole, IsBrokenModel, AcceptsModel, IsBrokenScript, Accepts, shown_objects}
 use Rattle.tlmsim.specs.Headline.{ReadFailed, TooLarge, Given, ModelGiven}
 
 -- no text reads as two trees
@@ -117,14 +118,20 @@ pub not_broken : OneTree → (model : List ℕ) (m : tree.Model) → AcceptsMode
 not_broken one model m a b =
     ⊎_elim (λ none. none m a.reads)
     (⊎_elim (λ u. found_both first_not_built m u.m (one model m u.m a.reads u.reads) a.built u.unbuilt)
-    (λ f. found_both first_fault m f.m (one model m f.m a.reads f.reads) a.faultless f.fault)) b
+    (⊎_elim (λ f. found_both first_fault m f.m (one model m f.m a.reads f.reads) a.faultless f.fault)
+    (λ w. found_both elaboration_fault m w.m (one model m w.m a.reads w.reads) a.elaborated w.fault))) b
 
 -- nor refused for two causes
-pub not_unread : (model : List ℕ) → HasNoTree model → HasUnbuilt model ⊎ BreaksRule model → ⊥
-not_unread model none b = ⊎_elim (λ u. none u.m u.reads) (λ f. none f.m f.reads) b
+pub not_unread : (model : List ℕ) → HasNoTree model → HasUnbuilt model ⊎ (BreaksRule model ⊎ BreaksWhole model) → ⊥
+not_unread model none b = ⊎_elim (λ u. none u.m u.reads) (⊎_elim (λ f. none f.m f.reads) (λ w. none w.m w.reads)) b
 
-pub not_unbuilt : OneTree → (model : List ℕ) → HasUnbuilt model → BreaksRule model → ⊥
-not_unbuilt one model u f = found_both first_fault u.m f.m (one model u.m f.m u.reads f.reads) u.faultless f.fault
+pub not_unbuilt : OneTree → (model : List ℕ) → HasUnbuilt model → BreaksRule model ⊎ BreaksWhole model → ⊥
+not_unbuilt one model u b =
+    ⊎_elim (λ f. found_both first_fault u.m f.m (one model u.m f.m u.reads f.reads) u.faultless f.fault)
+    (λ w. found_both first_not_built w.m u.m (one model w.m u.m w.reads u.reads) w.built u.unbuilt) b
+
+pub not_ruled : OneTree → (model : List ℕ) → BreaksRule model → BreaksWhole model → ⊥
+not_ruled one model f w = found_both first_fault w.m f.m (one model w.m f.m w.reads f.reads) w.faultless f.fault
 
 -- a script is not both accepted and refused
 breaks : (m : tree.Model) (script : List ℕ) (text : List TextCommand) (commands : List Command) → read_script script ≡ Ok text → name_script (shown_objects m) text ≡ Ok commands → IsBrokenScript m script → ⊥

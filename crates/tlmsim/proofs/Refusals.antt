@@ -1,10 +1,10 @@
 -- How the refusals of one stage are those of the next.
-use Rattle.std.proofs.Common.{◌≡◌, ◌⊎◌, inl, inr, Option, Some, None, IsSome, refl, subst, sym, ap, ◌∙◌, filter, List, ℕ, Result, Ok, Err, IfOk}
+use Rattle.std.proofs.Common.{◌≡◌, ◌⊎◌, inl, inr, ⊎_elim, Option, Some, None, IsSome, refl, subst, sym, ap, ◌∙◌, filter, List, ℕ, Result, Ok, Err, IfOk}
 use Rattle.model_tree.specs.Tree as tree
 use Rattle.model_tree.specs.declared.faults.Fault.{Fault}
 use Rattle.model_tree.specs.declared.faults.CheckStop.{CheckStop}
 use Rattle.model_tree.specs.declared.faults.CheckStop.TheVariants.{Refused}
-use Rattle.flat_design.specs.declared.design.Design.{Design as FlatDesign}
+use Rattle.flat_design.specs.declared.objects.Objects.{Objects}
 use Rattle.method_design.specs.Made.{IsMethodsOf, method_objects}
 use Rattle.method_design.specs.declared.designs.Design.{Design}
 use Rattle.model_lexer.specs.Reads.{Reads}
@@ -13,13 +13,13 @@ use Rattle.model_faults.specs.Passes.{first_fault}
 use Rattle.model_tree.specs.Stops.{IfRefused}
 use Rattle.flat_design.specs.declared.code.Code.{Code}
 use Rattle.method_design.specs.declared.designs.Object.{Object}
-use Rattle.model_rules.specs.FlatDesign.{IsDesign, IsCodeOf}
+use Rattle.model_elaborate.specs.Elaborated.{elaboration_fault}
 use Rattle.method_model.specs.Configuration.{visible, is_visible}
 use Rattle.method_model.specs.declared.plain.Command.{Command}
 use Rattle.tlmsim.specs.Line.{Names, line_of}
 use Rattle.tlmsim.specs.Call.{Call, Texts}
 use Rattle.tlmsim.specs.Loaded.{AreTexts}
-use Rattle.tlmsim.specs.Judged.{HasUnbuilt, BreaksRule, IsBrokenModel, HasModelFault, AcceptsModel, Accepts, BreaksScript, HasScriptFault, NamesScript, IsRunOf, shown_objects}
+use Rattle.tlmsim.specs.Judged.{HasUnbuilt, BreaksRule, BreaksWhole, IsBrokenModel, HasModelFault, AcceptsModel, Accepts, BreaksScript, HasScriptFault, NamesScript, IsRunOf, shown_objects}
 use Rattle.tlmsim.specs.Unbuilt.{IfNotBuilt}
 use Rattle.refusal_lines.specs.declared.refusals.ModelFault.{ModelFault}
 use Rattle.refusal_lines.specs.declared.refusals.ModelFault.TheVariants as model_fault
@@ -60,7 +60,10 @@ unbuilt_construct stop n o e h =
 pub model_broken_by : (model : List ℕ) (f : ModelFault) → HasModelFault model f → IsBrokenModel model
 model_broken_by model (model_fault.Syntax line) h = inl h
 model_broken_by model (model_fault.NotBuilt n) h = inr (inl (record { m = h.0; reads = h.1; faultless = h.2; unbuilt = is_some (first_not_built h.0) (n.line, n.name) h.3 }))
-model_broken_by model (model_fault.Rule fault) h = inr (inr (record { m = h.0; reads = h.1; fault = is_some (first_fault h.0) fault h.2 }))
+model_broken_by model (model_fault.Rule fault) h = inr (inr (⊎_elim
+    (λ (f : first_fault h.0 ≡ Some fault). inl (record { m = h.0; reads = h.1; fault = is_some (first_fault h.0) fault f }))
+    (λ w. inr (record { m = h.0; reads = h.1; faultless = w.0; built = w.1; fault = is_some (elaboration_fault h.0) fault w.2 }))
+    h.2))
 
 -- and what is wrong with a script
 pub script_broken_by : (objects : List Object) (script : List ℕ) (f : ScriptFault) → HasScriptFault objects script f → BreaksScript objects script
@@ -69,7 +72,7 @@ script_broken_by objects script (script_fault.Command fault) h = inr (h.0, fault
 
 -- what a script may name is the same in the design and in its model
 same_objects : (design : Design) (m : tree.Model) → IsRunOf m design → visible design ≡ shown_objects m
-same_objects design m is = ap (λ os. filter is_visible os) (is.is_methods.objects ∙ ap method_objects is.is_design.parts.objects)
+same_objects design m is = ap (λ os. filter is_visible os) (is.is_methods.objects ∙ ap (λ (o : Objects). method_objects o.list) is.is_design.objects)
 
 -- what is wrong with a script, over the design of the model
 pub fault_over : (design : Design) (m : tree.Model) (script text : List ℕ) (f : ScriptFault) → IsRunOf m design → text ≡ script → HasScriptFault (visible design) text f → HasScriptFault (shown_objects m) script f
@@ -86,21 +89,18 @@ accepts_over design m model script text text' commands is same same' accepted na
     let R : List ℕ → Type 0 = λ t. AcceptsModel t m in
     record { accepted = subst R same accepted; named = subst P (same_objects design m is) (subst Q same' named) }
 
--- the design of methods of an accepted model, by its flat design with its code
-pub run_over : (m : tree.Model) (code : Code) (design : FlatDesign) (run : Design) → IsDesign m design → design.code ≡ code → IsMethodsOf design run → IsCodeOf m code → IsRunOf m run
-run_over m code design run is same methods reads =
-    record { design = design; is_design = record { parts = is; code = subst (IsCodeOf m) (sym same) reads }; is_methods = methods }
-
 -- what is so of a result's value
 pub if_ok : {T E : Type 0} {P Q : T → Type 0} → (r : Result T E) → ((x : T) → P x → Q x) → IfOk r P → IfOk r Q
 if_ok (Ok x) f h = f x h
 if_ok (Err e) f h = tt
 
-by_findings : (text : List ℕ) (m : tree.Model) → Reads text m → (found : Option (ℕ × List ℕ)) (fault : Option Fault) → first_not_built m ≡ found → first_fault m ≡ fault → AcceptsModel text m ⊎ (HasUnbuilt text ⊎ BreaksRule text)
-by_findings text m reads found (Some fault) u f = inr (inr (record { m = m; reads = reads; fault = is_some (first_fault m) fault f }))
-by_findings text m reads (Some found) None u f = inr (inl (record { m = m; reads = reads; faultless = f; unbuilt = is_some (first_not_built m) found u }))
-by_findings text m reads None None u f = inl (record { reads = reads; built = u; faultless = f })
+by_findings : (text : List ℕ) (m : tree.Model) → Reads text m → (found : Option (ℕ × List ℕ)) (fault whole : Option Fault) → first_not_built m ≡ found → first_fault m ≡ fault → elaboration_fault m ≡ whole
+    → AcceptsModel text m ⊎ (HasUnbuilt text ⊎ (BreaksRule text ⊎ BreaksWhole text))
+by_findings text m reads found (Some fault) whole u f w = inr (inr (inl (record { m = m; reads = reads; fault = is_some (first_fault m) fault f })))
+by_findings text m reads (Some found) None whole u f w = inr (inl (record { m = m; reads = reads; faultless = f; unbuilt = is_some (first_not_built m) found u }))
+by_findings text m reads None None (Some fault) u f w = inr (inr (inr (record { m = m; reads = reads; faultless = f; built = u; fault = is_some (elaboration_fault m) fault w })))
+by_findings text m reads None None None u f w = inl (record { reads = reads; built = u; faultless = f; elaborated = w })
 
 -- a model that reads is accepted or refused
-pub one_of : (text : List ℕ) (m : tree.Model) → Reads text m → AcceptsModel text m ⊎ (HasUnbuilt text ⊎ BreaksRule text)
-one_of text m reads = by_findings text m reads (first_not_built m) (first_fault m) refl refl
+pub one_of : (text : List ℕ) (m : tree.Model) → Reads text m → AcceptsModel text m ⊎ (HasUnbuilt text ⊎ (BreaksRule text ⊎ BreaksWhole text))
+one_of text m reads = by_findings text m reads (first_not_built m) (first_fault m) (elaboration_fault m) refl refl refl

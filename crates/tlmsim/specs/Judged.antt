@@ -6,10 +6,12 @@ use Rattle.method_design.specs.declared.designs.Object.{Object}
 use Rattle.model_lexer.specs.Reads.{Reads}
 use Rattle.not_built.specs.Missing.{first_not_built}
 use Rattle.model_faults.specs.Passes.{first_fault}
+use Rattle.object_rules.specs.Listing.{objects_of}
+use Rattle.design_rules.specs.Designs.{IsDesignOf}
+use Rattle.model_elaborate.specs.Elaborated.{elaboration_fault}
 use Rattle.flat_design.specs.declared.design.Design.{Design}
 use Rattle.method_design.specs.Made.{IsMethodsOf, method_objects}
 use Rattle.method_design.specs.declared.designs.Design.{Design as MethodDesign}
-use Rattle.model_rules.specs.FlatDesign.{objects_of, IsDesign, IsCodeOf}
 use Rattle.method_model.specs.Configuration.{is_visible}
 use Rattle.method_model.specs.declared.plain.Command.{Command}
 use Rattle.script_text.specs.ScriptText.{read_script}
@@ -37,32 +39,45 @@ pub record HasUnbuilt (model : List ℕ) : Type 0 where
   pub faultless : first_fault m ≡ None
   pub unbuilt : IsSome (first_not_built m)
 
+-- the model reads as a tree that breaks no rule, in which each construct is built; its instances or its bindings are at fault
+pub record BreaksWhole (model : List ℕ) : Type 0 where
+  pub m : tree.Model
+  pub reads : Reads model m
+  pub faultless : first_fault m ≡ None
+  pub built : first_not_built m ≡ None
+  pub fault : IsSome (elaboration_fault m)
+
 -- the model is refused, for one of these causes
 abbrev pub IsBrokenModel : List ℕ → Type 0
-IsBrokenModel model = HasNoTree model ⊎ (HasUnbuilt model ⊎ BreaksRule model)
+IsBrokenModel model = HasNoTree model ⊎ (HasUnbuilt model ⊎ (BreaksRule model ⊎ BreaksWhole model))
+
+-- this is the first fault of a model: of a rule, or, where it breaks none and each construct is built, of its instances and
+-- bindings
+abbrev pub IsFirstFault : tree.Model → Fault → Type 0
+IsFirstFault m fault = (first_fault m ≡ Some fault) ⊎ ((first_fault m ≡ None) × (first_not_built m ≡ None) × (elaboration_fault m ≡ Some fault))
 
 -- what is said of a model that is refused is so: it reads as no tree; or as one of which this is the first fault; or as one
 -- that breaks no rule, in which the first construct that is not built has this line and stands in the module of this name
 abbrev pub HasModelFault : List ℕ → ModelFault → Type 0
 HasModelFault model (model_fault.Syntax line) = HasNoTree model
 HasModelFault model (model_fault.NotBuilt n) = (m : tree.Model) × Reads model m × (first_fault m ≡ None) × (first_not_built m ≡ Some (n.line, n.name))
-HasModelFault model (model_fault.Rule fault) = (m : tree.Model) × Reads model m × (first_fault m ≡ Some fault)
+HasModelFault model (model_fault.Rule fault) = (m : tree.Model) × Reads model m × IsFirstFault m fault
 
--- the model reads as this tree, which breaks no rule, and in which each construct is built
+-- the model reads as this tree, which breaks no rule, in which each construct is built, and whose instances and bindings are
+-- not at fault
 pub record AcceptsModel (model : List ℕ) (m : tree.Model) : Type 0 where
   pub reads : Reads model m
   pub built : first_not_built m ≡ None
   pub faultless : first_fault m ≡ None
+  pub elaborated : elaboration_fault m ≡ None
 
 -- the objects of a model that a script may name, in object order
 abbrev pub shown_objects : tree.Model → List Object
-shown_objects m = filter is_visible (method_objects (objects_of m))
+shown_objects m = filter is_visible (method_objects (objects_of m).list)
 
--- the design is that of the tree: its objects, what its names stand for, and code that reads back as the bodies of
--- its processes
-pub record IsDesignOf (m : tree.Model) (d : Design) : Type 0 where
-  pub parts : IsDesign m d
-  pub code : IsCodeOf m d.code
+-- the design is that of the tree that the model is accepted as
+abbrev pub IsDesignOfText : List ℕ → Design → Type 0
+IsDesignOfText model d = (m : tree.Model) × AcceptsModel model m × IsDesignOf m d
 
 -- the design of methods is given by a design of the tree
 pub record IsRunOf (m : tree.Model) (run : MethodDesign) : Type 0 where

@@ -1,29 +1,26 @@
-ghost use Rattle.std.specs.Prelude.{◌≡◌, ◌<◌, ◌^◌, IfErr, IfOk, length, None, Some};
+ghost use Rattle.std.specs.Prelude.{◌≡◌, ◌<◌, ◌^◌, IfErr, IfOk, length, None};
 ghost use Rattle.model_tree.specs.Tree as tree;
 ghost use Rattle.model_lexer.specs.Reads.{Reads};
 ghost use Rattle.model_tree.specs.Seen.{model_of};
-ghost use Rattle.model_tree.specs.Stops.{IfRefused};
-ghost use Rattle.model_faults.specs.Passes.{first_fault};
 ghost use Rattle.not_built.specs.Missing.{first_not_built};
-ghost use Rattle.model_rules.specs.FlatDesign.{IsCodeOf};
+ghost use Rattle.code_of_model.specs.Bodies.{IsCodeOf};
 ghost use Rattle.method_model.specs.Configuration.{visible};
-ghost use Rattle.tlmsim.specs.Judged.{AcceptsModel, NamesScript, Accepts, IsRunOf, HasModelFault, HasScriptFault};
+ghost use Rattle.tlmsim.specs.Judged.{NamesScript, Accepts, IsDesignOfText, IsRunOf, HasModelFault, HasScriptFault};
 ghost use Rattle.tlmsim.specs.Refused.{IfModelFault, IfScriptFault, HasTextFault};
 
 use super::load::Texts;
 use super::unbuilt::{UnbuiltStop, refuse_unbuilt};
-use built_laws::built_models_break_no_rule;
-use elaborate::elaborate;
+use flat_design::Design as FlatDesign;
 use method_design::{Design, method_design};
 use method_model::Command;
-use model_check::{Checked, check};
+use model_elaborate::elaborate;
 use model_parser::parse;
 use model_tree::{CheckStop, ParseStop, Tree};
 use plain_lists::Items;
 use refusal_lines::{ModelFault, ScriptFault};
-use rule_check::judge_rules;
 use script_text::{commands, name_all};
-use std::alloc::{AllocError, Global};
+use std::alloc::Global;
+use tree_check::{Checked, check};
 
 /// Why texts were not accepted.
 #[derive(Drop)]
@@ -63,18 +60,6 @@ pub struct Judged {
     pub script: Items<Command>,
 }
 
-/// A tree that breaks no rule on its modules.
-fn ruled(alloc: Global, tree: Tree) -> Result<Tree, CheckStop>
-    ensures same { IfOk result (λ t. t ≡ tree) }
-    ensures accepted { IfOk result (λ _. first_fault (model_of tree) ≡ None) }
-    ensures refused { IfErr result (λ stop. IfRefused stop (λ fault. first_fault (model_of tree) ≡ Some fault)) }
-{
-    match judge_rules(alloc, &tree) {
-        Ok(()) => Ok(tree),
-        Err(stop) => Err(stop),
-    }
-}
-
 /// The tree of a model.
 fn read_model(alloc: Global, text: &[u8]) -> Result<Tree, ModelStop>
     requires { length text.now < 2 ^ 32 }
@@ -88,59 +73,58 @@ fn read_model(alloc: Global, text: &[u8]) -> Result<Tree, ModelStop>
     }
 }
 
-/// The tree of a model, which breaks no rule.
-fn ruled_model(alloc: Global, text: &[u8]) -> Result<Tree, ModelStop>
+/// The tree of a model, which breaks no rule on its modules, with its code.
+fn ruled_model(alloc: Global, text: &[u8]) -> Result<Checked, ModelStop>
     requires { length text.now < 2 ^ 32 }
-    ensures reads { IfOk result (λ t. Reads text.now (model_of t)) }
-    ensures faultless { IfOk result (λ t. first_fault (model_of t) ≡ None) }
+    ensures reads { IfOk result (λ checked. Reads text.now (model_of checked.tree)) }
+    ensures code { IfOk result (λ checked. IsCodeOf (model_of checked.tree) checked.code) }
     ensures fault { IfErr result (λ stop. IfModelFault stop (HasModelFault text.now)) }
 {
     let tree = match read_model(alloc, text) {
         Ok(tree) => tree,
         Err(stop) => return Err(stop),
     };
-    match ruled(alloc, tree) {
-        Ok(tree) => Ok(tree),
+    match check(alloc, tree) {
+        Ok(checked) => Ok(checked),
         Err(CheckStop::Refused(fault)) => Err(ModelStop::Fault(ModelFault::Rule(fault))),
         Err(CheckStop::NoMemory) => Err(ModelStop::NoMemory),
     }
 }
 
-/// The tree of a model, which breaks no rule, and in which each construct is built.
-fn built_model(alloc: Global, text: &[u8]) -> Result<Tree, ModelStop>
+/// The tree of a model, which breaks no rule on its modules and in which each construct is built, with its code.
+fn built_model(alloc: Global, text: &[u8]) -> Result<Checked, ModelStop>
     requires { length text.now < 2 ^ 32 }
-    ensures reads { IfOk result (λ t. Reads text.now (model_of t)) }
-    ensures faultless { IfOk result (λ t. first_fault (model_of t) ≡ None) }
-    ensures built { IfOk result (λ t. first_not_built (model_of t) ≡ None) }
+    ensures reads { IfOk result (λ checked. Reads text.now (model_of checked.tree)) }
+    ensures code { IfOk result (λ checked. IsCodeOf (model_of checked.tree) checked.code) }
+    ensures built { IfOk result (λ checked. first_not_built (model_of checked.tree) ≡ None) }
     ensures fault { IfErr result (λ stop. IfModelFault stop (HasModelFault text.now)) }
 {
-    let tree = match ruled_model(alloc, text) {
-        Ok(tree) => tree,
+    let checked = match ruled_model(alloc, text) {
+        Ok(checked) => checked,
         Err(stop) => return Err(stop),
     };
-    match refuse_unbuilt(alloc, &tree) {
-        Ok(()) => Ok(tree),
+    match refuse_unbuilt(alloc, &checked.tree) {
+        Ok(()) => Ok(checked),
         Err(UnbuiltStop::NotBuilt(found)) => Err(ModelStop::Fault(ModelFault::NotBuilt(found))),
         Err(UnbuiltStop::NoMemory) => Err(ModelStop::NoMemory),
     }
 }
 
-/// Judges a model by the rules, then by what is run today, and makes its code. What is run today and breaks no rule breaks none of
-/// the rules that the code of methods rests on.
-fn judge_model(alloc: Global, text: &[u8]) -> Result<Checked, ModelStop>
+/// The design of a model: it is judged by the rules on its modules, then by what is run today, and then its instances and
+/// bindings are.
+fn judge_model(alloc: Global, text: &[u8]) -> Result<FlatDesign, ModelStop>
     requires { length text.now < 2 ^ 32 }
-    ensures accepted { IfOk result (λ checked. AcceptsModel text.now (model_of checked.tree)) }
-    ensures code { IfOk result (λ checked. IsCodeOf (model_of checked.tree) checked.code) }
+    ensures accepted { IfOk result (λ design. IsDesignOfText text.now design) }
     ensures fault { IfErr result (λ stop. IfModelFault stop (HasModelFault text.now)) }
 {
-    let tree = match built_model(alloc, text) {
-        Ok(tree) => tree,
+    let checked = match built_model(alloc, text) {
+        Ok(checked) => checked,
         Err(stop) => return Err(stop),
     };
-    built_models_break_no_rule();
-    match check(alloc, tree) {
-        Ok(checked) => Ok(checked),
-        Err(CheckStop::Refused(_)) => unreachable!(),
+    let Checked { tree, code } = checked;
+    match elaborate(alloc, &tree, code) {
+        Ok(design) => Ok(design),
+        Err(CheckStop::Refused(fault)) => Err(ModelStop::Fault(ModelFault::Rule(fault))),
         Err(CheckStop::NoMemory) => Err(ModelStop::NoMemory),
     }
 }
@@ -161,28 +145,18 @@ fn judge_script(alloc: Global, text: &[u8], design: &Design) -> Result<Items<Com
     }
 }
 
-/// The design of methods of an accepted model: its flat design gives it.
-fn methods_of_model(alloc: Global, checked: Checked) -> Result<Design, AllocError>
-    ensures { IfOk result (λ methods. IsCodeOf (model_of checked.tree) checked.code → IsRunOf (model_of checked.tree) methods) }
-{
-    match elaborate(alloc, checked) {
-        Ok(design) => method_design(alloc, design),
-        Err(_) => Err(AllocError),
-    }
-}
-
 /// Judges the model, and then the script over its design. A refusal has what is wrong with the text.
 pub fn judge(alloc: Global, texts: &Texts) -> Result<Judged, JudgeStop>
     requires { length texts.now.model < 2 ^ 32 }
     ensures accepted { IfOk result (λ judged. (m : tree.Model) × IsRunOf m judged.design × Accepts texts.now.model texts.now.script m judged.script) }
     ensures fault { IfErr result (HasTextFault texts.now.model texts.now.script) }
 {
-    let checked = match judge_model(alloc, texts.model.as_slice()) {
-        Ok(checked) => checked,
+    let whole = match judge_model(alloc, texts.model.as_slice()) {
+        Ok(whole) => whole,
         Err(ModelStop::Fault(fault)) => return Err(JudgeStop::Model(fault)),
         Err(ModelStop::NoMemory) => return Err(JudgeStop::NoMemory),
     };
-    let design = match methods_of_model(alloc, checked) {
+    let design = match method_design(alloc, whole) {
         Ok(design) => design,
         Err(_) => return Err(JudgeStop::NoMemory),
     };

@@ -1,5 +1,0 @@
-mod Lists
-mod Doubled
-mod Built
-mod Uses
-mod Models

@@ -1,5 +1,0 @@
-pub mod ListLemmas
-pub mod Numbered
-pub mod Covered
-pub mod Growth
-pub mod Read

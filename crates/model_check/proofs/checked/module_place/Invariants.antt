@@ -1,9 +1,0 @@
-use Rattle.std.proofs.Common.{◌≡◌, ◌+◌, drop}
-use Rattle.std.specs.List.{position_or_len}
-use Rattle.model_tree.specs.Views.{modules_of}
-use Rattle.model_rules.specs.FlatDesign.{is_module}
-use Rattle.model_check.proofs.checked.module_place.Given as goal
-
-abbrev pub invariant-loop-i : goal.invariant-loop-i
-invariant-loop-i l =
-    position_or_len (is_module l.name) (modules_of l.modules) ≡ l.i + position_or_len (is_module l.name) (modules_of (drop l.i l.modules))
