@@ -16,7 +16,7 @@ use kernel_view::{channel_at, denoted_at, eval_at};
 use logic_values::Value;
 
 /// The number of the first event of a channel.
-fn first_event(channel: ChannelId) -> u32
+pub fn first_event(channel: ChannelId) -> u32
     ensures { result ≡ waiting.first_event channel }
 {
     match channel {
@@ -29,7 +29,7 @@ fn first_event(channel: ChannelId) -> u32
 }
 
 /// Which of the events of a channel a member is.
-fn event_offset(member: EventMember) -> u32
+pub fn event_offset(member: EventMember) -> u32
     ensures which { result ≡ waiting.event_offset member }
     ensures few { result ≤ 2 }
 {

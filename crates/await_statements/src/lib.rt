@@ -9,6 +9,7 @@ mod statements;
 mod stops;
 mod triggers;
 
+pub use events::{event_offset, first_event};
 pub use laws::sound_designs_number_events;
 pub use statements::{trigger_statement, wait_statement};
 pub use stops::AwaitStop;

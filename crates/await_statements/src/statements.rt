@@ -11,15 +11,8 @@ use crate::stops::AwaitStop;
 use crate::triggers::awaited;
 use event_statements::next_trigger;
 use flat_design::Await;
-use kernel_state::{Kernel, wait_so};
+use kernel_state::{Kernel, top_lives, wait_so};
 use std::alloc::Global;
-
-/// The instance on top has not ended.
-fn top_lives(k: &Kernel, p: u32)
-    requires sound { IsSound k.now }
-    requires top { IsOnTop k.now p }
-    ensures { Lives k.now p }
-{}
 
 /// `wait`: the instance on top waits for its static sensitivity, the next delta, a time, or any or all of some events, with a
 /// time-out where one is written (IEEE 1666-2011, 5.2.17).

@@ -10,12 +10,12 @@ ghost use Rattle.kernel_state.specs.Kernel.{IsSound};
 ghost use Rattle.kernel_state.specs.Moves.{Moves, Steps, Does, HasStatement, IsOnTop};
 ghost use Rattle.channel_statements.specs.Tried.{changed_in};
 
-use crate::slots::{past, put, slot_at, top_lives};
+use crate::slots::{past, put, slot_at};
 use crate::uses::{fifo_number, first_event, used_at};
 use channel_board::ChannelBoard;
 use expr_eval::cut_to;
 use flat_design::{ChannelId, ChannelUse, Expr, RunFault, Store, ValueType};
-use kernel_state::{Kernel, block, pass};
+use kernel_state::{Kernel, block, pass, top_lives};
 use kernel_view::{channel_at, eval_at, eval_place_at};
 use logic_values::Value;
 use std::alloc::{AllocError, Global};

@@ -10,11 +10,11 @@ ghost use Rattle.kernel_state.specs.Kernel.{IsSound};
 ghost use Rattle.kernel_state.specs.Moves.{Moves, Steps, Does, HasStatement, IsOnTop};
 ghost use Rattle.channel_statements.specs.Tried.{changed_in};
 
-use crate::slots::{past, slot_at, tell, top_lives};
+use crate::slots::{past, slot_at, tell};
 use crate::uses::{first_event, mutex_number, used_at};
 use channel_board::ChannelBoard;
 use flat_design::{ChannelId, ChannelUse, RunFault, Store};
-use kernel_state::{Kernel, block, fire, pass};
+use kernel_state::{Kernel, block, fire, pass, top_lives};
 use std::alloc::{AllocError, Global};
 
 /// Locks a mutex for an instance, if nobody owns it: says whether it did, where the channel is a mutex.

@@ -1,5 +1,5 @@
 //! Statements on semaphores (IEEE 1666-2011, 6.29).
-ghost use Rattle.std.specs.Prelude.{◌≡◌, ◌<◌, ◌+◌, ◌-◌, ◌^◌, All, IfOk, OnOk, OnErr, is_some, not, option_map};
+ghost use Rattle.std.specs.Prelude.{◌≡◌, ◌↔◌, ◌+◌, ◌-◌, ◌^◌, Some, IsErr, IfOk, OnOk, OnErr, is_some, not, option_map};
 ghost use Rattle.fifo_sync.specs.Locks.{is_used_up};
 ghost use Rattle.flat_design.specs.Code.{channel_term};
 ghost use Rattle.sim_model.specs.Channels as channels;
@@ -8,13 +8,14 @@ ghost use Rattle.sim_model.specs.Reading.{here};
 ghost use Rattle.sim_model.specs.Storing.{passes};
 ghost use Rattle.kernel_state.specs.Kernel.{IsSound};
 ghost use Rattle.kernel_state.specs.Moves.{Moves, Steps, Does, HasStatement, IsOnTop};
-ghost use Rattle.channel_statements.specs.Tried.{changed_in};
+ghost use Rattle.kernel_view.specs.Standings.{Everywhere};
+ghost use Rattle.channel_statements.specs.Tried.{changed_in, posted_value};
 
-use crate::slots::{past, slot_at, tell, top_lives};
+use crate::slots::{past, slot_at, tell};
 use crate::uses::{first_event, semaphore_number, used_at};
 use channel_board::ChannelBoard;
 use flat_design::{ChannelId, ChannelUse, RunFault, Store};
-use kernel_state::{Kernel, block, fire, pass};
+use kernel_state::{Kernel, block, fire, pass, top_lives};
 use std::alloc::{AllocError, Global};
 
 /// Takes one of the value of a semaphore, if it is not used up: says whether it did, where the channel is a semaphore.
@@ -29,54 +30,77 @@ fn try_take(board: &mut ChannelBoard, channel: ChannelId) -> Option<bool>
 }
 
 /// Adds one to the value of a semaphore: says whether there is such a semaphore.
-fn give(board: &mut ChannelBoard, channel: ChannelId) -> bool
-    requires { All (λ v. v < 2 ^ 64 - 1) board.old.semaphores }
-    ensures there { result ≡ is_some (element board.old.semaphores (semaphore_of channel)) }
-    ensures left { board.new ≡ record board.old { semaphores = changed_in board.old.semaphores (semaphore_of channel) (λ v. v + 1) } }
+///
+/// # Errors
+/// Its value is 2^64 - 1, and then nothing changes.
+fn give(board: &mut ChannelBoard, channel: ChannelId) -> Result<bool, AllocError>
+    ensures there { IfOk result (λ there. there ≡ is_some (element board.old.semaphores (semaphore_of channel))) }
+    ensures left { OnOk result (board.new ≡ record board.old { semaphores = changed_in board.old.semaphores (semaphore_of channel) (λ v. v + 1) }) }
+    ensures full { IsErr result ↔ (element board.old.semaphores (semaphore_of channel) ≡ Some (2 ^ 64 - 1)) }
+    ensures stays { OnErr result (board.new ≡ board.old) }
 {
     match semaphore_number(channel) {
-        Some(n) => board.post_semaphore(n),
-        None => false,
+        Some(n) => {
+            if board.semaphore(n) == u64::MAX {
+                return Err(AllocError);
+            }
+            Ok(board.post_semaphore(n))
+        }
+        None => Ok(false),
     }
 }
 
 /// A post to a channel that is known.
-fn post_channel(k: &mut Kernel, p: u32, channel: ChannelId)
+///
+/// # Errors
+/// The value of the semaphore is 2^64 - 1, and then nothing changes.
+fn post_channel(k: &mut Kernel, p: u32, channel: ChannelId) -> Result<(), AllocError>
     requires sound { IsSound k.old }
     requires top { IsOnTop k.old p }
     requires statement { HasStatement k.old p }
-    requires room { All (λ v. v < 2 ^ 64 - 1) k.old.channels.semaphores }
-    ensures steps { Steps k.old k.new p (λ c q i r. channels.post_at (passes c q r) channel (semaphore_of channel)) }
+    ensures steps { OnOk result (Steps k.old k.new p (λ c q i r. channels.post_at (passes c q r) channel (semaphore_of channel))) }
+    ensures full { IsErr result ↔ (element k.old.channels.semaphores (semaphore_of channel) ≡ Some (2 ^ 64 - 1)) }
+    ensures stays { OnErr result (Moves k.old k.new (λ c. c)) }
     ensures sound { IsSound k.new }
 {
     top_lives(k, p);
-    let there = give(&mut k.channels, channel);
-    pass(k, p);
-    if there {
-        fire(k, first_event(channel));
+    match give(&mut k.channels, channel) {
+        Ok(true) => {
+            pass(k, p);
+            fire(k, first_event(channel));
+            Ok(())
+        }
+        Ok(false) => {
+            pass(k, p);
+            Ok(())
+        }
+        Err(_) => Err(AllocError),
     }
 }
 
 /// `post`: the value of a semaphore rises by one, which wakes all who wait for it (IEEE 1666-2011, 6.29.3.5). The channel is
-/// named, or is that of a port at a place. It takes no memory.
+/// named, or is that of a port at a place. The answer tells whether the statement is at fault, and then nothing changes: the
+/// fault of its place; a place past the last channel of a port. It takes no memory of the allocator.
 ///
 /// # Errors
-/// The fault of its place; a place past the last channel of a port. Then nothing changes.
-pub fn post(k: &mut Kernel, p: u32, at: &ChannelUse) -> Result<(), RunFault>
+/// The value of the semaphore is 2^64 - 1, the greatest that the kernel can hold: there is no room for a greater one, and
+/// nothing changes.
+pub fn post(k: &mut Kernel, p: u32, at: &ChannelUse) -> Result<Result<(), RunFault>, AllocError>
     requires sound { IsSound k.old }
     requires top { IsOnTop k.old p }
     requires statement { HasStatement k.old p }
-    requires room { All (λ v. v < 2 ^ 64 - 1) k.old.channels.semaphores }
-    ensures does { Does k.old k.new result p (λ c q i r. do_post c q r (here c q i r) (channel_term at.now)) }
+    ensures does { IfOk result (λ answer. Does k.old k.new answer p (λ c q i r. do_post c q r (here c q i r) (channel_term at.now))) }
+    ensures full { Everywhere k.old p (λ h. IsErr result ↔ (posted_value h (channel_term at.now) ≡ Some (2 ^ 64 - 1))) }
+    ensures stays { OnErr result (Moves k.old k.new (λ c. c)) }
     ensures sound { IsSound k.new }
 {
     top_lives(k, p);
     match used_at(k, p, at) {
-        Ok(channel) => {
-            post_channel(k, p, channel);
-            Ok(())
-        }
-        Err(fault) => Err(fault),
+        Ok(channel) => match post_channel(k, p, channel) {
+            Ok(()) => Ok(Ok(())),
+            Err(_) => Err(AllocError),
+        },
+        Err(fault) => Ok(Err(fault)),
     }
 }
 

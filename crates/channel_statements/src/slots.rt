@@ -16,7 +16,7 @@ ghost use Rattle.channel_statements.specs.Slots.{slot_here, kept_in};
 
 use expr_eval::cut_to;
 use flat_design::{Denoted, NameUse, Store, ValueType};
-use kernel_state::{Kernel, pass, set_variable};
+use kernel_state::{Kernel, pass, set_variable, top_lives};
 use kernel_view::denoted_at;
 use logic_values::Value;
 
@@ -30,13 +30,6 @@ pub(crate) enum Slot {
     /// A variable of an instance of a module, of this type.
     Variable(u32, ValueType),
 }
-
-/// The instance on top has not ended.
-pub(crate) fn top_lives(k: &Kernel, p: u32)
-    requires sound { IsSound k.now }
-    requires top { IsOnTop k.now p }
-    ensures { Lives k.now p }
-{}
 
 /// The statement of the instance on top is past, and the instance has not ended.
 pub(crate) fn past(k: &mut Kernel, p: u32)

@@ -2,11 +2,11 @@
 //!
 //! A line is empty, a comment that begins with `#`, or a word and what follows it:
 //! `case NAME` begins a case; `words WORD..`, `model TEXT`, `script TEXT`, `file NAME TEXT`,
-//! `shelf fails NUMBER..`, `out room NUMBER`, `out fails NUMBER..`, the same two for `err`, and
-//! `budget NUMBER` say what the case has. `quoting` has the form of a TEXT.
+//! `shelf fails NUMBER..`, `out room NUMBER`, `out fails NUMBER..`, and the same two for `err` say what
+//! the case has. `quoting` has the form of a TEXT.
 //!
-//! Behind a line `gives` stands what is wanted, each as the program tells it: `status NUMBER`, or `stop WORD` of a session
-//! that is run alone, `steps NUMBER`, `choices none` or `choices SERIAL..`, `out TEXT`, `err TEXT`, and `file NAME STATE`
+//! Behind a line `gives` stands what is wanted, each as the program tells it: `status NUMBER`, `steps NUMBER`,
+//! `choices none` or `choices SERIAL..`, `out TEXT`, `err TEXT`, and `file NAME STATE`
 //! for each file that is given and each word that names none. A line that begins with a double quote goes on with the
 //! TEXT before it. A case is right where just these facts come: one that is left out is told as wrong.
 
@@ -120,10 +120,6 @@ fn add_given(alloc: Global, case: &mut Case, word: &str, rest: &str) -> Result<(
         "shelf" => add_faults(alloc, case, rest),
         "out" => add_to_sink(alloc, &mut case.out, rest),
         "err" => add_to_sink(alloc, &mut case.err, rest),
-        "budget" => {
-            case.budget = Some(number(rest)?);
-            Ok(())
-        }
         "gives" => {
             case.is_given = true;
             Ok(())

@@ -31,7 +31,7 @@ impl SinkForm {
     }
 }
 
-/// One case: a run of the whole program, or of a session alone where there is a budget.
+/// One case: a run of the whole program.
 #[derive(Drop)]
 pub struct Case {
     /// What it shows.
@@ -46,8 +46,6 @@ pub struct Case {
     pub out: SinkForm,
     /// The sink for messages.
     pub err: SinkForm,
-    /// The step budget of a session that is run alone.
-    pub budget: Option<u64>,
     /// Whether its further lines say what is wanted.
     pub is_given: bool,
     /// What is wanted to come of it.
@@ -78,7 +76,6 @@ impl Case {
             failing: Vec::new(alloc),
             out: SinkForm::new(alloc),
             err: SinkForm::new(alloc),
-            budget: None,
             is_given: false,
             wanted: Vec::new(alloc),
         })

@@ -2,22 +2,9 @@
 
 use super::cases::{Case, bytes_of};
 use super::facts::Fact;
-use super::running::{ProgramRun, SessionRun, run_alone, run_program};
-use method_model::Stop;
+use super::running::{ProgramRun, run_program};
 use sim_io::MemoryShelf;
 use std::alloc::{AllocError, Global};
-
-fn stop_word(stop: Stop) -> &'static str {
-    match stop {
-        Stop::Done => "Done",
-        Stop::Stopped => "Stopped",
-        Stop::Fault(_) => "Fault",
-        Stop::Budget => "Budget",
-        Stop::WriteFault => "WriteFault",
-        Stop::NoMemory => "NoMemory",
-        Stop::Replay { place: _ } => "Replay",
-    }
-}
 
 /// Adds a fact that is told in words.
 fn add_words(
@@ -125,36 +112,7 @@ fn facts_of_program(alloc: Global, case: &Case, run: &ProgramRun) -> Result<Vec<
     Ok(facts)
 }
 
-/// What came of a session that was run alone.
-fn facts_of_session(alloc: Global, run: &SessionRun) -> Result<Vec<Fact>, AllocError> {
-    let mut facts = Vec::new(alloc);
-    let stop = String::from_str(alloc, stop_word(run.outcome.stop))?;
-    add_words(alloc, &mut facts, "stop", stop)?;
-    add_steps(
-        alloc,
-        &mut facts,
-        run.outcome.steps,
-        run.outcome.choices.as_slice(),
-    )?;
-    add_sink(alloc, &mut facts, "out", run.out.bytes())?;
-    Ok(facts)
-}
-
-/// What is told of a session that could not begin.
-fn facts_of_none(alloc: Global) -> Result<Vec<Fact>, AllocError> {
-    let mut facts = Vec::new(alloc);
-    let session = String::from_str(alloc, "session")?;
-    add_words(alloc, &mut facts, "no", session)?;
-    Ok(facts)
-}
-
 /// Runs a case, and tells what came of it.
 pub fn facts_of(alloc: Global, case: &Case) -> Result<Vec<Fact>, AllocError> {
-    match case.budget {
-        Some(budget) => match run_alone(alloc, case, budget) {
-            Some(run) => facts_of_session(alloc, &run),
-            None => facts_of_none(alloc),
-        },
-        None => facts_of_program(alloc, case, &run_program(alloc, case)?),
-    }
+    facts_of_program(alloc, case, &run_program(alloc, case)?)
 }

@@ -1,8 +1,8 @@
 use super::case_files::read_cases;
 use super::judging::difference;
-use flat_design::Choices;
 use model_tree::Name;
 use std::test::Fail;
+use tlmsim::Choices;
 
 // A copy of a name, which the program does not make yet, and a list of choices. The wanted values are worked out by hand.
 #[test]

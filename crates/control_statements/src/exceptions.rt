@@ -16,17 +16,10 @@ use crate::shown::{has_goal, is_begun_thread, lives};
 use crate::targets::target_at;
 use flat_design::{Controlled, NameId, RunFault};
 use guard_statements::{catches, raise_at};
-use kernel_state::Kernel;
+use kernel_state::{Kernel, top_lives};
 use schedule::is_active;
 use sim_model::Goal;
 use transaction_board::left_calls_end;
-
-/// The instance on top has not ended.
-fn top_lives(k: &Kernel, p: u32)
-    requires sound { IsSound k.now }
-    requires top { IsOnTop k.now p }
-    ensures { Lives k.now p }
-{}
 
 /// The statement in place of an instance is past. What is not being unwound is not then.
 fn pass(k: &mut Kernel, p: u32)

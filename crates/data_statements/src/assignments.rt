@@ -9,10 +9,10 @@ ghost use Rattle.kernel_state.specs.Kernel.{IsSound};
 ghost use Rattle.kernel_state.specs.Moves.{Does, HasStatement, IsOnTop};
 ghost use Rattle.kernel_view.specs.Standings.{Gives};
 
-use crate::storing::{store, top_lives};
+use crate::storing::store;
 use expr_eval::bits;
 use flat_design::{NameUse, PayloadBytes, PayloadField, RunFault, Store};
-use kernel_state::{Kernel, set_byte, set_field};
+use kernel_state::{Kernel, set_byte, set_field, top_lives};
 use kernel_view::payload_at;
 use logic_values::Value;
 

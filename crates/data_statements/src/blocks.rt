@@ -13,10 +13,9 @@ ghost use Rattle.kernel_state.specs.Moves.{Steps, Does, HasStatement, IsOnTop, L
 ghost use Rattle.kernel_view.specs.Standings.{Gives};
 ghost use Rattle.data_statements.specs.Entered.{Shows};
 
-use crate::storing::top_lives;
 use expr_eval::truth;
 use flat_design::{BlockId, RunFault, StmtId};
-use kernel_state::{Kernel, pass};
+use kernel_state::{Kernel, pass, top_lives};
 use logic_values::Value;
 
 /// A block of a statement comes in its place, where the statement puts nothing around it.

@@ -15,5 +15,5 @@ pub use assignments::{assign_field, assign_name, assign_payload_byte};
 pub use blocks::{if_then, while_do};
 pub use prints::print;
 pub use returns::return_nothing;
-pub use storing::store;
+pub use storing::{store, variable_number};
 pub use variables::var;

@@ -6,9 +6,8 @@ ghost use Rattle.kernel_state.specs.Moves.{HasStatement, IsOnTop};
 ghost use Rattle.kernel_view.specs.Standings.{GivesIf};
 ghost use Rattle.data_statements.specs.Told.{Prints};
 
-use crate::storing::top_lives;
 use flat_design::RunFault;
-use kernel_state::{Kernel, pass};
+use kernel_state::{Kernel, pass, top_lives};
 use logic_values::Value;
 
 /// `print`: the line has the time, the path of the instance, the text and, where one is written, the value that is answered.

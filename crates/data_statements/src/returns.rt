@@ -7,9 +7,8 @@ ghost use Rattle.sim_model.specs.Calls.{do_return};
 ghost use Rattle.kernel_state.specs.Kernel.{IsSound};
 ghost use Rattle.kernel_state.specs.Moves.{Steps, Does, IsOnTop, Lives};
 
-use crate::storing::top_lives;
 use flat_design::RunFault;
-use kernel_state::Kernel;
+use kernel_state::{Kernel, top_lives};
 
 /// The innermost call answers nothing: the rest of it falls away.
 fn answer_nothing(k: &mut Kernel, p: u32)

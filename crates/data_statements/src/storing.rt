@@ -5,21 +5,14 @@ ghost use Rattle.sim_model.specs.Reading.{here};
 ghost use Rattle.sim_model.specs.Storing as storing;
 ghost use Rattle.sim_model.specs.Storing.{passes, set_denoted, set_name, stored};
 ghost use Rattle.kernel_state.specs.Kernel.{IsSound};
-ghost use Rattle.kernel_state.specs.Moves.{Steps, HasStatement, IsOnTop, Lives};
+ghost use Rattle.kernel_state.specs.Moves.{Steps, HasStatement, IsOnTop};
 ghost use Rattle.data_statements.specs.Variables.{number_of};
 
 use expr_eval::cut_to;
 use flat_design::{Denoted, NameUse, Store};
-use kernel_state::{Kernel, pass, set_local, store_variable};
+use kernel_state::{Kernel, pass, set_local, store_variable, top_lives};
 use kernel_view::denoted_at;
 use logic_values::Value;
-
-/// The instance on top has not ended.
-pub(crate) fn top_lives(k: &Kernel, p: u32)
-    requires sound { IsSound k.now }
-    requires top { IsOnTop k.now p }
-    ensures { Lives k.now p }
-{}
 
 /// A value is stored in a local variable of the innermost call.
 pub(crate) fn store_local(k: &mut Kernel, p: u32, n: u32, v: Value)
@@ -35,7 +28,7 @@ pub(crate) fn store_local(k: &mut Kernel, p: u32, n: u32, v: Value)
 }
 
 /// The variable that a name stands for.
-fn variable_number(d: Denoted) -> Option<u32>
+pub fn variable_number(d: Denoted) -> Option<u32>
     ensures { result ≡ number_of d }
 {
     match d {

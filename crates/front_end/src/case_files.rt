@@ -4,8 +4,9 @@
 //! `case NAME` begins a case. Its text is put together by `text LINE`, which adds a line, `body ITEMS`, which adds a
 //! line with one module of these items, `add PIECE`, which adds to the last line, `times NUMBER PIECE`, which does so
 //! many times, and `byte NUMBER`, which adds one byte. What is wanted is said by `prints LINE`, one for each line that
-//! the tree prints as, `refused LINE`, `prefixes refused`, `accepted`, where it breaks no rule on modules, and
-//! `breaks KIND LINE NAME`, which is its first fault; a case with none of these is to read.
+//! the tree prints as, `refused LINE`, `prefixes refused`, `accepted`, where it breaks no rule on modules, `elaborated`,
+//! where also its instances and bindings have no fault, and `breaks KIND LINE NAME`, which is its first fault of all of
+//! them; a case with none of these is to read.
 
 use super::building::{add, add_body, add_byte, add_line, add_printed, add_times};
 use super::cases::{Case, Wanted};
@@ -94,6 +95,7 @@ fn take(alloc: Global, case: &mut Case, word: &str, rest: &str) -> Result<(), Li
         "refused" => return want(case, Wanted::Refused(number(rest)?)),
         "prefixes" => return want_prefixes(case, rest),
         "accepted" => return want(case, Wanted::Accepted),
+        "elaborated" => return want(case, Wanted::Elaborated),
         "breaks" => return want_breaks(alloc, case, rest),
         _ => return Err(LineError::Form),
     }

@@ -15,6 +15,8 @@ pub enum Wanted {
     Prefixes,
     /// It reads, and breaks no rule on modules.
     Accepted,
+    /// It reads, breaks no rule on modules, and its objects are bound.
+    Elaborated,
     /// It reads, and its first fault is this: kind, line and name.
     Breaks(Vec<u8>),
 }

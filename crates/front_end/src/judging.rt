@@ -1,7 +1,7 @@
 //! What came of a case.
 
 use super::cases::{Case, Wanted};
-use super::rules::first_fault;
+use super::rules::{first_fault, module_fault};
 use logic_values::Text;
 use model_lexer::{Token, TokenKind, tokens};
 use model_parser::parse;
@@ -48,6 +48,8 @@ pub enum Verdict {
     PrefixesRefused(u64),
     /// The text breaks no rule on modules.
     Accepted,
+    /// The text breaks no rule on modules, and its objects are bound.
+    Elaborated,
     /// The first fault of the text is this.
     Breaks(String),
     /// It came out otherwise than the case says.
@@ -201,13 +203,29 @@ fn may_break(wanted: &Wanted, fault: &str) -> bool {
     }
 }
 
-/// Judges a tree by the rules on modules.
+/// The first fault of a tree, by the rules on modules alone where no more is asked.
+fn fault_of(alloc: Global, wanted: &Wanted, tree: &Tree) -> Result<Option<String>, AllocError> {
+    match wanted {
+        Wanted::Accepted => module_fault(alloc, tree),
+        _ => first_fault(alloc, tree),
+    }
+}
+
+/// What comes of a text that breaks no rule.
+fn without_fault(wanted: &Wanted) -> Verdict {
+    match wanted {
+        Wanted::Accepted => Verdict::Accepted,
+        Wanted::Elaborated => Verdict::Elaborated,
+        _ => Verdict::Wrong(Wrong::BreaksNone),
+    }
+}
+
+/// Judges a tree by the rules.
 fn judge_rules_of(alloc: Global, wanted: &Wanted, tree: &Tree) -> Result<Verdict, AllocError> {
-    match first_fault(alloc, tree)? {
+    match fault_of(alloc, wanted, tree)? {
         Some(fault) if may_break(wanted, fault.as_str()) => Ok(Verdict::Breaks(fault)),
         Some(fault) => Ok(Verdict::Wrong(Wrong::BreaksThis(fault))),
-        None if matches!(wanted, Wanted::Accepted) => Ok(Verdict::Accepted),
-        None => Ok(Verdict::Wrong(Wrong::BreaksNone)),
+        None => Ok(without_fault(wanted)),
     }
 }
 
@@ -226,6 +244,6 @@ pub fn judge(alloc: Global, case: &Case) -> Result<Verdict, AllocError> {
         Wanted::Reads | Wanted::Prints(_) => judge_read(alloc, case),
         Wanted::Refused(line) => judge_refused(alloc, case.text.as_slice(), *line),
         Wanted::Prefixes => judge_prefixes(alloc, case),
-        Wanted::Accepted | Wanted::Breaks(_) => judge_ruled(alloc, case),
+        Wanted::Accepted | Wanted::Elaborated | Wanted::Breaks(_) => judge_ruled(alloc, case),
     }
 }

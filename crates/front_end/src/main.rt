@@ -1,5 +1,5 @@
 //! Reads model texts that are given as data, prints their trees, reads them again, judges them by the
-//! rules on modules, and says of each text what came of it.
+//! rules on modules, on instances and on bindings, and says of each text what came of it.
 #![tactic(auto)]
 
 mod building;

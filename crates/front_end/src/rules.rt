@@ -1,5 +1,6 @@
 //! The first fault of a tree, in one line.
 
+use model_elaborate::bound_objects;
 use model_tree::{CheckStop, Fault, Kind, Tree};
 use rule_check::judge_rules;
 use std::alloc::{AllocError, Global};
@@ -50,11 +51,30 @@ fn shown_fault(alloc: Global, fault: &Fault) -> Result<String, AllocError> {
     Ok(shown)
 }
 
+/// The fault of a refusal.
+fn refused(alloc: Global, stop: CheckStop) -> Result<Option<String>, AllocError> {
+    match stop {
+        CheckStop::Refused(fault) => Ok(Some(shown_fault(alloc, &fault)?)),
+        CheckStop::NoMemory => Err(AllocError),
+    }
+}
+
 /// The first fault of a tree by the rules on modules.
-pub fn first_fault(alloc: Global, tree: &Tree) -> Result<Option<String>, AllocError> {
+pub fn module_fault(alloc: Global, tree: &Tree) -> Result<Option<String>, AllocError> {
     match judge_rules(alloc, tree) {
         Ok(()) => Ok(None),
-        Err(CheckStop::Refused(fault)) => Ok(Some(shown_fault(alloc, &fault)?)),
-        Err(CheckStop::NoMemory) => Err(AllocError),
+        Err(stop) => refused(alloc, stop),
+    }
+}
+
+/// The first fault of a tree by the rules on modules, and where there is none, that of its instances and bindings.
+pub fn first_fault(alloc: Global, tree: &Tree) -> Result<Option<String>, AllocError> {
+    match judge_rules(alloc, tree) {
+        Ok(()) => {}
+        Err(stop) => return refused(alloc, stop),
+    }
+    match bound_objects(alloc, tree) {
+        Ok(_) => Ok(None),
+        Err(stop) => refused(alloc, stop),
     }
 }

@@ -15,6 +15,8 @@ pub struct Counts {
     pub prefixes: u64,
     /// The texts that break no rule on modules.
     pub accepted: u64,
+    /// The texts that break no rule on modules, and whose objects are bound.
+    pub elaborated: u64,
     /// The texts that break one.
     pub broken: u64,
     /// The cases that came out otherwise than they say.
@@ -29,6 +31,7 @@ impl Counts {
             refused: 0,
             prefixes: 0,
             accepted: 0,
+            elaborated: 0,
             broken: 0,
             wrong: 0,
         }
@@ -41,6 +44,7 @@ impl Counts {
             Verdict::Refused(_) => &mut self.refused,
             Verdict::PrefixesRefused(_) => &mut self.prefixes,
             Verdict::Accepted => &mut self.accepted,
+            Verdict::Elaborated => &mut self.elaborated,
             Verdict::Breaks(_) => &mut self.broken,
             Verdict::Wrong(_) => &mut self.wrong,
         };
@@ -55,12 +59,13 @@ impl fmt::Display for Counts {
             refused,
             prefixes,
             accepted,
+            elaborated,
             broken,
             wrong,
         } = self;
         write!(
             f,
-            "{read} read, {refused} refused, {prefixes} by each beginning, {accepted} accepted, {broken} with a fault, {wrong} WRONG"
+            "{read} read, {refused} refused, {prefixes} by each beginning, {accepted} accepted, {elaborated} elaborated, {broken} with a fault, {wrong} WRONG"
         )
     }
 }
@@ -108,6 +113,7 @@ fn push_verdict(shown: &mut String, verdict: &Verdict) -> Result<(), AllocError>
         Verdict::Refused(line) => write!(shown, "refused {line}"),
         Verdict::PrefixesRefused(count) => write!(shown, "{count} beginnings refused"),
         Verdict::Accepted => shown.push_str("accepted"),
+        Verdict::Elaborated => shown.push_str("elaborated"),
         Verdict::Breaks(fault) => write!(shown, "breaks {fault}"),
         Verdict::Wrong(wrong) => {
             shown.push_str("WRONG ")?;

@@ -9,10 +9,10 @@ ghost use Rattle.kernel_state.specs.Kernel.{StandsFor, IsSound, trigger_of};
 ghost use Rattle.kernel_state.specs.Moves.{Moves, Steps, Lives, IsOnTop};
 ghost use Rattle.guard_statements.specs.Resting.{rests_next};
 
-use crate::instances::{clear_body, is_thread, top_lives};
+use crate::instances::{clear_body, is_thread};
 use event_core::Ev;
 use instance_table::Deadline;
-use kernel_state::{Kernel, fire};
+use kernel_state::{Kernel, fire, top_lives};
 use schedule::{Trigger, Wait};
 use std::alloc::AllocError;
 use std::mem;

@@ -10,8 +10,8 @@ ghost use Rattle.kernel_state.specs.Moves.{Steps, Lives, IsOnTop, KeptAt};
 ghost use Rattle.guard_statements.specs.Unwound.{Reaches};
 
 use crate::endings::end;
-use crate::instances::{begin_body, is_suspended, stay_kept, take_back, tell_reset, top_lives};
-use kernel_state::Kernel;
+use crate::instances::{begin_body, is_suspended, stay_kept, take_back, tell_reset};
+use kernel_state::{Kernel, top_lives};
 use sim_model::Goal;
 
 /// The body of the instance on top begins again, once its reset event has fired; one that is suspended leaves the stack and

@@ -17,13 +17,6 @@ use kernel_state::Kernel;
 use process_moves::begin;
 use schedule::fire;
 
-/// The instance on top has not ended.
-pub(crate) fn top_lives(k: &Kernel, p: u32)
-    requires sound { IsSound k.now }
-    requires top { IsOnTop k.now p }
-    ensures { Lives k.now p }
-{}
-
 /// A kind is that of threads.
 fn is_thread_kind(kind: ProcessKind) -> bool
     ensures { result ≡ control.is_thread (kind_of kind) }

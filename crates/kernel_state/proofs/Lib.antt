@@ -2,6 +2,7 @@ pub mod ProcessFrames
 pub mod Frames
 pub mod Fifos
 pub mod Offsprings
+pub mod Counting
 pub mod Uses
 pub mod Bytes
 pub mod Leaving

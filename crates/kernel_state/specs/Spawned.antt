@@ -1,8 +1,12 @@
 -- A spawned instance.
-use Rattle.std.specs.Prelude.{ℕ, Bool, true, false, List, ◌∷◌, ◌++◌, slice_get, Option, Some, None, if◌then◌else◌}
+use Rattle.std.specs.Prelude.{◌≡◌, ℕ, Bool, true, false, List, ◌∷◌, ◌++◌, slice_get, Option, Some, None, Result, Ok, Err, if◌then◌else◌}
 use Rattle.std.specs.Fmt.{decimal}
 use Rattle.flat_design.specs.Code.{arena_of, body_at}
 use Rattle.flat_design.specs.declared.design.Design.{Design}
+use Rattle.flat_design.specs.declared.faults.RunFault.{RunFault}
+use Rattle.flat_design.specs.declared.faults.RunFault.TheVariants as fault
+use Rattle.instance_table.specs.declared.SpawnStop.{SpawnStop}
+use Rattle.instance_table.specs.declared.SpawnStop.TheVariants as spawn_stop
 use Rattle.sim_model.specs.Residual.{skip}
 use Rattle.sim_model.specs.Configuration as model
 use Rattle.sim_model.specs.Configuration.{Config, Instance, below}
@@ -33,3 +37,9 @@ offspring_in d serial o = record {
 -- the configuration with it under the next serial
 abbrev pub with_offspring : Config → ℕ → Offspring → Config
 with_offspring c serial o = runnable_unless o.waits serial (added c (offspring_in c.design serial o))
+
+-- whether as many live as may is answered as it is
+abbrev pub AnswersMay : Result ℕ SpawnStop → Result Unit RunFault → Type 0
+AnswersMay (Ok n) may = may ≡ Ok tt
+AnswersMay (Err spawn_stop.TooMany) may = may ≡ Err fault.TooManyInstances
+AnswersMay (Err spawn_stop.NoMemory) may = Unit {0}

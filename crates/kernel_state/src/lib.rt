@@ -3,6 +3,7 @@
 
 mod control;
 mod kernel;
+mod laws;
 mod moves;
 mod payloads;
 mod reading;
@@ -11,6 +12,7 @@ mod statements;
 
 pub use control::{kill, reset};
 pub use kernel::{Cycle, Kept, Kernel, Offspring, PathOf};
+pub use laws::top_lives;
 pub use moves::{fire, notify, pass, set_local, set_variable, settle, wait, wake};
 pub use payloads::{acquire, make, release, set_byte, set_field};
 pub use spawning::spawn;

@@ -1,11 +1,11 @@
 //! Spawned instances.
-ghost use Rattle.std.specs.Prelude.{◌≡◌, ◌<◌, ◌+◌, ◌^◌, ℕ, Err, IfOk, OnErr, length};
+ghost use Rattle.std.specs.Prelude.{◌≡◌, ◌<◌, ◌+◌, ◌^◌, ℕ, IfOk, OnErr, length};
 ghost use Rattle.sim_model.specs.Configuration.{Config};
 ghost use Rattle.sim_model.specs.Calls.{may_spawn};
-ghost use Rattle.flat_design.specs.declared.faults.RunFault.TheVariants as fault;
+ghost use Rattle.schedule.specs.Seen.{body_at as kept_at};
 ghost use Rattle.kernel_state.specs.Kernel.{StandsFor, IsSound};
-ghost use Rattle.kernel_state.specs.Moves.{Moves};
-ghost use Rattle.kernel_state.specs.Spawned.{with_offspring};
+ghost use Rattle.kernel_state.specs.Moves.{Moves, Lives};
+ghost use Rattle.kernel_state.specs.Spawned.{AnswersMay, with_offspring};
 
 use crate::kernel::{Kept, Kernel, Offspring, PathOf};
 use instance_table::SpawnStop;
@@ -13,14 +13,21 @@ use process_moves::spawn as spawn_process;
 use process_state::Body;
 use std::alloc::Global;
 
-/// A new instance is spawned, and its serial is answered (IEEE 1666-2011, 5.5). It is refused where as many are live as may
-/// be, and where memory is; then nothing changes.
+/// A new instance is spawned, and its serial is answered (IEEE 1666-2011, 5.5). The bodies of the others stay, and so does the
+/// stack.
+///
+/// # Errors
+/// As many instances live as may; there is no memory for it. Then nothing changes.
 pub fn spawn(k: &mut Kernel, alloc: Global, o: Offspring) -> Result<u32, SpawnStop>
     requires sound { IsSound k.old }
     requires room { k.old.made < 2 ^ 31 + 2 }
     ensures serial { IfOk result (λ n. (c : Config) → StandsFor k.old c → n ≡ length c.processes.instances) }
     ensures spawned { IfOk result (λ n. Moves k.old k.new (λ c. with_offspring c n o)) }
+    ensures answer { (c : Config) → StandsFor k.old c → AnswersMay result (may_spawn c) }
     ensures stays { OnErr result (Moves k.old k.new (λ c. c)) }
+    ensures others { (q : ℕ) → Lives k.old q → kept_at k.new.schedule q ≡ kept_at k.old.schedule q }
+    ensures stack { k.new.schedule.stack.items ≡ k.old.schedule.stack.items }
+    ensures program { k.new.program ≡ k.old.program }
     ensures sound { IsSound k.new }
 {
     let serial = k.schedule.table.next_serial();

@@ -12,7 +12,7 @@ use Rattle.sim_model.specs.Reading.{here}
 use Rattle.sim_model.specs.Residual.{Residual, settle}
 use Rattle.sim_model.specs.Configuration.{Config, Instance, arena}
 use Rattle.sim_model.specs.Statements.{settled_in, do_statement}
-use Rattle.kernel_state.specs.Moves.{Moves, Does}
+use Rattle.kernel_state.specs.Moves.{Moves, Does, Follows}
 use Rattle.kernel_state.specs.declared.kernel.Kernel.{Kernel}
 use Rattle.await_statements.specs.Asked.{DoesOr}
 use Rattle.await_statements.specs.declared.stops.AwaitStop.{AwaitStop}
@@ -20,7 +20,7 @@ use Rattle.await_statements.specs.declared.stops.AwaitStop.TheVariants as await_
 use Rattle.store_statements.specs.Stopping.{FollowsOrStops, DoesOrStops}
 use Rattle.store_statements.specs.declared.stops.StatementStop.{StatementStop}
 use Rattle.store_statements.specs.declared.stops.StatementStop.TheVariants as statement_stop
-use Rattle.kernel_steps.specs.Built.{IsBuilt}
+use Rattle.transport_statements.specs.Calling.{FollowsOrLacks, CallsOver}
 use Rattle.kernel_steps.specs.Kept.{QuietIfOk, is_print}
 use Rattle.kernel_steps.specs.Told.{Tells, TellsAll, Makes, Carries, CarriesAll, plain_answer, await_answer, store_answer, block_answer}
 use Rattle.kernel_steps.specs.declared.answers.StepAnswer.TheVariants as answer
@@ -48,6 +48,17 @@ module _ (old new : Kernel) (p : ℕ) (f : Config → ℕ → Instance → Resid
   by_store : (done : Result Unit StatementStop) → DoesOrStops old new done p f → Makes old new (store_answer done) p f
   by_store done does c i h there = stored_tells c i done (f (settled_in c p i.residual) p (record i { residual = settle (arena c) i.residual }) (settle (arena c) i.residual)) (does c i h there)
 
+  sent_tells : (c : Config) (i : Instance) (done : Result Unit StatementStop) (r : Result Config RunFault) → FollowsOrLacks new done c r → Tells new (store_answer done) c i r
+  sent_tells c i (Ok u) (Ok d) follows = follows
+  sent_tells c i (Ok u) (Err e) follows = follows
+  sent_tells c i (Err (statement_stop.Fault g)) (Ok d) follows = follows
+  sent_tells c i (Err (statement_stop.Fault g)) (Err e) follows = follows
+  sent_tells c i (Err statement_stop.NoMemory) (Ok d) follows = follows
+  sent_tells c i (Err statement_stop.NoMemory) (Err e) follows = follows.1
+
+  by_send : (done : Result Unit StatementStop) → CallsOver old new done p f → Makes old new (store_answer done) p f
+  by_send done calls c i h there = sent_tells c i done (f (settled_in c p i.residual) p (record i { residual = settle (arena c) i.residual }) (settle (arena c) i.residual)) (calls c i h there)
+
   by_block : {E : Type 0} (done : Result (Result Unit RunFault) E) → IfOk done (λ a. Does old new a p f) → OnErr done (Moves old new (λ c. c)) → Makes old new (block_answer done) p f
   by_block (Ok done) does stays = by_plain done does
   by_block (Err e) does stays = λ c i h there. stays c h
@@ -62,6 +73,9 @@ module _ (old new : Kernel) (p : ℕ) (f : Config → ℕ → Instance → Resid
     pub store_made : (done : Result Unit StatementStop) → a ≡ store_answer done → DoesOrStops old new done p f → Makes old new a p f
     store_made done is does = subst (λ b. Makes old new b p f) (sym is) (by_store done does)
 
+    pub send_made : (done : Result Unit StatementStop) → a ≡ store_answer done → CallsOver old new done p f → Makes old new a p f
+    send_made done is calls = subst (λ b. Makes old new b p f) (sym is) (by_send done calls)
+
     pub block_made : {E : Type 0} (done : Result (Result Unit RunFault) E) → a ≡ block_answer done → IfOk done (λ b. Does old new b p f) → OnErr done (Moves old new (λ c. c)) → Makes old new a p f
     block_made done is does stays = subst (λ b. Makes old new b p f) (sym is) (by_block done does stays)
 
@@ -70,38 +84,50 @@ module _ (new : Kernel) (c : Config) (i : Instance) where
   all_told : (a : StepAnswer) (r : Result Config RunFault) → QuietIfOk c r → Tells new a c i r → TellsAll new a c i r
   all_told answer.Went (Ok d) quiet tells = (tells, quiet)
   all_told answer.Went (Err f) quiet tells = tells
-  all_told (answer.Printed s v) (Ok d) quiet tells = (tells.0, quiet.0, tells.1)
-  all_told (answer.Printed s v) (Err f) quiet tells = tells
+  all_told (answer.Printed q s v) (Ok d) quiet tells = (tells.0, (ap (λ x. x.design) quiet, ap (λ x. x.script) quiet), tells.1)
+  all_told (answer.Printed q s v) (Err f) quiet tells = tells
   all_told (answer.Fault f) r quiet tells = tells
   all_told answer.NoMemory r quiet tells = tells
 
+  left_tells : (done : Result Unit RunFault) (r : Result Config RunFault) → Follows new done c r → Tells new (plain_answer done) c i r
+  left_tells (Ok u) r follows = follows
+  left_tells (Err f) r follows = follows
+
+  -- the end of a call prints nothing
+  pub left : (a : StepAnswer) (done : Result Unit RunFault) (r : Result Config RunFault) → QuietIfOk c r → a ≡ plain_answer done → Follows new done c r → TellsAll new a c i r
+  left a done r quiet is follows = subst (λ b. TellsAll new b c i r) (sym is) (all_told (plain_answer done) r quiet (left_tells done r follows))
+
 module _ (old new : Kernel) (a : StepAnswer) (p s : ℕ) (x y : Kept) (is : x ≡ y) where
-  pub carried : IsBuilt (statement_of y) → is_print (statement_of y) ≡ false → Carries old new a p s (statement_of y) → CarriesAll old new a p s (statement_of x)
-  carried built other made = subst (λ z. CarriesAll old new a p s (statement_of z)) (sym is) (λ c i h there.
+  pub carried : is_print (statement_of y) ≡ false → Carries old new a p s (statement_of y) → CarriesAll old new a p s (statement_of x)
+  carried other made = subst (λ z. CarriesAll old new a p s (statement_of z)) (sym is) (λ c i h there.
       let d = settled_in c p i.residual in
       let j = record i { residual = settle (arena c) i.residual } in
       let r = settle (arena c) i.residual in
-      all_told new c i a (do_statement d p j r (here d p j r) s (statement_of y)) (statement_quiet d p j r (here d p j r) s (statement_of y) built other) (made c i h there))
+      all_told new c i a (do_statement d p j r (here d p j r) s (statement_of y)) (statement_quiet d p j r (here d p j r) s (statement_of y) other) (made c i h there))
 
-  pub plain_carried : IsBuilt (statement_of y) → is_print (statement_of y) ≡ false → (done : Result Unit RunFault) → a ≡ plain_answer done
+  pub plain_carried : is_print (statement_of y) ≡ false → (done : Result Unit RunFault) → a ≡ plain_answer done
       → Does old new done p (λ c q i r. do_statement c q i r (here c q i r) s (statement_of y)) → CarriesAll old new a p s (statement_of x)
-  plain_carried built other done by does = carried built other (plain_made old new p (λ c q i r. do_statement c q i r (here c q i r) s (statement_of y)) a done by does)
+  plain_carried other done by does = carried other (plain_made old new p (λ c q i r. do_statement c q i r (here c q i r) s (statement_of y)) a done by does)
 
-  pub await_carried : IsBuilt (statement_of y) → is_print (statement_of y) ≡ false → (done : Result Unit AwaitStop) → a ≡ await_answer done
+  pub await_carried : is_print (statement_of y) ≡ false → (done : Result Unit AwaitStop) → a ≡ await_answer done
       → DoesOr old new done p (λ c q i r. do_statement c q i r (here c q i r) s (statement_of y)) → CarriesAll old new a p s (statement_of x)
-  await_carried built other done by does = carried built other (await_made old new p (λ c q i r. do_statement c q i r (here c q i r) s (statement_of y)) a done by does)
+  await_carried other done by does = carried other (await_made old new p (λ c q i r. do_statement c q i r (here c q i r) s (statement_of y)) a done by does)
 
-  pub store_carried : IsBuilt (statement_of y) → is_print (statement_of y) ≡ false → (done : Result Unit StatementStop) → a ≡ store_answer done
+  pub store_carried : is_print (statement_of y) ≡ false → (done : Result Unit StatementStop) → a ≡ store_answer done
       → DoesOrStops old new done p (λ c q i r. do_statement c q i r (here c q i r) s (statement_of y)) → CarriesAll old new a p s (statement_of x)
-  store_carried built other done by does = carried built other (store_made old new p (λ c q i r. do_statement c q i r (here c q i r) s (statement_of y)) a done by does)
+  store_carried other done by does = carried other (store_made old new p (λ c q i r. do_statement c q i r (here c q i r) s (statement_of y)) a done by does)
 
-  pub block_carried : {E : Type 0} → IsBuilt (statement_of y) → is_print (statement_of y) ≡ false → (done : Result (Result Unit RunFault) E) → a ≡ block_answer done
+  pub send_carried : is_print (statement_of y) ≡ false → (done : Result Unit StatementStop) → a ≡ store_answer done
+      → CallsOver old new done p (λ c q i r. do_statement c q i r (here c q i r) s (statement_of y)) → CarriesAll old new a p s (statement_of x)
+  send_carried other done by calls = carried other (send_made old new p (λ c q i r. do_statement c q i r (here c q i r) s (statement_of y)) a done by calls)
+
+  pub block_carried : {E : Type 0} → is_print (statement_of y) ≡ false → (done : Result (Result Unit RunFault) E) → a ≡ block_answer done
       → IfOk done (λ b. Does old new b p (λ c q i r. do_statement c q i r (here c q i r) s (statement_of y))) → OnErr done (Moves old new (λ c. c)) → CarriesAll old new a p s (statement_of x)
-  block_carried built other done by does stays = carried built other (block_made old new p (λ c q i r. do_statement c q i r (here c q i r) s (statement_of y)) a done by does stays)
+  block_carried other done by does stays = carried other (block_made old new p (λ c q i r. do_statement c q i r (here c q i r) s (statement_of y)) a done by does stays)
 
 -- a try has the handlers of its statement
 pub try_carried : (old new : Kernel) (p s b : ℕ) (x : Kept) (handlers : List Handler) → x ≡ kept.Try b handlers → statement_at (arena_of old.program.code) s ≡ Some (statement_of x)
     → Does old new (Ok tt) p (λ c q i r. do_try c q r b (handlers_of (arena_of old.program.code) s)) → CarriesAll old new answer.Went p s (statement_of x)
 try_carried old new p s b x handlers is there does =
-    carried old new answer.Went p s x (kept.Try b handlers) is tt refl
+    carried old new answer.Went p s x (kept.Try b handlers) is refl
     (subst (λ hs. Does old new (Ok tt) p (λ c q i r. do_try c q r b hs)) (ap handlers_if (there ∙ ap (λ z. Some (statement_of z)) is)) does)

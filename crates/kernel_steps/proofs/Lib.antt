@@ -3,3 +3,5 @@ pub mod Prints
 pub mod Silent
 pub mod Answered
 pub mod Shows
+pub mod Returned
+pub mod Endings

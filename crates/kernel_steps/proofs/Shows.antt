@@ -1,16 +1,17 @@
 -- What comes next in a body, and the step that this makes.
-use Rattle.std.proofs.Common.{◌≡◌, ℕ, Some, option_map, sym, ap, ◌∙◌, subst}
+use Rattle.std.proofs.Common.{◌≡◌, ℕ, Some, option_map, refl, sym, ap, ◌∙◌, subst}
 use Rattle.std.specs.Prelude.{unwrap_or}
 use Rattle.std.specs.FinMap as map
 use Rattle.instance_table.specs.declared.instances.Instance.{Instance as Entry}
 use Rattle.flat_design.specs.Code.{arena_of, statement_at}
 use Rattle.body_layers.specs.Layers.{shown}
+use Rattle.body_layers.specs.declared.layers.Next.TheVariants as next
 use Rattle.body_model.proofs.Strips.{strip-next}
 use Rattle.process_state.specs.Bodies as bodies
 use Rattle.schedule.specs.declared.parts.Process.{Process}
 use Rattle.schedule.specs.Seen.{body_at as kept_at}
 use Rattle.sim_model.specs.Residual as residual
-use Rattle.sim_model.specs.Residual.{Next, next_of, settle}
+use Rattle.sim_model.specs.Residual.{Frame, Next, next_of, settle}
 use Rattle.sim_model.specs.Configuration.{Config, Instance, instance_at, arena}
 use Rattle.sim_model.specs.Statements.{settled_in, on_statement, do_next, step_by, statement_step}
 use Rattle.kernel_state.specs.Moves.{KeptAt, HasStatement}
@@ -25,6 +26,14 @@ use Rattle.kernel_steps.specs.declared.answers.StepAnswer.{StepAnswer}
 pub has_statement : (k : Kernel) (p s : ℕ) → Shows k p s → HasStatement k p
 has_statement k p s shows kept at = subst bodies.IsStatement (sym (ap shown (shows kept at))) tt
 
+-- the end of a call is shown by one that ends
+pub leave_is : (n : Next) → next.Leave ≡ shown n → (x : Frame) × (n ≡ residual.leaves x)
+leave_is (residual.statement s) is = absurd (let no : ⊥ = cc in no)
+leave_is (residual.leaves x) is = (x, refl)
+leave_is residual.done is = absurd (let no : ⊥ = cc in no)
+leave_is (residual.reaches g) is = absurd (let no : ⊥ = cc in no)
+leave_is residual.nothing is = absurd (let no : ⊥ = cc in no)
+
 module _ (k : Kernel) (p : ℕ) (x : Entry (Process Kept)) (at : map.get k.schedule.table.live p ≡ Some x) where
   pub was : kept_at k.schedule p ≡ Some x.body.body
   was = ap (option_map (λ (z : Entry (Process Kept)). z.body.body)) at
@@ -34,6 +43,9 @@ module _ (k : Kernel) (p : ℕ) (x : Entry (Process Kept)) (at : map.get k.sched
 
   pub comes_next : (n : Next) → next_of (bodies.settled_in k.program x.body.body.body) ≡ n → ComesNext k p n
   comes_next n is c i h there = sym (strip-next (settle (arena c) i.residual)) ∙ ap next_of (settled_before k p x at c i h there) ∙ is
+
+  pub leave_next : next.Leave ≡ bodies.next_in k.program x.body.body.body → (f : Frame) × ComesNext k p (residual.leaves f)
+  leave_next is = let t = leave_is (next_of (bodies.settled_in k.program x.body.body.body)) is in (t.0, comes_next (residual.leaves t.0) t.1)
 
 step_is : (c : Config) (i : Instance) (p : ℕ) (n : Next) → instance_at c p ≡ Some i → next_of (settle (arena c) i.residual) ≡ n
     → do_next (settled_in c p i.residual) p (record i { residual = settle (arena c) i.residual }) (settle (arena c) i.residual) n ≡ statement_step c p

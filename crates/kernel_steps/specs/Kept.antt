@@ -1,13 +1,28 @@
--- What a step that prints nothing leaves alone.
-use Rattle.std.specs.Prelude.{◌≡◌, Bool, true, false, Result, Ok, Err}
+-- What a step leaves alone.
+use Rattle.std.specs.Prelude.{◌≡◌, Bool, true, false, List, Result, Ok, Err}
+use Rattle.flat_design.specs.declared.design.Design.{Design}
 use Rattle.flat_design.specs.Code as code
 use Rattle.flat_design.specs.Code.{Statement}
 use Rattle.flat_design.specs.declared.faults.RunFault.{RunFault}
-use Rattle.sim_model.specs.Configuration.{Config}
+use Rattle.sim_model.specs.Configuration.{Config, Told}
+use Rattle.sim_model.specs.declared.plain.Command.{Command}
 
--- the design, and what was told
+-- of a configuration the design and the script's rest, and what was told
+pub record Standing : Type 0 where
+  pub design : Design
+  pub script : List Command
+  pub told : List Told
+
+abbrev pub standing : Config → Standing
+standing c = record { design = c.design; script = c.script; told = c.trace.told }
+
+-- these stay
 abbrev pub Quiet : Config → Config → Type 0
-Quiet c d = (d.design ≡ c.design) × (d.trace.told ≡ c.trace.told)
+Quiet c d = standing d ≡ standing c
+
+-- the design and the script's rest stay
+abbrev pub Keeps : Config → Config → Type 0
+Keeps c d = (d.design ≡ c.design) × (d.script ≡ c.script)
 
 -- unless it is at fault
 abbrev pub QuietIfOk : Config → Result Config RunFault → Type 0

@@ -1,4 +1,4 @@
-pub mod Built
+pub mod Ending
 pub mod Told
 pub mod Kept
 pub mod Shown

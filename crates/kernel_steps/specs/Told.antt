@@ -1,5 +1,5 @@
 -- What a step of an instance answers.
-use Rattle.std.specs.Prelude.{◌≡◌, ℕ, List, ◌∷◌, [], ◌++◌, Option, Some, Result, Ok, Err}
+use Rattle.std.specs.Prelude.{◌≡◌, ℕ, false, List, ◌∷◌, [], ◌++◌, Option, Some, Result, Ok, Err}
 use Rattle.logic_values.specs.declared.kinds.Value.{Value}
 use Rattle.flat_design.specs.Code as code
 use Rattle.flat_design.specs.Code.{Term, Statement, statement_at}
@@ -18,31 +18,34 @@ use Rattle.store_statements.specs.declared.stops.StatementStop.{StatementStop}
 use Rattle.store_statements.specs.declared.stops.StatementStop.TheVariants as statement_stop
 use Rattle.kernel_steps.specs.declared.answers.StepAnswer.{StepAnswer}
 use Rattle.kernel_steps.specs.declared.answers.StepAnswer.TheVariants as answer
-use Rattle.kernel_steps.specs.Kept.{Quiet}
+use Rattle.kernel_steps.specs.Kept.{Quiet, Keeps}
 
--- The one report that is added, in the step from c to d of instance i, is the line of a print, which is statement s, with this
--- value.
-pub record AddsLine (c d : Config) (i : Instance) (s : ℕ) (v : Option Value) : Type 0 where
+-- The one report that is added, in the step from c to d, is the line of a print, which is statement s, with this value. It is told
+-- by instance p, which has not ended then, at the time that it is then.
+pub record AddsLine (c d : Config) (p s : ℕ) (v : Option Value) : Type 0 where
   pub text : List ℕ
   pub shown : Option Term
-  pub prints : statement_at (arena c) s ≡ Some (code.print text shown)
-  pub told : d.trace.told ≡ c.trace.told ++ line (print_line c.cycle.now i.path text v) ∷ []
+  pub teller : Instance
+  pub prints : statement_at (arena d) s ≡ Some (code.print text shown)
+  pub there : instance_at d p ≡ Some teller
+  pub lives : teller.ended ≡ false
+  pub told : d.trace.told ≡ c.trace.told ++ line (print_line d.cycle.now teller.path text v) ∷ []
 
 -- A step that was made follows the definition. A run fault is answered as it is, and changes nothing, nor does a refusal of
 -- memory.
 abbrev pub Tells : Kernel → StepAnswer → Config → Instance → Result Config RunFault → Type 0
 Tells new answer.Went c i r = Follows new (Ok tt) c r
-Tells new (answer.Printed s v) c i (Ok d) = StandsFor new d × AddsLine c d i s v
-Tells new (answer.Printed s v) c i (Err f) = ⊥
+Tells new (answer.Printed p s v) c i (Ok d) = StandsFor new d × AddsLine c d p s v
+Tells new (answer.Printed p s v) c i (Err f) = ⊥
 Tells new (answer.Fault f) c i r = Follows new (Err f) c r
 Tells new answer.NoMemory c i r = StandsFor new c
 
--- The same, and the design stays, and nothing is told but the line of a print.
+-- The same, and the design and the script's rest stay, and nothing is told but the line of a print.
 abbrev pub TellsAll : Kernel → StepAnswer → Config → Instance → Result Config RunFault → Type 0
 TellsAll new answer.Went c i (Ok d) = StandsFor new d × Quiet c d
 TellsAll new answer.Went c i (Err f) = ⊥
-TellsAll new (answer.Printed s v) c i (Ok d) = StandsFor new d × (d.design ≡ c.design) × AddsLine c d i s v
-TellsAll new (answer.Printed s v) c i (Err f) = ⊥
+TellsAll new (answer.Printed p s v) c i (Ok d) = StandsFor new d × Keeps c d × AddsLine c d p s v
+TellsAll new (answer.Printed p s v) c i (Err f) = ⊥
 TellsAll new (answer.Fault f) c i r = Follows new (Err f) c r
 TellsAll new answer.NoMemory c i r = StandsFor new c
 

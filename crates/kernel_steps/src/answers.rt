@@ -13,8 +13,8 @@ use store_statements::StatementStop;
 pub enum StepAnswer {
     /// The step is made.
     Went,
-    /// The step is made: the print of this number is past, and shows this value, where it shows one.
-    Printed(StmtId, Option<Value>),
+    /// The step is made: this instance has carried out the print of this number, which shows this value, where it shows one.
+    Printed(u32, StmtId, Option<Value>),
     /// The run is at fault, and nothing changed.
     Fault(RunFault),
     /// There is no memory, and nothing changed.

@@ -1,27 +1,32 @@
-//! A statement of any form that is built, carried out.
-ghost use Rattle.std.specs.Prelude.{◌≡◌, ◌<◌, ◌-◌, ◌^◌, ℕ, All, Some};
+//! A statement of any form, carried out.
+ghost use Rattle.std.specs.Prelude.{◌≡◌, ◌<◌, ◌+◌, ◌^◌, Some};
 ghost use Rattle.flat_design.specs.Code.{arena_of, statement_at, statement_of};
 ghost use Rattle.kernel_state.specs.Kernel.{IsSound, whole_design};
 ghost use Rattle.kernel_state.specs.Moves.{HasStatement, IsOnTop};
 ghost use Rattle.data_statements.specs.Entered.{Shows};
 ghost use Rattle.store_statements.specs.Written.{NamesFit};
 ghost use Rattle.await_statements.specs.Numbers.{NumbersEvents};
-ghost use Rattle.kernel_steps.specs.Built.{IsBuilt};
-ghost use Rattle.kernel_steps.specs.Ready.{ThrowsFree};
+ghost use Rattle.control_statements.specs.Thrown.{OthersHaveNoGoal};
+ghost use Rattle.guard_statements.specs.Unwound.{ThrowsFree};
 ghost use Rattle.kernel_steps.specs.Told.{CarriesAll};
 
 use crate::answers::{StepAnswer, awaiting, blocking, plain, storing};
-use crate::data::{if_step, print_step, top_lives, var_step, while_step};
+use crate::data::{if_step, print_step, var_step, while_step};
 use await_statements::{trigger_statement, wait_statement};
+use call_statements::call;
 use channel_statements::{
     lock, nb_read, nb_write, post, read, sem_trywait, sem_wait, trylock, unlock,
 };
+use control_statements::{control, throw_it};
 use event_statements::stop;
 use flat_design::{Statement, StmtId};
 use guard_statements::{begin_guard, begin_try, throw};
-use kernel_state::Kernel;
+use kernel_state::{Kernel, top_lives};
+use payload_statements::{acquire, carry, make, qk_global, qk_inc, qk_reset, qk_set, release};
+use spawn_statements::spawn;
 use std::alloc::Global;
 use store_statements::{assign, return_value, write};
+use transport_statements::{b_transport, nb_transport};
 use wait_statements::{cancel_named, notify_after, notify_delta, notify_named};
 
 /// A statement comes next.
@@ -44,11 +49,11 @@ pub(crate) fn carry_out(
     requires top { IsOnTop k.old p }
     requires names { NamesFit (whole_design k.old) }
     requires numbers { NumbersEvents (whole_design k.old) }
-    requires room { All (λ v. v < 2 ^ 64 - 1) k.old.channels.semaphores }
+    requires room { k.old.made < 2 ^ 31 + 2 }
     requires next { Shows k.old p s }
     requires there { statement_at (arena_of k.old.program.code) s ≡ Some (statement_of statement.now) }
     requires free { ThrowsFree k.old p (statement_of statement.now) }
-    requires built { IsBuilt (statement_of statement.now) }
+    requires others { OthersHaveNoGoal k.old }
     ensures carries { CarriesAll k.old k.new result p s (statement_of statement.now) }
     ensures sound { IsSound k.new }
 {
@@ -57,14 +62,18 @@ pub(crate) fn carry_out(
     match statement {
         Statement::Var(n, t, e) => var_step(k, p, s, *n, *t, e),
         Statement::Assign(to, e) => plain(assign(k, p, to, e)),
-        Statement::Call(_, _, _) => unreachable!(),
+        Statement::Call(_, f, arguments) => {
+            blocking(call(k, alloc, p, s, *f, arguments.as_slice()))
+        }
         Statement::Read(target, at) => blocking(read(k, alloc, p, *target, at)),
         Statement::NbRead(target, at, to) => plain(nb_read(k, p, *target, at, *to)),
         Statement::NbWrite(target, at, t, e) => plain(nb_write(k, p, *target, at, *t, e)),
         Statement::Trylock(target, at) => plain(trylock(k, p, *target, at)),
         Statement::Unlock(target, at) => plain(unlock(k, p, *target, at)),
         Statement::SemTrywait(target, at) => plain(sem_trywait(k, p, *target, at)),
-        Statement::NbTransport(_, _, _, _, _) => unreachable!(),
+        Statement::NbTransport(_, socket, n, phase, d) => {
+            storing(nb_transport(k, alloc, p, s, *socket, *n, *phase, *d))
+        }
         Statement::Write(to, t, e) => storing(write(k, alloc, p, to, *t, e)),
         Statement::Print(text, e) => print_step(k, p, s, text, e),
         Statement::Notify(n) => {
@@ -84,19 +93,21 @@ pub(crate) fn carry_out(
         Statement::NextTrigger(how) => awaiting(trigger_statement(k, alloc, p, how)),
         Statement::Lock(at) => blocking(lock(k, alloc, p, at)),
         Statement::SemWait(at) => blocking(sem_wait(k, alloc, p, at)),
-        Statement::Post(at) => plain(post(k, p, at)),
-        Statement::Make(_, _, _) => unreachable!(),
-        Statement::Acquire(_) => unreachable!(),
-        Statement::Release(_) => unreachable!(),
-        Statement::Carry(_, _) => unreachable!(),
-        Statement::BTransport(_, _, _) => unreachable!(),
-        Statement::QkGlobal(_) => unreachable!(),
-        Statement::QkInc(_, _) => unreachable!(),
-        Statement::QkSet(_, _) => unreachable!(),
-        Statement::QkReset(_) => unreachable!(),
-        Statement::Spawn(_) => unreachable!(),
-        Statement::Control(_, _) => unreachable!(),
-        Statement::ThrowIt(_, _) => unreachable!(),
+        Statement::Post(at) => blocking(post(k, p, at)),
+        Statement::Make(n, e, more) => blocking(make(k, p, *n, e, more)),
+        Statement::Acquire(n) => plain(acquire(k, p, *n)),
+        Statement::Release(n) => plain(release(k, p, *n)),
+        Statement::Carry(n, m) => plain(carry(k, alloc, p, *n, *m)),
+        Statement::BTransport(socket, n, d) => {
+            storing(b_transport(k, alloc, p, s, *socket, *n, *d))
+        }
+        Statement::QkGlobal(e) => plain(qk_global(k, p, e)),
+        Statement::QkInc(n, e) => plain(qk_inc(k, p, *n, e)),
+        Statement::QkSet(n, e) => plain(qk_set(k, p, *n, e)),
+        Statement::QkReset(n) => plain(qk_reset(k, p, *n)),
+        Statement::Spawn(form) => blocking(spawn(k, alloc, p, form)),
+        Statement::Control(order, who) => plain(control(k, p, *order, *who)),
+        Statement::ThrowIt(who, e) => plain(throw_it(k, p, *who, *e)),
         Statement::Throw(e) => plain(throw(k, p, *e)),
         Statement::Return(e) => plain(return_value(k, p, e)),
         Statement::Stop => {

@@ -3,23 +3,16 @@ ghost use Rattle.std.specs.Prelude.{◌≡◌, Some, option_map};
 ghost use Rattle.flat_design.specs.Code as code;
 ghost use Rattle.flat_design.specs.Code.{arena_of, statement_at, term_of};
 ghost use Rattle.kernel_state.specs.Kernel.{IsSound};
-ghost use Rattle.kernel_state.specs.Moves.{HasStatement, IsOnTop, Lives};
+ghost use Rattle.kernel_state.specs.Moves.{HasStatement, IsOnTop};
 ghost use Rattle.data_statements.specs.Entered.{Shows};
 ghost use Rattle.kernel_steps.specs.Told.{Carries, CarriesAll};
 
 use crate::answers::{StepAnswer, plain};
 use data_statements::{if_then, var, while_do};
 use flat_design::{BlockId, Expr, StmtId, ValueType};
-use kernel_state::Kernel;
+use kernel_state::{Kernel, top_lives};
 use kernel_view::{eval_at, eval_if_at};
 use model_tree::PrintText;
-
-/// The instance on top has not ended.
-pub(crate) fn top_lives(k: &Kernel, p: u32)
-    requires sound { IsSound k.now }
-    requires top { IsOnTop k.now p }
-    ensures { Lives k.now p }
-{}
 
 /// `var`.
 pub(crate) fn var_step(
@@ -60,7 +53,7 @@ pub(crate) fn print_step(
     top_lives(k, p);
     let value = eval_if_at(k, p, e);
     match data_statements::print(k, p, value) {
-        Ok(shown) => StepAnswer::Printed(s, shown),
+        Ok(shown) => StepAnswer::Printed(p, s, shown),
         Err(fault) => StepAnswer::Fault(fault),
     }
 }

@@ -4,6 +4,7 @@
 mod answers;
 mod carrying;
 mod data;
+mod leaving;
 mod stepping;
 
 pub use answers::StepAnswer;

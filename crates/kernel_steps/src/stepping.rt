@@ -1,41 +1,43 @@
 //! The step of an instance.
-ghost use Rattle.std.specs.Prelude.{◌≡◌, ◌<◌, ◌-◌, ◌^◌, ℕ, All, Ok};
+ghost use Rattle.std.specs.Prelude.{◌≡◌, ◌<◌, ◌+◌, ◌^◌, ℕ, Ok};
 ghost use Rattle.flat_design.specs.Code.{arena_of, statement_at};
 ghost use Rattle.sim_model.specs.Residual as residual;
+ghost use Rattle.sim_model.specs.Residual.{Frame};
 ghost use Rattle.sim_model.specs.Control as control;
 ghost use Rattle.sim_model.specs.Statements as statements;
 ghost use Rattle.sim_model.specs.declared.plain.Goal.{Goal as Aim};
 ghost use Rattle.kernel_state.specs.Kernel.{IsSound};
 ghost use Rattle.kernel_state.specs.Moves.{IsOnTop, Lives};
 ghost use Rattle.data_statements.specs.Entered.{Shows};
-ghost use Rattle.guard_statements.specs.Unwound.{Reaches};
-ghost use Rattle.kernel_steps.specs.Built.{IsBuiltIf, IsBuiltNext, ShowsBuilt};
-ghost use Rattle.kernel_steps.specs.Ready.{Ready, ThrowsFreeIf, ThrowsFreeNext};
+ghost use Rattle.guard_statements.specs.Unwound.{Reaches, ThrowsFreeIf, ThrowsFreeNext};
+ghost use Rattle.call_moves.specs.Calling.{Leaves};
+ghost use Rattle.control_statements.specs.Thrown.{OthersHaveNoGoal};
+ghost use Rattle.kernel_steps.specs.Ready.{Ready};
 ghost use Rattle.kernel_steps.specs.Shown.{ComesNext};
 ghost use Rattle.kernel_steps.specs.Told.{MakesAll, MakesStep};
 
-use crate::answers::StepAnswer;
+use crate::answers::{StepAnswer, plain};
 use crate::carrying::carry_out;
-use crate::data::top_lives;
+use crate::leaving::leave;
 use body_code::Program;
 use body_layers::Next;
 use flat_design::StmtId;
 use guard_statements::{body_ends, reach_goal};
-use kernel_state::{Kernel, pass};
+use kernel_state::{Kernel, pass, top_lives};
 use sim_model::Goal;
 use std::alloc::Global;
 
 /// What comes next in the body of an instance, once finished parts have fallen away.
 fn next_at(k: &Kernel, p: u32) -> Next
     requires lives { Lives k.now p }
-    requires built { ShowsBuilt k.now p }
     ensures statement { (s : ℕ) → result ≡ Next.Statement s → Shows k.now p s }
     ensures goal { (g : Aim) → result ≡ Next.Goal g → Reaches k.now p g }
     ensures shows_statement { (s : ℕ) → result ≡ Next.Statement s → ComesNext k.now p (residual.statement s) }
     ensures shows_goal { (g : Aim) → result ≡ Next.Goal g → ComesNext k.now p (residual.reaches g) }
     ensures shows_done { result ≡ Next.Done → ComesNext k.now p residual.done }
     ensures shows_nothing { result ≡ Next.Nothing → ComesNext k.now p residual.nothing }
-    ensures built { IsBuiltNext (arena_of k.now.program.code) result }
+    ensures leaves { result ≡ Next.Leave → Leaves k.now p }
+    ensures shows_leave { result ≡ Next.Leave → (x : Frame) × ComesNext k.now p (residual.leaves x) }
 {
     match k.schedule.table.get(p) {
         Some(x) => x.body.body.body.next(&k.program),
@@ -48,10 +50,10 @@ fn on_statement(k: &mut Kernel, program: &Program, alloc: Global, p: u32, s: Stm
     requires sound { IsSound k.old }
     requires top { IsOnTop k.old p }
     requires ready { Ready k.old program.now }
-    requires room { All (λ v. v < 2 ^ 64 - 1) k.old.channels.semaphores }
+    requires room { k.old.made < 2 ^ 31 + 2 }
+    requires others { OthersHaveNoGoal k.old }
     requires next { Shows k.old p s }
     requires free { ThrowsFreeIf k.old p (statement_at (arena_of k.old.program.code) s) }
-    requires built { IsBuiltIf (statement_at (arena_of k.old.program.code) s) }
     ensures makes { MakesAll k.old k.new result p (λ c q i r. statements.on_statement c q i r s (statement_at (arena_of k.old.program.code) s)) }
     ensures sound { IsSound k.new }
 {
@@ -84,16 +86,16 @@ pub fn step_statement(k: &mut Kernel, program: &Program, alloc: Global, p: u32) 
     requires sound { IsSound k.old }
     requires top { IsOnTop k.old p }
     requires ready { Ready k.old program.now }
-    requires room { All (λ v. v < 2 ^ 64 - 1) k.old.channels.semaphores }
+    requires room { k.old.made < 2 ^ 31 + 2 }
+    requires others { OthersHaveNoGoal k.old }
     requires free { ThrowsFreeNext k.old p }
-    requires built { ShowsBuilt k.old p }
     ensures makes { MakesStep k.old k.new result p }
     ensures sound { IsSound k.new }
 {
     top_lives(k, p);
     match next_at(k, p) {
         Next::Statement(s) => on_statement(k, program, alloc, p, s),
-        Next::Leave => unreachable!(),
+        Next::Leave => plain(leave(k, program, p)),
         Next::Done => end_body(k, p),
         Next::Goal(goal) => {
             reach_goal(k, p, goal);

@@ -11,7 +11,7 @@ use flat_design::{ChannelId, Denoted, Design, Member, RunFault};
 use logic_values::Value;
 
 /// What the name at a place of its module stands for in the instance of this number.
-pub(crate) fn denoted(design: &Design, home: u32, n: u32) -> Denoted
+pub fn denoted_in(design: &Design, home: u32, n: u32) -> Denoted
     ensures { result ≡ denoted_at design.now home n }
 {
     match design.instances.as_slice().get(home as usize) {

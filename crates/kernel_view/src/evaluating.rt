@@ -1,7 +1,7 @@
 //! The value of an expression where the next statement of an instance stands, and what names are there.
 ghost use Rattle.std.specs.Prelude.{◌≡◌, option_map};
 ghost use Rattle.flat_design.specs.Code.{term_of};
-ghost use Rattle.sim_model.specs.Reading.{denotes, channel_here, payload_number};
+ghost use Rattle.sim_model.specs.Reading.{denotes, channel_here, payload_number, read_name};
 ghost use Rattle.kernel_state.specs.Moves.{Lives};
 ghost use Rattle.kernel_view.specs.Standings.{ShowsHere, Everywhere, Gives, GivesIf, GivesPlace};
 
@@ -74,6 +74,32 @@ pub fn eval_place_at(k: &Kernel, p: u32, e: &Option<Expr>) -> Result<Option<u64>
     match standing_at(k, p) {
         Some(x) => eval_place(&x, e),
         None => Ok(None),
+    }
+}
+
+/// The number, among the instances of modules, of the one that the next statement of an instance stands in.
+pub fn home_at(k: &Kernel, p: u32) -> u32
+    requires { Lives k.now p }
+    ensures { Everywhere k.now p (λ h. h.home ≡ result) }
+{
+    match standing_at(k, p) {
+        Some(x) => x.home,
+        None => 0,
+    }
+}
+
+/// The value of what a name stands for, where the next statement of an instance stands. A number keeps its width: in an
+/// expression it has 64 bits. It takes no memory.
+///
+/// # Errors
+/// A port that is not bound.
+pub fn named_at(k: &Kernel, p: u32, n: NameUse) -> Result<Value, RunFault>
+    requires { Lives k.now p }
+    ensures { Everywhere k.now p (λ h. result ≡ read_name h n) }
+{
+    match standing_at(k, p) {
+        Some(x) => x.read(Reading::Name(n)),
+        None => Ok(Value::Bool(false)),
     }
 }
 

@@ -7,5 +7,8 @@ mod members;
 mod names;
 mod standings;
 
-pub use evaluating::{channel_at, denoted_at, eval_at, eval_if_at, eval_place_at, payload_at};
-pub use standings::Standing;
+pub use channels::denoted_in;
+pub use evaluating::{
+    channel_at, denoted_at, eval_at, eval_if_at, eval_place_at, home_at, named_at, payload_at,
+};
+pub use standings::{Standing, home_within};

@@ -7,7 +7,7 @@ ghost use Rattle.sim_model.specs.Values as values;
 ghost use Rattle.sim_model.specs.Values.{on_ok};
 ghost use Rattle.kernel_view.specs.Standings.{ShowsHere};
 
-use crate::channels::{channel_of, channel_value, denoted, unsigned};
+use crate::channels::{channel_of, channel_value, denoted_in, unsigned};
 use crate::standings::Standing;
 use expr_eval::{payload_handle, process_handle};
 use flat_design::{ChannelId, Denoted, NameUse, PayloadBytes, RunFault};
@@ -95,7 +95,7 @@ impl<'a> Standing<'a> {
     pub fn denotes(&self, n: u32) -> Denoted
         ensures { (h : Here) → ShowsHere self.now h → result ≡ reading.denotes h n }
     {
-        denoted(&self.kernel.design, self.home, n)
+        denoted_in(&self.kernel.design, self.home, n)
     }
 
     /// The channel that a name stands for here, at a place.

@@ -36,7 +36,7 @@ fn far_home(forward: bool, hop: &Hop) -> u32
 }
 
 /// The instance of a module that a statement stands in: within a transport call that of its other end.
-fn home_within(design: &Design, home: u32, within: Option<Via>) -> u32
+pub fn home_within(design: &Design, home: u32, within: Option<Via>) -> u32
     ensures { result ≡ reading.home_of_via design.now home within }
 {
     match within {

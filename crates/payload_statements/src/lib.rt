@@ -8,4 +8,4 @@ mod payloads;
 
 pub use carrying::carry;
 pub use keepers::{qk_global, qk_inc, qk_reset, qk_set};
-pub use payloads::{acquire, release};
+pub use payloads::{acquire, make, release};

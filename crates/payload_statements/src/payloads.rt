@@ -1,13 +1,21 @@
-//! Statements on payloads: they are held and let go (IEEE 1666-2011, 14.5).
-ghost use Rattle.std.specs.Prelude.{◌<◌, ◌+◌, ◌^◌};
+//! Statements on payloads: they are made, held and let go (IEEE 1666-2011, 14.5).
+ghost use Rattle.std.specs.Prelude.{◌≡◌, ◌<◌, ◌+◌, ◌^◌, IfOk, OnErr, option_map};
+ghost use Rattle.flat_design.specs.Code.{term_of};
 ghost use Rattle.sim_model.specs.Reading.{here};
-ghost use Rattle.sim_model.specs.Transport.{do_acquire, do_release};
+ghost use Rattle.sim_model.specs.Transport as transport;
+ghost use Rattle.sim_model.specs.Transport.{do_acquire, do_make, do_release};
 ghost use Rattle.kernel_state.specs.Kernel.{IsSound};
-ghost use Rattle.kernel_state.specs.Moves.{Does, Lives, HasStatement};
+ghost use Rattle.kernel_state.specs.Moves.{Moves, Does, Lives, HasStatement, IsOnTop};
+ghost use Rattle.payload_statements.specs.Sized.{Refuses, makes_sized};
 
-use flat_design::{NameUse, RunFault};
-use kernel_state::{Kernel, acquire as acquire_payload, release as release_payload};
-use kernel_view::payload_at;
+use data_statements::store;
+use expr_eval::bits;
+use flat_design::{Expr, NameUse, RunFault, Store, ValueType};
+use kernel_state::{Kernel, acquire as acquire_payload, release as release_payload, top_lives};
+use kernel_view::{eval_at, eval_if_at, payload_at};
+use logic_values::Value;
+use std::alloc::AllocError;
+use transaction_board::{MakeStop, payloads_are_made};
 
 /// `acquire`: the payload that a name holds is held once more (IEEE 1666-2011, 14.5). It takes no memory.
 ///
@@ -42,5 +50,93 @@ pub fn release(k: &mut Kernel, p: u32, n: NameUse) -> Result<(), RunFault>
     match payload_at(k, p, n) {
         Ok(t) => release_payload(k, p, t),
         Err(fault) => Err(fault),
+    }
+}
+
+/// The number of enable bytes: none where it is not written.
+fn size_or(v: Option<Value>) -> u64
+    ensures { result ≡ transport.size_or v }
+{
+    match v {
+        Some(x) => bits(x),
+        None => 0,
+    }
+}
+
+/// What the statement answers that makes no payload: its fault, or want of memory.
+fn refused(stop: MakeStop) -> Result<Result<(), RunFault>, AllocError>
+    ensures fault { IfOk result (λ answer. Refuses stop answer) }
+    ensures memory { OnErr result (stop ≡ MakeStop.NoMemory) }
+{
+    match stop {
+        MakeStop::Fault(fault) => Ok(Err(fault)),
+        MakeStop::NoMemory => Err(AllocError),
+    }
+}
+
+/// A payload is made with so many bytes and so many enable bytes, and a variable holds it. The answer tells whether the
+/// statement is at fault, and then nothing changes.
+///
+/// # Errors
+/// There is no memory for the payload; then nothing changes.
+fn make_sized(
+    k: &mut Kernel,
+    p: u32,
+    n: NameUse,
+    len: u64,
+    enables: u64,
+) -> Result<Result<(), RunFault>, AllocError>
+    requires sound { IsSound k.old }
+    requires top { IsOnTop k.old p }
+    requires statement { HasStatement k.old p }
+    requires room { k.old.made < 2 ^ 31 + 2 }
+    ensures does { IfOk result (λ answer. Does k.old k.new answer p (λ c q i r. makes_sized c q r (here c q i r) n len enables)) }
+    ensures stays { OnErr result (Moves k.old k.new (λ c. c)) }
+    ensures sound { IsSound k.new }
+{
+    payloads_are_made();
+    match k.transactions.make(len, enables) {
+        Ok(t) => {
+            k.made += 1;
+            let target = Store {
+                name: n,
+                value_type: ValueType::Payload,
+            };
+            store(k, p, target, Value::Pay(Some(t)));
+            Ok(Ok(()))
+        }
+        Err(stop) => refused(stop),
+    }
+}
+
+/// `make`: a payload that nobody has written is made, with a number of bytes and one of enable bytes, held once, and a variable
+/// holds it (IEEE 1666-2011, 14.5 and 14.7). The answer tells whether the statement is at fault, and then nothing changes: the
+/// fault of its first expression, then that of its second; fewer than one byte or more than 4,096; more than 4,096 enable bytes;
+/// as many live payloads as there may be.
+///
+/// # Errors
+/// There is no memory for the payload; then nothing changes.
+pub fn make(
+    k: &mut Kernel,
+    p: u32,
+    n: NameUse,
+    len: &Expr,
+    enables: &Option<Expr>,
+) -> Result<Result<(), RunFault>, AllocError>
+    requires sound { IsSound k.old }
+    requires top { IsOnTop k.old p }
+    requires statement { HasStatement k.old p }
+    requires room { k.old.made < 2 ^ 31 + 2 }
+    ensures does { IfOk result (λ answer. Does k.old k.new answer p (λ c q i r. do_make c q r (here c q i r) n (term_of len.now) (option_map term_of enables.now))) }
+    ensures stays { OnErr result (Moves k.old k.new (λ c. c)) }
+    ensures sound { IsSound k.new }
+{
+    top_lives(k, p);
+    match eval_at(k, p, len) {
+        Ok(size) => match eval_if_at(k, p, enables) {
+            Ok(more) => make_sized(k, p, n, bits(size), size_or(more)),
+            Err(fault) => Ok(Err(fault)),
+        },
+        Err(fault) => Ok(Err(fault)),
     }
 }

@@ -9,4 +9,4 @@ mod listed;
 mod tests;
 
 pub use choosing::Choosing;
-pub use laws::picked_in_any_order;
+pub use laws::{picked_in_any_order, what_is_picked_is_runnable};

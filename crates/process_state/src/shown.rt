@@ -96,6 +96,20 @@ impl Body {
         }
     }
 
+    /// The number of its code.
+    pub fn code(&self) -> CodeId
+        ensures { result ≡ self.now.code }
+    {
+        self.code
+    }
+
+    /// The innermost call, also one that is being unwound, once finished parts have fallen away.
+    pub fn innermost(&self, program: &Program) -> Option<&Frame>
+        ensures { option_map (λ x. call_of x.now) result ≡ residual.innermost (settled_in program.now self.now) }
+    {
+        innermost_of(self.standing(program))
+    }
+
     /// The number of the code of the innermost call, once finished parts have fallen away.
     pub fn function(&self, program: &Program) -> Option<CodeId>
         ensures { result ≡ body_of (residual.innermost (settled_in program.now self.now)) }

@@ -20,7 +20,6 @@ syntax_line source line = source ++ codes " " ++ decimal line ++ codes " Syntax\
 abbrev pub model_line : ModelFault → List ℕ
 model_line (model_fault.Syntax line) = syntax_line (codes "model") line
 model_line (model_fault.Rule f) = fault_line (codes "model") f.line (kind_word f.kind) f.name
-model_line (model_fault.NotBuilt n) = fault_line (codes "model") n.line (codes "NotBuilt") n.name
 
 abbrev pub script_line : ScriptFault → List ℕ
 script_line (script_fault.Syntax line) = syntax_line (codes "script") line

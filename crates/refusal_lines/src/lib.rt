@@ -7,4 +7,4 @@ mod refusals;
 
 pub use kinds::kind_word;
 pub use lines::{memory_line, refusal_line, write_line};
-pub use refusals::{ModelFault, NotBuilt, Refusal, ScriptFault};
+pub use refusals::{ModelFault, Refusal, ScriptFault};

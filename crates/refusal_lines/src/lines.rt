@@ -49,13 +49,6 @@ fn model_line(alloc: Global, fault: &ModelFault) -> Result<Text, AllocError>
             kind_word(fault.kind),
             fault.name.as_slice(),
         ),
-        ModelFault::NotBuilt(found) => fault_line(
-            alloc,
-            "model",
-            found.line,
-            "NotBuilt",
-            found.name.as_slice(),
-        ),
     }
 }
 

@@ -2,15 +2,6 @@
 use logic_values::Text;
 use model_tree::Fault;
 
-/// A construct of a model that is not built.
-#[derive(Drop)]
-pub struct NotBuilt {
-    /// The line of its first token, counted from 1.
-    pub line: u32,
-    /// The name of its module.
-    pub name: Text,
-}
-
 /// What is wrong with a model.
 #[derive(Drop)]
 pub enum ModelFault {
@@ -18,8 +9,6 @@ pub enum ModelFault {
     Syntax(u32),
     /// It breaks a rule: its first fault.
     Rule(Fault),
-    /// It breaks no rule, and a construct of it is not built: the first in text order, with the name of its module.
-    NotBuilt(NotBuilt),
 }
 
 /// What is wrong with a script.

@@ -7,10 +7,9 @@ ghost use Rattle.kernel_state.specs.Kernel.{IsSound};
 ghost use Rattle.kernel_state.specs.Moves.{Does, HasStatement, IsOnTop};
 
 use crate::elements::assign_element;
-use crate::stops::top_lives;
 use data_statements::{assign_field, assign_name, assign_payload_byte};
 use flat_design::{Destination, Expr, NameUse, PayloadBytes, PayloadField, RunFault, Store};
-use kernel_state::Kernel;
+use kernel_state::{Kernel, top_lives};
 use kernel_view::eval_at;
 
 /// An assignment to a variable.

@@ -12,11 +12,11 @@ ghost use Rattle.kernel_view.specs.Standings.{Everywhere};
 ghost use Rattle.store_statements.specs.Stopping.{DoesOrStops};
 ghost use Rattle.store_statements.specs.Written.{NamesFit, to_write};
 
-use crate::stops::{StatementStop, top_lives};
+use crate::stops::StatementStop;
 use crate::updates::{drive, write_signal};
 use expr_eval::cut_to;
 use flat_design::{ChannelId, ChannelUse, Expr, RunFault, ValueType};
-use kernel_state::{Kernel, pass, write_fifo};
+use kernel_state::{Kernel, pass, top_lives, write_fifo};
 use kernel_view::{channel_at, eval_at, eval_place_at};
 use logic_values::Value;
 use std::alloc::{AllocError, Global};

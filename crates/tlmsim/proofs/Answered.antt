@@ -1,29 +1,33 @@
 -- Each status from its cause.
-use Rattle.std.proofs.Common.{◌≡◌, ◌<◌, ◌≤◌, ◌⊎◌, inl, inr, ⊎_elim, ℕ, Bool, true, false, ◌||◌, nat_eq, nat_le, List, if◌then◌else◌, length, Some, None, Ok, Err, subst, sym, ◌∙◌, ap, arith, refl}
+use Rattle.std.proofs.Common.{◌≡◌, ◌<◌, ◌≤◌, ◌⊎◌, inl, inr, ⊎_elim, ℕ, Bool, true, false, ◌||◌, nat_eq, nat_le, List, if◌then◌else◌, length, slice_get, ◌+◌, Some, None, Ok, Err, subst, sym, ◌∙◌, ap, arith, refl}
 use Rattle.std.proofs.lemmas.Bool.{false≢true}
 use Rattle.std.proofs.lemmas.Bool.Decides.{nat_tests}
 use Rattle.sim_io.specs.Told.{Files}
 use Rattle.sim_io.specs.Cause.{Rose}
 use Rattle.model_tree.specs.Tree as tree
 use Rattle.flat_design.specs.declared.faults.RunFault.{RunFault}
-use Rattle.method_model.specs.Configuration.{Config}
-use Rattle.method_model.specs.Steps.{Outcome, went, faulted, takes, ended, step}
-use Rattle.method_model.specs.Runs.{stop_within}
-use Rattle.method_model.specs.declared.plain.Command.{Command}
-use Rattle.method_model.specs.declared.plain.Stop.{Stop}
-use Rattle.method_model.specs.declared.plain.Stop.TheVariants as stop
-use Rattle.tlmsim.specs.Line.{line_of}
+use Rattle.flat_design.specs.declared.design.Design.{Design}
+use Rattle.sim_model.specs.Configuration.{Config}
+use Rattle.sim_model.specs.Steps.{Outcome, went, faulted, takes, ended, step}
+use Rattle.sim_model.specs.Runs.{missing, stop_within}
+use Rattle.sim_model.specs.declared.plain.Command.{Command}
+use Rattle.sim_model.specs.declared.plain.Rule.{Rule}
+use Rattle.sim_model.specs.declared.plain.Rule.TheVariants as rule
+use Rattle.sim_model.specs.declared.plain.Stop.{Stop}
+use Rattle.sim_model.specs.declared.plain.Stop.TheVariants as stop
+use Rattle.tlmsim.specs.Line.{line_of, rule_of}
 use Rattle.tlmsim.specs.Call.{Call, Keeps, Texts, model_limit, script_limit}
-use Rattle.session.specs.Course.{IsEnd, WroteFront}
+use Rattle.sessions.specs.Course.{IsEnd}
+use Rattle.sessions.specs.Fronts.{WroteFront}
 use Rattle.refusal_lines.specs.ErrLines.{usage_line, read_line, model_line, script_line, large_line, err_line, memory_line}
 use Rattle.refusal_lines.specs.declared.refusals.ModelFault.{ModelFault}
 use Rattle.refusal_lines.specs.declared.refusals.ScriptFault.{ScriptFault}
 use Rattle.refusal_lines.specs.declared.refusals.Refusal.{Refusal}
 use Rattle.refusal_lines.specs.declared.refusals.Refusal.TheVariants as refusal
-use Rattle.tlmsim.specs.Judged.{IsBrokenModel, AcceptsModel, IsBrokenScript, Accepts, shown_objects}
+use Rattle.tlmsim.specs.Judged.{IsBrokenModel, AcceptsModel, IsBrokenScript, Accepts}
 use Rattle.tlmsim.specs.Telling.{Tells, TellsStop, refusal_status}
-use Rattle.tlmsim.specs.Headline.{ReadFailed, TooLarge, ModelRefused, ScriptRefused, RefusedFor, Session, Finished, Untouched, Given, ModelGiven, Gets, Gives, IsSilent, LineCut, LineLacking, Answers, IsRefusal, IsRunStatus, stop_status, default_budget}
-use Rattle.session.specs.declared.run.Outcome.{Outcome as SessionOutcome}
+use Rattle.tlmsim.specs.Headline.{ReadFailed, TooLarge, ModelRefused, ScriptRefused, RefusedFor, Session, Finished, Untouched, Given, ModelGiven, Gets, Gives, IsSilent, LineCut, LineLacking, Answers, IsRefusal, IsRunStatus, stop_status}
+use Rattle.sessions.specs.declared.plans.Outcome.{Outcome as SessionOutcome}
 use Rattle.tlmsim.specs.Simulated.{Causes}
 use Rattle.tlmsim.specs.declared.simulate.SimulateStop.{SimulateStop}
 use Rattle.tlmsim.specs.declared.simulate.SimulateStop.TheVariants as simulate_stop
@@ -62,20 +66,29 @@ ended_apart : (b : Bool) → Some (if b then stop.Stopped else stop.Done) ≡ So
 ended_apart true e = cc
 ended_apart false e = cc
 
-spent : (c : Config) (o : Outcome) (b : Bool) → stop_within c b o ≡ Some stop.Budget → b ≡ true
-spent c o true e = refl
-spent c (went d) false e = cc
-spent c (faulted f) false e = cc
-spent c takes false e = cc
-spent c ended false e = absurd (ended_apart c.cycle.stopped e)
+missed_apart : (b : Bool) (place : ℕ) → (if b then Some (stop.Replay place) else None) ≡ Some stop.Budget → ⊥
+missed_apart true place e = cc
+missed_apart false place e = cc
+
+spent : (c : Config) (r : Rule) (t : ℕ) (o : Outcome) (b : Bool) → stop_within c r t b o ≡ Some stop.Budget → b ≡ true
+spent c r t o true e = refl
+spent c r t (went d) false e = cc
+spent c r t (faulted f) false e = cc
+spent c rule.First t takes false e = cc
+spent c rule.Last t takes false e = cc
+spent c (rule.Seed seed) t takes false e = cc
+spent c (rule.Replay choices) t takes false e = absurd (missed_apart (missing c.processes.runnable (slice_get choices t)) (t + 1) e)
+spent c r t ended false e = absurd (ended_apart c.cycle.stopped e)
 
 used_up : (budget steps : ℕ) → nat_le budget steps ≡ true → budget ≤ steps
 used_up budget steps h = grind (arith, nat_tests)
 
-all_steps : (c : Call) (choices : List ℕ) (steps : ℕ) → Session c choices steps stop.Budget → steps ≡ default_budget
+all_steps : (c : Call) (choices : List ℕ) (steps : ℕ) → (x : Session c choices steps stop.Budget) → steps ≡ x.texts.asked.budget
 all_steps c choices steps x =
-    let spent_here : default_budget ≤ steps = used_up default_budget steps (spent x.ran.last (step x.ran.last) (nat_le default_budget steps) x.ran.wrote.0) in
-    let within : steps ≤ default_budget = x.ran.within in
+    let budget = x.texts.asked.budget in
+    let rule = rule_of x.texts.asked.order in
+    let spent_here : budget ≤ steps = used_up budget steps (spent x.ran.last rule (length choices) (step x.ran.last) (nat_le budget steps) x.ran.wrote.0) in
+    let within : steps ≤ budget = x.ran.within in
     omega arith
 
 done_of : (c : Call) (choices : List ℕ) (steps : ℕ) (s : Stop) → Session c choices steps s → stop_status s ≡ 0 → Finished c choices steps
@@ -156,10 +169,10 @@ large_refusal c old new model script g large model' script' t =
     ⊎_elim (λ past. let h : model_limit < length model = past in omega arith) (λ past. let h : script_limit < length script = past in omega arith) large
 
 -- a session of the model that was given
-session_accepts : (c : Call) (old new : Files) (model script choices : List ℕ) (steps : ℕ) (s : Stop) → Given c old new model script → (x : Session c choices steps s) → Accepts model script x.m x.commands
+session_accepts : (c : Call) (old new : Files) (model script choices : List ℕ) (steps : ℕ) (s : Stop) → Given c old new model script → (x : Session c choices steps s) → Accepts model script x.m x.design x.commands
 session_accepts c old new model script choices steps s g x =
-    let P : List ℕ → Type 0 = λ text. Accepts text x.script x.m x.commands in
-    let Q : List ℕ → Type 0 = λ text. Accepts model text x.m x.commands in
+    let P : List ℕ → Type 0 = λ text. Accepts text x.script x.m x.design x.commands in
+    let Q : List ℕ → Type 0 = λ text. Accepts model text x.m x.design x.commands in
     subst Q (same_script c old new model script x.model x.script g x.texts) (subst P (same_model c old new model script x.model x.script g x.texts) x.accepts)
 
 -- the model that was refused is the one that was given
@@ -175,7 +188,7 @@ script_accepts c old new model script f g r =
 script_broken : (c : Call) (old new : Files) (model script : List ℕ) (f : ScriptFault) → Given c old new model script → (r : ScriptRefused c f) → IsBrokenScript r.m script
 script_broken c old new model script f g r =
     let P : List ℕ → Type 0 = λ text. IsBrokenScript r.m text in
-    subst P (same_script c old new model script r.model r.script g r.texts) (script_broken_by (shown_objects r.m) r.script f r.fault)
+    subst P (same_script c old new model script r.model r.script g r.texts) (record { design = r.design; is_design = r.is_design; breaks = script_broken_by r.design r.script f r.fault })
 
 -- a session that has an end of the run itself leaves `err` alone
 silent_of : (c : Call) (s : Stop) → TellsStop s c.before.err c.after.err → (IsEnd s → c.after.err_faults ≡ c.before.err_faults) → IsEnd s → IsSilent c
@@ -213,8 +226,8 @@ of_session one c choices steps s x cause told faults kept =
       large_comes = λ old new model script g past. absurd (large_refusal c old new model script g past x.model x.script x.texts);
       large_model_comes = λ old new model g past. absurd (long_texts c old new model g past x.model x.script x.texts);
       model_comes = λ old new model script g m_within s_within broken. absurd (not_broken one model x.m (session_accepts c old new model script choices steps s g x).accepted broken);
-      script_comes = λ old new model script g m_within s_within m accepted broken. absurd (not_both one model script x.m m x.commands (session_accepts c old new model script choices steps s g x) accepted broken);
-      complete = λ old new model script g m_within s_within m commands accepts no_fault. run_status s (λ e. no_fault (cause e));
+      script_comes = λ old new model script g m_within s_within m accepted broken. absurd (not_both one model script x.m m x.design x.commands (session_accepts c old new model script choices steps s g x) accepted broken);
+      complete = λ old new model script g m_within s_within m d commands accepts no_fault. run_status s (λ e. no_fault (cause e));
     }
 
 -- the answers where no session began, for whatever status
@@ -256,7 +269,7 @@ record Comes (c : Call) (status : ℕ) : Type 0 where
   long : (old new : Files) (model : List ℕ) → ModelGiven c old new model → model_limit < length model → Gives c status 10
   model : (old new : Files) (model script : List ℕ) → Given c old new model script → length model ≤ model_limit → length script ≤ script_limit → IsBrokenModel model → Gives c status 3
   script : (old new : Files) (model script : List ℕ) → Given c old new model script → length model ≤ model_limit → length script ≤ script_limit → (m : tree.Model) → AcceptsModel model m → IsBrokenScript m script → Gives c status 4
-  never : (old new : Files) (model script : List ℕ) → Given c old new model script → length model ≤ model_limit → length script ≤ script_limit → (m : tree.Model) (commands : List Command) → Accepts model script m commands → status ≡ 8
+  never : (old new : Files) (model script : List ℕ) → Given c old new model script → length model ≤ model_limit → length script ≤ script_limit → (m : tree.Model) (d : Design) (commands : List Command) → Accepts model script m d commands → status ≡ 8
 
 usage_comes : (c : Call) (status : ℕ) → line_of c.words ≡ None → Gives c status 1 → Comes c status
 usage_comes c status none due = record {
@@ -265,7 +278,7 @@ usage_comes c status none due = record {
   long = λ old new model g past. absurd (long_usage c old new model g none);
   model = λ old new model script g m_within s_within broken. absurd (not_usage c old new model script g none);
   script = λ old new model script g m_within s_within m accepted broken. absurd (not_usage c old new model script g none);
-  never = λ old new model script g m_within s_within m commands accepts. absurd (not_usage c old new model script g none);
+  never = λ old new model script g m_within s_within m d commands accepts. absurd (not_usage c old new model script g none);
 }
 
 read_comes : (c : Call) (status : ℕ) (file : List ℕ) → ReadFailed c file → Gives c status 2 → Comes c status
@@ -275,7 +288,7 @@ read_comes c status file r due = record {
   long = λ old new model g past. absurd (long_read c old new model file g past r);
   model = λ old new model script g m_within s_within broken. absurd (not_read c old new model script file g r);
   script = λ old new model script g m_within s_within m accepted broken. absurd (not_read c old new model script file g r);
-  never = λ old new model script g m_within s_within m commands accepts. absurd (not_read c old new model script file g r);
+  never = λ old new model script g m_within s_within m d commands accepts. absurd (not_read c old new model script file g r);
 }
 
 model_comes : OneTree → (c : Call) (status : ℕ) (f : ModelFault) → ModelRefused c f → Gives c status 3 → Comes c status
@@ -285,7 +298,7 @@ model_comes one c status f r due = record {
   long = λ old new model g past. absurd (long_texts c old new model g past r.model r.script r.texts);
   model = λ old new model script g m_within s_within broken. due;
   script = λ old new model script g m_within s_within m accepted broken. absurd (not_broken one model m accepted (model_broken c old new model script f g r));
-  never = λ old new model script g m_within s_within m commands accepts. absurd (not_broken one model m accepts.accepted (model_broken c old new model script f g r));
+  never = λ old new model script g m_within s_within m d commands accepts. absurd (not_broken one model m accepts.accepted (model_broken c old new model script f g r));
 }
 
 script_comes : OneTree → (c : Call) (status : ℕ) (f : ScriptFault) → ScriptRefused c f → Gives c status 4 → Comes c status
@@ -295,7 +308,7 @@ script_comes one c status f r due = record {
   long = λ old new model g past. absurd (long_texts c old new model g past r.model r.script r.texts);
   model = λ old new model script g m_within s_within broken. absurd (not_broken one model r.m (script_accepts c old new model script f g r) broken);
   script = λ old new model script g m_within s_within m accepted broken. due;
-  never = λ old new model script g m_within s_within m commands accepts. absurd (not_both one model script m r.m commands accepts (script_accepts c old new model script f g r) (script_broken c old new model script f g r));
+  never = λ old new model script g m_within s_within m d commands accepts. absurd (not_both one model script m r.m d commands accepts (script_accepts c old new model script f g r) (script_broken c old new model script f g r));
 }
 
 large_comes : (c : Call) (status : ℕ) (file : List ℕ) → TooLarge c file → Gives c status 10 → Comes c status
@@ -305,7 +318,7 @@ large_comes c status file l due = record {
   long = λ old new model g past. due;
   model = λ old new model script g m_within s_within broken. absurd (not_large c old new model script file g m_within s_within l);
   script = λ old new model script g m_within s_within m accepted broken. absurd (not_large c old new model script file g m_within s_within l);
-  never = λ old new model script g m_within s_within m commands accepts. absurd (not_large c old new model script file g m_within s_within l);
+  never = λ old new model script g m_within s_within m d commands accepts. absurd (not_large c old new model script file g m_within s_within l);
 }
 
 -- want of memory comes in place of any refusal
@@ -316,7 +329,7 @@ memory_comes c = record {
   long = λ old new model g past. inr (inl refl);
   model = λ old new model script g m_within s_within broken. inr (inl refl);
   script = λ old new model script g m_within s_within m accepted broken. inr (inl refl);
-  never = λ old new model script g m_within s_within m commands accepts. refl;
+  never = λ old new model script g m_within s_within m d commands accepts. refl;
 }
 
 cause_of : (c : Call) (choices : List ℕ) (steps : ℕ) (r : Refusal) → RefusedFor c r → Gets c (err_line r) → Refused c choices steps (refusal_status r)
@@ -357,7 +370,7 @@ of_none c choices steps status no_end cause comes untouched kept =
       large_model_comes = comes.long;
       model_comes = comes.model;
       script_comes = comes.script;
-      complete = λ old new model script g m_within s_within m commands accepts no_fault. inr (comes.never old new model script g m_within s_within m commands accepts);
+      complete = λ old new model script g m_within s_within m d commands accepts no_fault. inr (comes.never old new model script g m_within s_within m d commands accepts);
     }
 
 -- the answers of a refusal, as it was told

@@ -6,9 +6,10 @@ use Rattle.sim_io.specs.Told.{Grew}
 use Rattle.sim_io.specs.Taken.{TookOf}
 use Rattle.sim_io.specs.declared.outside.Trouble.{Trouble}
 use Rattle.sim_io.proofs.Chains.{grew_on}
-use Rattle.session.specs.Course.{IsEnd, WroteFront}
-use Rattle.method_model.specs.declared.plain.Stop.{Stop}
-use Rattle.method_model.specs.declared.plain.Stop.TheVariants as stop
+use Rattle.sessions.specs.Course.{IsEnd}
+use Rattle.sessions.specs.Fronts.{WroteFront}
+use Rattle.sim_model.specs.declared.plain.Stop.{Stop}
+use Rattle.sim_model.specs.declared.plain.Stop.TheVariants as stop
 use Rattle.refusal_lines.specs.ErrLines.{err_line, model_line, script_line}
 use Rattle.refusal_lines.specs.declared.refusals.ModelFault.{ModelFault}
 use Rattle.refusal_lines.specs.declared.refusals.ModelFault.TheVariants as model_fault
@@ -43,7 +44,6 @@ cut_taken old mid new line cause e took front =
 model_some : (f : ModelFault) → 0 < length (model_line f)
 model_some (model_fault.Syntax line) = omega arith
 model_some (model_fault.Rule f) = omega arith
-model_some (model_fault.NotBuilt n) = omega arith
 
 script_some : (f : ScriptFault) → 0 < length (script_line f)
 script_some (script_fault.Syntax line) = omega arith

@@ -1,7 +1,7 @@
 -- What a call of the top speaks of: the words, and the outside before and after it.
 use Rattle.std.specs.Prelude.{◌≡◌, ◌≤◌, ℕ, List, length, Option, Some}
 use Rattle.sim_io.specs.Told.{Files, AfterTold, Same, IsText}
-use Rattle.tlmsim.specs.Line.{Names, line_of}
+use Rattle.tlmsim.specs.Line.{Asked, line_of}
 
 -- the outside at a moment: the files where they are told, what `out` and `err` hold where they tell that, and the
 -- counts of faults
@@ -48,9 +48,9 @@ script_limit = 65536
 
 -- the words name two files, these are their texts where the shelf tells its files, and each is within its limit
 pub record Texts (c : Call) (model script : List ℕ) : Type 0 where
-  pub names : Names
-  pub line : line_of c.words ≡ Some names
-  pub model_is : IsText c.before.files c.after.files names.model model
-  pub script_is : IsText c.before.files c.after.files names.script script
+  pub asked : Asked
+  pub line : line_of c.words ≡ Some asked
+  pub model_is : IsText c.before.files c.after.files asked.model model
+  pub script_is : IsText c.before.files c.after.files asked.script script
   pub model_within : length model ≤ model_limit
   pub script_within : length script ≤ script_limit

@@ -4,17 +4,21 @@ use Rattle.sim_io.specs.Told.{Files, Grew}
 use Rattle.sim_io.specs.Cause.{Rose}
 use Rattle.flat_design.specs.declared.faults.RunFault.{RunFault}
 use Rattle.model_tree.specs.Tree as tree
-use Rattle.method_design.specs.declared.designs.Design.{Design as MethodDesign}
-use Rattle.method_model.specs.Configuration.{start}
-use Rattle.method_model.specs.declared.plain.Command.{Command}
-use Rattle.method_model.specs.declared.plain.Stop.{Stop}
-use Rattle.method_model.specs.declared.plain.Stop.TheVariants as stop
-use Rattle.session.specs.Course.{Ran, WroteFront}
-use Rattle.session.specs.declared.run.Rule.TheVariants as rule
-use Rattle.tlmsim.specs.Line.{Names, line_of}
+use Rattle.flat_design.specs.declared.design.Design.{Design}
+use Rattle.flat_design.specs.Sound.{SoundDesign}
+use Rattle.design_rules.specs.Designs.{IsDesignOf}
+use Rattle.sim_model.specs.Configuration.{start}
+use Rattle.sim_model.specs.declared.plain.Command.{Command}
+use Rattle.sim_model.specs.declared.plain.Stop.{Stop}
+use Rattle.sim_model.specs.declared.plain.Stop.TheVariants as stop
+use Rattle.sessions.specs.Begun.{nothing_missing}
+use Rattle.sessions.specs.Course.{Ran}
+use Rattle.sessions.specs.Fronts.{WroteFront}
+use Rattle.tlmsim.specs.Line.{Asked, line_of, rule_of}
 use Rattle.tlmsim.specs.Call.{Call, Keeps, Texts, model_limit, script_limit}
 use Rattle.tlmsim.specs.Loaded.{IsUnread, IsTooLarge}
-use Rattle.tlmsim.specs.Judged.{IsBrokenModel, HasModelFault, AcceptsModel, IsBrokenScript, HasScriptFault, Accepts, IsRunOf, shown_objects}
+use Rattle.tlmsim.specs.Judged.{IsBrokenModel, HasModelFault, AcceptsModel, IsBrokenScript, HasScriptFault, Accepts}
+use Rattle.tlmsim.specs.Orderly.{Orderly}
 use Rattle.tlmsim.specs.Telling.{WroteCut}
 use Rattle.refusal_lines.specs.ErrLines.{usage_line, read_line, model_line, script_line, large_line, err_line, write_line, memory_line}
 use Rattle.refusal_lines.specs.declared.refusals.ModelFault.{ModelFault}
@@ -22,38 +26,36 @@ use Rattle.refusal_lines.specs.declared.refusals.ScriptFault.{ScriptFault}
 use Rattle.refusal_lines.specs.declared.refusals.Refusal.{Refusal}
 use Rattle.refusal_lines.specs.declared.refusals.Refusal.TheVariants as refusal
 
--- the most steps of a session
-abbrev pub default_budget : ℕ
-default_budget = 10000000
-
 -- this file could not be read: the model that the words name; or the script, once the model was read within its limit. The
 -- shelf's read count rose in this call, or it tells its files and lacks this one
 pub record ReadFailed (c : Call) (file : List ℕ) : Type 0 where
-  pub names : Names
-  pub line : line_of c.words ≡ Some names
-  pub cause : IsUnread c.before.files c.after.files (Rose c.before.reads c.after.reads) names.model names.script file
+  pub asked : Asked
+  pub line : line_of c.words ≡ Some asked
+  pub cause : IsUnread c.before.files c.after.files (Rose c.before.reads c.after.reads) asked.model asked.script file
 
 -- more bytes than its limit were read of this file: the model; or the script, once the model was read within its limit
 pub record TooLarge (c : Call) (file : List ℕ) : Type 0 where
-  pub names : Names
-  pub line : line_of c.words ≡ Some names
-  pub cause : IsTooLarge c.before.files c.after.files names.model names.script file
+  pub asked : Asked
+  pub line : line_of c.words ≡ Some asked
+  pub cause : IsTooLarge c.before.files c.after.files asked.model asked.script file
 
--- both texts were read, and this is wrong with the model: it has no tree, or a construct that is not built, or breaks a rule
+-- both texts were read, and this is wrong with the model: it has no tree, or breaks a rule
 pub record ModelRefused (c : Call) (f : ModelFault) : Type 0 where
   pub model : List ℕ
   pub script : List ℕ
   pub texts : Texts c model script
   pub fault : HasModelFault model f
 
--- both texts were read, the model is accepted, and this is wrong with the script
+-- both texts were read, the model is accepted, and this is wrong with the script over a design of it
 pub record ScriptRefused (c : Call) (f : ScriptFault) : Type 0 where
   pub model : List ℕ
   pub script : List ℕ
   pub texts : Texts c model script
   pub m : tree.Model
   pub accepted : AcceptsModel model m
-  pub fault : HasScriptFault (shown_objects m) script f
+  pub design : Design
+  pub is_design : IsDesignOf m design
+  pub fault : HasScriptFault design script f
 
 -- the cause of a refusal
 abbrev pub RefusedFor : Call → Refusal → Type 0
@@ -63,19 +65,20 @@ RefusedFor c (refusal.Model f) = ModelRefused c f
 RefusedFor c (refusal.Script f) = ScriptRefused c f
 RefusedFor c (refusal.TooLarge file) = TooLarge c file
 
--- both texts are accepted, and this is their session: the run of the design of methods that a design of the source tree
--- gives, under the script, with these choices and steps, which ended so, and whose text `out` took; each choice is one of
--- the rule
+-- both texts are accepted, and this is their session: the run of a design of the source tree, which is sound, under the
+-- script, as the words ask for it, with these choices and steps, which ended so, and whose text `out` took; each choice is one of
+-- the rule; and the run is orderly: what has ended is named nowhere, unwind blocks run exactly once, and the protocol is kept on each hop
 pub record Session (c : Call) (choices : List ℕ) (steps : ℕ) (s : Stop) : Type 0 where
   pub model : List ℕ
   pub script : List ℕ
   pub texts : Texts c model script
   pub m : tree.Model
+  pub design : Design
   pub commands : List Command
-  pub accepts : Accepts model script m commands
-  pub run : MethodDesign
-  pub is_run : IsRunOf m run
-  pub ran : Ran (start run commands) rule.First default_budget choices steps s c.before.out c.after.out
+  pub accepts : Accepts model script m design commands
+  pub sound : SoundDesign nothing_missing design
+  pub orderly : Orderly design commands
+  pub ran : Ran (start design commands) (rule_of texts.asked.order) texts.asked.log texts.asked.budget choices steps s c.before.out c.after.out
 
 -- the session had not begun: no choices, no steps, and `out` is as it was
 pub record Untouched (c : Call) (choices : List ℕ) (steps : ℕ) : Type 0 where
@@ -87,19 +90,19 @@ pub record Untouched (c : Call) (choices : List ℕ) (steps : ℕ) : Type 0 wher
 pub record Given (c : Call) (old new : Files) (model script : List ℕ) : Type 0 where
   pub told : c.before.files ≡ Some old
   pub told_after : c.after.files ≡ Some new
-  pub names : Names
-  pub line : line_of c.words ≡ Some names
-  pub model_is : old names.model ≡ Some model
-  pub script_is : old names.script ≡ Some script
+  pub asked : Asked
+  pub line : line_of c.words ≡ Some asked
+  pub model_is : old asked.model ≡ Some model
+  pub script_is : old asked.script ≡ Some script
   pub no_fault : Rose c.before.reads c.after.reads → ⊥
 
 -- the files are told and the model that the words name is there, with this text; of the script nothing is said
 pub record ModelGiven (c : Call) (old new : Files) (model : List ℕ) : Type 0 where
   pub told : c.before.files ≡ Some old
   pub told_after : c.after.files ≡ Some new
-  pub names : Names
-  pub line : line_of c.words ≡ Some names
-  pub model_is : old names.model ≡ Some model
+  pub asked : Asked
+  pub line : line_of c.words ≡ Some asked
+  pub model_is : old asked.model ≡ Some model
   pub no_fault : Rose c.before.reads c.after.reads → ⊥
 
 -- the run ended by itself: the script was carried out, or the model stopped it
@@ -171,7 +174,7 @@ pub record Answers (c : Call) (status : ℕ) (choices : List ℕ) (steps : ℕ) 
   pub model : status ≡ 3 → (f : ModelFault) × ModelRefused c f × Gets c (model_line f)
   pub script : status ≡ 4 → (f : ScriptFault) × ScriptRefused c f × Gets c (script_line f)
   pub fault : status ≡ 5 → (f : RunFault) × Session c choices steps (stop.Fault f)
-  pub budget : status ≡ 6 → Session c choices steps stop.Budget × (steps ≡ default_budget)
+  pub budget : status ≡ 6 → (s : Session c choices steps stop.Budget) × (steps ≡ s.texts.asked.budget)
   pub write : status ≡ 7 → ReportCut c choices steps ⊎ LineCut c choices steps
   pub memory : status ≡ 8 → LineLacking c choices steps ⊎ ReportLacking c choices steps
   pub replay : status ≡ 9 → (place : ℕ) × Session c choices steps (stop.Replay place)
@@ -189,5 +192,5 @@ pub record Answers (c : Call) (status : ℕ) (choices : List ℕ) (steps : ℕ) 
   pub script_comes : (old new : Files) (model script : List ℕ) → Given c old new model script
       → length model ≤ model_limit → length script ≤ script_limit → (m : tree.Model) → AcceptsModel model m → IsBrokenScript m script → Gives c status 4
   pub complete : (old new : Files) (model script : List ℕ) → Given c old new model script
-      → length model ≤ model_limit → length script ≤ script_limit → (m : tree.Model) (commands : List Command) → Accepts model script m commands
+      → length model ≤ model_limit → length script ≤ script_limit → (m : tree.Model) (d : Design) (commands : List Command) → Accepts model script m d commands
       → (Rose c.before.out_faults c.after.out_faults → ⊥) → IsRunStatus status ⊎ (status ≡ 8)

@@ -2,9 +2,9 @@ pub mod Line
 pub mod Seen
 pub mod Call
 pub mod Loaded
-pub mod Unbuilt
 pub mod Judged
 pub mod Refused
 pub mod Telling
+pub mod Orderly
 pub mod Headline
 pub mod Simulated

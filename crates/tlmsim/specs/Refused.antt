@@ -1,15 +1,17 @@
 -- What a refusal of a text says, where it is one: out of memory it says nothing.
 use Rattle.std.specs.Prelude.{ℕ, List, ⊤}
 use Rattle.model_tree.specs.Tree as tree
-use Rattle.tlmsim.specs.Judged.{AcceptsModel, HasModelFault, HasScriptFault, shown_objects}
+use Rattle.flat_design.specs.declared.design.Design.{Design}
+use Rattle.design_rules.specs.Designs.{IsDesignOf}
+use Rattle.tlmsim.specs.Judged.{AcceptsModel, HasModelFault, HasScriptFault}
 use Rattle.refusal_lines.specs.declared.refusals.ModelFault.{ModelFault}
 use Rattle.refusal_lines.specs.declared.refusals.ScriptFault.{ScriptFault}
-use Rattle.tlmsim.specs.declared.judge.ModelStop.{ModelStop}
-use Rattle.tlmsim.specs.declared.judge.ModelStop.TheVariants as model_stop
-use Rattle.tlmsim.specs.declared.judge.ScriptStop.{ScriptStop}
-use Rattle.tlmsim.specs.declared.judge.ScriptStop.TheVariants as script_stop
-use Rattle.tlmsim.specs.declared.judge.JudgeStop.{JudgeStop}
-use Rattle.tlmsim.specs.declared.judge.JudgeStop.TheVariants as judge_stop
+use Rattle.tlmsim.specs.declared.judging.ModelStop.{ModelStop}
+use Rattle.tlmsim.specs.declared.judging.ModelStop.TheVariants as model_stop
+use Rattle.tlmsim.specs.declared.judging.ScriptStop.{ScriptStop}
+use Rattle.tlmsim.specs.declared.judging.ScriptStop.TheVariants as script_stop
+use Rattle.tlmsim.specs.declared.judging.JudgeStop.{JudgeStop}
+use Rattle.tlmsim.specs.declared.judging.JudgeStop.TheVariants as judge_stop
 
 -- P of what is wrong with the model, or with the script
 abbrev pub IfModelFault : ModelStop → (ModelFault → Type 0) → Type 0
@@ -20,8 +22,8 @@ abbrev pub IfScriptFault : ScriptStop → (ScriptFault → Type 0) → Type 0
 IfScriptFault (script_stop.Fault f) P = P f
 IfScriptFault script_stop.NoMemory P = ⊤
 
--- what is said of the model is so; or the model is accepted, and what is said of the script is so over its objects
+-- what is said of the model is so; or the model is accepted, and what is said of the script is so over a design of it
 abbrev pub HasTextFault : List ℕ → List ℕ → JudgeStop → Type 0
 HasTextFault model script (judge_stop.Model f) = HasModelFault model f
-HasTextFault model script (judge_stop.Script f) = (m : tree.Model) × AcceptsModel model m × HasScriptFault (shown_objects m) script f
+HasTextFault model script (judge_stop.Script f) = (m : tree.Model) × (d : Design) × AcceptsModel model m × IsDesignOf m d × HasScriptFault d script f
 HasTextFault model script judge_stop.NoMemory = ⊤

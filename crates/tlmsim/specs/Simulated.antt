@@ -1,8 +1,8 @@
 -- The cause of each answer of the work below the statuses.
 use Rattle.std.specs.Prelude.{◌≡◌, Result, Ok, Err, ⊤}
 use Rattle.sim_io.specs.Cause.{Rose}
-use Rattle.method_model.specs.declared.plain.Stop.TheVariants as stop
-use Rattle.session.specs.declared.run.Outcome.{Outcome}
+use Rattle.sim_model.specs.declared.plain.Stop.TheVariants as stop
+use Rattle.sessions.specs.declared.plans.Outcome.{Outcome}
 use Rattle.tlmsim.specs.Call.{Call}
 use Rattle.tlmsim.specs.Headline.{RefusedFor, Session}
 use Rattle.tlmsim.specs.declared.simulate.SimulateStop.{SimulateStop}

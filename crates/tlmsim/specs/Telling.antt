@@ -2,9 +2,9 @@
 use Rattle.std.specs.Prelude.{◌≡◌, ◌≤◌, ◌<◌, ◌⊎◌, ◌++◌, ℕ, List, Option, length, take}
 use Rattle.sim_io.specs.Told.{Grew}
 use Rattle.sim_io.specs.Cause.{Rose}
-use Rattle.session.specs.Course.{WroteFront}
-use Rattle.method_model.specs.declared.plain.Stop.{Stop}
-use Rattle.method_model.specs.declared.plain.Stop.TheVariants as stop
+use Rattle.sessions.specs.Fronts.{WroteFront}
+use Rattle.sim_model.specs.declared.plain.Stop.{Stop}
+use Rattle.sim_model.specs.declared.plain.Stop.TheVariants as stop
 use Rattle.refusal_lines.specs.ErrLines.{err_line, write_line, memory_line}
 use Rattle.refusal_lines.specs.declared.refusals.Refusal.{Refusal}
 use Rattle.refusal_lines.specs.declared.refusals.Refusal.TheVariants as refusal

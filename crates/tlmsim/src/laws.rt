@@ -1,17 +1,16 @@
 ghost use Rattle.std.specs.Prelude.{◌≡◌, ◌⊎◌, ℕ, List};
 ghost use Rattle.model_tree.specs.Tree.{Model};
 ghost use Rattle.model_lexer.specs.Reads.{Reads};
-ghost use Rattle.tlmsim.specs.Judged.{AcceptsModel, BreaksRule, BreaksWhole, HasNoTree, HasUnbuilt, IsBrokenModel};
+ghost use Rattle.tlmsim.specs.Judged.{AcceptsModel, BreaksRule, BreaksWhole, HasNoTree, IsBrokenModel};
 
 use model_parser::one_tree;
 
-/// A text that reads is accepted, or has a construct that is not built, or breaks a rule; and of these, and of
+/// A text that reads is accepted, or breaks a rule on its modules, or is at fault as a whole; and of these, and of
 /// reading as no tree, no two are so of one text.
 pub fn one_cause()
-    ensures some { (text : List ℕ) (m : Model) → Reads text m → AcceptsModel text m ⊎ (HasUnbuilt text ⊎ (BreaksRule text ⊎ BreaksWhole text)) }
+    ensures some { (text : List ℕ) (m : Model) → Reads text m → AcceptsModel text m ⊎ (BreaksRule text ⊎ BreaksWhole text) }
     ensures accepted { (text : List ℕ) (m : Model) → AcceptsModel text m → IsBrokenModel text → ⊥ }
-    ensures unread { (text : List ℕ) → HasNoTree text → HasUnbuilt text ⊎ (BreaksRule text ⊎ BreaksWhole text) → ⊥ }
-    ensures unbuilt { (text : List ℕ) → HasUnbuilt text → BreaksRule text ⊎ BreaksWhole text → ⊥ }
+    ensures unread { (text : List ℕ) → HasNoTree text → BreaksRule text ⊎ BreaksWhole text → ⊥ }
     ensures ruled { (text : List ℕ) → BreaksRule text → BreaksWhole text → ⊥ }
 {
     one_tree();

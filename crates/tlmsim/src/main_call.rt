@@ -5,7 +5,7 @@ ghost use Rattle.tlmsim.specs.Headline.{Answers, IsRunStatus};
 use super::simulate::{SimulateStop, simulate};
 use super::statuses::stop_status;
 use super::telling::{tell_refusal, tell_stop, try_line};
-use super::words::Words;
+use command_line::Words;
 use flat_design::Choices;
 use model_parser::one_tree;
 use refusal_lines::memory_line;
@@ -26,12 +26,15 @@ pub struct Ended {
     pub steps: u64,
 }
 
-/// Runs the model under the script that the words name, and writes the report to `out`.
+/// Runs the model under the script that the words name, as they ask for it, and writes the report to `out`.
+///
+/// The words are `MODEL SCRIPT`, and any of `--budget N`, the most steps, from 1 to 67,108,864; `--order first|last|seed`,
+/// which of the runnable processes is taken; `--seed N`; `--log prints|turns`, what the report tells.
 ///
 /// The statuses: 0, the script was carried out or the model stopped it; 1, the words are refused; 2, a
-/// file could not be read; 3, the model is refused: it does not read, or a construct of it is not built
-/// yet, or it breaks a rule; 4, the script is refused; 5, a run fault; 6, the step budget is used up; 7, a
-/// write failed; 8, memory was refused; 9, a listed choice could not be taken; 10, a file is too large.
+/// file could not be read; 3, the model is refused: it does not read, or it breaks a rule; 4, the script is
+/// refused; 5, a run fault; 6, the step budget is used up; 7, a write failed; 8, memory was refused; 9, a
+/// listed choice could not be taken; 10, a file is too large.
 ///
 /// `err` gets one line for a refusal of the input, which are 1, 2, 3, 4 and 10, and a line is tried there for 7 and 8:
 /// `usage: tlmsim MODEL SCRIPT [options]`; `read fault FILE`; `model LINE KIND NAME` or `model LINE Syntax`; the same two

@@ -1,22 +1,27 @@
 ghost use Rattle.std.specs.Prelude.{◌≡◌, ◌≤◌, ℕ, List, Option, OnErr};
 ghost use Rattle.sim_io.specs.Told.{AfterTold, Same};
 ghost use Rattle.sim_io.specs.Cause.{RoseIf};
-ghost use Rattle.method_model.specs.Configuration.{start};
-ghost use Rattle.method_model.specs.declared.plain.Stop.{Stop};
-ghost use Rattle.session.specs.Course.{Ran};
+ghost use Rattle.sim_model.specs.Configuration.{start};
+ghost use Rattle.sim_model.specs.declared.plain.Stop.{Stop};
+ghost use Rattle.sessions.specs.Course.{Ran};
 ghost use Rattle.tlmsim.specs.Call.{outside_of};
+ghost use Rattle.tlmsim.specs.Judged.{CanRun};
+ghost use Rattle.tlmsim.specs.Line as spec;
+ghost use Rattle.tlmsim.specs.Orderly.{Orderly};
 ghost use Rattle.tlmsim.specs.Simulated.{Causes};
 
-use super::judge::{JudgeStop, Judged, judge};
+use super::asked::{Asked, read_words, rule_of};
+use super::judging::{JudgeStop, Judged, judge};
 use super::load::{LoadStop, Texts, load};
-use super::words::{Words, line_of};
+use command_line::{Words, WordsStop};
+use ended_laws::{nothing_names_what_has_ended, what_has_ended_never_runs_again};
+use mark_laws::runs_are_clean;
+use once_laws::unwind_blocks_run_once;
+use protocol_laws::histories_are_lawful;
 use refusal_lines::Refusal;
-use session::{Log, Outcome, Plan, Rule, run_session};
+use sessions::{Outcome, Plan, run_session};
 use sim_io::{Shelf, Sink};
 use std::alloc::Global;
-
-/// The most steps of a session.
-pub const DEFAULT_BUDGET: u64 = 10_000_000;
 
 /// Why no session began.
 #[derive(Drop)]
@@ -27,17 +32,31 @@ pub enum SimulateStop {
     NoMemory,
 }
 
-/// Runs the session of accepted texts.
-fn run<O: Sink>(alloc: Global, judged: Judged, out: &mut O) -> Outcome
-    ensures ran { Ran (start judged.design judged.script) Rule.First DEFAULT_BUDGET result.choices result.steps result.stop (O.holds out.old) (O.holds out.new) }
+/// How a run that the words ask for is to go.
+fn plan_of(asked: Asked<'_>) -> Plan
+    ensures { result ≡ record { rule = spec.rule_of asked.entry.order; budget = asked.entry.budget; log = asked.entry.log } }
+{
+    Plan {
+        rule: rule_of(asked.order),
+        budget: asked.budget,
+        log: asked.log,
+    }
+}
+
+/// Runs the session of accepted texts as the plan has it: its rule picks each process that is taken (IEEE 1666-2011,
+/// 4.2.1.2), and the report goes to `out`.
+fn run<O: Sink>(alloc: Global, judged: Judged, plan: Plan, out: &mut O) -> Outcome
+    requires runs { CanRun judged.design }
+    ensures orderly { Orderly judged.design judged.script }
+    ensures ran { Ran (start judged.design judged.script) plan.rule plan.log plan.budget result.choices result.steps result.stop (O.holds out.old) (O.holds out.new) }
     ensures cause { RoseIf (O.faults out.old) (O.faults out.new) (result.stop ≡ Stop.WriteFault) }
 {
+    runs_are_clean();
+    what_has_ended_never_runs_again();
+    nothing_names_what_has_ended();
+    unwind_blocks_run_once();
+    histories_are_lawful();
     let Judged { design, script } = judged;
-    let plan = Plan {
-        rule: Rule::First,
-        budget: DEFAULT_BUDGET,
-        log: Log::Prints,
-    };
     run_session(alloc, design, script.as_slice(), plan, out)
 }
 
@@ -60,17 +79,19 @@ pub fn simulate<S: Shelf, O: Sink>(
     ensures reads { S.reads shelf.old ≤ S.reads shelf.new }
     ensures out_faults { O.faults out.old ≤ O.faults out.new }
 {
-    let Some((model, script)) = line_of(words) else {
-        return Err(SimulateStop::Refused(Refusal::Usage));
+    let asked = match read_words(alloc, words) {
+        Ok(asked) => asked,
+        Err(WordsStop::Usage) => return Err(SimulateStop::Refused(Refusal::Usage)),
+        Err(WordsStop::NoMemory) => return Err(SimulateStop::NoMemory),
     };
-    let texts = match load(alloc, shelf, model, script) {
+    let texts = match load(alloc, shelf, asked.model, asked.script) {
         Ok(texts) => texts,
         Err(LoadStop::Failed(file)) => return Err(SimulateStop::Refused(Refusal::Read(file))),
         Err(LoadStop::TooLarge(file)) => return Err(SimulateStop::Refused(Refusal::TooLarge(file))),
         Err(LoadStop::NoMemory) => return Err(SimulateStop::NoMemory),
     };
     match judge(alloc, &texts) {
-        Ok(judged) => Ok(run(alloc, judged, out)),
+        Ok(judged) => Ok(run(alloc, judged, plan_of(asked), out)),
         Err(JudgeStop::Model(fault)) => Err(SimulateStop::Refused(Refusal::Model(fault))),
         Err(JudgeStop::Script(fault)) => Err(SimulateStop::Refused(Refusal::Script(fault))),
         Err(JudgeStop::NoMemory) => Err(SimulateStop::NoMemory),

@@ -2,8 +2,8 @@ ghost use Rattle.std.specs.Prelude.{◌≡◌};
 ghost use Rattle.tlmsim.specs.Headline as headline;
 ghost use Rattle.tlmsim.specs.Telling as telling;
 
-use method_model::Stop;
 use refusal_lines::Refusal;
+use sim_model::Stop;
 
 /// The status of a session that ended so.
 pub fn stop_status(stop: Stop) -> u8

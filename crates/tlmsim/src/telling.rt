@@ -1,12 +1,13 @@
 //! What is told on `err` of a refusal, and of a session that was cut.
 ghost use Rattle.std.specs.Prelude.{◌≡◌, ◌≤◌};
-ghost use Rattle.session.specs.Course.{IsEnd, WroteFront};
+ghost use Rattle.sessions.specs.Course.{IsEnd};
+ghost use Rattle.sessions.specs.Fronts.{WroteFront};
 ghost use Rattle.tlmsim.specs.Telling.{Tells, TellsStop};
 
 use super::statuses::refusal_status;
-use method_model::Stop;
 use refusal_lines::{Refusal, memory_line, refusal_line, write_line};
 use sim_io::{Sink, Trouble, write_all};
+use sim_model::Stop;
 use std::alloc::Global;
 
 /// The status of a write that failed.

@@ -1,40 +1,47 @@
-use Rattle.std.proofs.Common.{◌∷◌, [], Some, refl, sym, ap, ◌∙◌, subst}
-use Rattle.std.specs.Prelude.{Contains}
-use Rattle.flat_design.specs.Code.{statement_of}
+use Rattle.std.proofs.Common.{map, ◌∷◌, [], Some, refl, sym, ap, ◌∙◌, subst}
+use Rattle.std.specs.Prelude.{Contains, IfOk}
+use Rattle.flat_design.specs.Code.{statement_of, argument_term}
+use Rattle.sim_model.specs.Reading.{here}
+use Rattle.sim_model.specs.Calls.{do_call}
+use Rattle.kernel_state.specs.Moves.{Does}
 use Rattle.body_code.specs.Around.{around_if}
 use Rattle.body_code.specs.Depths.{blocks_in}
 use Rattle.kernel_steps.specs.Told.{CarriesAll}
 use Rattle.kernel_steps.specs.declared.answers.StepAnswer.TheVariants as answer
 use Rattle.kernel_steps.proofs.Blocks.{is_first}
-use Rattle.kernel_steps.proofs.Answered.{carried, plain_carried, await_carried, store_carried, block_carried, try_carried}
+use Rattle.kernel_steps.proofs.Answered.{carried, plain_carried, await_carried, store_carried, send_carried, block_carried, try_carried}
 use Rattle.kernel_steps.proofs.carrying.carry_out.Goals as goal
 
 pub returns-in-Var-clause-carries : goal.returns-in-Var-clause-carries
-returns-in-Var-clause-carries c = carried c.args.k.now c.var_step.new.k c.var_step.result c.args.p c.args.s c.args.statement.now _ c.in-Var.is tt refl c.var_step.ensures.carries
+returns-in-Var-clause-carries c = carried c.args.k.now c.var_step.new.k c.var_step.result c.args.p c.args.s c.args.statement.now _ c.in-Var.is refl c.var_step.ensures.carries
 
 pub returns-in-Assign-clause-carries : goal.returns-in-Assign-clause-carries
-returns-in-Assign-clause-carries c = plain_carried c.args.k.now c.assign.new.k c.plain.result c.args.p c.args.s c.args.statement.now _ c.in-Assign.is tt refl c.assign.result c.plain.ensures c.assign.ensures.does
+returns-in-Assign-clause-carries c = plain_carried c.args.k.now c.assign.new.k c.plain.result c.args.p c.args.s c.args.statement.now _ c.in-Assign.is refl c.assign.result c.plain.ensures c.assign.ensures.does
+
+pub returns-in-Call-clause-carries : goal.returns-in-Call-clause-carries
+returns-in-Call-clause-carries c = block_carried c.args.k.now c.call.new.k c.blocking.result c.args.p c.args.s c.args.statement.now _ c.in-Call.is refl c.call.result c.blocking.ensures
+    (subst (λ xs. IfOk c.call.result (λ done. Does c.args.k.now c.call.new.k done c.args.p (λ d q i r. do_call d q r (here d q i r) c.args.s c.in-Call.f (map argument_term xs)))) c.as_slice.ensures.value c.call.ensures.does) c.call.ensures.stays
 
 pub returns-in-Read-clause-carries : goal.returns-in-Read-clause-carries
-returns-in-Read-clause-carries c = block_carried c.args.k.now c.read.new.k c.blocking.result c.args.p c.args.s c.args.statement.now _ c.in-Read.is tt refl c.read.result c.blocking.ensures c.read.ensures.does c.read.ensures.stays
+returns-in-Read-clause-carries c = block_carried c.args.k.now c.read.new.k c.blocking-in-Read.result c.args.p c.args.s c.args.statement.now _ c.in-Read.is refl c.read.result c.blocking-in-Read.ensures c.read.ensures.does c.read.ensures.stays
 
 pub returns-in-NbRead-clause-carries : goal.returns-in-NbRead-clause-carries
-returns-in-NbRead-clause-carries c = plain_carried c.args.k.now c.nb_read.new.k c.plain-in-NbRead.result c.args.p c.args.s c.args.statement.now _ c.in-NbRead.is tt refl c.nb_read.result c.plain-in-NbRead.ensures c.nb_read.ensures.does
+returns-in-NbRead-clause-carries c = plain_carried c.args.k.now c.nb_read.new.k c.plain-in-NbRead.result c.args.p c.args.s c.args.statement.now _ c.in-NbRead.is refl c.nb_read.result c.plain-in-NbRead.ensures c.nb_read.ensures.does
 
 pub returns-in-NbWrite-clause-carries : goal.returns-in-NbWrite-clause-carries
-returns-in-NbWrite-clause-carries c = plain_carried c.args.k.now c.nb_write.new.k c.plain-in-NbWrite.result c.args.p c.args.s c.args.statement.now _ c.in-NbWrite.is tt refl c.nb_write.result c.plain-in-NbWrite.ensures c.nb_write.ensures.does
+returns-in-NbWrite-clause-carries c = plain_carried c.args.k.now c.nb_write.new.k c.plain-in-NbWrite.result c.args.p c.args.s c.args.statement.now _ c.in-NbWrite.is refl c.nb_write.result c.plain-in-NbWrite.ensures c.nb_write.ensures.does
 
 pub returns-in-Trylock-clause-carries : goal.returns-in-Trylock-clause-carries
-returns-in-Trylock-clause-carries c = plain_carried c.args.k.now c.trylock.new.k c.plain-in-Trylock.result c.args.p c.args.s c.args.statement.now _ c.in-Trylock.is tt refl c.trylock.result c.plain-in-Trylock.ensures c.trylock.ensures.does
+returns-in-Trylock-clause-carries c = plain_carried c.args.k.now c.trylock.new.k c.plain-in-Trylock.result c.args.p c.args.s c.args.statement.now _ c.in-Trylock.is refl c.trylock.result c.plain-in-Trylock.ensures c.trylock.ensures.does
 
 pub returns-in-Unlock-clause-carries : goal.returns-in-Unlock-clause-carries
-returns-in-Unlock-clause-carries c = plain_carried c.args.k.now c.unlock.new.k c.plain-in-Unlock.result c.args.p c.args.s c.args.statement.now _ c.in-Unlock.is tt refl c.unlock.result c.plain-in-Unlock.ensures c.unlock.ensures.does
+returns-in-Unlock-clause-carries c = plain_carried c.args.k.now c.unlock.new.k c.plain-in-Unlock.result c.args.p c.args.s c.args.statement.now _ c.in-Unlock.is refl c.unlock.result c.plain-in-Unlock.ensures c.unlock.ensures.does
 
 pub returns-in-SemTrywait-clause-carries : goal.returns-in-SemTrywait-clause-carries
-returns-in-SemTrywait-clause-carries c = plain_carried c.args.k.now c.sem_trywait.new.k c.plain-in-SemTrywait.result c.args.p c.args.s c.args.statement.now _ c.in-SemTrywait.is tt refl c.sem_trywait.result c.plain-in-SemTrywait.ensures c.sem_trywait.ensures.does
+returns-in-SemTrywait-clause-carries c = plain_carried c.args.k.now c.sem_trywait.new.k c.plain-in-SemTrywait.result c.args.p c.args.s c.args.statement.now _ c.in-SemTrywait.is refl c.sem_trywait.result c.plain-in-SemTrywait.ensures c.sem_trywait.ensures.does
 
 pub returns-in-Write-clause-carries : goal.returns-in-Write-clause-carries
-returns-in-Write-clause-carries c = store_carried c.args.k.now c.write.new.k c.storing.result c.args.p c.args.s c.args.statement.now _ c.in-Write.is tt refl c.write.result c.storing.ensures c.write.ensures.does
+returns-in-Write-clause-carries c = store_carried c.args.k.now c.write.new.k c.storing-in-Write.result c.args.p c.args.s c.args.statement.now _ c.in-Write.is refl c.write.result c.storing-in-Write.ensures c.write.ensures.does
 
 pub print_step-requires-clause-there : goal.print_step-requires-clause-there
 print_step-requires-clause-there c = c.requires.there ∙ ap (λ z. Some (statement_of z)) c.in-Print.is
@@ -43,55 +50,58 @@ pub returns-in-Print-clause-carries : goal.returns-in-Print-clause-carries
 returns-in-Print-clause-carries c = subst (λ z. CarriesAll c.args.k.now c.print_step.new.k c.print_step.result c.args.p c.args.s (statement_of z)) (sym c.in-Print.is) c.print_step.ensures.carries
 
 pub returns-in-Notify-clause-carries : goal.returns-in-Notify-clause-carries
-returns-in-Notify-clause-carries c = carried c.args.k.now c.notify_named.new.k answer.Went c.args.p c.args.s c.args.statement.now _ c.in-Notify.is tt refl c.notify_named.ensures.does
+returns-in-Notify-clause-carries c = carried c.args.k.now c.notify_named.new.k answer.Went c.args.p c.args.s c.args.statement.now _ c.in-Notify.is refl c.notify_named.ensures.does
 
 pub returns-in-NotifyDelta-clause-carries : goal.returns-in-NotifyDelta-clause-carries
-returns-in-NotifyDelta-clause-carries c = carried c.args.k.now c.notify_delta.new.k answer.Went c.args.p c.args.s c.args.statement.now _ c.in-NotifyDelta.is tt refl c.notify_delta.ensures.does
+returns-in-NotifyDelta-clause-carries c = carried c.args.k.now c.notify_delta.new.k answer.Went c.args.p c.args.s c.args.statement.now _ c.in-NotifyDelta.is refl c.notify_delta.ensures.does
 
 pub returns-in-NotifyAfter-clause-carries : goal.returns-in-NotifyAfter-clause-carries
-returns-in-NotifyAfter-clause-carries c = plain_carried c.args.k.now c.notify_after.new.k c.plain-in-NotifyAfter.result c.args.p c.args.s c.args.statement.now _ c.in-NotifyAfter.is tt refl c.notify_after.result c.plain-in-NotifyAfter.ensures c.notify_after.ensures.does
+returns-in-NotifyAfter-clause-carries c = plain_carried c.args.k.now c.notify_after.new.k c.plain-in-NotifyAfter.result c.args.p c.args.s c.args.statement.now _ c.in-NotifyAfter.is refl c.notify_after.result c.plain-in-NotifyAfter.ensures c.notify_after.ensures.does
 
 pub returns-in-Cancel-clause-carries : goal.returns-in-Cancel-clause-carries
-returns-in-Cancel-clause-carries c = carried c.args.k.now c.cancel_named.new.k answer.Went c.args.p c.args.s c.args.statement.now _ c.in-Cancel.is tt refl c.cancel_named.ensures.does
+returns-in-Cancel-clause-carries c = carried c.args.k.now c.cancel_named.new.k answer.Went c.args.p c.args.s c.args.statement.now _ c.in-Cancel.is refl c.cancel_named.ensures.does
 
 pub returns-in-Wait-clause-carries : goal.returns-in-Wait-clause-carries
-returns-in-Wait-clause-carries c = await_carried c.args.k.now c.wait_statement.new.k c.awaiting.result c.args.p c.args.s c.args.statement.now _ c.in-Wait.is tt refl c.wait_statement.result c.awaiting.ensures c.wait_statement.ensures.does
+returns-in-Wait-clause-carries c = await_carried c.args.k.now c.wait_statement.new.k c.awaiting.result c.args.p c.args.s c.args.statement.now _ c.in-Wait.is refl c.wait_statement.result c.awaiting.ensures c.wait_statement.ensures.does
 
 pub returns-in-NextTrigger-clause-carries : goal.returns-in-NextTrigger-clause-carries
-returns-in-NextTrigger-clause-carries c = await_carried c.args.k.now c.trigger_statement.new.k c.awaiting-in-NextTrigger.result c.args.p c.args.s c.args.statement.now _ c.in-NextTrigger.is tt refl c.trigger_statement.result c.awaiting-in-NextTrigger.ensures c.trigger_statement.ensures.does
+returns-in-NextTrigger-clause-carries c = await_carried c.args.k.now c.trigger_statement.new.k c.awaiting-in-NextTrigger.result c.args.p c.args.s c.args.statement.now _ c.in-NextTrigger.is refl c.trigger_statement.result c.awaiting-in-NextTrigger.ensures c.trigger_statement.ensures.does
 
 pub returns-in-Lock-clause-carries : goal.returns-in-Lock-clause-carries
-returns-in-Lock-clause-carries c = block_carried c.args.k.now c.lock.new.k c.blocking-in-Lock.result c.args.p c.args.s c.args.statement.now _ c.in-Lock.is tt refl c.lock.result c.blocking-in-Lock.ensures c.lock.ensures.does c.lock.ensures.stays
+returns-in-Lock-clause-carries c = block_carried c.args.k.now c.lock.new.k c.blocking-in-Lock.result c.args.p c.args.s c.args.statement.now _ c.in-Lock.is refl c.lock.result c.blocking-in-Lock.ensures c.lock.ensures.does c.lock.ensures.stays
 
 pub returns-in-SemWait-clause-carries : goal.returns-in-SemWait-clause-carries
-returns-in-SemWait-clause-carries c = block_carried c.args.k.now c.sem_wait.new.k c.blocking-in-SemWait.result c.args.p c.args.s c.args.statement.now _ c.in-SemWait.is tt refl c.sem_wait.result c.blocking-in-SemWait.ensures c.sem_wait.ensures.does c.sem_wait.ensures.stays
+returns-in-SemWait-clause-carries c = block_carried c.args.k.now c.sem_wait.new.k c.blocking-in-SemWait.result c.args.p c.args.s c.args.statement.now _ c.in-SemWait.is refl c.sem_wait.result c.blocking-in-SemWait.ensures c.sem_wait.ensures.does c.sem_wait.ensures.stays
 
 pub returns-in-Post-clause-carries : goal.returns-in-Post-clause-carries
-returns-in-Post-clause-carries c = plain_carried c.args.k.now c.post.new.k c.plain-in-Post.result c.args.p c.args.s c.args.statement.now _ c.in-Post.is tt refl c.post.result c.plain-in-Post.ensures c.post.ensures.does
+returns-in-Post-clause-carries c = block_carried c.args.k.now c.post.new.k c.blocking-in-Post.result c.args.p c.args.s c.args.statement.now _ c.in-Post.is refl c.post.result c.blocking-in-Post.ensures c.post.ensures.does c.post.ensures.stays
+
+pub returns-in-Spawn-clause-carries : goal.returns-in-Spawn-clause-carries
+returns-in-Spawn-clause-carries c = block_carried c.args.k.now c.spawn.new.k c.blocking-in-Spawn.result c.args.p c.args.s c.args.statement.now _ c.in-Spawn.is refl c.spawn.result c.blocking-in-Spawn.ensures c.spawn.ensures.does c.spawn.ensures.stays
 
 pub throw-requires-clause-free : goal.throw-requires-clause-free
 throw-requires-clause-free c = c.requires.free c.in-Throw.e (ap statement_of c.in-Throw.is)
 
 pub returns-in-Throw-clause-carries : goal.returns-in-Throw-clause-carries
-returns-in-Throw-clause-carries c = plain_carried c.args.k.now c.throw.new.k c.plain-in-Throw.result c.args.p c.args.s c.args.statement.now _ c.in-Throw.is tt refl c.throw.result c.plain-in-Throw.ensures c.throw.ensures.does
+returns-in-Throw-clause-carries c = plain_carried c.args.k.now c.throw.new.k c.plain-in-Throw.result c.args.p c.args.s c.args.statement.now _ c.in-Throw.is refl c.throw.result c.plain-in-Throw.ensures c.throw.ensures.does
 
 pub returns-in-Return-clause-carries : goal.returns-in-Return-clause-carries
-returns-in-Return-clause-carries c = plain_carried c.args.k.now c.return_value.new.k c.plain-in-Return.result c.args.p c.args.s c.args.statement.now _ c.in-Return.is tt refl c.return_value.result c.plain-in-Return.ensures c.return_value.ensures.does
+returns-in-Return-clause-carries c = plain_carried c.args.k.now c.return_value.new.k c.plain-in-Return.result c.args.p c.args.s c.args.statement.now _ c.in-Return.is refl c.return_value.result c.plain-in-Return.ensures c.return_value.ensures.does
 
 pub returns-in-Stop-clause-carries : goal.returns-in-Stop-clause-carries
-returns-in-Stop-clause-carries c = carried c.args.k.now c.stop.new.k answer.Went c.args.p c.args.s c.args.statement.now _ c.in-Stop.is tt refl c.stop.ensures.steps
+returns-in-Stop-clause-carries c = carried c.args.k.now c.stop.new.k answer.Went c.args.p c.args.s c.args.statement.now _ c.in-Stop.is refl c.stop.ensures.steps
 
 pub if_step-requires-clause-there : goal.if_step-requires-clause-there
 if_step-requires-clause-there c = c.requires.there ∙ ap (λ z. Some (statement_of z)) c.in-If.is
 
 pub returns-in-If-clause-carries : goal.returns-in-If-clause-carries
-returns-in-If-clause-carries c = carried c.args.k.now c.if_step.new.k c.if_step.result c.args.p c.args.s c.args.statement.now _ c.in-If.is tt refl c.if_step.ensures.carries
+returns-in-If-clause-carries c = carried c.args.k.now c.if_step.new.k c.if_step.result c.args.p c.args.s c.args.statement.now _ c.in-If.is refl c.if_step.ensures.carries
 
 pub while_step-requires-clause-there : goal.while_step-requires-clause-there
 while_step-requires-clause-there c = c.requires.there ∙ ap (λ z. Some (statement_of z)) c.in-While.is
 
 pub returns-in-While-clause-carries : goal.returns-in-While-clause-carries
-returns-in-While-clause-carries c = carried c.args.k.now c.while_step.new.k c.while_step.result c.args.p c.args.s c.args.statement.now _ c.in-While.is tt refl c.while_step.ensures.carries
+returns-in-While-clause-carries c = carried c.args.k.now c.while_step.new.k c.while_step.result c.args.p c.args.s c.args.statement.now _ c.in-While.is refl c.while_step.ensures.carries
 
 pub begin_guard-requires-clause-owes : goal.begin_guard-requires-clause-owes
 begin_guard-requires-clause-owes c = ap around_if (c.requires.there ∙ ap (λ z. Some (statement_of z)) c.in-Guard.is)
@@ -100,7 +110,7 @@ pub begin_guard-requires-clause-inner : goal.begin_guard-requires-clause-inner
 begin_guard-requires-clause-inner c = subst (λ o. Contains (blocks_in o) c.in-Guard.b) (sym (c.requires.there ∙ ap (λ z. Some (statement_of z)) c.in-Guard.is)) (is_first c.in-Guard.b (c.in-Guard.u ∷ []))
 
 pub returns-in-Guard-clause-carries : goal.returns-in-Guard-clause-carries
-returns-in-Guard-clause-carries c = carried c.args.k.now c.begin_guard.new.k answer.Went c.args.p c.args.s c.args.statement.now _ c.in-Guard.is tt refl c.begin_guard.ensures.does
+returns-in-Guard-clause-carries c = carried c.args.k.now c.begin_guard.new.k answer.Went c.args.p c.args.s c.args.statement.now _ c.in-Guard.is refl c.begin_guard.ensures.does
 
 pub begin_try-requires-clause-catches : goal.begin_try-requires-clause-catches
 begin_try-requires-clause-catches c = ap around_if (c.requires.there ∙ ap (λ z. Some (statement_of z)) c.in-Try.is)
@@ -110,3 +120,39 @@ begin_try-requires-clause-inner c = subst (λ o. Contains (blocks_in o) c.in-Try
 
 pub returns-in-Try-clause-carries : goal.returns-in-Try-clause-carries
 returns-in-Try-clause-carries c = try_carried c.args.k.now c.begin_try.new.k c.args.p c.args.s c.in-Try.b c.args.statement.now _ c.in-Try.is c.requires.there c.begin_try.ensures.does
+
+pub returns-in-Make-clause-carries : goal.returns-in-Make-clause-carries
+returns-in-Make-clause-carries c = block_carried c.args.k.now c.make.new.k c.blocking-in-Make.result c.args.p c.args.s c.args.statement.now _ c.in-Make.is refl c.make.result c.blocking-in-Make.ensures c.make.ensures.does c.make.ensures.stays
+
+pub returns-in-Acquire-clause-carries : goal.returns-in-Acquire-clause-carries
+returns-in-Acquire-clause-carries c = plain_carried c.args.k.now c.acquire.new.k c.plain-in-Acquire.result c.args.p c.args.s c.args.statement.now _ c.in-Acquire.is refl c.acquire.result c.plain-in-Acquire.ensures c.acquire.ensures.does
+
+pub returns-in-Release-clause-carries : goal.returns-in-Release-clause-carries
+returns-in-Release-clause-carries c = plain_carried c.args.k.now c.release.new.k c.plain-in-Release.result c.args.p c.args.s c.args.statement.now _ c.in-Release.is refl c.release.result c.plain-in-Release.ensures c.release.ensures.does
+
+pub returns-in-Carry-clause-carries : goal.returns-in-Carry-clause-carries
+returns-in-Carry-clause-carries c = plain_carried c.args.k.now c.carry.new.k c.plain-in-Carry.result c.args.p c.args.s c.args.statement.now _ c.in-Carry.is refl c.carry.result c.plain-in-Carry.ensures c.carry.ensures.does
+
+pub returns-in-QkGlobal-clause-carries : goal.returns-in-QkGlobal-clause-carries
+returns-in-QkGlobal-clause-carries c = plain_carried c.args.k.now c.qk_global.new.k c.plain-in-QkGlobal.result c.args.p c.args.s c.args.statement.now _ c.in-QkGlobal.is refl c.qk_global.result c.plain-in-QkGlobal.ensures c.qk_global.ensures.does
+
+pub returns-in-QkInc-clause-carries : goal.returns-in-QkInc-clause-carries
+returns-in-QkInc-clause-carries c = plain_carried c.args.k.now c.qk_inc.new.k c.plain-in-QkInc.result c.args.p c.args.s c.args.statement.now _ c.in-QkInc.is refl c.qk_inc.result c.plain-in-QkInc.ensures c.qk_inc.ensures.does
+
+pub returns-in-QkSet-clause-carries : goal.returns-in-QkSet-clause-carries
+returns-in-QkSet-clause-carries c = plain_carried c.args.k.now c.qk_set.new.k c.plain-in-QkSet.result c.args.p c.args.s c.args.statement.now _ c.in-QkSet.is refl c.qk_set.result c.plain-in-QkSet.ensures c.qk_set.ensures.does
+
+pub returns-in-QkReset-clause-carries : goal.returns-in-QkReset-clause-carries
+returns-in-QkReset-clause-carries c = plain_carried c.args.k.now c.qk_reset.new.k c.plain-in-QkReset.result c.args.p c.args.s c.args.statement.now _ c.in-QkReset.is refl c.qk_reset.result c.plain-in-QkReset.ensures c.qk_reset.ensures.does
+
+pub returns-in-Control-clause-carries : goal.returns-in-Control-clause-carries
+returns-in-Control-clause-carries c = plain_carried c.args.k.now c.control.new.k c.plain-in-Control.result c.args.p c.args.s c.args.statement.now _ c.in-Control.is refl c.control.result c.plain-in-Control.ensures c.control.ensures.does
+
+pub returns-in-ThrowIt-clause-carries : goal.returns-in-ThrowIt-clause-carries
+returns-in-ThrowIt-clause-carries c = plain_carried c.args.k.now c.throw_it.new.k c.plain-in-ThrowIt.result c.args.p c.args.s c.args.statement.now _ c.in-ThrowIt.is refl c.throw_it.result c.plain-in-ThrowIt.ensures c.throw_it.ensures.does
+
+pub returns-in-NbTransport-clause-carries : goal.returns-in-NbTransport-clause-carries
+returns-in-NbTransport-clause-carries c = send_carried c.args.k.now c.nb_transport.new.k c.storing.result c.args.p c.args.s c.args.statement.now _ c.in-NbTransport.is refl c.nb_transport.result c.storing.ensures c.nb_transport.ensures.calls
+
+pub returns-in-BTransport-clause-carries : goal.returns-in-BTransport-clause-carries
+returns-in-BTransport-clause-carries c = send_carried c.args.k.now c.b_transport.new.k c.storing-in-BTransport.result c.args.p c.args.s c.args.statement.now _ c.in-BTransport.is refl c.b_transport.result c.storing-in-BTransport.ensures c.b_transport.ensures.calls

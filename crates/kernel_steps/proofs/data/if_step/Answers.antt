@@ -1,4 +1,4 @@
-use Rattle.std.proofs.Common.{◌∷◌, ap, sym, subst}
+use Rattle.std.proofs.Common.{ap, sym, subst}
 use Rattle.std.specs.Prelude.{Contains, IfSome}
 use Rattle.flat_design.specs.Code.{term_of}
 use Rattle.body_code.specs.Around.{around_if}

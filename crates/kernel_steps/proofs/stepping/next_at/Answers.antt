@@ -1,11 +1,10 @@
-use Rattle.std.proofs.Common.{◌≡◌, sym, ap, ◌∙◌, subst}
+use Rattle.std.proofs.Common.{◌≡◌, sym, ap, ◌∙◌}
 use Rattle.std.specs.Option.{option_copied}
-use Rattle.flat_design.specs.Code.{arena_of}
-use Rattle.process_state.specs.Bodies.{settled_in}
+use Rattle.body_layers.specs.declared.layers.Next.TheVariants as next
+use Rattle.process_state.specs.Bodies.{settled_in, next_in}
 use Rattle.sim_model.specs.Residual as residual
 use Rattle.sim_model.specs.Residual.{next_of}
-use Rattle.kernel_steps.specs.Built.{IsBuiltNext}
-use Rattle.kernel_steps.proofs.Shows.{was, kept_is, comes_next}
+use Rattle.kernel_steps.proofs.Shows.{kept_is, comes_next, leave_next}
 use Rattle.kernel_steps.proofs.stepping.next_at.Goals as goal
 
 pub returns-in-Some-clause-statement : goal.returns-in-Some-clause-statement
@@ -32,7 +31,10 @@ pub returns-in-Some-clause-shows_nothing : goal.returns-in-Some-clause-shows_not
 returns-in-Some-clause-shows_nothing c = λ is.
     comes_next c.args.k.now c.args.p c.in-Some.x.now (sym c.get.ensures.value ∙ ap option_copied c.in-Some.is) residual.nothing (c.next.ensures.nothing is)
 
-pub returns-in-Some-clause-built : goal.returns-in-Some-clause-built
-returns-in-Some-clause-built c =
-    subst (IsBuiltNext (arena_of c.args.k.now.program.code)) (sym c.next.ensures.value)
-    (c.requires.built c.in-Some.x.now.body.body (was c.args.k.now c.args.p c.in-Some.x.now (sym c.get.ensures.value ∙ ap option_copied c.in-Some.is)))
+pub returns-in-Some-clause-leaves : goal.returns-in-Some-clause-leaves
+returns-in-Some-clause-leaves c = λ is.
+    kept_is c.args.k.now c.args.p c.in-Some.x.now (sym c.get.ensures.value ∙ ap option_copied c.in-Some.is) (λ kept. next_in c.args.k.now.program kept.body ≡ next.Leave) (sym c.next.ensures.value ∙ is)
+
+pub returns-in-Some-clause-shows_leave : goal.returns-in-Some-clause-shows_leave
+returns-in-Some-clause-shows_leave c = λ is.
+    leave_next c.args.k.now c.args.p c.in-Some.x.now (sym c.get.ensures.value ∙ ap option_copied c.in-Some.is) (sym is ∙ c.next.ensures.value)

@@ -1,7 +1,6 @@
-use Rattle.std.proofs.Common.{◌≡◌, ℕ, Option, Some, None, option_map, refl, sym, ap, ◌∙◌, subst}
-use Rattle.flat_design.specs.Code.{statement_of, statement_at, arena_of}
+use Rattle.std.proofs.Common.{option_map, refl, sym, ap, ◌∙◌, subst}
+use Rattle.flat_design.specs.Code.{statement_of, statement_at}
 use Rattle.sim_model.specs.Statements.{on_statement}
-use Rattle.kernel_steps.specs.Built.{IsBuiltIf}
 use Rattle.kernel_steps.specs.Told.{MakesAll}
 use Rattle.kernel_steps.specs.declared.answers.StepAnswer.TheVariants as answer
 use Rattle.kernel_steps.proofs.Shows.{has_statement}
@@ -19,9 +18,6 @@ carry_out-requires-clause-there c = ap (λ a. statement_at a c.args.s) (sym c.re
 pub carry_out-requires-clause-free : goal.carry_out-requires-clause-free
 carry_out-requires-clause-free c = c.requires.free (statement_of c.in-Some.x.now) (carry_out-requires-clause-there c)
 
-pub carry_out-requires-clause-built : goal.carry_out-requires-clause-built
-carry_out-requires-clause-built c = subst IsBuiltIf (carry_out-requires-clause-there c) c.requires.built
-
 pub returns-in-Some-clause-makes : goal.returns-in-Some-clause-makes
 returns-in-Some-clause-makes c =
     subst (λ o. MakesAll c.args.k.now c.carry_out.new.k c.carry_out.result c.args.p (λ d q i r. on_statement d q i r c.args.s o))
@@ -34,4 +30,4 @@ pub returns-in-None-clause-makes : goal.returns-in-None-clause-makes
 returns-in-None-clause-makes c =
     subst (λ o. MakesAll c.args.k.now c.pass.new.k answer.Went c.args.p (λ d q i r. on_statement d q i r c.args.s o))
     (sym (ap (λ a. statement_at a c.args.s) (sym c.requires.ready.same) ∙ sym c.statement.ensures ∙ ap (option_map (λ z. statement_of z.now)) c.in-None.is))
-    (λ d i h there. (c.pass.ensures.steps d i h there, (refl, refl)))
+    (λ d i h there. (c.pass.ensures.steps d i h there, refl))

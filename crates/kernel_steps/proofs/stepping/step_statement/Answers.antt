@@ -1,12 +1,11 @@
-use Rattle.std.proofs.Common.{subst}
-use Rattle.flat_design.specs.Code.{arena_of}
 use Rattle.sim_model.specs.Residual as residual
 use Rattle.sim_model.specs.Residual.{settle}
 use Rattle.sim_model.specs.Configuration.{arena}
-use Rattle.sim_model.specs.Statements.{settled_in}
-use Rattle.kernel_steps.specs.Built.{IsBuiltNext}
+use Rattle.sim_model.specs.Statements.{settled_in, leaves_call}
 use Rattle.kernel_steps.specs.declared.answers.StepAnswer.TheVariants as answer
 use Rattle.kernel_steps.proofs.Silent.{goal_quiet}
+use Rattle.kernel_steps.proofs.Returned.{leaves_quiet}
+use Rattle.kernel_steps.proofs.Answered.{left}
 use Rattle.kernel_steps.proofs.Shows.{next_made, statement_made}
 use Rattle.kernel_steps.proofs.stepping.step_statement.Goals as goal
 
@@ -16,8 +15,11 @@ on_statement-requires-clause-next c = c.next_at.ensures.statement c.in-Statement
 pub on_statement-requires-clause-free : goal.on_statement-requires-clause-free
 on_statement-requires-clause-free c = c.requires.free c.in-Statement.s (c.next_at.ensures.statement c.in-Statement.s c.in-Statement.is)
 
-pub on_statement-requires-clause-built : goal.on_statement-requires-clause-built
-on_statement-requires-clause-built c = subst (IsBuiltNext (arena_of c.args.k.now.program.code)) c.in-Statement.is c.next_at.ensures.built
+pub leave-requires-clause-leaves : goal.leave-requires-clause-leaves
+leave-requires-clause-leaves c = c.next_at.ensures.leaves c.in-Leave.is
+
+pub leave-requires-clause-same : goal.leave-requires-clause-same
+leave-requires-clause-same c = c.requires.ready.same
 
 pub reach_goal-requires-clause-reaches : goal.reach_goal-requires-clause-reaches
 reach_goal-requires-clause-reaches c = c.next_at.ensures.goal c.in-Goal.goal c.in-Goal.is
@@ -25,6 +27,15 @@ reach_goal-requires-clause-reaches c = c.next_at.ensures.goal c.in-Goal.goal c.i
 pub returns-in-Statement-clause-makes : goal.returns-in-Statement-clause-makes
 returns-in-Statement-clause-makes c =
     statement_made c.args.k.now c.on_statement.new.k c.on_statement.result c.args.p c.in-Statement.s (c.next_at.ensures.shows_statement c.in-Statement.s c.in-Statement.is) c.on_statement.ensures.makes
+
+pub returns-in-Leave-clause-makes : goal.returns-in-Leave-clause-makes
+returns-in-Leave-clause-makes c =
+    let t = c.next_at.ensures.shows_leave c.in-Leave.is in
+    next_made c.args.k.now c.leave.new.k c.plain.result c.args.p (residual.leaves t.0) t.1 (λ d i h there.
+    let e = settled_in d c.args.p i.residual in
+    let j = record i { residual = settle (arena d) i.residual } in
+    let r = settle (arena d) i.residual in
+    left c.leave.new.k d i c.plain.result c.leave.result (leaves_call e c.args.p j r t.0) (leaves_quiet e c.args.p j r t.0) c.plain.ensures (c.leave.ensures.does d i h there t.0 (t.1 d i h there)))
 
 pub returns-in-Done-clause-makes : goal.returns-in-Done-clause-makes
 returns-in-Done-clause-makes c = next_made c.args.k.now c.end_body.new.k c.end_body.result c.args.p residual.done (c.next_at.ensures.shows_done c.in-Done.is) c.end_body.ensures.makes

@@ -1,4 +1,4 @@
-use Rattle.tlmsim.proofs.Apart.{not_broken, not_unread, not_unbuilt, not_ruled}
+use Rattle.tlmsim.proofs.Apart.{not_broken, not_unread, not_ruled}
 use Rattle.tlmsim.proofs.Refusals.{one_of}
 use Rattle.tlmsim.proofs.laws.one_cause.Goals as goal
 
@@ -10,9 +10,6 @@ returns-clause-accepted c = not_broken c.one_tree.ensures
 
 pub returns-clause-unread : goal.returns-clause-unread
 returns-clause-unread c = not_unread
-
-pub returns-clause-unbuilt : goal.returns-clause-unbuilt
-returns-clause-unbuilt c = not_unbuilt c.one_tree.ensures
 
 pub returns-clause-ruled : goal.returns-clause-ruled
 returns-clause-ruled c = not_ruled c.one_tree.ensures

@@ -1,0 +1,3 @@
+pub mod OneBody
+pub mod Ends
+pub mod Homes

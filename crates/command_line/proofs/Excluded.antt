@@ -1,0 +1,78 @@
+-- Options that do not stand together.
+use Rattle.std.proofs.Common.{◌≡◌, ◌∙◌, ◌&&◌, ℕ, List, Bool, true, false, cond, Option, Some, None, refl, sym, ap, not}
+use Rattle.std.specs.Prelude.{is_none}
+use Rattle.std.specs.Str.{bytes_eq}
+use Rattle.std.proofs.lemmas.Bool.{and_left, and_right}
+use Rattle.std.proofs.lemmas.Slice.Eq.{bytes_eq-Decides}
+use Rattle.clap.specs.Words.{Text}
+use Rattle.sim_model.specs.declared.plain.Log.{Log}
+use Rattle.command_line.specs.declared.modes.Order.{Order}
+use Rattle.command_line.specs.Given.{Given, given_by}
+use Rattle.command_line.specs.Line.{Mode, are_apart, budget_in, line_of, log_in, mode_by, names_no_run, order_in, rule_in, rule_with, simulation_named, simulation_with}
+use Rattle.command_line.proofs.LineLemmas.{line_given}
+
+no_rule : (file : Text) (o : Option Order) → rule_with (Some file) false o ≡ None
+no_rule file None = refl
+no_rule file (Some o) = refl
+
+no_rule_in : (g : Given) (file : Text) → g.replay ≡ Some file → (is_none g.order && is_none g.choices) ≡ false → rule_in g ≡ None
+no_rule_in g file replay alone = rw (replay, alone) (no_rule file (order_in g))
+
+without_rule : (model script : Text) (g : Given) (b : Option ℕ) (l : Option Log) → simulation_with model script g b None l ≡ None
+without_rule model script g None l = refl
+without_rule model script g (Some b) l = refl
+
+either : (b : Bool) (x : Option Mode) → x ≡ None → cond b x None ≡ None
+either true x e = e
+either false x e = refl
+
+no_simulation : (m s : Option Text) (g : Given) → rule_in g ≡ None → simulation_named m s g ≡ None
+no_simulation None s g rule = refl
+no_simulation (Some m) None g rule = refl
+no_simulation (Some m) (Some s) g rule =
+    either (are_apart g.vcd g.choices) _
+    (ap (λ r. simulation_with m s g (budget_in g.budget) r (log_in g.log)) rule ∙ without_rule m s g (budget_in g.budget) (log_in g.log))
+
+one_file_twice : (m s : Option Text) (g : Given) → are_apart g.vcd g.choices ≡ false → simulation_named m s g ≡ None
+one_file_twice None s g apart = refl
+one_file_twice (Some m) None g apart = refl
+one_file_twice (Some m) (Some s) g apart = rw apart refl
+
+no_mode : (f n : Option Text) (g : Given) → names_no_run g ≡ false → simulation_named g.model g.script g ≡ None → mode_by f n g ≡ None
+no_mode None None g run none = none
+no_mode (Some m) None g run none = rw run refl
+no_mode None (Some n) g run none = rw run refl
+no_mode (Some m) (Some n) g run none = refl
+
+no_line : (words : List Text) (g : Given) → given_by words ≡ Some g → names_no_run g ≡ false → simulation_named g.model g.script g ≡ None
+    → line_of words ≡ None
+no_line words g given run none = line_given words g None given (sym (no_mode g.format g.generate g run none))
+
+given_replay : (g : Given) (file : Text) → g.replay ≡ Some file → names_no_run g ≡ false
+given_replay g file replay =
+    and_right (is_none g.model) _
+    (and_right (is_none g.script) _
+    (and_right (is_none g.vcd) _
+    (and_right (is_none g.choices) _ (and_left (is_none g.replay) (is_none g.log) (ap is_none replay)))))
+
+pub replay_and_order : (words : List Text) (g : Given) (file name : Text) → given_by words ≡ Some g → g.replay ≡ Some file → g.order ≡ Some name
+    → line_of words ≡ None
+replay_and_order words g file name given replay order =
+    let alone = and_left (is_none g.order) (is_none g.choices) (ap is_none order) in
+    no_line words g given (given_replay g file replay) (no_simulation g.model g.script g (no_rule_in g file replay alone))
+
+pub replay_and_choices : (words : List Text) (g : Given) (file name : Text) → given_by words ≡ Some g → g.replay ≡ Some file → g.choices ≡ Some name
+    → line_of words ≡ None
+replay_and_choices words g file name given replay choices =
+    let alone = and_right (is_none g.order) (is_none g.choices) (ap is_none choices) in
+    no_line words g given (given_replay g file replay) (no_simulation g.model g.script g (no_rule_in g file replay alone))
+
+pub one_file : (words : List Text) (g : Given) (file : Text) → given_by words ≡ Some g → g.vcd ≡ Some file → g.choices ≡ Some file
+    → line_of words ≡ None
+one_file words g file given vcd choices =
+    let run : names_no_run g ≡ false = and_right (is_none g.model) _
+    (and_right (is_none g.script) _
+    (and_right (is_none g.vcd) _ (and_left (is_none g.choices) (is_none g.replay && is_none g.log) (ap is_none choices)))) in
+    let same : bytes_eq file file ≡ true = (bytes_eq-Decides file file).1 refl in
+    let apart : are_apart g.vcd g.choices ≡ false = rw (vcd, choices) (ap not same) in
+    no_line words g given run (one_file_twice g.model g.script g apart)

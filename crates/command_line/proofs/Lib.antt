@@ -1,0 +1,5 @@
+pub mod NumberLemmas
+pub mod ClapLemmas
+pub mod LineLemmas
+pub mod PlainLemmas
+pub mod Excluded

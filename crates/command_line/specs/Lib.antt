@@ -1,0 +1,6 @@
+pub mod Command
+pub mod Given
+pub mod Numbers
+pub mod Line
+pub mod Seen
+pub mod Plain

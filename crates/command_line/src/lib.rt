@@ -1,0 +1,18 @@
+//! The command line: its words, and what they ask for.
+#![tactic(auto)]
+
+mod command;
+mod given;
+mod laws;
+mod modes;
+mod numbers;
+mod reading;
+#[cfg(test)]
+mod tests;
+mod words;
+
+pub use laws::{two_names_are_a_simulation, what_excludes_what};
+pub use modes::{ChoiceRule, Generated, Mode, Order, Simulation, WordsStop};
+pub use numbers::{BUDGET_LIMIT, DEFAULT_BUDGET, GENERATED_LIMIT};
+pub use reading::read_line;
+pub use words::Words;

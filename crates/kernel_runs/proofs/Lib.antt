@@ -1,0 +1,5 @@
+pub mod Picked
+pub mod Quiet
+pub mod Scripted
+pub mod Turns
+pub mod Evaluated

@@ -1,0 +1,17 @@
+-- What a step of a session asks of its kernel.
+use Rattle.std.specs.Prelude.{◌≡◌, ℕ}
+use Rattle.sim_model.specs.declared.plain.Phase.TheVariants as phase
+use Rattle.body_code.specs.declared.program.Program.{Program}
+use Rattle.kernel_state.specs.Moves.{IsOnTop}
+use Rattle.kernel_state.specs.declared.kernel.Kernel.{Kernel}
+use Rattle.kernel_phases.specs.Fresh.{IsFresh}
+use Rattle.control_statements.specs.Thrown.{OthersHaveNoGoal}
+use Rattle.guard_statements.specs.Unwound.{ThrowsFreeNext}
+use Rattle.kernel_steps.specs.Ready.{Ready}
+
+-- In a run of a sound design all of it holds.
+pub record MayStep (k : Kernel) (program : Program) : Type 0 where
+  pub ready : Ready k program
+  pub throws : (p : ℕ) → IsOnTop k p → ThrowsFreeNext k p
+  pub others : OthersHaveNoGoal k
+  pub fresh : k.cycle.phase ≡ phase.Start → IsFresh k

@@ -1,0 +1,142 @@
+-- What a step of a session has to be.
+use Rattle.std.specs.Prelude.{◌≡◌, ◌≤◌, ℕ, false, List, [], ◌∷◌, ◌++◌, slice_get, Option, Some, None}
+use Rattle.flat_design.specs.declared.design.Visible.{Visible}
+use Rattle.flat_design.specs.declared.faults.RunFault.{RunFault}
+use Rattle.sim_model.specs.Clean.{times}
+use Rattle.sim_model.specs.Configuration.{Config, Instance, Told, line, turn, instance_at, path_of}
+use Rattle.sim_model.specs.Phases.{visible_value}
+use Rattle.sim_model.specs.Steps.{Outcome, went, faulted, takes, ended, show_line, turn_line, taking}
+use Rattle.sim_model.specs.Runs.{Chooser, picked, held_then}
+use Rattle.sim_model.specs.declared.plain.Command.{Command}
+use Rattle.process_choice.specs.Own.{ChoosesItself}
+use Rattle.kernel_state.specs.Kernel.{StandsFor}
+use Rattle.kernel_state.specs.declared.kernel.Kernel.{Kernel}
+use Rattle.kernel_steps.specs.Told.{AddsLine}
+use Rattle.kernel_steps.specs.declared.answers.StepAnswer.{StepAnswer}
+use Rattle.kernel_steps.specs.declared.answers.StepAnswer.TheVariants as answer
+use Rattle.kernel_runs.specs.declared.answers.Telling.{Telling}
+use Rattle.kernel_runs.specs.declared.answers.Telling.TheVariants as telling
+use Rattle.kernel_runs.specs.declared.answers.Made.{Made}
+use Rattle.kernel_runs.specs.declared.answers.Made.TheVariants as made
+
+-- the step of an instance as one of the session
+abbrev pub made_of : StepAnswer → Made
+made_of answer.Went = made.Went telling.Nothing
+made_of (answer.Printed p s v) = made.Went (telling.Print p s v)
+made_of (answer.Fault f) = made.Fault f
+made_of answer.NoMemory = made.NoMemory
+
+-- what a show tells: nothing where there is no such object
+abbrev pub told_by_show : Config → Option Visible → List Told
+told_by_show c None = []
+told_by_show c (Some v) = line (show_line c.cycle.now (path_of c.design v.object) (visible_value c v.id)) ∷ []
+
+-- what is told of the step from c to d, in words of d
+abbrev pub TellsOf : Config → Config → Telling → Type 0
+TellsOf c d telling.Nothing = d.trace.told ≡ c.trace.told
+TellsOf c d (telling.Print p s v) = AddsLine c d p s v
+TellsOf c d (telling.Show i) = d.trace.told ≡ c.trace.told ++ told_by_show d (slice_get d.design.visible i)
+
+-- a step went to a configuration that the kernel stands for now, with the same rest of the script, and this is told of it
+abbrev pub GoesTo : Kernel → Telling → Config → Outcome → Type 0
+GoesTo new t c (went d) = StandsFor new d × (d.script ≡ c.script) × TellsOf c d t
+GoesTo new t c (faulted f) = ⊥
+GoesTo new t c takes = ⊥
+GoesTo new t c ended = ⊥
+
+-- the taking of p is told, by the instance as it is then, which has not ended
+pub record TellsTurn (c d : Config) (p : ℕ) : Type 0 where
+  pub taken : Instance
+  pub there : instance_at d p ≡ Some taken
+  pub lives : taken.ended ≡ false
+  pub told : d.trace.told ≡ c.trace.told ++ turn (turn_line d.cycle.now taken.path p) ∷ []
+
+-- the step took p, and the kernel stands for the configuration of that taking
+pub record TookIt (new : Kernel) (p : ℕ) (c : Config) : Type 0 where
+  pub to : Config
+  pub taken : taking c p ≡ Some to
+  pub stands : StandsFor new to
+  pub script : to.script ≡ c.script
+  pub turn : TellsTurn c to p
+
+abbrev pub TookTo : Kernel → ℕ → Config → Outcome → Type 0
+TookTo new p c (went d) = ⊥
+TookTo new p c (faulted f) = ⊥
+TookTo new p c takes = TookIt new p c
+TookTo new p c ended = ⊥
+
+-- a step that is a run fault: the fault is the step's, and the kernel stands for what it stood for
+abbrev pub IsFault : Kernel → RunFault → Config → Outcome → Type 0
+IsFault new f c (went d) = ⊥
+IsFault new f c (faulted g) = (f ≡ g) × StandsFor new c
+IsFault new f c takes = ⊥
+IsFault new f c ended = ⊥
+
+-- the step takes a process, and none was taken
+abbrev pub IsUntaken : Kernel → Config → Outcome → Type 0
+IsUntaken new c (went d) = ⊥
+IsUntaken new c (faulted f) = ⊥
+IsUntaken new c takes = StandsFor new c
+IsUntaken new c ended = ⊥
+
+-- the session has ended: there is no step
+abbrev pub IsOver : Kernel → Config → Outcome → Type 0
+IsOver new c (went d) = ⊥
+IsOver new c (faulted f) = ⊥
+IsOver new c takes = ⊥
+IsOver new c ended = StandsFor new c
+
+-- the answer of a step is what the step is
+abbrev pub MadeAs : Kernel → Config → Outcome → Made → Type 0
+MadeAs new c outcome (made.Went t) = GoesTo new t c outcome
+MadeAs new c outcome (made.Took p) = TookTo new p c outcome
+MadeAs new c outcome made.Ended = IsOver new c outcome
+MadeAs new c outcome (made.Fault f) = IsFault new f c outcome
+MadeAs new c outcome made.NotReady = IsUntaken new c outcome
+MadeAs new c outcome made.NoMemory = StandsFor new c
+
+-- whatever configuration the kernel stood for, in whose runnable list nothing stands twice
+abbrev pub NoDoubles : Config → Type 0
+NoDoubles c = (q : ℕ) → times q c.processes.runnable ≤ 1
+
+abbrev pub Makes : Kernel → Kernel → Made → (Config → Outcome) → Type 0
+Makes old new result f = (c : Config) → StandsFor old c → NoDoubles c → MadeAs new c (f c) result
+
+-- the same of a step that may take a command off the script, whose rest is then this
+abbrev pub StepAs : Kernel → List Command → Config → Outcome → Made → Type 0
+StepAs new script c outcome (made.Went t) = GoesTo new t (record c { script = script }) outcome
+StepAs new script c outcome (made.Took p) = TookTo new p c outcome × (script ≡ c.script)
+StepAs new script c outcome made.Ended = IsOver new c outcome × (script ≡ c.script)
+StepAs new script c outcome (made.Fault f) = IsFault new f c outcome × (script ≡ c.script)
+StepAs new script c outcome made.NotReady = IsUntaken new c outcome × (script ≡ c.script)
+StepAs new script c outcome made.NoMemory = StandsFor new c × (script ≡ c.script)
+
+abbrev pub StepsOn : Kernel → Kernel → List Command → List Command → Made → (Config → Outcome) → Type 0
+StepsOn old new before after result f =
+    (c : Config) → StandsFor old c → NoDoubles c → c.script ≡ before → StepAs new after c (f c) result
+
+-- The rule is asked once in a taking step, and in no other: the process that was taken is what it picked, and it holds then what
+-- it holds after that. Where none was taken, it picked none that is runnable.
+abbrev pub PickedNone : Config → Option ℕ → Type 0
+PickedNone c None = Unit {0}
+PickedNone c (Some p) = taking c p ≡ None
+
+abbrev pub RuledAs : Chooser → Chooser → Config → Made → Type 0
+RuledAs before after c (made.Went t) = after ≡ before
+RuledAs before after c (made.Took p) = (picked before c.processes.runnable ≡ Some p) × (after ≡ held_then before)
+RuledAs before after c made.Ended = after ≡ before
+RuledAs before after c (made.Fault f) = after ≡ before
+RuledAs before after c made.NotReady = PickedNone c (picked before c.processes.runnable) × (ChoosesItself before → ⊥)
+RuledAs before after c made.NoMemory = after ≡ before
+
+abbrev pub Rules : Kernel → Chooser → Chooser → Made → Type 0
+Rules old before after result = (c : Config) → StandsFor old c → NoDoubles c → RuledAs before after c result
+
+-- a step that asks no rule
+abbrev pub IsPlain : Made → Type 0
+IsPlain (made.Went t) = Unit {0}
+IsPlain (made.Took p) = ⊥
+IsPlain made.Ended = Unit {0}
+IsPlain (made.Fault f) = Unit {0}
+IsPlain made.NotReady = ⊥
+IsPlain made.NoMemory = Unit {0}

@@ -1,0 +1,79 @@
+//! The evaluation phase.
+ghost use Rattle.std.specs.Prelude.{◌≡◌, []};
+ghost use Rattle.sim_model.specs.Steps.{evaluate};
+ghost use Rattle.sim_model.specs.Runs.{Chooser};
+ghost use Rattle.kernel_state.specs.Kernel.{IsSound};
+ghost use Rattle.kernel_state.specs.Moves.{IsOnTop};
+ghost use Rattle.kernel_runs.specs.Asked.{MayStep};
+ghost use Rattle.kernel_runs.specs.Made.{Makes, Rules};
+
+use crate::answers::{Made, Telling, of_instance};
+use crate::takings::take_next;
+use body_code::Program;
+use kernel_phases::update;
+use kernel_state::Kernel;
+use kernel_steps::step_statement;
+use process_choice::Choosing;
+use process_moves::top;
+use ready_set::least_of_a_set;
+use std::alloc::Global;
+
+/// With no instance active, the rule picks a runnable one, which is taken; with none runnable either the update phase follows.
+fn evaluate_next(k: &mut Kernel, choosing: &mut Choosing) -> Made
+    requires sound { IsSound k.old }
+    requires nobody { k.old.schedule.stack.items ≡ [] }
+    ensures makes { Makes k.old k.new result (λ c. evaluate c c.processes.stack c.processes.runnable) }
+    ensures rules { Rules k.old choosing.old choosing.new result }
+    ensures sound { IsSound k.new }
+{
+    least_of_a_set();
+    match k.schedule.ready.least() {
+        None => {
+            update(k);
+            Made::Went(Telling::Nothing)
+        }
+        Some(_) => match take_next(k, choosing) {
+            Some(p) => Made::Took(p),
+            None => Made::NotReady,
+        },
+    }
+}
+
+/// As many instances, payloads and references to payloads as a kernel has made in all, while it makes more: so that each has a
+/// number. A session of fewer steps never makes so many.
+const MOST_MADE: u32 = 2_147_483_648;
+
+/// A step of the instance on top.
+fn step_of_top(k: &mut Kernel, program: &Program, alloc: Global, p: u32) -> Made
+    requires sound { IsSound k.old }
+    requires asked { MayStep k.old program.now }
+    requires top { IsOnTop k.old p }
+    ensures makes { Makes k.old k.new result (λ c. evaluate c c.processes.stack c.processes.runnable) }
+    ensures rules { (held : Chooser) → Rules k.old held held result }
+    ensures sound { IsSound k.new }
+{
+    if k.made > MOST_MADE {
+        return Made::NoMemory;
+    }
+    of_instance(step_statement(k, program, alloc, p))
+}
+
+/// A step of the evaluation phase (IEEE 1666-2011, 4.2.1.2): one of the instance on top; with none active, the taking of the
+/// runnable one that the rule picks; with none runnable either, the update phase.
+pub(crate) fn evaluate(
+    k: &mut Kernel,
+    program: &Program,
+    alloc: Global,
+    choosing: &mut Choosing,
+) -> Made
+    requires sound { IsSound k.old }
+    requires asked { MayStep k.old program.now }
+    ensures makes { Makes k.old k.new result (λ c. evaluate c c.processes.stack c.processes.runnable) }
+    ensures rules { Rules k.old choosing.old choosing.new result }
+    ensures sound { IsSound k.new }
+{
+    match top(&k.schedule) {
+        Some(p) => step_of_top(k, program, alloc, p),
+        None => evaluate_next(k, choosing),
+    }
+}

@@ -1,0 +1,143 @@
+//! One step of a session.
+ghost use Rattle.std.specs.Prelude.{◌≡◌, ◌≢◌, ◌≤◌, [], drop, length, false, OnOk};
+ghost use Rattle.sim_model.specs.Phases as phases;
+ghost use Rattle.sim_model.specs.Steps as spec;
+ghost use Rattle.sim_model.specs.declared.plain.Phase.TheVariants as phase;
+ghost use Rattle.kernel_state.specs.Kernel.{IsSound};
+ghost use Rattle.kernel_phases.specs.Due.{HasRoom};
+ghost use Rattle.kernel_phases.specs.Fresh.{IsFresh};
+ghost use Rattle.kernel_runs.specs.Asked.{MayStep};
+ghost use Rattle.kernel_runs.specs.Made.{Makes, StepsOn, Rules, IsPlain};
+
+use crate::answers::{Made, Telling};
+use crate::commands::next_command;
+use crate::evaluation::evaluate;
+use body_code::Program;
+use kernel_phases::{delta, initialize, timed};
+use kernel_state::Kernel;
+use process_choice::Choosing;
+use sim_model::{Command, Phase};
+use std::alloc::{AllocError, Global};
+
+/// Room for all events in a list without members.
+fn reserve_events(k: &Kernel, events: &mut Vec<u32>) -> Result<(), AllocError>
+    requires none { events.old.items ≡ [] }
+    ensures room { OnOk result (HasRoom k.now events.new) }
+    ensures none { events.new.items ≡ [] }
+{
+    events.reserve(k.events.len() as usize)
+}
+
+/// Initialization.
+fn start(k: &mut Kernel, events: &mut Vec<u32>) -> Made
+    requires sound { IsSound k.old }
+    requires fresh { IsFresh k.old }
+    requires none { events.old.items ≡ [] }
+    ensures makes { Makes k.old k.new result (λ c. spec.went (phases.initialization c)) }
+    ensures plain { IsPlain result }
+    ensures none { events.new.items ≡ [] }
+    ensures sound { IsSound k.new }
+{
+    match reserve_events(k, events) {
+        Ok(()) => {
+            initialize(k, events);
+            Made::Went(Telling::Nothing)
+        }
+        Err(_) => Made::NoMemory,
+    }
+}
+
+/// The delta notification phase.
+fn notify(k: &mut Kernel, events: &mut Vec<u32>) -> Made
+    requires sound { IsSound k.old }
+    requires none { events.old.items ≡ [] }
+    ensures makes { Makes k.old k.new result (λ c. spec.went (phases.delta_step c)) }
+    ensures plain { IsPlain result }
+    ensures none { events.new.items ≡ [] }
+    ensures sound { IsSound k.new }
+{
+    match reserve_events(k, events) {
+        Ok(()) => {
+            delta(k, events);
+            Made::Went(Telling::Nothing)
+        }
+        Err(_) => Made::NoMemory,
+    }
+}
+
+/// The timed notification phase.
+fn go_to_next_time(k: &mut Kernel, events: &mut Vec<u32>) -> Made
+    requires sound { IsSound k.old }
+    requires none { events.old.items ≡ [] }
+    ensures makes { Makes k.old k.new result (λ c. spec.went (phases.timed_step c)) }
+    ensures plain { IsPlain result }
+    ensures none { events.new.items ≡ [] }
+    ensures sound { IsSound k.new }
+{
+    match reserve_events(k, events) {
+        Ok(()) => {
+            let _ = timed(k, events);
+            Made::Went(Telling::Nothing)
+        }
+        Err(_) => Made::NoMemory,
+    }
+}
+
+/// The step of the phase.
+fn go_on(
+    k: &mut Kernel,
+    program: &Program,
+    alloc: Global,
+    choosing: &mut Choosing,
+    events: &mut Vec<u32>,
+) -> Made
+    requires sound { IsSound k.old }
+    requires asked { MayStep k.old program.now }
+    requires running { k.old.cycle.phase ≢ phase.Idle }
+    requires going { k.old.cycle.stopped ≡ false }
+    requires none { events.old.items ≡ [] }
+    ensures makes { Makes k.old k.new result spec.step }
+    ensures rules { Rules k.old choosing.old choosing.new result }
+    ensures none { events.new.items ≡ [] }
+    ensures sound { IsSound k.new }
+{
+    match k.cycle.phase {
+        Phase::Idle => unreachable!(),
+        Phase::Start => start(k, events),
+        Phase::Evaluate => evaluate(k, program, alloc, choosing),
+        Phase::Notify => notify(k, events),
+        Phase::Timed => go_to_next_time(k, events),
+    }
+}
+
+/// Makes the next step of a session: the next command of the script where the kernel is idle, else the step of its phase, in
+/// which the rule is asked for the process where one is to be taken (IEEE 1666-2011, 4.2.1). `place` counts the commands that
+/// were carried out; `events` is a list without members, whose room is used again. The program is the kernel's own, held
+/// apart, so that no statement is copied.
+pub fn make_step(
+    k: &mut Kernel,
+    program: &Program,
+    alloc: Global,
+    script: &[Command],
+    place: &mut usize,
+    choosing: &mut Choosing,
+    events: &mut Vec<u32>,
+) -> Made
+    requires sound { IsSound k.old }
+    requires asked { MayStep k.old program.now }
+    requires within { place.old ≤ length script.now }
+    requires none { events.old.items ≡ [] }
+    ensures steps { StepsOn k.old k.new (drop place.old script.now) (drop place.new script.now) result spec.step }
+    ensures rules { Rules k.old choosing.old choosing.new result }
+    ensures sound { IsSound k.new }
+    ensures within { place.new ≤ length script.now }
+    ensures none { events.new.items ≡ [] }
+{
+    if k.cycle.stopped {
+        return Made::Ended;
+    }
+    match k.cycle.phase {
+        Phase::Idle => next_command(k, script, place),
+        _ => go_on(k, program, alloc, choosing, events),
+    }
+}

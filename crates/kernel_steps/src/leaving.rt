@@ -1,0 +1,114 @@
+//! The end of a call.
+ghost use Rattle.std.specs.Prelude.{◌≡◌, Some};
+ghost use Rattle.flat_design.specs.Code.{arena_of, statement_of};
+ghost use Rattle.kernel_state.specs.Kernel.{IsSound};
+ghost use Rattle.kernel_state.specs.Moves.{Lives};
+ghost use Rattle.call_moves.specs.Calling.{Leaves};
+ghost use Rattle.call_statements.specs.Leaving.{CalledBy, LeavesBy};
+ghost use Rattle.kernel_steps.specs.Ending.{IsEndOf};
+
+use body_code::Program;
+use call_moves::ending_call;
+use call_statements::{calling_statement, leave_plain_call};
+use flat_design::{NameUse, RunFault, Statement, Store};
+use kernel_state::Kernel;
+use transport_statements::{b_transport_returns, nb_transport_returns};
+
+/// How a call ends.
+#[derive(Clone, Copy)]
+pub(crate) enum CallEnd {
+    /// A `b_transport` over this socket, of this payload and with this delay, returns.
+    Blocking(u32, NameUse, NameUse),
+    /// An `nb_transport` with this target, over this socket, of this payload and with this phase and delay, returns.
+    NonBlocking(Option<Store>, u32, NameUse, NameUse, NameUse),
+    /// No transport call returns.
+    Plain,
+}
+
+/// How a call by this statement ends.
+fn end_by(statement: &Statement) -> CallEnd
+    ensures { IsEndOf result (Some (statement_of statement.now)) }
+{
+    match statement {
+        Statement::BTransport(socket, n, d) => CallEnd::Blocking(*socket, *n, *d),
+        Statement::NbTransport(target, socket, n, phase, d) => {
+            CallEnd::NonBlocking(*target, *socket, *n, *phase, *d)
+        }
+        Statement::Var(_, _, _)
+        | Statement::Assign(_, _)
+        | Statement::Call(_, _, _)
+        | Statement::Read(_, _)
+        | Statement::NbRead(_, _, _)
+        | Statement::NbWrite(_, _, _, _)
+        | Statement::Trylock(_, _)
+        | Statement::Unlock(_, _)
+        | Statement::SemTrywait(_, _)
+        | Statement::Write(_, _, _)
+        | Statement::Print(_, _)
+        | Statement::Notify(_)
+        | Statement::NotifyDelta(_)
+        | Statement::NotifyAfter(_, _)
+        | Statement::Cancel(_)
+        | Statement::Wait(_)
+        | Statement::NextTrigger(_)
+        | Statement::Lock(_)
+        | Statement::SemWait(_)
+        | Statement::Post(_)
+        | Statement::Make(_, _, _)
+        | Statement::Acquire(_)
+        | Statement::Release(_)
+        | Statement::Carry(_, _)
+        | Statement::QkGlobal(_)
+        | Statement::QkInc(_, _)
+        | Statement::QkSet(_, _)
+        | Statement::QkReset(_)
+        | Statement::Spawn(_)
+        | Statement::Control(_, _)
+        | Statement::ThrowIt(_, _)
+        | Statement::Throw(_)
+        | Statement::Return(_)
+        | Statement::Stop
+        | Statement::If(_, _, _)
+        | Statement::While(_, _)
+        | Statement::Guard(_, _)
+        | Statement::Try(_, _) => CallEnd::Plain,
+    }
+}
+
+/// How the call ends that ends next in the body of an instance, by the statement that called, if there was one.
+fn end_at(k: &Kernel, program: &Program, p: u32) -> CallEnd
+    requires lives { Lives k.now p }
+    requires leaves { Leaves k.now p }
+    requires same { arena_of program.now.code ≡ arena_of k.now.program.code }
+    ensures called { CalledBy k.now p (IsEndOf result) }
+{
+    match ending_call(k, p) {
+        Some(frame) => match calling_statement(program, frame.call) {
+            Some(statement) => end_by(statement),
+            None => CallEnd::Plain,
+        },
+        None => unreachable!(),
+    }
+}
+
+/// The end of a call: its frame is gone, a transport call's return is judged, and what is handed back is stored where the statement
+/// stands that called. It takes no memory.
+pub(crate) fn leave(k: &mut Kernel, program: &Program, p: u32) -> Result<(), RunFault>
+    requires sound { IsSound k.old }
+    requires lives { Lives k.old p }
+    requires leaves { Leaves k.old p }
+    requires same { arena_of program.now.code ≡ arena_of k.old.program.code }
+    ensures does { LeavesBy k.old k.new result p }
+    ensures sound { IsSound k.new }
+{
+    match end_at(k, program, p) {
+        CallEnd::Blocking(_, _, d) => b_transport_returns(k, p, d),
+        CallEnd::NonBlocking(target, _, _, phase, d) => {
+            nb_transport_returns(k, p, target, phase, d)
+        }
+        CallEnd::Plain => {
+            leave_plain_call(k, program, p);
+            Ok(())
+        }
+    }
+}

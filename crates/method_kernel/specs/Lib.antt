@@ -1,4 +1,0 @@
-pub mod Bodies
-pub mod Kernel
-pub mod Woken
-pub mod Deeds

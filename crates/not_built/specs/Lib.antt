@@ -1,4 +1,0 @@
-pub mod Constructs
-pub mod Found
-pub mod Missing
-pub mod OnlyBuilt

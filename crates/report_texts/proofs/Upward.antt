@@ -1,0 +1,35 @@
+-- Paths, one step up at a time.
+use Rattle.std.proofs.Common.{◌≡◌, ◌-◌, ◌<◌, ◌⊎◌, inl, inr, ◌++◌, ℕ, zero, suc, true, false, List, [], ◌∷◌, refl, ap, ◌∙◌, arith}
+use Rattle.std.specs.Prelude.{slice_get}
+use Rattle.flat_design.specs.declared.objects.Object.{Object}
+use Rattle.sim_model.specs.Configuration.{below, path_up, name_of, is_own_parent, parent_of}
+use Rattle.report_texts.specs.Climbs.{path_through}
+
+own_name : (n : ℕ) (objects : List Object) (i : ℕ) → is_own_parent i (slice_get objects i) ≡ true → path_up n objects i ≡ name_of (slice_get objects i)
+unfolding path_up
+own_name zero objects i own = refl
+own_name (suc n) objects i own = rw own refl
+
+no_step : (objects : List Object) (i : ℕ) → path_up 0 objects i ≡ name_of (slice_get objects i)
+unfolding path_up
+no_step objects i = refl
+
+one_up : (n : ℕ) (objects : List Object) (i : ℕ) → is_own_parent i (slice_get objects i) ≡ false → path_up (suc n) objects i ≡ below (path_up n objects (parent_of (slice_get objects i))) (name_of (slice_get objects i))
+unfolding path_up
+one_up n objects i own = rw own refl
+
+-- where no step up is made, the path is the name
+pub path_at_top : (n : ℕ) (objects : List Object) (i : ℕ) → (n ≡ 0) ⊎ (is_own_parent i (slice_get objects i) ≡ true) → path_up n objects i ≡ name_of (slice_get objects i)
+path_at_top n objects i (inl none) = ap (λ (m : ℕ). path_up m objects i) none ∙ no_step objects i
+path_at_top n objects i (inr own) = own_name n objects i own
+
+-- else it goes on above
+pub path_above : (n : ℕ) (objects : List Object) (i : ℕ) → (0 < n) × (is_own_parent i (slice_get objects i) ≡ false)
+    → path_up n objects i ≡ below (path_up (n - 1) objects (parent_of (slice_get objects i))) (name_of (slice_get objects i))
+path_above n objects i h =
+    let before : n ≡ suc (n - 1) = omega (arith, h.0) in
+    ap (λ (m : ℕ). path_up m objects i) before ∙ one_up (n - 1) objects i h.1
+
+pub through-push : (objects : List Object) (path up : List ℕ) (i : ℕ) → path_through objects path (up ++ i ∷ []) ≡ path_through objects (below path (name_of (slice_get objects i))) up
+through-push objects path [] i = refl
+through-push objects path (j ∷ up) i = ap (λ p. below p (name_of (slice_get objects j))) (through-push objects path up i)

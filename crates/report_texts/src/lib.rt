@@ -1,0 +1,14 @@
+//! The texts of a session over a kernel: the lines that its report gets while it runs, and what follows them at its end.
+#![tactic(auto)]
+
+mod closings;
+mod faults;
+mod instances;
+mod paths;
+mod pieces;
+mod prints;
+mod shows;
+
+pub use closings::closing;
+pub use prints::{printed_line, turn_text};
+pub use shows::show;

@@ -1,0 +1,64 @@
+//! Pieces of a text.
+ghost use Rattle.std.specs.Prelude.{◌≡◌, ◌++◌, OnOk};
+ghost use Rattle.std.specs.Fmt.{decimal};
+ghost use Rattle.logic_values.specs.ValueText.{text_of};
+ghost use Rattle.sim_model.specs.Texts.{with_number};
+
+use logic_values::{Value, value_text};
+use std::alloc::{AllocError, Global};
+
+/// Adds bytes.
+pub(crate) fn push_bytes(text: &mut Vec<u8>, piece: &[u8]) -> Result<(), AllocError>
+    ensures { OnOk result (text.new.items ≡ text.old.items ++ piece.now) }
+{
+    text.extend_from_slice(piece)
+}
+
+/// Adds a number in decimal.
+pub(crate) fn push_number(alloc: Global, text: &mut Vec<u8>, number: u64) -> Result<(), AllocError>
+    ensures { OnOk result (text.new.items ≡ text.old.items ++ decimal number) }
+{
+    let digits = format!(in alloc; "{number}")?;
+    text.extend_from_slice(digits.as_bytes())
+}
+
+/// Adds the text of a value; a handle has none.
+pub(crate) fn push_value(alloc: Global, text: &mut Vec<u8>, value: Value) -> Result<(), AllocError>
+    ensures { OnOk result (text.new.items ≡ text.old.items ++ text_of value) }
+{
+    match value {
+        Value::Handle(_) | Value::Pay(_) => Ok(()),
+        _ => {
+            let shown = value_text(alloc, value)?;
+            text.extend_from_slice(shown.as_slice())
+        }
+    }
+}
+
+/// Adds a word and a number behind it.
+pub(crate) fn push_word_and_number(
+    alloc: Global,
+    text: &mut Vec<u8>,
+    word: &[u8],
+    number: u64,
+) -> Result<(), AllocError>
+    ensures { OnOk result (text.new.items ≡ text.old.items ++ with_number word.now number) }
+{
+    text.extend_from_slice(word)?;
+    text.extend_from_slice(b" ")?;
+    push_number(alloc, text, number)
+}
+
+/// Adds a word and two numbers behind it.
+pub(crate) fn push_word_and_numbers(
+    alloc: Global,
+    text: &mut Vec<u8>,
+    word: &[u8],
+    first: u64,
+    second: u64,
+) -> Result<(), AllocError>
+    ensures { OnOk result (text.new.items ≡ text.old.items ++ with_number (with_number word.now first) second) }
+{
+    push_word_and_number(alloc, text, word, first)?;
+    push_word_and_number(alloc, text, b"", second)
+}

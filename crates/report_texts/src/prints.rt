@@ -1,0 +1,152 @@
+//! The lines of prints and of takings.
+ghost use Rattle.std.specs.Prelude.{◌≡◌, ◌++◌, ℕ, List, Option, Some, OnOk, IfOk};
+ghost use Rattle.flat_design.specs.Code as code;
+ghost use Rattle.flat_design.specs.Code.{Term, arena_of, statement_at, statement_of};
+ghost use Rattle.sim_model.specs.Steps as step;
+ghost use Rattle.sim_model.specs.Storing.{print_line};
+ghost use Rattle.report_texts.specs.Instances.{path_at, end_of_print, IsPrintLine, IsTurnLine};
+
+use crate::instances::push_path_at;
+use crate::pieces::{push_number, push_value};
+use flat_design::{Line, Statement, StmtId};
+use kernel_state::Kernel;
+use logic_values::Value;
+use std::alloc::{AllocError, Global};
+
+/// The text of a statement that is a print.
+fn print_text(statement: &Statement) -> &[u8]
+    ensures { (text : List ℕ) (shown : Option Term) → statement_of statement.now ≡ code.print text shown → result.now ≡ text }
+{
+    match statement {
+        Statement::Print(text, _) => text.bytes(),
+        Statement::Var(_, _, _)
+        | Statement::Assign(_, _)
+        | Statement::Call(_, _, _)
+        | Statement::Read(_, _)
+        | Statement::NbRead(_, _, _)
+        | Statement::NbWrite(_, _, _, _)
+        | Statement::Trylock(_, _)
+        | Statement::Unlock(_, _)
+        | Statement::SemTrywait(_, _)
+        | Statement::NbTransport(_, _, _, _, _)
+        | Statement::Write(_, _, _)
+        | Statement::Notify(_)
+        | Statement::NotifyDelta(_)
+        | Statement::NotifyAfter(_, _)
+        | Statement::Cancel(_)
+        | Statement::Wait(_)
+        | Statement::NextTrigger(_)
+        | Statement::Lock(_)
+        | Statement::SemWait(_)
+        | Statement::Post(_)
+        | Statement::Make(_, _, _)
+        | Statement::Acquire(_)
+        | Statement::Release(_)
+        | Statement::Carry(_, _)
+        | Statement::BTransport(_, _, _)
+        | Statement::QkGlobal(_)
+        | Statement::QkInc(_, _)
+        | Statement::QkSet(_, _)
+        | Statement::QkReset(_)
+        | Statement::Spawn(_)
+        | Statement::Control(_, _)
+        | Statement::ThrowIt(_, _)
+        | Statement::Throw(_)
+        | Statement::Return(_)
+        | Statement::Stop
+        | Statement::If(_, _, _)
+        | Statement::While(_, _)
+        | Statement::Guard(_, _)
+        | Statement::Try(_, _) => &[],
+    }
+}
+
+/// The text of the statement of this number, where it is a print.
+fn text_at(k: &Kernel, s: StmtId) -> &[u8]
+    ensures { (text : List ℕ) (shown : Option Term) → statement_at (arena_of k.now.program.code) s ≡ Some (code.print text shown) → result.now ≡ text }
+{
+    match k.program.statement(s) {
+        Some(statement) => print_text(statement),
+        None => &[],
+    }
+}
+
+/// Adds a value, where there is one, and the end of the line.
+fn push_end_of_print(
+    alloc: Global,
+    line: &mut Vec<u8>,
+    value: Option<Value>,
+) -> Result<(), AllocError>
+    ensures { OnOk result (line.new.items ≡ line.old.items ++ end_of_print value) }
+{
+    match value {
+        Some(value) => {
+            line.extend_from_slice(b" ")?;
+            push_value(alloc, line, value)?;
+            line.extend_from_slice(b"\n")
+        }
+        None => line.extend_from_slice(b"\n"),
+    }
+}
+
+/// The line of a print of this text, in terms of the kernel.
+fn line_of_print(
+    alloc: Global,
+    k: &Kernel,
+    p: u32,
+    text: &[u8],
+    value: Option<Value>,
+) -> Result<Line, AllocError>
+    ensures { IfOk result (λ line. line ≡ print_line k.now.cycle.now.0 (path_at k.now p) text.now value) }
+{
+    let mut line = Vec::new(alloc);
+    push_number(alloc, &mut line, k.cycle.now.0)?;
+    line.extend_from_slice(b" ")?;
+    push_path_at(alloc, &mut line, k, p)?;
+    line.extend_from_slice(b" ")?;
+    line.extend_from_slice(text)?;
+    push_end_of_print(alloc, &mut line, value)?;
+    Ok(Line::from_vec(line))
+}
+
+/// The line of a taking, in terms of the kernel.
+fn line_of_turn(alloc: Global, k: &Kernel, p: u32) -> Result<Line, AllocError>
+    ensures { IfOk result (λ line. line ≡ step.turn_line k.now.cycle.now.0 (path_at k.now p) p) }
+{
+    let mut line = Vec::new(alloc);
+    push_number(alloc, &mut line, k.cycle.now.0)?;
+    line.extend_from_slice(b" ")?;
+    push_path_at(alloc, &mut line, k, p)?;
+    line.extend_from_slice(b" turn ")?;
+    push_number(alloc, &mut line, u64::from(p))?;
+    line.extend_from_slice(b"\n")?;
+    Ok(Line::from_vec(line))
+}
+
+/// The line that a print of an instance adds to the report, where the print is the statement of this number and shows this
+/// value: the simulated time in picoseconds, the path of the instance, the text, and the value, where there is one.
+///
+/// # Errors
+/// Memory was refused.
+pub fn printed_line(
+    alloc: Global,
+    k: &Kernel,
+    p: u32,
+    s: StmtId,
+    value: Option<Value>,
+) -> Result<Line, AllocError>
+    ensures { IfOk result (λ line. IsPrintLine k.now p s value line) }
+{
+    line_of_print(alloc, k, p, text_at(k, s), value)
+}
+
+/// The line of a taking of an instance, which a report that tells the turns gets: the simulated time in picoseconds, the path
+/// of the instance, the word `turn` and the serial.
+///
+/// # Errors
+/// Memory was refused.
+pub fn turn_text(alloc: Global, k: &Kernel, p: u32) -> Result<Line, AllocError>
+    ensures { IfOk result (λ line. IsTurnLine k.now p line) }
+{
+    line_of_turn(alloc, k, p)
+}

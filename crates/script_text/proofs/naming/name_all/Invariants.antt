@@ -1,9 +1,0 @@
-use Rattle.std.proofs.Common.{◌≡◌, drop}
-use Rattle.method_model.specs.Configuration.{visible}
-use Rattle.script_text.specs.NamedScript.{name_script}
-use Rattle.script_text.specs.Naming.{behind}
-use Rattle.script_text.proofs.naming.name_all.Given as goal
-
-abbrev pub invariant-loop-command : goal.invariant-loop-command
-invariant-loop-command l =
-    name_script (visible l.design) l.fn.commands ≡ behind l.script (name_script (visible l.design) (drop l.command-index l.command-items))

@@ -1,3 +1,0 @@
-pub mod Show
-pub mod Made
-pub mod Course

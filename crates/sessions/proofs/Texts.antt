@@ -1,0 +1,78 @@
+-- What a step adds to a report, from the lines that are made of it.
+use Rattle.std.proofs.Common.{◌≡◌, ◌≤◌, ℕ, List, [], ◌∷◌, ◌++◌, drop, length, inr, Option, Some, None, Result, Ok, Err, refl, sym, ap, ◌∙◌, subst, arith, append-nil}
+use Rattle.std.specs.Prelude.{slice_get}
+use Rattle.std.specs.List.{flat_map}
+use Rattle.logic_values.specs.declared.kinds.Value.{Value}
+use Rattle.sim_io.specs.Told.{Grew}
+use Rattle.sim_io.specs.Taken.{TookOf}
+use Rattle.sim_io.specs.declared.outside.Trouble.{Trouble}
+use Rattle.sim_io.specs.declared.outside.Trouble.TheVariants as trouble
+use Rattle.flat_design.specs.declared.design.Visible.{Visible}
+use Rattle.sim_model.specs.Configuration.{Config, Told, line}
+use Rattle.sim_model.specs.Steps.{shows}
+use Rattle.sim_model.specs.Texts.{shown}
+use Rattle.sim_model.specs.declared.plain.Log.{Log}
+use Rattle.sim_model.specs.declared.plain.Log.TheVariants as log_of
+use Rattle.kernel_state.specs.Kernel.{StandsFor}
+use Rattle.kernel_state.specs.declared.kernel.Kernel.{Kernel}
+use Rattle.kernel_runs.specs.Made.{told_by_show}
+use Rattle.kernel_runs.specs.declared.answers.Telling.TheVariants as telling
+use Rattle.report_texts.specs.Instances.{IsPrintLine, IsTurnLine}
+use Rattle.report_texts.specs.Seen.{with_line}
+use Rattle.sessions.specs.Telling.{text_if, text_so_far, TextOf, TextOfTurn, TellsInto}
+use Rattle.sessions.proofs.Fronts.{texts-push}
+
+pub print_text : (k : Kernel) (p s : ℕ) (v : Option Value) (made : List ℕ) → IsPrintLine k p s v made → TextOf k (telling.Print p s v) made
+print_text k p s v made is log c d h adds =
+    ap (flat_map (shown log)) adds.told ∙ texts-push log c.trace.told _
+    ∙ ap (λ t. text_so_far log c ++ t) (sym (is d adds.teller adds.text adds.shown h adds.there adds.lives adds.prints))
+
+pub turn_text : (k : Kernel) (p : ℕ) (made : List ℕ) → IsTurnLine k p made → TextOfTurn k log_of.Turns p made
+turn_text k p made is c d h turns =
+    ap (flat_map (shown log_of.Turns)) turns.told ∙ texts-push log_of.Turns c.trace.told _
+    ∙ ap (λ t. text_so_far log_of.Turns c ++ t) (sym (is d turns.taken h turns.there turns.lives))
+
+pub no_turn_text : (k : Kernel) (p : ℕ) → TextOfTurn k log_of.Prints p []
+no_turn_text k p c d h turns = ap (flat_map (shown log_of.Prints)) turns.told ∙ texts-push log_of.Prints c.trace.told _
+
+pub nothing_text : (k : Kernel) → TextOf k telling.Nothing []
+nothing_text k log c d h told = ap (flat_map (shown log)) told ∙ sym (append-nil _)
+
+-- ---- a show
+
+told_if : Option (List ℕ) → List Told
+told_if None = []
+told_if (Some text) = line text ∷ []
+
+cancel : (xs ys zs : List Told) → xs ++ ys ≡ xs ++ zs → ys ≡ zs
+cancel [] ys zs e = e
+cancel (x ∷ xs) ys zs e = cancel xs ys zs (ap (drop 1) e)
+
+shown_adds : (d : Config) (o : Option Visible) → (shows d o).trace.told ≡ d.trace.told ++ told_by_show d o
+shown_adds d None = sym (append-nil _)
+shown_adds d (Some v) = refl
+
+line_adds : (d : Config) (o : Option (List ℕ)) → (with_line d o).trace.told ≡ d.trace.told ++ told_if o
+unfolding told_if
+line_adds d None = sym (append-nil _)
+line_adds d (Some text) = refl
+
+text_adds : (log : Log) (ts : List Told) (o : Option (List ℕ)) → flat_map (shown log) (ts ++ told_if o) ≡ flat_map (shown log) ts ++ text_if o
+unfolding told_if
+text_adds log ts None = ap (flat_map (shown log)) (append-nil ts) ∙ sym (append-nil _)
+text_adds log ts (Some text) = texts-push log ts (line text)
+
+pub show_text : (k : Kernel) (i : ℕ) (o : Option (List ℕ)) → ((d : Config) → StandsFor k d → shows d (slice_get d.design.visible i) ≡ with_line d o) → TextOf k (telling.Show i) (text_if o)
+show_text k i o made log c d h told =
+    let same : told_by_show d (slice_get d.design.visible i) ≡ told_if o = cancel d.trace.told _ _
+    (sym (shown_adds d (slice_get d.design.visible i)) ∙ ap (λ e. e.trace.told) (made d h) ∙ line_adds d o) in
+    ap (flat_map (shown log)) (told ∙ ap (λ ts. c.trace.told ++ ts) same) ∙ text_adds log c.trace.told o
+
+-- ---- what a sink took of it
+
+pub told_into : (T : List ℕ → Type 0) (text : List ℕ) (old new : Option (List ℕ)) (result : Result Unit Trouble) → T text → TookOf old new text result → TellsInto T old new result
+told_into T text old new (Ok u) is took = (text, is, subst (Grew old new) took.2 took.1)
+told_into T text old new (Err trouble.Failed) is took = (text, is, (took.2.0, took.2.1, subst (Grew old new) took.2.2 took.1))
+told_into T text old new (Err trouble.NoMemory) is took =
+    let count : took.2.0 ≤ length text = let less = took.2.1 in omega (arith, less) in
+    inr (text, is, (took.2.0, count, subst (Grew old new) took.2.2 took.1))

@@ -1,0 +1,90 @@
+//! How a session ends.
+ghost use Rattle.std.specs.Prelude.{◌≡◌, ◌≤◌, ◌+◌, ℕ, drop, length, Some, true};
+ghost use Rattle.sim_model.specs.Configuration.{Config};
+ghost use Rattle.sim_model.specs.Steps.{step};
+ghost use Rattle.sim_model.specs.Runs.{stop_within};
+ghost use Rattle.sim_model.specs.declared.plain.Rule.{Rule};
+ghost use Rattle.sim_model.specs.Texts as texts;
+ghost use Rattle.sim_io.specs.Cause.{RoseIf};
+ghost use Rattle.kernel_state.specs.Kernel.{StandsFor};
+ghost use Rattle.sessions.specs.Course.{Closes, IsEnd, IsEndedAs, IsOverAs, is_empty};
+
+use flat_design::Choices;
+use kernel_state::Kernel;
+use report_texts::closing;
+use sim_io::{Sink, Trouble, write_all};
+use sim_model::{Command, Phase, Stop};
+use std::alloc::Global;
+
+/// How a session that has ended came to its end.
+pub(crate) fn ended_as(k: &Kernel) -> Stop
+    ensures ended { IsEndedAs k.now result }
+    ensures end { IsEnd result }
+{
+    if k.cycle.stopped {
+        Stop::Stopped
+    } else {
+        Stop::Done
+    }
+}
+
+/// Whether no command is left.
+fn has_none_left(script: &[Command], place: usize) -> bool
+    requires { place ≤ length script.now }
+    ensures { result ≡ is_empty (drop place script.now) }
+{
+    place == script.len()
+}
+
+/// Whether the session has ended.
+fn is_over(k: &Kernel, script: &[Command], place: usize) -> bool
+    requires { place ≤ length script.now }
+    ensures { (c : Config) → StandsFor k.now c → c.script ≡ drop place script.now → IsOverAs result (step c) }
+{
+    if k.cycle.stopped {
+        return true;
+    }
+    match k.cycle.phase {
+        Phase::Idle => has_none_left(script, place),
+        _ => false,
+    }
+}
+
+/// How the session ends where the budget is used up.
+pub(crate) fn end_at_budget(k: &Kernel, script: &[Command], place: usize) -> Stop
+    requires { place ≤ length script.now }
+    ensures ending { (c : Config) (rule : Rule) (t : ℕ) → StandsFor k.now c → c.script ≡ drop place script.now → stop_within c rule t true (step c) ≡ Some result }
+    ensures end { IsEnd result }
+{
+    if is_over(k, script, place) {
+        ended_as(k)
+    } else {
+        Stop::Budget
+    }
+}
+
+/// How the session ends where no runnable process was picked after these takings.
+pub(crate) fn not_ready(choices: &Choices) -> Stop
+    ensures place { result ≡ Stop.Replay (length choices.now + 1) }
+    ensures end { IsEnd result }
+{
+    Stop::Replay {
+        place: choices.as_slice().len() as u64 + 1,
+    }
+}
+
+/// Writes what follows the lines of the run.
+pub(crate) fn finish<O: Sink>(alloc: Global, k: &Kernel, stop: Stop, out: &mut O) -> Stop
+    requires { IsEnd stop }
+    ensures closes { (c : Config) → StandsFor k.now c → Closes (texts.closing c stop) (O.holds out.old) (O.holds out.new) stop result }
+    ensures cause { RoseIf (O.faults out.old) (O.faults out.new) (result ≡ Stop.WriteFault) }
+{
+    match closing(alloc, k, stop) {
+        Ok(text) => match write_all(out, text.as_slice()) {
+            Ok(()) => stop,
+            Err(Trouble::Failed) => Stop::WriteFault,
+            Err(Trouble::NoMemory) => Stop::NoMemory,
+        },
+        Err(_) => Stop::NoMemory,
+    }
+}

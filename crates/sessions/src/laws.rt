@@ -1,0 +1,35 @@
+//! What a run of a sound design gives each of its steps.
+ghost use Rattle.std.specs.Prelude.{◌≡◌, ◌<◌, ◌-◌, ◌^◌};
+ghost use Rattle.flat_design.specs.Code.{arena_of};
+ghost use Rattle.body_code.specs.declared.program.Program.{Program};
+ghost use Rattle.sim_model.specs.Configuration.{Config};
+ghost use Rattle.kernel_state.specs.Kernel.{StandsFor, IsSound};
+ghost use Rattle.kernel_state.specs.declared.kernel.Kernel.{Kernel};
+ghost use Rattle.reached_laws.specs.Reached.{IsReached};
+ghost use Rattle.kernel_runs.specs.Asked.{MayStep};
+ghost use Rattle.sessions.specs.Begun.{GoesOn};
+
+use reached_laws::{
+    designs_stay, fresh_at_start, others_have_no_goal, reached_designs_are_sound, runnable_once,
+    runs_go_on, throws_are_free,
+};
+
+/// Where a kernel stands for a configuration that a run of a sound design comes to, its next step may be made.
+pub(crate) fn runs_may_step()
+    ensures { (k : Kernel) (program : Program) (c : Config) → StandsFor k c → IsReached c → c.design.events < 2 ^ 32 - 1
+        → arena_of program.code ≡ arena_of c.design.code → MayStep k program }
+{
+    fresh_at_start();
+    throws_are_free();
+    others_have_no_goal();
+    reached_designs_are_sound();
+}
+
+/// A run of a sound design goes on so.
+pub(crate) fn sound_runs_go_on()
+    ensures { GoesOn }
+{
+    runs_go_on();
+    designs_stay();
+    runnable_once();
+}

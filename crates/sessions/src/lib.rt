@@ -1,0 +1,11 @@
+//! A session: a script carried out over a design, with its report.
+#![tactic(auto)]
+
+mod ends;
+mod laws;
+mod looping;
+mod plans;
+mod tellings;
+
+pub use looping::run_session;
+pub use plans::{Outcome, Plan};

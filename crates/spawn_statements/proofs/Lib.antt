@@ -1,0 +1,4 @@
+pub mod Gathering
+pub mod Sensing
+pub mod Bearing
+pub mod Handing

@@ -1,0 +1,2 @@
+pub mod Sensitive
+pub mod Born

@@ -1,0 +1,28 @@
+-- What holds of a run whatever is chosen in it, and however control calls are nested.
+use Rattle.std.specs.Prelude.{◌≡◌, ℕ, List, Some}
+use Rattle.flat_design.specs.declared.design.Design.{Design}
+use Rattle.transport_laws.specs.Lawful.{Lawful}
+use Rattle.sim_model.specs.Clean.{Clean}
+use Rattle.sim_model.specs.Configuration.{Config, start}
+use Rattle.sim_model.specs.Runs.{after}
+use Rattle.sim_model.specs.Transport.{history}
+use Rattle.sim_model.specs.declared.plain.Command.{Command}
+use Rattle.once_laws.specs.Once.{Begins, HasNoGoal, ends_of, innermost_first, once_each}
+use Rattle.ended_laws.specs.Nowhere.{HasEnded, IsNamedNowhere}
+
+-- the configuration after so many steps with these choices
+abbrev pub IsAfter : Design → List Command → ℕ → List ℕ → Config → Type 0
+IsAfter design script n choices c = after n choices (start design script) ≡ Some c
+
+pub record Orderly (design : Design) (script : List Command) : Type 0 where
+  -- each configuration is clean
+  pub clean : (n : ℕ) (choices : List ℕ) (c : Config) → IsAfter design script n choices c → Clean c
+  -- nothing names an instance that has ended, and it stays ended
+  pub nowhere : (n : ℕ) (choices : List ℕ) (c : Config) → IsAfter design script n choices c → (q : ℕ) → HasEnded c q → IsNamedNowhere c q
+  pub stays : (n : ℕ) (choices : List ℕ) (c : Config) → IsAfter design script n choices c → (q : ℕ) → HasEnded c q
+      → (m : ℕ) (more : List ℕ) (e : Config) → after m more c ≡ Some e → HasEnded e q
+  -- once an unwinding is over, the unwind block of each guard that it began with has run exactly once, the innermost first
+  pub once : (n : ℕ) (choices : List ℕ) (c d : Config) → IsAfter design script n choices c → (q : ℕ) (guards : List ℕ) → Begins c d q guards
+      → (m : ℕ) (more : List ℕ) (e : Config) → after m more d ≡ Some e → HasNoGoal e q → ends_of guards e.trace.marks ≡ once_each q (innermost_first guards)
+  -- the history of each hop is lawful
+  pub lawful : (n : ℕ) (choices : List ℕ) (c : Config) → IsAfter design script n choices c → (hop : ℕ) → Lawful (history c hop)

@@ -1,0 +1,4 @@
+pub mod Codes
+pub mod Called
+pub mod Settled
+pub mod Ended

@@ -1,0 +1,3 @@
+pub mod Entries
+pub mod Calling
+pub mod Ending

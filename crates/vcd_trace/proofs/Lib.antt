@@ -1,0 +1,4 @@
+mod Texts
+mod Rows
+mod Tasks
+mod Joined
