@@ -1,0 +1,4 @@
+mod Wakes
+mod Moves
+mod Forms
+mod Steps
