@@ -1,0 +1,7 @@
+//! The generated model of a size: a producer, as many stages as the size says, and a consumer, joined by fifos.
+#![tactic(auto)]
+
+mod generated;
+mod modules;
+
+pub use generated::generate;
