@@ -25,6 +25,10 @@ abbrev pub script_line : ScriptFault → List ℕ
 script_line (script_fault.Syntax line) = syntax_line (codes "script") line
 script_line (script_fault.Command f) = fault_line (codes "script") f.line (kind_word f.kind) f.name
 
+-- a replay text that is no list of serials
+abbrev pub replay_line : ℕ → List ℕ
+replay_line line = syntax_line (codes "replay") line
+
 -- words that are refused, a file that could not be read, and one that is too large
 abbrev pub usage_line : List ℕ
 usage_line = codes "usage: tlmsim MODEL SCRIPT [options]\n"
@@ -41,6 +45,7 @@ err_line refusal.Usage = usage_line
 err_line (refusal.Read file) = read_line file
 err_line (refusal.Model f) = model_line f
 err_line (refusal.Script f) = script_line f
+err_line (refusal.Replay line) = replay_line line
 err_line (refusal.TooLarge file) = large_line file
 
 -- a run that was cut: by a write that failed, and for want of memory

@@ -94,6 +94,7 @@ pub fn refusal_line(alloc: Global, refusal: &Refusal) -> Result<Text, AllocError
         Refusal::Read(file) => file_line(alloc, b"read fault ", file.as_slice()),
         Refusal::Model(fault) => model_line(alloc, fault),
         Refusal::Script(fault) => script_line(alloc, fault),
+        Refusal::Replay(line) => syntax_line(alloc, "replay", *line),
         Refusal::TooLarge(file) => file_line(alloc, b"too large ", file.as_slice()),
     }
 }

@@ -31,6 +31,8 @@ pub enum Refusal {
     Model(ModelFault),
     /// The script is refused for what is wrong with it.
     Script(ScriptFault),
+    /// The replay text is no list of serials; the line at which it does not read, counted from 1.
+    Replay(u32),
     /// The file of this name has more bytes than its limit.
     TooLarge(Text),
 }
