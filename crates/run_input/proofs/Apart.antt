@@ -1,0 +1,77 @@
+-- Causes that exclude each other, of one text.
+use Rattle.std.proofs.Common.{◌≡◌, ◌⊎◌, ⊎_elim, ℕ, List, Option, Some, None, IsSome, Ok, Err, subst, ◌∙◌}
+use Rattle.model_tree.specs.Tree as tree
+use Rattle.model_tree.specs.declared.faults.Fault.{Fault}
+use Rattle.model_lexer.specs.Reads.{Reads}
+use Rattle.model_faults.specs.Passes.{first_fault}
+use Rattle.model_elaborate.specs.Elaborated.{elaboration_fault}
+use Rattle.model_print.specs.Printed.{printed_text}
+use Rattle.design_rules.specs.Designs.{IsDesignOf}
+use Rattle.flat_design.specs.declared.design.Design.{Design}
+use Rattle.sim_model.specs.declared.plain.Command.{Command}
+use Rattle.script_commands.specs.ScriptText.{read_script}
+use Rattle.script_commands.specs.NamedScript.{name_script}
+use Rattle.script_commands.specs.declared.forms.TextCommand.{TextCommand}
+use Rattle.run_input.specs.Judged.{HasNoTree, BreaksRule, BreaksWhole, IsBrokenModel, AcceptsModel, BreaksScript, IsBrokenScript, Accepts, ReadsReplay, IsBrokenReplay, IsLayoutOf}
+use Rattle.run_input.proofs.Designs.{same_naming}
+
+-- no text reads as two trees
+abbrev pub OneTree : Type 0
+OneTree = (text : List ℕ) (m n : tree.Model) → Reads text m → Reads text n → m ≡ n
+
+-- nothing is found, and something is
+found_none : {T : Type 0} (found : Option T) → found ≡ None → IsSome found → ⊥
+found_none None none some = cc
+found_none (Some x) none some = cc
+
+found_both : {T : Type 0} (find : tree.Model → Option T) (m n : tree.Model) → m ≡ n → find m ≡ None → IsSome (find n) → ⊥
+found_both find m n e none some = let P : tree.Model → Type 0 = λ x. find x ≡ None in found_none (find n) (subst P e none) some
+
+-- a model is not both accepted and refused
+pub not_broken : OneTree → (model : List ℕ) (m : tree.Model) → AcceptsModel model m → IsBrokenModel model → ⊥
+not_broken one model m a b =
+    ⊎_elim (λ none. none m a.reads)
+    (⊎_elim (λ f. found_both first_fault m f.m (one model m f.m a.reads f.reads) a.faultless f.fault)
+    (λ w. found_both elaboration_fault m w.m (one model m w.m a.reads w.reads) a.elaborated w.fault)) b
+
+-- nor refused for two causes
+pub not_unread : (model : List ℕ) → HasNoTree model → BreaksRule model ⊎ BreaksWhole model → ⊥
+not_unread model none b = ⊎_elim (λ f. none f.m f.reads) (λ w. none w.m w.reads) b
+
+pub not_ruled : OneTree → (model : List ℕ) → BreaksRule model → BreaksWhole model → ⊥
+not_ruled one model f w = found_both first_fault w.m f.m (one model w.m f.m w.reads f.reads) w.faultless f.fault
+
+-- a script is not both accepted and refused, over whatever designs of a model
+breaks : (d e : Design) (script : List ℕ) (text : List TextCommand) (commands : List Command) → ((cs : List TextCommand) → name_script d cs ≡ name_script e cs) → read_script script ≡ Ok text → name_script d text ≡ Ok commands → BreaksScript e script → ⊥
+breaks d e script text commands same read named b =
+    ⊎_elim (λ syntax. let e = syntax.1 in cc) (λ fault. other fault.0 fault.1 fault.2 fault.3) b
+  where
+    other : (text' : List TextCommand) (f : Fault) → read_script script ≡ Ok text' → name_script e text' ≡ Err f → ⊥
+    other text' f read' named' =
+        let one : text' ≡ text = cc in
+        let P : List TextCommand → Type 0 = λ t. name_script e t ≡ Err f in
+        let here : name_script e text ≡ Err f = subst P one named' in
+        let there : name_script d text ≡ Err f = same text ∙ here in
+        cc
+
+pub not_both : OneTree → (model script : List ℕ) (m n : tree.Model) (d : Design) (commands : List Command) → Accepts model script m d commands → AcceptsModel model n → IsBrokenScript n script → ⊥
+not_both one model script m n d commands a b broken =
+    let P : tree.Model → Type 0 = λ x. IsDesignOf x broken.design in
+    let is : IsDesignOf m broken.design = subst P (one model n m b.reads a.accepted.reads) broken.is_design in
+    breaks d broken.design script a.named.0 commands (same_naming m d broken.design a.is_design is) a.named.1 a.named.2 broken.breaks
+
+-- a replay text has a list or a line at which it does not read, and never both
+pub not_listed : (replay choices : Option (List ℕ)) → ReadsReplay replay choices → IsBrokenReplay replay → ⊥
+not_listed None choices h b = absurd b.1
+not_listed (Some text) None h b = absurd h
+not_listed (Some text) (Some list) h b = let e = b.1 in cc
+
+-- the laid-out text of a model is that of each tree that it is accepted as
+pub one_page : OneTree → (model page : List ℕ) (m : tree.Model) → IsLayoutOf model page → AcceptsModel model m → page ≡ printed_text m
+one_page one model page m l a =
+    let P : tree.Model → Type 0 = λ x. page ≡ printed_text x in
+    subst P (one model l.m m l.accepted.reads a.reads) l.page_is
+
+-- a model that has a laid-out text is not refused
+pub not_laid_out : OneTree → (model page : List ℕ) → IsLayoutOf model page → IsBrokenModel model → ⊥
+not_laid_out one model page l b = not_broken one model l.m l.accepted b

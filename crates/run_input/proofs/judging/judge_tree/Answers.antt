@@ -1,0 +1,43 @@
+use Rattle.std.proofs.Common.{◌≡◌, Some, None, inl, inr, subst}
+use Rattle.model_tree.specs.Seen.{model_of}
+use Rattle.model_tree.specs.declared.whole.Tree.{Tree}
+use Rattle.model_faults.specs.Passes.{first_fault}
+use Rattle.model_elaborate.specs.Elaborated.{elaboration_fault}
+use Rattle.design_rules.specs.Designs.{IsDesignOf}
+use Rattle.run_input.proofs.Refusals.{refused_fault}
+use Rattle.run_input.proofs.Designs.{can_run}
+use Rattle.run_input.proofs.judging.judge_tree.Goals as goal
+
+pub sound_design-requires-clause-limits : goal.sound_design-requires-clause-limits
+sound_design-requires-clause-limits c = c.in-Ok.checked.tree.sound
+
+pub returns-in-Ok-sound_design-clause-accepted : goal.returns-in-Ok-sound_design-clause-accepted
+returns-in-Ok-sound_design-clause-accepted c = λ text reads.
+    record {
+      reads = reads;
+      faultless = subst (λ (t : Tree). first_fault (model_of t) ≡ None) c.in-Ok.ensures.tree c.in-Ok.checked.accepted;
+      elaborated = subst (λ (t : Tree). elaboration_fault (model_of t) ≡ None) c.in-Ok.ensures.tree c.in-Ok-sound_design.ensures.accepted;
+    }
+
+pub returns-in-Ok-sound_design-clause-design : goal.returns-in-Ok-sound_design-clause-design
+returns-in-Ok-sound_design-clause-design c =
+    subst (λ (t : Tree). IsDesignOf (model_of t) c.in-Ok-sound_design.design) c.in-Ok.ensures.tree c.in-Ok-sound_design.ensures.design
+
+pub returns-in-Ok-sound_design-clause-runs : goal.returns-in-Ok-sound_design-clause-runs
+returns-in-Ok-sound_design-clause-runs c =
+    let made = c.in-Ok-sound_design.ensures in
+    can_run (model_of c.in-Ok.checked.tree) c.in-Ok-sound_design.design c.designs_are_few.ensures.processes c.designs_are_few.ensures.events made.accepted made.design made.sound
+
+pub returns-in-Err-Refused-clause-fault : goal.returns-in-Err-Refused-clause-fault
+returns-in-Err-Refused-clause-fault c = λ text reads.
+    let refused = c.in-Err-Refused in
+    let found : first_fault (model_of c.args.tree) ≡ Some refused.fault = refused_fault refused.field-0 refused.fault (first_fault (model_of c.args.tree)) refused.field-0-is refused.ensures.refused in
+    (model_of c.args.tree, reads, rw refused.field-0-is (inl found))
+
+pub returns-in-Err-Refused-sound_design-clause-fault : goal.returns-in-Err-Refused-sound_design-clause-fault
+returns-in-Err-Refused-sound_design-clause-fault c = λ text reads.
+    let refused = c.in-Err-Refused-sound_design in
+    let found : elaboration_fault (model_of c.in-Ok.checked.tree) ≡ Some refused.fault = refused_fault refused.field-0 refused.fault (elaboration_fault (model_of c.in-Ok.checked.tree)) refused.field-0-is refused.ensures.refused in
+    let none : first_fault (model_of c.args.tree) ≡ None = subst (λ (t : Tree). first_fault (model_of t) ≡ None) c.in-Ok.ensures.tree c.in-Ok.checked.accepted in
+    let whole : elaboration_fault (model_of c.args.tree) ≡ Some refused.fault = subst (λ (t : Tree). elaboration_fault (model_of t) ≡ Some refused.fault) c.in-Ok.ensures.tree found in
+    (model_of c.args.tree, reads, inr (none, whole))

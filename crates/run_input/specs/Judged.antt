@@ -1,0 +1,115 @@
+-- Which texts are accepted, and which are refused; and what the laid-out text of a model is.
+use Rattle.std.specs.Prelude.{◌≡◌, ◌≤◌, ◌<◌, ◌-◌, ◌^◌, ◌⊎◌, ℕ, List, length, Option, Some, None, IsSome, Ok, Err}
+use Rattle.model_tree.specs.Tree as tree
+use Rattle.model_tree.specs.declared.faults.Fault.{Fault}
+use Rattle.model_lexer.specs.Reads.{Reads}
+use Rattle.model_faults.specs.Passes.{first_fault}
+use Rattle.design_rules.specs.Designs.{IsDesignOf}
+use Rattle.model_elaborate.specs.Elaborated.{elaboration_fault}
+use Rattle.flat_design.specs.Sound.{SoundDesign}
+use Rattle.flat_design.specs.declared.design.Design.{Design}
+use Rattle.instance_table.specs.declared.TheConstants.{MAX_LIVE}
+use Rattle.whole_language.specs.Whole.{nothing_missing}
+use Rattle.sim_model.specs.declared.plain.Command.{Command}
+use Rattle.script_commands.specs.ScriptText.{read_script}
+use Rattle.script_commands.specs.NamedScript.{name_script}
+use Rattle.script_commands.specs.declared.forms.TextCommand.{TextCommand}
+use Rattle.script_commands.specs.ChoiceList.{read_choices}
+use Rattle.model_print.specs.Printed.{printed_text}
+use Rattle.run_input.specs.Together.{Together}
+use Rattle.refusal_lines.specs.declared.refusals.ModelFault.{ModelFault}
+use Rattle.refusal_lines.specs.declared.refusals.ModelFault.TheVariants as model_fault
+use Rattle.refusal_lines.specs.declared.refusals.ScriptFault.{ScriptFault}
+use Rattle.refusal_lines.specs.declared.refusals.ScriptFault.TheVariants as script_fault
+
+-- the model reads as no tree
+abbrev pub HasNoTree : List ℕ → Type 0
+HasNoTree model = (m : tree.Model) → Reads model m → ⊥
+
+-- the model reads as a tree, and breaks a rule on single modules
+pub record BreaksRule (model : List ℕ) : Type 0 where
+  pub m : tree.Model
+  pub reads : Reads model m
+  pub fault : IsSome (first_fault m)
+
+-- the model reads as a tree that breaks no such rule, whose instances or whose bindings are at fault
+pub record BreaksWhole (model : List ℕ) : Type 0 where
+  pub m : tree.Model
+  pub reads : Reads model m
+  pub faultless : first_fault m ≡ None
+  pub fault : IsSome (elaboration_fault m)
+
+-- the model is refused, for one of these causes
+abbrev pub IsBrokenModel : List ℕ → Type 0
+IsBrokenModel model = HasNoTree model ⊎ (BreaksRule model ⊎ BreaksWhole model)
+
+-- this is the first fault of a model: of a rule on single modules, or, where it breaks none, of its instances and bindings
+abbrev pub IsFirstFault : tree.Model → Fault → Type 0
+IsFirstFault m fault = (first_fault m ≡ Some fault) ⊎ ((first_fault m ≡ None) × (elaboration_fault m ≡ Some fault))
+
+-- what is said of a model that is refused is so: it reads as no tree; or as one of which this is the first fault
+abbrev pub HasModelFault : List ℕ → ModelFault → Type 0
+HasModelFault model (model_fault.Syntax line) = HasNoTree model
+HasModelFault model (model_fault.Rule fault) = (m : tree.Model) × Reads model m × IsFirstFault m fault
+
+-- the model reads as this tree, which breaks no rule, and whose instances and bindings are not at fault
+pub record AcceptsModel (model : List ℕ) (m : tree.Model) : Type 0 where
+  pub reads : Reads model m
+  pub faultless : first_fault m ≡ None
+  pub elaborated : elaboration_fault m ≡ None
+
+-- the design is that of the tree that the model is accepted as
+abbrev pub IsDesignOfText : List ℕ → Design → Type 0
+IsDesignOfText model d = (m : tree.Model) × AcceptsModel model m × IsDesignOf m d
+
+-- a design that a session can be run of: it is sound, and has no more processes and events than a session takes
+pub record CanRun (d : Design) : Type 0 where
+  pub sound : SoundDesign nothing_missing d
+  pub few : length d.processes ≤ MAX_LIVE
+  pub events : d.events < 2 ^ 32 - 1
+
+-- the script has no command list, or a command that names what the design lacks or has a bad value
+abbrev pub BreaksScript : Design → List ℕ → Type 0
+BreaksScript d script =
+    ((line : ℕ) × (read_script script ≡ Err line)) ⊎ ((text : List TextCommand) × (fault : Fault) × (read_script script ≡ Ok text) × (name_script d text ≡ Err fault))
+
+-- what is said of a script that is refused is so: it reads as no command list, and this line says so; or as commands
+-- of which this is the first fault over the design
+abbrev pub HasScriptFault : Design → List ℕ → ScriptFault → Type 0
+HasScriptFault d script (script_fault.Syntax line) = read_script script ≡ Err line
+HasScriptFault d script (script_fault.Command fault) = (text : List TextCommand) × (read_script script ≡ Ok text) × (name_script d text ≡ Err fault)
+
+-- the script is refused over a design of the tree
+pub record IsBrokenScript (m : tree.Model) (script : List ℕ) : Type 0 where
+  pub design : Design
+  pub is_design : IsDesignOf m design
+  pub breaks : BreaksScript design script
+
+-- the script has a command list, whose names and values fit the design
+abbrev pub NamesScript : Design → List ℕ → List Command → Type 0
+NamesScript d script commands = (text : List TextCommand) × (read_script script ≡ Ok text) × (name_script d text ≡ Ok commands)
+
+-- the model is accepted as this tree, of which this is a design, and the script as these commands over the design
+pub record Accepts (model script : List ℕ) (m : tree.Model) (d : Design) (commands : List Command) : Type 0 where
+  pub accepted : AcceptsModel model m
+  pub is_design : IsDesignOf m d
+  pub named : NamesScript d script commands
+
+-- the replay text is this list of serials; where there is no text there is no list
+abbrev pub ReadsReplay : Option (List ℕ) → Option (List ℕ) → Type 0
+ReadsReplay replay choices = Together replay choices (λ text list. read_choices text ≡ Ok list)
+
+-- what is said of a replay text that is refused is so: there is one, it is no list of serials, and this line says so
+abbrev pub HasReplayFault : Option (List ℕ) → ℕ → Type 0
+HasReplayFault None line = ⊥
+HasReplayFault (Some text) line = read_choices text ≡ Err line
+
+-- the replay text is refused
+abbrev pub IsBrokenReplay : Option (List ℕ) → Type 0
+IsBrokenReplay replay = (line : ℕ) × HasReplayFault replay line
+
+-- the model is accepted as a tree, and this is the text of that tree, laid out
+pub record IsLayoutOf (model page : List ℕ) : Type 0 where
+  pub m : tree.Model
+  pub accepted : AcceptsModel model m
+  pub page_is : page ≡ printed_text m

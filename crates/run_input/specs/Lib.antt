@@ -1,0 +1,5 @@
+pub mod Limits
+pub mod Together
+pub mod Loaded
+pub mod Judged
+pub mod Refused

@@ -1,0 +1,12 @@
+//! The input of a run: its texts, read each within its limit, and judged; and the laid-out text of a model.
+#![tactic(auto)]
+
+mod judging;
+mod laws;
+mod laying;
+mod loading;
+
+pub use judging::{JudgeStop, Judged, ModelStop, judge, judge_text};
+pub use laws::one_cause;
+pub use laying::laid_out;
+pub use loading::{LoadStop, MODEL_LIMIT, REPLAY_LIMIT, SCRIPT_LIMIT, Texts, load, load_model};

@@ -1,0 +1,2 @@
+//! The whole language: no construct of it is left out.
+#![tactic(auto)]
