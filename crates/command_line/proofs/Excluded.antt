@@ -1,6 +1,6 @@
 -- Options that do not stand together.
 use Rattle.std.proofs.Common.{◌≡◌, ◌∙◌, ◌&&◌, ℕ, List, Bool, true, false, cond, Option, Some, None, refl, sym, ap, not}
-use Rattle.std.specs.Prelude.{is_none}
+use Rattle.std.specs.Prelude.{is_none, option_and_then}
 use Rattle.std.specs.Str.{bytes_eq}
 use Rattle.std.proofs.lemmas.Bool.{and_left, and_right}
 use Rattle.std.proofs.lemmas.Slice.Eq.{bytes_eq-Decides}
@@ -8,7 +8,7 @@ use Rattle.clap.specs.Words.{Text}
 use Rattle.sim_model.specs.declared.plain.Log.{Log}
 use Rattle.command_line.specs.declared.modes.Order.{Order}
 use Rattle.command_line.specs.Given.{Given, given_by}
-use Rattle.command_line.specs.Line.{Mode, are_apart, budget_in, line_of, log_in, mode_by, names_no_run, order_in, rule_in, rule_with, simulation_named, simulation_with}
+use Rattle.command_line.specs.Line.{ChoiceRule, Format, Generate, Mode, Simulate, Simulation, are_apart, budget_in, format_alone, generated_alone, generated_with, line_of, log_in, mode_by, mode_in, names_no_run, order_in, rule_in, rule_with, simulation_named, simulation_with, steers_no_run}
 use Rattle.command_line.proofs.LineLemmas.{line_given}
 
 no_rule : (file : Text) (o : Option Order) → rule_with (Some file) false o ≡ None
@@ -76,3 +76,63 @@ one_file words g file given vcd choices =
     let same : bytes_eq file file ≡ true = (bytes_eq-Decides file file).1 refl in
     let apart : are_apart g.vcd g.choices ≡ false = rw (vcd, choices) (ap not same) in
     no_line words g given run (one_file_twice g.model g.script g apart)
+
+-- ---- a simulation writes its trace and its choices to different files
+
+by_test : (b : Bool) (x : Option Mode) (m : Mode) → cond b x None ≡ Some m → (b ≡ true) × (x ≡ Some m)
+by_test true x m e = (refl, e)
+by_test false x m e = cc
+
+trace_of : Option Mode → Option Text
+trace_of None = None
+trace_of (Some (Simulate s)) = s.vcd
+trace_of (Some (Format model)) = None
+trace_of (Some (Generate g)) = None
+
+choices_of : Option Mode → Option Text
+choices_of None = None
+choices_of (Some (Simulate s)) = s.choices
+choices_of (Some (Format model)) = None
+choices_of (Some (Generate g)) = None
+
+-- the files of a simulation are those that are given
+same_files : (m k : Text) (g : Given) (b : Option ℕ) (r : Option ChoiceRule) (l : Option Log) (s : Simulation) → simulation_with m k g b r l ≡ Some (Simulate s) → (g.vcd ≡ s.vcd) × (g.choices ≡ s.choices)
+unfolding trace_of choices_of
+same_files m k g None r l s e = cc
+same_files m k g (Some b) None l s e = cc
+same_files m k g (Some b) (Some r) None s e = cc
+same_files m k g (Some b) (Some r) (Some l) s e = (ap trace_of e, ap choices_of e)
+
+named_apart : (m k : Option Text) (g : Given) (s : Simulation) → simulation_named m k g ≡ Some (Simulate s) → are_apart s.vcd s.choices ≡ true
+named_apart None k g s e = cc
+named_apart (Some m) None g s e = cc
+named_apart (Some m) (Some k) g s e =
+    let (apart, is) = by_test (are_apart g.vcd g.choices) _ (Simulate s) e in
+    let (vcd, choices) = same_files m k g (budget_in g.budget) (rule_in g) (log_in g.log) s is in
+    sym (ap (λ x. are_apart x g.choices) vcd ∙ ap (λ x. are_apart s.vcd x) choices) ∙ apart
+
+formats_none : (m : Text) (g : Given) (s : Simulation) → format_alone m g ≡ Some (Simulate s) → are_apart s.vcd s.choices ≡ true
+formats_none m g s e = let (alone, is) = by_test (names_no_run g && steers_no_run g) (Some (Format m)) (Simulate s) e in cc
+
+generates_with : (n b : Option ℕ) (o : Option Order) (s : Simulation) → generated_with n b o ≡ Some (Simulate s) → are_apart s.vcd s.choices ≡ true
+generates_with None b o s e = cc
+generates_with (Some n) None o s e = cc
+generates_with (Some n) (Some b) None s e = cc
+generates_with (Some n) (Some b) (Some o) s e = cc
+
+generates_none : (n : Text) (g : Given) (s : Simulation) → generated_alone n g ≡ Some (Simulate s) → are_apart s.vcd s.choices ≡ true
+generates_none n g s e = let (alone, is) = by_test (names_no_run g) _ (Simulate s) e in generates_with _ _ _ s is
+
+mode_apart : (f n : Option Text) (g : Given) (s : Simulation) → mode_by f n g ≡ Some (Simulate s) → are_apart s.vcd s.choices ≡ true
+mode_apart None None g s e = named_apart g.model g.script g s e
+mode_apart (Some m) None g s e = formats_none m g s e
+mode_apart None (Some n) g s e = generates_none n g s e
+mode_apart (Some m) (Some n) g s e = cc
+
+given_apart : (words : List Text) (o : Option Given) (s : Simulation) → given_by words ≡ o → line_of words ≡ Some (Simulate s) → are_apart s.vcd s.choices ≡ true
+unfolding line_of
+given_apart words None s given e = let none : line_of words ≡ None = ap (option_and_then mode_in) given in cc
+given_apart words (Some g) s given e = mode_apart g.format g.generate g s (sym (line_given words g (mode_in g) given refl) ∙ e)
+
+pub writes_apart : (words : List Text) (s : Simulation) → line_of words ≡ Some (Simulate s) → are_apart s.vcd s.choices ≡ true
+writes_apart words s e = given_apart words (given_by words) s refl e

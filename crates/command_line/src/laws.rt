@@ -1,6 +1,6 @@
 ghost use Rattle.std.specs.Prelude.{◌≡◌, ◌∷◌, [], List, ℕ, Some, None, true};
 ghost use Rattle.command_line.specs.Given.{Given, given_by};
-ghost use Rattle.command_line.specs.Line.{Simulate, line_of};
+ghost use Rattle.command_line.specs.Line.{Simulate, Simulation, are_apart, line_of};
 ghost use Rattle.command_line.specs.Plain.{has_no_hyphen, plain_simulation};
 
 /// Two names that begin with no hyphen ask for a simulation of these files, with all that is left out as by default.
@@ -18,4 +18,9 @@ pub fn what_excludes_what()
         → g.replay ≡ Some file → g.choices ≡ Some name → line_of words ≡ None }
     ensures one_file { (words : List (List ℕ)) (g : Given) (file : List ℕ) → given_by words ≡ Some g
         → g.vcd ≡ Some file → g.choices ≡ Some file → line_of words ≡ None }
+{}
+
+/// A simulation writes its trace and its choices to different files.
+pub fn simulations_write_apart()
+    ensures { (words : List (List ℕ)) (s : Simulation) → line_of words ≡ Some (Simulate s) → are_apart s.vcd s.choices ≡ true }
 {}

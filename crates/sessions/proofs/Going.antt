@@ -1,18 +1,19 @@
 -- A session as far as it has come, and how it may end there.
-use Rattle.std.proofs.Common.{◌≡◌, ◌<◌, ◌≤◌, ◌+◌, ℕ, zero, suc, Bool, true, false, not, nat_le, inl, inr, List, [], ◌∷◌, ◌++◌, length, drop, Option, Some, None, Ok, Err, refl, sym, ◌∙◌, ap, subst, arith, append_assoc, append-nil}
+use Rattle.std.proofs.Common.{◌≡◌, ◌<◌, ◌≤◌, ◌+◌, ℕ, zero, suc, Bool, true, false, not, nat_le, List, [], ◌∷◌, ◌++◌, length, drop, Option, Some, None, Result, Ok, Err, refl, sym, ◌∙◌, ap, subst, arith, append_assoc, append-nil}
 use Rattle.std.specs.Prelude.{slice_get, if◌then◌else◌}
 use Rattle.std.specs.List.{flat_map}
 use Rattle.std.proofs.lemmas.Bool.Decides.{nat_tests}
-use Rattle.sim_io.specs.Told.{Grew}
+use Rattle.sim_io.specs.declared.outside.Trouble.{Trouble}
 use Rattle.sim_io.specs.declared.outside.Trouble.TheVariants as trouble
-use Rattle.sim_io.proofs.Chains.{grew_on, grew_none}
 use Rattle.flat_design.specs.declared.faults.RunFault.{RunFault}
+use Rattle.flat_design.specs.declared.design.Design.{Design}
 use Rattle.flat_design.specs.declared.design.Visible.{Visible}
-use Rattle.sim_model.specs.Configuration.{Config, Told}
+use Rattle.sim_model.specs.Configuration.{Config, Snapshot, Told}
 use Rattle.sim_model.specs.Waits.{holds}
 use Rattle.sim_model.specs.Steps.{Outcome, went, faulted, takes, ended, step, taken_if}
-use Rattle.sim_model.specs.Runs.{Chooser, least, greatest, seeded, listed, chooser_of, picked, held_then, first_of, rest_of, missing, stop_of, stop_at, stop_taking, stop_within}
-use Rattle.sim_model.specs.Texts.{shown, closing, report}
+use Rattle.sim_model.specs.Runs.{Chooser, least, greatest, seeded, listed, chooser_of, picked, held_then, first_of, rest_of, missing, stop_at, stop_taking, stop_within}
+use Rattle.sim_model.specs.Texts.{shown, closing, choice_text}
+use Rattle.sim_model.specs.Trace.{header, all_values, each_later, first_values, later_values, trace_text}
 use Rattle.sim_model.specs.declared.plain.Command.{Command}
 use Rattle.sim_model.specs.declared.plain.Log.{Log}
 use Rattle.sim_model.specs.declared.plain.Rule.{Rule}
@@ -23,39 +24,38 @@ use Rattle.process_choice.specs.Own.{ChoosesItself}
 use Rattle.kernel_state.specs.declared.kernel.Kernel.{Kernel}
 use Rattle.kernel_state.specs.Kernel.{StandsFor}
 use Rattle.reached_laws.specs.Reached.{IsReached}
+use Rattle.snapshot_laws.specs.Added.{added}
+use Rattle.file_texts.specs.Traced.{trace_so_far, Keeps}
+use Rattle.file_texts.specs.declared.tracing.Tracing.{Tracing}
 use Rattle.kernel_runs.specs.Made.{StepsOn, Rules, PickedNone, GoesTo, TookTo, TookIt, IsFault, IsUntaken, IsOver, TellsOf, told_by_show}
 use Rattle.kernel_runs.specs.declared.answers.Telling.{Telling}
 use Rattle.kernel_runs.specs.declared.answers.Telling.TheVariants as telling
 use Rattle.kernel_runs.specs.declared.answers.Made.TheVariants as made
-use Rattle.sessions.specs.Fronts.{WroteFirst}
-use Rattle.sessions.specs.Telling.{text_so_far, TextOf, TextOfTurn, TellsInto}
+use Rattle.sessions.specs.Cut.{cut_by}
+use Rattle.sessions.specs.Outputs.{Texts, behind, no_texts, Outer, Names, Took, IsFront, AreFronts, text_for}
+use Rattle.sessions.specs.Telling.{text_so_far, TextOf, TextOfTurn, TextFor, KeepsIf, HeaderOf, PointOf, LastPointOf, IsClosing, IsListOf, Recorded, Nothing, Finishes, stopped_by}
 use Rattle.sessions.specs.Begun.{GoesOn}
-use Rattle.sessions.specs.Course.{Ran, Wrote, Closes, IsEndedAs, all_but_last, text_at}
+use Rattle.sessions.specs.Course.{Ran, Wrote, IsEnd, IsEndedAs, all_but_last, texts_at, end_of}
+use Rattle.sessions.specs.declared.plans.Plan.{Plan}
+use Rattle.sessions.proofs.Outputs.{cut_short, cut_somewhere, took_whole, took_as, took_on, took_nothing}
 use Rattle.sessions.proofs.Reached.{Reached, held_after, starts, by_step, by_taking, run_of, ruled_of}
-use Rattle.sessions.proofs.Fronts.{texts-push, split, all_but_pushed, first_of_longer, short_after, front_after, front_of}
+use Rattle.sessions.proofs.Fronts.{texts-push, split, all_but_pushed}
 
-pub record Going (rule : Rule) (log : Log) (first : Config) (held : Chooser) (choices : List ℕ) (steps : ℕ) (k : Kernel) (script : List Command) (old now : Option (List ℕ)) : Type 0 where
+-- the texts so far
+abbrev pub so_far : Plan → Config → Texts
+so_far plan c = texts_at plan c [] None
+
+pub record Going (plan : Plan) (first : Config) (held : Chooser) (choices : List ℕ) (steps : ℕ) (k : Kernel) (script : List Command) (tracing : Tracing) (AreNamed : Names → Type 0) (old now : Outer) : Type 0 where
   pub at : Config
   pub stands : StandsFor k at
   pub left : at.script ≡ script
-  pub reached : Reached rule first held choices steps at
+  pub reached : Reached plan.rule first held choices steps at
   pub sound : IsReached at
   pub design : at.design ≡ first.design
-  pub written : Grew old now (text_so_far log at)
+  pub keeps : KeepsIf plan.vcd tracing at.trace.snapshots
+  pub written : Took AreNamed old now (so_far plan at)
 
-pub begins : (rule : Rule) (log : Log) (first : Config) (k : Kernel) (script : List Command) (sink : Option (List ℕ)) → StandsFor k first → first.script ≡ script → first.trace.told ≡ [] → IsReached first
-    → Going rule log first (chooser_of rule) [] 0 k script sink sink
-begins rule log first k script sink stands left empty sound = record {
-  at = first;
-  stands = stands;
-  left = left;
-  reached = starts rule first;
-  sound = sound;
-  design = refl;
-  written = subst (λ ts. Grew sink sink (flat_map (shown log) ts)) (sym empty) (grew_none sink);
-}
-
--- ---- what a step tells
+-- ---- what a step adds
 
 -- from what was told to the next configuration: the text is longer, and the text before lacks at most that of one that was told
 pub record Longer (log : Log) (ts : List Told) (to : Config) : Type 0 where
@@ -91,109 +91,209 @@ longer log at to telling.Nothing is = longer_by_none log at to is
 longer log at to (telling.Print p s v) adds = longer_by_one log at to _ adds.told
 longer log at to (telling.Show i) is = longer_by_show log at to (slice_get to.design.visible i) is
 
+-- ---- the trace
+
+-- the values of more snapshots begin with those of the first ones
+later_begin : (s : Snapshot) (ss more : List Snapshot) → IsFront (each_later s ss) (each_later s (ss ++ more))
+later_begin s [] more = (each_later s more, refl)
+later_begin s (t ∷ ss) more =
+    let (rest, is) = later_begin t ss more in
+    (rest, ap (λ x. later_values s t ++ x) is ∙ sym (append_assoc (later_values s t) (each_later t ss) rest))
+
+values_begin : (ss more : List Snapshot) → IsFront (all_values ss) (all_values (ss ++ more))
+values_begin [] more = (all_values more, refl)
+values_begin (s ∷ ss) more =
+    let (rest, is) = later_begin s ss more in
+    (rest, ap (λ x. first_values s ++ x) is ∙ sym (append_assoc (first_values s) (each_later s ss) rest))
+
+-- a trace with more snapshots is longer
+trace_front : (d : Design) (ss more : List Snapshot) → IsFront (header d ++ all_values ss) (header d ++ all_values (ss ++ more))
+trace_front d ss more =
+    let (rest, is) = values_begin ss more in
+    (rest, ap (λ x. header d ++ x) is ∙ sym (append_assoc (header d) (all_values ss) rest))
+
+-- the trace so far of a configuration of the same design, whose snapshots are these
+so_traced : (d : Design) (ss : List Snapshot) (to : Config) → to.design ≡ d → to.trace.snapshots ≡ ss → trace_so_far to ≡ header d ++ all_values ss
+so_traced d ss to same seen = ap (λ x. header x ++ all_values to.trace.snapshots) same ∙ ap (λ x. header d ++ all_values x) seen
+
+trace_on : (v : Option ℕ) (at to : Config) (more : List Snapshot) → to.design ≡ at.design → to.trace.snapshots ≡ at.trace.snapshots ++ more → IsFront (text_for v (trace_so_far at)) (text_for v (trace_so_far to))
+trace_on None at to more same seen = ([], refl)
+trace_on (Some id) at to more same seen =
+    let (rest, is) = trace_front at.design at.trace.snapshots more in
+    (rest, so_traced at.design (at.trace.snapshots ++ more) to same seen ∙ is)
+
+-- what a point adds to the trace, and what is kept behind it
+pub record Traced (v : Option ℕ) (at to : Config) (after : Tracing) (text : List ℕ) : Type 0 where
+  pub adds : text_for v (trace_so_far to) ≡ text_for v (trace_so_far at) ++ text
+  pub keeps : KeepsIf v after to.trace.snapshots
+
+point_on : (v : Option ℕ) (k : Kernel) (time : ℕ) (before after : Tracing) (at to : Config) → step at ≡ went to → StandsFor k to → at.cycle.now ≡ time → to.design ≡ at.design
+    → KeepsIf v before at.trace.snapshots → (text : List ℕ) → TextFor v (PointOf k time before after) text → Traced v at to after text
+point_on None k time before after at to goes stands now same keeps text is = record { adds = sym is; keeps = tt }
+point_on (Some id) k time before after at to goes stands now same keeps text is = record {
+  adds = is.adds at to goes stands now same keeps;
+  keeps = is.keeps at to goes stands now keeps;
+}
+
+nothing_on : (v : Option ℕ) (tracing : Tracing) (at to : Config) → to.design ≡ at.design → to.trace.snapshots ≡ at.trace.snapshots → KeepsIf v tracing at.trace.snapshots → (text : List ℕ) → Nothing text → Traced v at to tracing text
+nothing_on None tracing at to same seen keeps text none = record { adds = sym none; keeps = tt }
+nothing_on (Some id) tracing at to same seen keeps text none = record {
+  adds = so_traced at.design at.trace.snapshots to same seen ∙ sym (ap (λ x. trace_so_far at ++ x) none ∙ append-nil (trace_so_far at));
+  keeps = subst (Keeps tracing) (sym seen) keeps;
+}
+
 -- ---- one step more
 
--- a step led here, and of the text that it adds this is known
-pub record Advanced (rule : Rule) (log : Log) (first : Config) (held : Chooser) (choices : List ℕ) (steps : ℕ) (at : Config) (k : Kernel) (script : List Command) (T : List ℕ → Type 0) : Type 0 where
+-- a step led here, and of the texts that it adds this is known
+pub record Advanced (plan : Plan) (first : Config) (held : Chooser) (choices : List ℕ) (steps : ℕ) (at : Config) (k : Kernel) (script : List Command) (after : Tracing) (T P : List ℕ → Type 0) : Type 0 where
   pub to : Config
   pub stands : StandsFor k to
   pub left : to.script ≡ script
-  pub reached : Reached rule first held choices steps to
+  pub reached : Reached plan.rule first held choices steps to
   pub sound : IsReached to
   pub design : to.design ≡ at.design
-  pub grown : Longer log at.trace.told to
-  pub adds : (text : List ℕ) → T text → text_so_far log to ≡ text_so_far log at ++ text
+  pub grown : Longer plan.log at.trace.told to
+  pub adds : (text : List ℕ) → T text → text_so_far plan.log to ≡ text_so_far plan.log at ++ text
+  pub traced : IsFront (text_for plan.vcd (trace_so_far at)) (text_for plan.vcd (trace_so_far to))
+  pub traces : (text : List ℕ) → P text → Traced plan.vcd at to after text
 
-module _ (goes_on : GoesOn) (rule : Rule) (log : Log) (first : Config) (held : Chooser) (choices : List ℕ) (steps : ℕ) (k k' : Kernel) (script script' : List Command) (old mid : Option (List ℕ)) (g : Going rule log first held choices steps k script old mid) where
-  pub went_on : (t : Telling) → StepsOn k k' script script' (made.Went t) step → Advanced rule log first held choices (steps + 1) g.at k' script' (TextOf k' t)
-  went_on t moves = from (step g.at) refl (moves g.at g.stands (goes_on.once g.at g.sound) g.left)
+module _ (goes_on : GoesOn) (plan : Plan) (first : Config) (held : Chooser) (choices : List ℕ) (steps : ℕ) (k k' : Kernel) (script script' : List Command) (before after : Tracing) (AreNamed : Names → Type 0) (old mid : Outer) (g : Going plan first held choices steps k script before AreNamed old mid) where
+  pub went_on : (t : Telling) (time : ℕ) → ((c : Config) → StandsFor k c → time ≡ c.cycle.now) → StepsOn k k' script script' (made.Went t) step
+      → Advanced plan first held choices (steps + 1) g.at k' script' after (TextOf k' t) (TextFor plan.vcd (PointOf k' time before after))
+  went_on t time now moves = from (step g.at) refl (moves g.at g.stands (goes_on.once g.at g.sound) g.left)
     where
-      from : (o : Outcome) → step g.at ≡ o → GoesTo k' t (record g.at { script = script' }) o → Advanced rule log first held choices (steps + 1) g.at k' script' (TextOf k' t)
+      from : (o : Outcome) → step g.at ≡ o → GoesTo k' t (record g.at { script = script' }) o → Advanced plan first held choices (steps + 1) g.at k' script' after (TextOf k' t) (TextFor plan.vcd (PointOf k' time before after))
       from (went d) e h = record {
         to = d;
         stands = h.0;
         left = h.1;
-        reached = by_step rule first held choices steps g.at d g.reached e;
+        reached = by_step plan.rule first held choices steps g.at d g.reached e;
         sound = goes_on.steps g.at d g.sound e;
         design = goes_on.keeps g.at d g.sound e;
-        grown = longer log (record g.at { script = script' }) d t h.2;
-        adds = λ text is. is log (record g.at { script = script' }) d h.0 h.2;
+        grown = longer plan.log (record g.at { script = script' }) d t h.2;
+        adds = λ text is. is plan.log (record g.at { script = script' }) d h.0 h.2;
+        traced = trace_on plan.vcd g.at d (added g.at d) (goes_on.keeps g.at d g.sound e) (goes_on.sees g.at d e);
+        traces = point_on plan.vcd k' time before after g.at d e h.0 (sym (now g.at g.stands)) (goes_on.keeps g.at d g.sound e) g.keeps;
       }
       from (faulted f) e h = absurd h
       from takes e h = absurd h
       from ended e h = absurd h
 
-  pub took_one : (p : ℕ) (next : Chooser) → StepsOn k k' script script' (made.Took p) step → Rules k held next (made.Took p) → Advanced rule log first next (choices ++ p ∷ []) (steps + 1) g.at k' script' (TextOfTurn k' log p)
+  pub took_one : (p : ℕ) (next : Chooser) → StepsOn k k' script script' (made.Took p) step → Rules k held next (made.Took p)
+      → Advanced plan first next (choices ++ p ∷ []) (steps + 1) g.at k' script' before (TextOfTurn k' plan.log p) Nothing
   took_one p next moves rules = from (step g.at) refl (moves g.at g.stands (goes_on.once g.at g.sound) g.left)
     where
       picks : (picked held g.at.processes.runnable ≡ Some p) × (next ≡ held_then held)
       picks = rules g.at g.stands (goes_on.once g.at g.sound)
 
-      from : (o : Outcome) → step g.at ≡ o → TookTo k' p g.at o × (script' ≡ g.at.script) → Advanced rule log first next (choices ++ p ∷ []) (steps + 1) g.at k' script' (TextOfTurn k' log p)
+      from : (o : Outcome) → step g.at ≡ o → TookTo k' p g.at o × (script' ≡ g.at.script) → Advanced plan first next (choices ++ p ∷ []) (steps + 1) g.at k' script' before (TextOfTurn k' plan.log p) Nothing
       from (went d) e h = absurd h.0
       from (faulted f) e h = absurd h.0
       from takes e h =
           let took : TookIt k' p g.at = h.0 in
+          let same : took.to.design ≡ g.at.design = goes_on.takings_keep g.at took.to p g.sound e took.taken in
+          let seen : took.to.trace.snapshots ≡ g.at.trace.snapshots = goes_on.takings_see g.at took.to p took.taken in
           record {
             to = took.to;
             stands = took.stands;
             left = took.script ∙ sym h.1;
-            reached = subst (λ x. Reached rule first x (choices ++ p ∷ []) (steps + 1) took.to) (sym picks.1) (by_taking rule first held choices steps g.at took.to p g.reached e took.taken picks.0);
+            reached = subst (λ x. Reached plan.rule first x (choices ++ p ∷ []) (steps + 1) took.to) (sym picks.1) (by_taking plan.rule first held choices steps g.at took.to p g.reached e took.taken picks.0);
             sound = goes_on.takings g.at took.to p g.sound e took.taken;
-            design = goes_on.takings_keep g.at took.to p g.sound e took.taken;
-            grown = longer_by_one log g.at took.to _ took.turn.told;
+            design = same;
+            grown = longer_by_one plan.log g.at took.to _ took.turn.told;
             adds = λ text is. is g.at took.to took.stands took.turn;
+            traced = trace_on plan.vcd g.at took.to [] same (seen ∙ sym (append-nil g.at.trace.snapshots));
+            traces = nothing_on plan.vcd before g.at took.to same seen g.keeps;
           }
       from ended e h = absurd h.0
 
--- the text of a session in a configuration begins with the text so far
-text_begins : (log : Log) (c : Config) (e : Option Stop) → (rest : List ℕ) × (text_at log c e ≡ text_so_far log c ++ rest)
-text_begins log c None = ([], sym (append-nil _))
-text_begins log c (Some s) = (closing c s, refl)
+-- ---- the texts of a session in a configuration begin with the texts so far
 
-module _ (rule : Rule) (log : Log) (first : Config) (held next : Chooser) (budget : ℕ) (choices later : List ℕ) (steps now_steps : ℕ) (k k' : Kernel) (script script' : List Command) (old mid now : Option (List ℕ)) (T : List ℕ → Type 0) (g : Going rule log first held choices steps k script old mid) (a : Advanced rule log first next later now_steps g.at k' script' T) where
-  -- its text was written whole
-  pub goes_one_on : TellsInto T mid now (Ok tt) → Going rule log first next later now_steps k' script' old now
-  goes_one_on took = record {
+report_begins : (plan : Plan) (c : Config) (choices : List ℕ) (e : Option Stop) → IsFront (text_so_far plan.log c) (texts_at plan c choices e).report
+report_begins plan c choices None = ([], sym (append-nil _))
+report_begins plan c choices (Some s) = (closing c s, refl)
+
+last_values : (c : Config) → IsFront (trace_so_far c) (trace_text c)
+last_values c = trace_front c.design c.trace.snapshots _
+
+trace_whole : (v : Option ℕ) (c : Config) → IsFront (text_for v (trace_so_far c)) (text_for v (trace_text c))
+trace_whole None c = ([], refl)
+trace_whole (Some id) c = last_values c
+
+trace_begins : (plan : Plan) (c : Config) (choices : List ℕ) (e : Option Stop) → IsFront (text_for plan.vcd (trace_so_far c)) (texts_at plan c choices e).trace
+trace_begins plan c choices None = ([], sym (append-nil _))
+trace_begins plan c choices (Some s) = trace_whole plan.vcd c
+
+texts_begin : (plan : Plan) (c : Config) (choices : List ℕ) (e : Option Stop) → AreFronts (so_far plan c) (texts_at plan c choices e)
+texts_begin plan c choices e = record { report = report_begins plan c choices e; trace = trace_begins plan c choices e; choices = (_, refl) }
+
+front_on : (a b c : List ℕ) → IsFront a b → IsFront b c → IsFront a c
+front_on a b c (x, is) (y, at) = (x ++ y, at ∙ ap (λ z. z ++ y) is ∙ append_assoc a x y)
+
+front_more : (a b c : List ℕ) → IsFront a b → IsFront a (b ++ c)
+front_more a b c front = front_on a b (b ++ c) front (c, refl)
+
+front_as : (a b c : List ℕ) → a ≡ b → IsFront b c → IsFront a c
+front_as a b c same front = subst (λ x. IsFront x c) (sym same) front
+
+module _ (plan : Plan) (first : Config) (held next : Chooser) (choices later : List ℕ) (steps now_steps : ℕ) (k k' : Kernel) (script script' : List Command) (before after : Tracing) (AreNamed : Names → Type 0) (old mid now : Outer) (T P : List ℕ → Type 0)
+    (g : Going plan first held choices steps k script before AreNamed old mid) (a : Advanced plan first next later now_steps g.at k' script' after T P) where
+  -- its texts were written whole
+  pub goes_one_on : Recorded T P Nothing AreNamed mid now (Ok tt) → Going plan first next later now_steps k' script' after AreNamed old now
+  goes_one_on r = record {
     at = a.to;
     stands = a.stands;
     left = a.left;
     reached = a.reached;
     sound = a.sound;
     design = a.design ∙ g.design;
-    written = subst (Grew old now) (sym (a.adds took.0 took.1)) (grew_on old mid now (text_so_far log g.at) took.0 g.written took.2);
+    keeps = (a.traces r.texts.trace r.parts.1).keeps;
+    written = took_whole T P Nothing AreNamed old mid now (so_far plan g.at) (so_far plan a.to) a.adds (λ text is. (a.traces text is).adds) (λ text none. sym none) g.written r;
   }
 
-  in_text : (e : Option Stop) (text : List ℕ) → text_so_far log a.to ≡ text_so_far log g.at ++ text → (rest : List ℕ) × (text_at log a.to e ≡ text_so_far log g.at ++ (text ++ rest))
-  in_text e text is =
-      let begins = text_begins log a.to e in
-      (begins.0, begins.1 ∙ ap (λ bytes. bytes ++ begins.0) is ∙ append_assoc (text_so_far log g.at) text begins.0)
+  ending : Option Stop
+  ending = end_of plan a.to later now_steps
 
-  ran_so : (s : Stop) → now_steps ≤ budget → Wrote log a.to (stop_of a.to rule (length later) now_steps budget) old now s → (bytes : List ℕ) → Grew mid now bytes → Ran first rule log budget later now_steps s old now
-  ran_so s within wrote bytes more = record {
+  whole : Texts
+  whole = texts_at plan a.to later ending
+
+  begun : AreFronts (so_far plan g.at) whole
+  unfolding whole ending
+  begun = record {
+    report = front_on _ _ _ (a.grown.more, a.grown.adds) (report_begins plan a.to later ending);
+    trace = front_on _ _ _ a.traced (trace_begins plan a.to later ending);
+    choices = (_, refl);
+  }
+
+  reports : (text : List ℕ) → T text → IsFront ((so_far plan g.at).report ++ text) whole.report
+  unfolding whole ending
+  reports text is = front_as _ _ _ (sym (a.adds text is)) (report_begins plan a.to later ending)
+
+  traces : (text : List ℕ) → P text → IsFront ((so_far plan g.at).trace ++ text) whole.trace
+  unfolding whole ending
+  traces text is = front_as _ _ _ (sym (a.traces text is).adds) (trace_begins plan a.to later ending)
+
+  lists : (text : List ℕ) → Nothing text → IsFront text whole.choices
+  unfolding whole ending
+  lists text none = front_as _ _ _ none (_, refl)
+
+  ran_so : (s : Stop) → now_steps ≤ plan.budget → Wrote (Took AreNamed old now) (end_of plan a.to later now_steps) (texts_at plan a.to later (end_of plan a.to later now_steps)) s → (t : Texts) → Took AreNamed mid now t → Ran first plan later now_steps s (Took AreNamed old now)
+  ran_so s within wrote t more = record {
     last = a.to;
-    is_run = run_of rule first next later now_steps a.to a.reached;
-    ruled = ruled_of rule first next later now_steps a.to a.reached;
+    is_run = run_of plan.rule first next later now_steps a.to a.reached;
+    ruled = ruled_of plan.rule first next later now_steps a.to a.reached;
     within = within;
     wrote = wrote;
-    earlier = first_of_longer old mid now (text_so_far log g.at) (flat_map (shown log) (all_but_last a.to.trace.told)) a.grown.last bytes a.grown.before g.written more;
+    earlier = (behind (so_far plan g.at) t, took_on AreNamed old mid now (so_far plan g.at) t g.written more, front_more _ _ t.report (a.grown.last, a.grown.before));
   }
 
-  -- it was cut by a fault of the sink
-  pub cut_in_line : now_steps ≤ budget → TellsInto T mid now (Err trouble.Failed) → Ran first rule log budget later now_steps stop.WriteFault old now
-  cut_in_line within took =
-      let text = in_text (stop_of a.to rule (length later) now_steps budget) took.0 (a.adds took.0 took.1) in
-      ran_so stop.WriteFault within (short_after old mid now _ (text_so_far log g.at) took.0 text.0 text.1 g.written took.2) _ took.2.2
-
-  -- memory was refused, before there was a text or while it was written
-  pub refused_in_line : now_steps ≤ budget → TellsInto T mid now (Err trouble.NoMemory) → Ran first rule log budget later now_steps stop.NoMemory old now
-  refused_in_line within (inl none) =
-      let text = in_text (stop_of a.to rule (length later) now_steps budget) a.grown.more a.grown.adds in
-      let grew : Grew old now (text_so_far log g.at) = subst (Grew old now) (append-nil _) (grew_on old mid now (text_so_far log g.at) [] g.written none) in
-      ran_so stop.NoMemory within (front_of old now _ (text_so_far log g.at) (a.grown.more ++ text.0) text.1 grew) [] none
-  refused_in_line within (inr took) =
-      let text = in_text (stop_of a.to rule (length later) now_steps budget) took.0 (a.adds took.0 took.1) in
-      ran_so stop.NoMemory within (front_after old mid now _ (text_so_far log g.at) took.0 text.0 text.1 g.written took.2) _ took.2.2
+  -- it was cut while they were written
+  pub cut_in_texts : (e : Trouble) → now_steps ≤ plan.budget → Recorded T P Nothing AreNamed mid now (Err e) → Ran first plan later now_steps (cut_by e) (Took AreNamed old now)
+  unfolding whole ending
+  cut_in_texts trouble.Failed within r =
+      ran_so stop.WriteFault within (cut_short T P Nothing AreNamed old mid now (so_far plan g.at) whole begun reports traces lists g.written r) r.texts r.took
+  cut_in_texts trouble.NoMemory within r =
+      ran_so stop.NoMemory within (cut_somewhere T P Nothing AreNamed old mid now (so_far plan g.at) whole begun reports traces lists g.written r) r.texts r.took
 
 -- ---- a rule that picked none that is runnable is a replayed list, whose next choice is missing or not runnable
 
@@ -241,140 +341,237 @@ not_taken (rule_of.Replay choices) n c held same none other =
 
 -- ---- ends
 
--- an end that is no cut, with its whole text
-whole : (log : Log) (c : Config) (s s' : Stop) (old mid now : Option (List ℕ)) → Grew old mid (text_so_far log c) → s' ≡ s → Grew mid now (closing c s) → (Some s ≡ Some s') × Grew old now (report log c s')
-whole log c s s' old mid now written same grew =
-    (ap (λ t. Some t) (sym same), subst (λ t. Grew old now (report log c t)) (sym same) (grew_on old mid now (text_so_far log c) (closing c s) written grew))
-
-closes_wrote : (log : Log) (c : Config) (s s' : Stop) (old mid now : Option (List ℕ)) → Grew old mid (text_so_far log c) → Closes (closing c s) mid now s s' → Wrote log c (Some s) old now s'
-closes_wrote log c s stop.WriteFault old mid now written h =
-    short_after old mid now (report log c s) (text_so_far log c) (closing c s) [] (ap (λ t. text_so_far log c ++ t) (sym (append-nil (closing c s)))) written h
-closes_wrote log c s stop.NoMemory old mid now written h =
-    front_after old mid now (report log c s) (text_so_far log c) (closing c s) [] (ap (λ t. text_so_far log c ++ t) (sym (append-nil (closing c s)))) written h
-closes_wrote log c s stop.Done old mid now written h = whole log c s stop.Done old mid now written h.0 h.1
-closes_wrote log c s stop.Stopped old mid now written h = whole log c s stop.Stopped old mid now written h.0 h.1
-closes_wrote log c s stop.Budget old mid now written h = whole log c s stop.Budget old mid now written h.0 h.1
-closes_wrote log c s (stop.Replay place) old mid now written h = whole log c s (stop.Replay place) old mid now written h.0 h.1
-closes_wrote log c s (stop.Fault f) old mid now written h = whole log c s (stop.Fault f) old mid now written h.0 h.1
-
--- whatever became of the closing text, something was written, be it nothing
-closing_bytes : (text : List ℕ) (mid now : Option (List ℕ)) (s s' : Stop) → Closes text mid now s s' → (bytes : List ℕ) × Grew mid now bytes
-closing_bytes text mid now s stop.WriteFault h = (_, h.2)
-closing_bytes text mid now s stop.NoMemory h = (_, h.2)
-closing_bytes text mid now s stop.Done h = (text, h.1)
-closing_bytes text mid now s stop.Stopped h = (text, h.1)
-closing_bytes text mid now s stop.Budget h = (text, h.1)
-closing_bytes text mid now s (stop.Replay place) h = (text, h.1)
-closing_bytes text mid now s (stop.Fault f) h = (text, h.1)
-
 not_used_up : (steps budget : ℕ) → steps < budget → nat_le budget steps ≡ false
 not_used_up steps budget h = grind (arith, nat_tests)
 
 used_up : (steps budget : ℕ) → budget ≤ steps → nat_le budget steps ≡ true
 used_up steps budget h = grind (arith, nat_tests)
 
-module _ (rule : Rule) (log : Log) (first : Config) (held : Chooser) (budget : ℕ) (choices : List ℕ) (steps : ℕ) (old : Option (List ℕ)) where
+-- an end that is no cut, with its whole texts
+wrote_whole : (TookIt : Texts → Type 0) (s : Stop) (texts : Texts) → IsEnd s → TookIt texts → Wrote TookIt (Some s) texts s
+wrote_whole TookIt stop.WriteFault texts end took = absurd end
+wrote_whole TookIt stop.NoMemory texts end took = absurd end
+wrote_whole TookIt stop.Done texts end took = (refl, took)
+wrote_whole TookIt stop.Stopped texts end took = (refl, took)
+wrote_whole TookIt stop.Budget texts end took = (refl, took)
+wrote_whole TookIt (stop.Replay place) texts end took = (refl, took)
+wrote_whole TookIt (stop.Fault f) texts end took = (refl, took)
+
+last_point : (v : Option ℕ) (k : Kernel) (tracing : Tracing) (c : Config) → StandsFor k c → KeepsIf v tracing c.trace.snapshots → (text : List ℕ) → TextFor v (LastPointOf k tracing) text → text_for v (trace_text c) ≡ text_for v (trace_so_far c) ++ text
+last_point None k tracing c stands keeps text none = sym none
+last_point (Some id) k tracing c stands keeps text is = sym (is c stands keeps)
+
+listed_whole : (v : Option ℕ) (choices text : List ℕ) → TextFor v (IsListOf choices) text → text_for v (choice_text choices) ≡ text
+listed_whole None choices text none = sym none
+listed_whole (Some id) choices text is = sym is
+
+module _ (plan : Plan) (first : Config) (held : Chooser) (choices : List ℕ) (steps : ℕ) (AreNamed : Names → Type 0) (old : Outer) where
+  Ends : Kernel → Tracing → Outer → Outer → Stop → Stop → Type 0
+  Ends k tracing mid now s s' = Finishes (Recorded (IsClosing k s) (TextFor plan.vcd (LastPointOf k tracing)) (TextFor plan.choices (IsListOf choices)) AreNamed mid now) s s'
+
+  module _ (k : Kernel) (script : List Command) (tracing : Tracing) (mid now : Outer) (s : Stop) (g : Going plan first held choices steps k script tracing AreNamed old mid) where
+    T : List ℕ → Type 0
+    T = IsClosing k s
+
+    P : List ℕ → Type 0
+    P = TextFor plan.vcd (LastPointOf k tracing)
+
+    C : List ℕ → Type 0
+    C = TextFor plan.choices (IsListOf choices)
+
+    all_texts : Texts
+    all_texts = texts_at plan g.at choices (Some s)
+
+    report_whole : (text : List ℕ) → T text → all_texts.report ≡ (so_far plan g.at).report ++ text
+    unfolding T all_texts
+    report_whole text is = ap (λ x. text_so_far plan.log g.at ++ x) (sym (is g.at g.stands))
+
+    trace_of : (text : List ℕ) → P text → all_texts.trace ≡ (so_far plan g.at).trace ++ text
+    unfolding P all_texts
+    trace_of text is = last_point plan.vcd k tracing g.at g.stands g.keeps text is
+
+    list_of : (text : List ℕ) → C text → all_texts.choices ≡ text
+    unfolding C all_texts
+    list_of text is = listed_whole plan.choices choices text is
+
+    as_front : (a b : List ℕ) → b ≡ a → IsFront a b
+    as_front a b same = ([], same ∙ sym (append-nil a))
+
+    ran_to : (x : Stop) → steps ≤ plan.budget → end_of plan g.at choices steps ≡ Some s → Wrote (Took AreNamed old now) (Some s) all_texts x → (t : Texts) → Took AreNamed mid now t → Ran first plan choices steps x (Took AreNamed old now)
+    unfolding all_texts
+    ran_to x within ending wrote t more =
+        let cut = split plan.log g.at.trace.told in
+        record {
+          last = g.at;
+          is_run = run_of plan.rule first held choices steps g.at g.reached;
+          ruled = ruled_of plan.rule first held choices steps g.at g.reached;
+          within = within;
+          wrote = subst (λ e. Wrote (Took AreNamed old now) e (texts_at plan g.at choices e) x) (sym ending) wrote;
+          earlier = (behind (so_far plan g.at) t, took_on AreNamed old mid now (so_far plan g.at) t g.written more, front_more _ _ t.report cut);
+        }
+
+    ends_by : (s' : Stop) (written : Result Unit Trouble) → IsEnd s → steps ≤ plan.budget → end_of plan g.at choices steps ≡ Some s → Recorded T P C AreNamed mid now written → s' ≡ stopped_by s written → Ran first plan choices steps s' (Took AreNamed old now)
+    unfolding all_texts
+    ends_by s' (Ok u) end within ending r is = subst (λ x. Ran first plan choices steps x (Took AreNamed old now)) (sym is)
+        (ran_to s within ending (wrote_whole (Took AreNamed old now) s all_texts end (took_whole T P C AreNamed old mid now (so_far plan g.at) all_texts report_whole trace_of list_of g.written r)) r.texts r.took)
+    ends_by s' (Err trouble.Failed) end within ending r is = subst (λ x. Ran first plan choices steps x (Took AreNamed old now)) (sym is)
+        (ran_to stop.WriteFault within ending (cut_short T P C AreNamed old mid now (so_far plan g.at) all_texts (texts_begin plan g.at choices (Some s)) (λ text h. as_front _ _ (report_whole text h)) (λ text h. as_front _ _ (trace_of text h)) (λ text h. as_front _ _ (list_of text h)) g.written r) r.texts r.took)
+    ends_by s' (Err trouble.NoMemory) end within ending r is = subst (λ x. Ran first plan choices steps x (Took AreNamed old now)) (sym is)
+        (ran_to stop.NoMemory within ending (cut_somewhere T P C AreNamed old mid now (so_far plan g.at) all_texts (texts_begin plan g.at choices (Some s)) (λ text h. as_front _ _ (report_whole text h)) (λ text h. as_front _ _ (trace_of text h)) (λ text h. as_front _ _ (list_of text h)) g.written r) r.texts r.took)
+
   -- a session that has come to an end of its own
-  finished : (k : Kernel) (script : List Command) (mid now : Option (List ℕ)) (s s' : Stop) (g : Going rule log first held choices steps k script old mid) → steps ≤ budget → stop_of g.at rule (length choices) steps budget ≡ Some s → Closes (closing g.at s) mid now s s' → Ran first rule log budget choices steps s' old now
-  finished k script mid now s s' g within ending closes =
-      let closed = closing_bytes (closing g.at s) mid now s s' closes in
-      let cut = split log g.at.trace.told in
-      record {
-        last = g.at;
-        is_run = run_of rule first held choices steps g.at g.reached;
-        ruled = ruled_of rule first held choices steps g.at g.reached;
-        within = within;
-        wrote = subst (λ e. Wrote log g.at e old now s') (sym ending) (closes_wrote log g.at s s' old mid now g.written closes);
-        earlier = first_of_longer old mid now (text_so_far log g.at) (flat_map (shown log) (all_but_last g.at.trace.told)) cut.0 closed.0 cut.1 g.written closed.1;
-      }
+  finished : (k : Kernel) (script : List Command) (tracing : Tracing) (mid now : Outer) (s s' : Stop) (g : Going plan first held choices steps k script tracing AreNamed old mid) → IsEnd s → steps ≤ plan.budget → end_of plan g.at choices steps ≡ Some s
+      → Ends k tracing mid now s s' → Ran first plan choices steps s' (Took AreNamed old now)
+  unfolding Ends T P C
+  finished k script tracing mid now s s' g end within ending (written, recorded, is) = ends_by k script tracing mid now s g s' written end within ending recorded is
 
   -- out of memory between two steps
-  pub cut_before_step : (k : Kernel) (script : List Command) (now : Option (List ℕ)) → Going rule log first held choices steps k script old now → steps ≤ budget → Ran first rule log budget choices steps stop.NoMemory old now
-  cut_before_step k script now g within =
-      let begins = text_begins log g.at (stop_of g.at rule (length choices) steps budget) in
-      let cut = split log g.at.trace.told in
+  pub cut_before_step : (k : Kernel) (script : List Command) (tracing : Tracing) (now : Outer) → Going plan first held choices steps k script tracing AreNamed old now → steps ≤ plan.budget → Ran first plan choices steps stop.NoMemory (Took AreNamed old now)
+  cut_before_step k script tracing now g within =
+      let cut = split plan.log g.at.trace.told in
       record {
         last = g.at;
-        is_run = run_of rule first held choices steps g.at g.reached;
-        ruled = ruled_of rule first held choices steps g.at g.reached;
+        is_run = run_of plan.rule first held choices steps g.at g.reached;
+        ruled = ruled_of plan.rule first held choices steps g.at g.reached;
         within = within;
-        wrote = front_of old now _ (text_so_far log g.at) begins.0 begins.1 g.written;
-        earlier = first_of_longer old now now (text_so_far log g.at) (flat_map (shown log) (all_but_last g.at.trace.told)) cut.0 [] cut.1 g.written (grew_none now);
+        wrote = record { front = so_far plan g.at; fronts = texts_begin plan g.at choices (end_of plan g.at choices steps); took = g.written };
+        earlier = (so_far plan g.at, g.written, cut);
       }
 
-  module _ (goes_on : GoesOn) (k k' : Kernel) (script script' : List Command) (mid now : Option (List ℕ)) (s' : Stop) (g : Going rule log first held choices steps k script old mid) where
+  module _ (goes_on : GoesOn) (k k' : Kernel) (script script' : List Command) (tracing : Tracing) (mid now : Outer) (s' : Stop) (g : Going plan first held choices steps k script tracing AreNamed old mid) where
     -- a kernel that stands for the same configuration
-    moved : StandsFor k' g.at → script' ≡ g.at.script → Going rule log first held choices steps k' script' old mid
-    moved stands same = record { at = g.at; stands = stands; left = sym same; reached = g.reached; sound = g.sound; design = g.design; written = g.written }
+    moved : StandsFor k' g.at → script' ≡ g.at.script → Going plan first held choices steps k' script' tracing AreNamed old mid
+    moved stands same = record { at = g.at; stands = stands; left = sym same; reached = g.reached; sound = g.sound; design = g.design; keeps = g.keeps; written = g.written }
 
-    ends_so : (s : Stop) → StandsFor k' g.at → script' ≡ g.at.script → steps < budget → stop_of g.at rule (length choices) steps budget ≡ Some s → ((c : Config) → StandsFor k' c → Closes (closing c s) mid now s s') → Ran first rule log budget choices steps s' old now
+    ends_so : (s : Stop) → IsEnd s → StandsFor k' g.at → script' ≡ g.at.script → steps < plan.budget → end_of plan g.at choices steps ≡ Some s → Ends k' tracing mid now s s' → Ran first plan choices steps s' (Took AreNamed old now)
     unfolding moved
-    ends_so s stands same below ending closes =
-        finished k' script' mid now s s' (moved stands same) (omega (arith, below)) ending (closes g.at stands)
+    ends_so s end stands same below ending closes = finished k' script' tracing mid now s s' (moved stands same) end (omega (arith, below)) ending closes
 
     -- no step is left
-    pub ended_run : (s : Stop) → StepsOn k k' script script' made.Ended step → steps < budget → IsEndedAs k' s → ((c : Config) → StandsFor k' c → Closes (closing c s) mid now s s') → Ran first rule log budget choices steps s' old now
-    ended_run s over below how closes = from (step g.at) refl (over g.at g.stands (goes_on.once g.at g.sound) g.left)
+    pub ended_run : (s : Stop) → IsEnd s → StepsOn k k' script script' made.Ended step → steps < plan.budget → IsEndedAs k' s
+        → Finishes (Recorded (IsClosing k' s) (TextFor plan.vcd (LastPointOf k' tracing)) (TextFor plan.choices (IsListOf choices)) AreNamed mid now) s s' → Ran first plan choices steps s' (Took AreNamed old now)
+    unfolding Ends
+    ended_run s end over below how closes = from (step g.at) refl (over g.at g.stands (goes_on.once g.at g.sound) g.left)
       where
-        from : (o : Outcome) → step g.at ≡ o → IsOver k' g.at o × (script' ≡ g.at.script) → Ran first rule log budget choices steps s' old now
+        from : (o : Outcome) → step g.at ≡ o → IsOver k' g.at o × (script' ≡ g.at.script) → Ran first plan choices steps s' (Took AreNamed old now)
         from (went d) e h = absurd h.0
         from (faulted f) e h = absurd h.0
         from takes e h = absurd h.0
         from ended e h =
-            ends_so s h.0 h.1 below
-            (ap (λ b. stop_within g.at rule (length choices) b (step g.at)) (not_used_up steps budget below) ∙ ap (stop_at g.at rule (length choices)) e
+            ends_so s end h.0 h.1 below
+            (ap (λ b. stop_within g.at plan.rule (length choices) b (step g.at)) (not_used_up steps plan.budget below) ∙ ap (stop_at g.at plan.rule (length choices)) e
             ∙ ap (λ b. Some (if b then stop.Stopped else stop.Done)) (ap (λ x. x.stopped) h.0.cycle) ∙ ap (λ t. Some t) (sym how)) closes
 
     -- the next step is a fault
-    pub faulted_run : (f : RunFault) → StepsOn k k' script script' (made.Fault f) step → steps < budget → ((c : Config) → StandsFor k' c → Closes (closing c (stop.Fault f)) mid now (stop.Fault f) s') → Ran first rule log budget choices steps s' old now
+    pub faulted_run : (f : RunFault) → StepsOn k k' script script' (made.Fault f) step → steps < plan.budget
+        → Finishes (Recorded (IsClosing k' (stop.Fault f)) (TextFor plan.vcd (LastPointOf k' tracing)) (TextFor plan.choices (IsListOf choices)) AreNamed mid now) (stop.Fault f) s' → Ran first plan choices steps s' (Took AreNamed old now)
+    unfolding Ends
     faulted_run f fault below closes = from (step g.at) refl (fault g.at g.stands (goes_on.once g.at g.sound) g.left)
       where
-        from : (o : Outcome) → step g.at ≡ o → IsFault k' f g.at o × (script' ≡ g.at.script) → Ran first rule log budget choices steps s' old now
+        from : (o : Outcome) → step g.at ≡ o → IsFault k' f g.at o × (script' ≡ g.at.script) → Ran first plan choices steps s' (Took AreNamed old now)
         from (went d) e h = absurd h.0
         from (faulted x) e h =
-            ends_so (stop.Fault f) h.0.1 h.1 below
-            (ap (λ b. stop_within g.at rule (length choices) b (step g.at)) (not_used_up steps budget below) ∙ ap (stop_at g.at rule (length choices)) e
+            ends_so (stop.Fault f) tt h.0.1 h.1 below
+            (ap (λ b. stop_within g.at plan.rule (length choices) b (step g.at)) (not_used_up steps plan.budget below) ∙ ap (stop_at g.at plan.rule (length choices)) e
             ∙ ap (λ y. Some (stop.Fault y)) (sym h.0.0)) closes
         from takes e h = absurd h.0
         from ended e h = absurd h.0
 
     -- a listed choice is missing or not runnable
-    pub unready_run : (place : ℕ) (next : Chooser) → place ≡ length choices + 1 → StepsOn k k' script script' made.NotReady step → Rules k held next made.NotReady → steps < budget
-        → ((c : Config) → StandsFor k' c → Closes (closing c (stop.Replay place)) mid now (stop.Replay place) s') → Ran first rule log budget choices steps s' old now
+    pub unready_run : (place : ℕ) (next : Chooser) → place ≡ length choices + 1 → StepsOn k k' script script' made.NotReady step → Rules k held next made.NotReady → steps < plan.budget
+        → Finishes (Recorded (IsClosing k' (stop.Replay place)) (TextFor plan.vcd (LastPointOf k' tracing)) (TextFor plan.choices (IsListOf choices)) AreNamed mid now) (stop.Replay place) s' → Ran first plan choices steps s' (Took AreNamed old now)
+    unfolding Ends
     unready_run place next at_place none rules below closes = from (step g.at) refl (none g.at g.stands (goes_on.once g.at g.sound) g.left)
       where
         asked : PickedNone g.at (picked held g.at.processes.runnable) × (ChoosesItself held → ⊥)
         asked = rules g.at g.stands (goes_on.once g.at g.sound)
 
-        ending : stop_taking g.at rule (length choices) ≡ Some (stop.Replay (length choices + 1))
-        ending = not_taken rule (length choices) g.at held g.reached.holds asked.0 asked.1
+        ending : stop_taking g.at plan.rule (length choices) ≡ Some (stop.Replay (length choices + 1))
+        ending = not_taken plan.rule (length choices) g.at held g.reached.holds asked.0 asked.1
 
-        from : (o : Outcome) → step g.at ≡ o → IsUntaken k' g.at o × (script' ≡ g.at.script) → Ran first rule log budget choices steps s' old now
+        from : (o : Outcome) → step g.at ≡ o → IsUntaken k' g.at o × (script' ≡ g.at.script) → Ran first plan choices steps s' (Took AreNamed old now)
         from (went d) e h = absurd h.0
         from (faulted x) e h = absurd h.0
         from takes e h =
-            ends_so (stop.Replay place) h.0 h.1 below
-            (ap (λ b. stop_within g.at rule (length choices) b (step g.at)) (not_used_up steps budget below) ∙ ap (stop_at g.at rule (length choices)) e
+            ends_so (stop.Replay place) tt h.0 h.1 below
+            (ap (λ b. stop_within g.at plan.rule (length choices) b (step g.at)) (not_used_up steps plan.budget below) ∙ ap (stop_at g.at plan.rule (length choices)) e
             ∙ ending ∙ ap (λ n. Some (stop.Replay n)) (sym at_place)) closes
         from ended e h = absurd h.0
 
-    -- out of memory, with the kernel as before
-    pub refused_run : StepsOn k k' script script' made.NoMemory step → steps ≤ budget → now ≡ mid → Ran first rule log budget choices steps stop.NoMemory old now
-    refused_run refused within same = cut_before_step k script now (subst (λ o. Going rule log first held choices steps k script old o) (sym same) g) within
-
   -- the budget is used up
-  pub spent_run : (k : Kernel) (script : List Command) (mid now : Option (List ℕ)) (s s' : Stop) (g : Going rule log first held choices steps k script old mid) → steps ≤ budget → budget ≤ steps → stop_within g.at rule (length choices) true (step g.at) ≡ Some s
-      → ((c : Config) → StandsFor k c → Closes (closing c s) mid now s s') → Ran first rule log budget choices steps s' old now
-  spent_run k script mid now s s' g within spent ending closes =
-      finished k script mid now s s' g within (ap (λ b. stop_within g.at rule (length choices) b (step g.at)) (used_up steps budget spent) ∙ ending) (closes g.at g.stands)
+  pub spent_run : (k : Kernel) (script : List Command) (tracing : Tracing) (mid now : Outer) (s s' : Stop) (g : Going plan first held choices steps k script tracing AreNamed old mid) → IsEnd s → steps ≤ plan.budget → plan.budget ≤ steps → stop_within g.at plan.rule (length choices) true (step g.at) ≡ Some s
+      → Finishes (Recorded (IsClosing k s) (TextFor plan.vcd (LastPointOf k tracing)) (TextFor plan.choices (IsListOf choices)) AreNamed mid now) s s' → Ran first plan choices steps s' (Took AreNamed old now)
+  unfolding Ends
+  spent_run k script tracing mid now s s' g end within spent ending closes =
+      finished k script tracing mid now s s' g end within (ap (λ b. stop_within g.at plan.rule (length choices) b (step g.at)) (used_up steps plan.budget spent) ∙ ending) closes
+
+-- ---- the beginning
+
+first_report : (plan : Plan) (first : Config) → first.trace.told ≡ [] → text_so_far plan.log first ≡ []
+first_report plan first none = ap (flat_map (shown plan.log)) none
+
+first_trace : (v : Option ℕ) (k : Kernel) (first : Config) → StandsFor k first → first.trace.snapshots ≡ [] → (text : List ℕ) → TextFor v (HeaderOf k) text → text_for v (trace_so_far first) ≡ text
+first_trace None k first stands none text is = sym is
+first_trace (Some id) k first stands none text is = ap (λ ss. header first.design ++ all_values ss) none ∙ append-nil (header first.design) ∙ sym (is first stands)
+
+pub first_keeps : (v : Option ℕ) (tracing : Tracing) (ss : List Snapshot) → Keeps tracing [] → ss ≡ [] → KeepsIf v tracing ss
+first_keeps None tracing ss keeps none = tt
+first_keeps (Some id) tracing ss keeps none = subst (Keeps tracing) (sym none) keeps
+
+module _ (plan : Plan) (first : Config) (k : Kernel) (script : List Command) (tracing : Tracing) (AreNamed : Names → Type 0) (old now : Outer) (stands : StandsFor k first) (nothing_told : first.trace.told ≡ []) (nothing_seen : first.trace.snapshots ≡ []) where
+  -- with the header of the trace written
+  pub begins : first.script ≡ script → IsReached first → KeepsIf plan.vcd tracing first.trace.snapshots → Recorded Nothing (TextFor plan.vcd (HeaderOf k)) Nothing AreNamed old now (Ok tt) → Going plan first (chooser_of plan.rule) [] 0 k script tracing AreNamed old now
+  begins left sound keeps r = record {
+    at = first;
+    stands = stands;
+    left = left;
+    reached = starts plan.rule first;
+    sound = sound;
+    design = refl;
+    keeps = keeps;
+    written = took_as AreNamed old now r.texts (so_far plan first) (r.parts.0 ∙ sym (first_report plan first nothing_told)) (sym (first_trace plan.vcd k first stands nothing_seen r.texts.trace r.parts.1)) r.parts.2 r.took;
+  }
+
+  header_ends : Option Stop
+  header_ends = end_of plan first [] 0
+
+  header_texts : Texts
+  header_texts = texts_at plan first [] header_ends
+
+  header_begun : AreFronts no_texts header_texts
+  header_begun = record { report = (_, refl); trace = (_, refl); choices = (_, refl) }
+
+  header_traces : (text : List ℕ) → TextFor plan.vcd (HeaderOf k) text → IsFront text header_texts.trace
+  unfolding header_texts header_ends
+  header_traces text is = front_as _ _ _ (sym (first_trace plan.vcd k first stands nothing_seen text is)) (trace_begins plan first [] (end_of plan first [] 0))
+
+  header_nothing : (text other : List ℕ) → Nothing text → IsFront text other
+  header_nothing text other none = front_as _ _ _ none (other, refl)
+
+  header_ran : (s : Stop) → Wrote (Took AreNamed old now) header_ends header_texts s → (t : Texts) → Took AreNamed old now t → Ran first plan [] 0 s (Took AreNamed old now)
+  unfolding header_texts header_ends
+  header_ran s wrote t took = record {
+    last = first;
+    is_run = refl;
+    ruled = refl;
+    within = omega arith;
+    wrote = wrote;
+    earlier = (t, took, subst (λ ts. IsFront (flat_map (shown plan.log) (all_but_last ts)) t.report) (sym nothing_told) (t.report, refl));
+  }
+
+  -- cut in that header
+  pub cut_in_header : (e : Trouble) → Recorded Nothing (TextFor plan.vcd (HeaderOf k)) Nothing AreNamed old now (Err e) → Ran first plan [] 0 (cut_by e) (Took AreNamed old now)
+  unfolding header_texts header_ends
+  cut_in_header trouble.Failed r = header_ran stop.WriteFault (cut_short Nothing (TextFor plan.vcd (HeaderOf k)) Nothing AreNamed old old now no_texts header_texts header_begun (λ text h. header_nothing text _ h) header_traces (λ text h. header_nothing text _ h) (took_nothing AreNamed old) r) r.texts r.took
+  cut_in_header trouble.NoMemory r = header_ran stop.NoMemory (cut_somewhere Nothing (TextFor plan.vcd (HeaderOf k)) Nothing AreNamed old old now no_texts header_texts header_begun (λ text h. header_nothing text _ h) header_traces (λ text h. header_nothing text _ h) (took_nothing AreNamed old) r) r.texts r.took
 
 -- out of memory before the first step
-pub never_began : (rule : Rule) (log : Log) (first : Config) (budget : ℕ) (sink : Option (List ℕ)) → first.trace.told ≡ [] → Ran first rule log budget [] 0 stop.NoMemory sink sink
-never_began rule log first budget sink empty = record {
+pub never_began : (plan : Plan) (first : Config) (AreNamed : Names → Type 0) (outer : Outer) → first.trace.told ≡ [] → Ran first plan [] 0 stop.NoMemory (Took AreNamed outer outer)
+never_began plan first AreNamed outer empty = record {
   last = first;
   is_run = refl;
   ruled = refl;
   within = omega arith;
-  wrote = (0, omega arith, grew_none sink);
-  earlier = subst (λ ts. WroteFirst sink sink (flat_map (shown log) (all_but_last ts))) (sym empty) ([], grew_none sink);
+  wrote = record { front = no_texts; fronts = record { report = (_, refl); trace = (_, refl); choices = (_, refl) }; took = took_nothing AreNamed outer };
+  earlier = (no_texts, took_nothing AreNamed outer, subst (λ ts. IsFront (flat_map (shown plan.log) (all_but_last ts)) []) (sym empty) ([], refl));
 }

@@ -1,4 +1,5 @@
 pub mod Fronts
+pub mod Outputs
 pub mod Reached
 pub mod Idle
 pub mod Going

@@ -1,10 +1,11 @@
 -- What a step adds to a report, from the lines that are made of it.
-use Rattle.std.proofs.Common.{◌≡◌, ◌≤◌, ℕ, List, [], ◌∷◌, ◌++◌, drop, length, inr, Option, Some, None, Result, Ok, Err, refl, sym, ap, ◌∙◌, subst, arith, append-nil}
+use Rattle.std.proofs.Common.{◌≡◌, ◌<◌, ◌≤◌, ℕ, List, [], ◌∷◌, ◌++◌, take, drop, length, inl, inr, Option, Some, None, Result, Ok, Err, refl, sym, ap, ◌∙◌, subst, arith, append-nil, length-take, take-append-drop}
 use Rattle.std.specs.Prelude.{slice_get}
 use Rattle.std.specs.List.{flat_map}
 use Rattle.logic_values.specs.declared.kinds.Value.{Value}
-use Rattle.sim_io.specs.Told.{Grew}
-use Rattle.sim_io.specs.Taken.{TookOf}
+use Rattle.sim_io.specs.Told.{Files, AfterTold, Grows, Grew}
+use Rattle.sim_io.specs.Taken.{PieceTaken, TookOf, FileTook}
+use Rattle.sim_io.proofs.Chains.{after_told_same, grew_none}
 use Rattle.sim_io.specs.declared.outside.Trouble.{Trouble}
 use Rattle.sim_io.specs.declared.outside.Trouble.TheVariants as trouble
 use Rattle.flat_design.specs.declared.design.Visible.{Visible}
@@ -19,8 +20,10 @@ use Rattle.kernel_runs.specs.Made.{told_by_show}
 use Rattle.kernel_runs.specs.declared.answers.Telling.TheVariants as telling
 use Rattle.report_texts.specs.Instances.{IsPrintLine, IsTurnLine}
 use Rattle.report_texts.specs.Seen.{with_line}
-use Rattle.sessions.specs.Telling.{text_if, text_so_far, TextOf, TextOfTurn, TellsInto}
+use Rattle.sessions.specs.Outputs.{FileGrew, IsFront}
+use Rattle.sessions.specs.Telling.{text_if, text_so_far, TextOf, TextOfTurn, IsPart, Into}
 use Rattle.sessions.proofs.Fronts.{texts-push}
+use Rattle.sessions.proofs.Outputs.{known_nil}
 
 pub print_text : (k : Kernel) (p s : ℕ) (v : Option Value) (made : List ℕ) → IsPrintLine k p s v made → TextOf k (telling.Print p s v) made
 print_text k p s v made is log c d h adds =
@@ -68,11 +71,34 @@ show_text k i o made log c d h told =
     (sym (shown_adds d (slice_get d.design.visible i)) ∙ ap (λ e. e.trace.told) (made d h) ∙ line_adds d o) in
     ap (flat_map (shown log)) (told ∙ ap (λ ts. c.trace.told ++ ts) same) ∙ text_adds log c.trace.told o
 
--- ---- what a sink took of it
+-- ---- what was taken of it
 
-pub told_into : (T : List ℕ → Type 0) (text : List ℕ) (old new : Option (List ℕ)) (result : Result Unit Trouble) → T text → TookOf old new text result → TellsInto T old new result
-told_into T text old new (Ok u) is took = (text, is, subst (Grew old new) took.2 took.1)
-told_into T text old new (Err trouble.Failed) is took = (text, is, (took.2.0, took.2.1, subst (Grew old new) took.2.2 took.1))
-told_into T text old new (Err trouble.NoMemory) is took =
-    let count : took.2.0 ≤ length text = let less = took.2.1 in omega (arith, less) in
-    inr (text, is, (took.2.0, count, subst (Grew old new) took.2.2 took.1))
+front_taken : (count : ℕ) (text part : List ℕ) → part ≡ take count text → IsFront part text
+front_taken count text part is = (drop count text, sym (take-append-drop count text) ∙ ap (λ p. p ++ drop count text) (sym is))
+
+-- a piece that is such a text
+pub part_taken : (T : List ℕ → Type 0) (text part : List ℕ) (result : Result Unit Trouble) → T text → PieceTaken text part result → IsPart T part result
+part_taken T text part (Ok u) is taken = subst T (sym taken) is
+part_taken T text part (Err trouble.Failed) is (count, short, taken) = (text, is, front_taken count text part taken, omega (arith, short, ap length taken, length-take count text))
+part_taken T text part (Err trouble.NoMemory) is (count, short, taken) = inr (text, is, front_taken count text part taken)
+
+pub told_into : (T : List ℕ → Type 0) (text : List ℕ) (old new : Option (List ℕ)) (result : Result Unit Trouble) → T text → TookOf old new text result → Into T (Grew old new) result
+told_into T text old new result is (part, grew, taken) = (part, part_taken T text part result is taken, grew)
+
+pub none_into : (T : List ℕ → Type 0) (old : Option (List ℕ)) → Into T (Grew old old) (Err trouble.NoMemory)
+none_into T old = ([], inl refl, grew_none old)
+
+-- a file that was written so
+pub file_into : {S : Type 0} (files_of : S → Option Files) (stands : S → ℕ → List ℕ → Type 0) (old new : S) (id : ℕ) (T : List ℕ → Type 0) (text : List ℕ) (result : Result Unit Trouble) → T text → FileTook (stands old id) (files_of old) (files_of new) text result
+    → Into T (FileGrew files_of stands old new (Some id)) result
+file_into files_of stands old new id T text result is (part, grew, taken) = (part, part_taken T text part result is taken, grew)
+
+grows_nothing : (files : Option Files) (name : List ℕ) → AfterTold files files (Grows name [])
+grows_nothing None name = tt
+grows_nothing (Some files) name = record { grown = sym (known_nil (files name)); others = λ other apart. refl }
+
+pub file_left : {S : Type 0} (files_of : S → Option Files) (stands : S → ℕ → List ℕ → Type 0) (shelf : S) (id : ℕ) → FileGrew files_of stands shelf shelf (Some id) []
+file_left files_of stands shelf id = λ name stands. grows_nothing (files_of shelf) name
+
+pub no_file : {S : Type 0} (files_of : S → Option Files) (stands : S → ℕ → List ℕ → Type 0) (shelf : S) → FileGrew files_of stands shelf shelf None []
+no_file files_of stands shelf = after_told_same (files_of shelf)

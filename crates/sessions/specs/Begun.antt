@@ -1,28 +1,26 @@
 -- What a session begins with.
-use Rattle.std.specs.Prelude.{◌≡◌, ◌<◌, ◌-◌, ◌^◌, ℕ, Bool, false, List, [], Contains, Some}
-use Rattle.model_tree.specs.declared.constructs.Construct.{Construct}
+use Rattle.std.specs.Prelude.{◌≡◌, ◌<◌, ◌-◌, ◌^◌, ℕ, List, [], ◌++◌, Contains, Some}
 use Rattle.flat_design.specs.Code.{Arena, Statement, arena_of}
 use Rattle.flat_design.specs.Reach.{IsIn, inner_blocks}
 use Rattle.sim_model.specs.Configuration.{Config}
 use Rattle.sim_model.specs.Steps.{step, went, takes, taking}
 use Rattle.sim_model.specs.declared.plain.Command.{Command}
 use Rattle.body_code.specs.declared.program.Program.{Program}
+use Rattle.snapshot_laws.specs.Added.{added}
 use Rattle.reached_laws.specs.Reached.{IsReached}
 use Rattle.kernel_runs.specs.Made.{NoDoubles}
 use Rattle.kernel_state.specs.Kernel.{StandsFor}
 use Rattle.kernel_state.specs.declared.kernel.Kernel.{Kernel}
 
--- nothing is left out of the language
-abbrev pub nothing_missing : Construct → Bool
-nothing_missing c = false
-
 -- blocks inside a block have smaller numbers
 abbrev pub IsNested : Arena → Type 0
 IsNested a = (b j : ℕ) (s : Statement) → IsIn a b s → Contains (inner_blocks s) j → j < b
 
--- the script is still to be carried out, and nothing was told
-abbrev pub IsFirst : Config → List Command → Type 0
-IsFirst c script = (c.script ≡ script) × (c.trace.told ≡ [])
+-- the script is still to be carried out, and nothing was told or seen
+pub record IsFirst (c : Config) (script : List Command) : Type 0 where
+  pub script_left : c.script ≡ script
+  pub nothing_told : c.trace.told ≡ []
+  pub nothing_seen : c.trace.snapshots ≡ []
 
 -- the kernel stands for the first configuration of a run of a sound design, whose code the program beside it has
 pub record HasBegun (k : Kernel) (program : Program) (script : List Command) : Type 0 where
@@ -33,11 +31,13 @@ pub record HasBegun (k : Kernel) (program : Program) (script : List Command) : T
   pub code : arena_of program.code ≡ arena_of first.design.code
   pub events : first.design.events < 2 ^ 32 - 1
 
--- how a run of a sound design goes on: each configuration that it comes to is that of such a run, of the same design, and in its
--- runnable list nothing stands twice
+-- how a run of a sound design goes on: each configuration that it comes to is that of such a run, of the same design, a step adds to its
+-- snapshots where now moves, and in its runnable list nothing stands twice
 pub record GoesOn : Type 0 where
   pub steps : (c d : Config) → IsReached c → step c ≡ went d → IsReached d
   pub keeps : (c d : Config) → IsReached c → step c ≡ went d → d.design ≡ c.design
   pub takings : (c d : Config) (p : ℕ) → IsReached c → step c ≡ takes → taking c p ≡ Some d → IsReached d
   pub takings_keep : (c d : Config) (p : ℕ) → IsReached c → step c ≡ takes → taking c p ≡ Some d → d.design ≡ c.design
+  pub sees : (c d : Config) → step c ≡ went d → d.trace.snapshots ≡ c.trace.snapshots ++ added c d
+  pub takings_see : (c d : Config) (p : ℕ) → taking c p ≡ Some d → d.trace.snapshots ≡ c.trace.snapshots
   pub once : (c : Config) → IsReached c → NoDoubles c

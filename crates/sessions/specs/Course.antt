@@ -1,33 +1,34 @@
 -- How a session went, and what it wrote.
 use Rattle.std.specs.Prelude.{◌≡◌, ◌≤◌, ℕ, Bool, true, false, List, [], ◌∷◌, length, Option, Some, None, ⊤, if◌then◌else◌}
 use Rattle.std.specs.List.{flat_map}
-use Rattle.sim_io.specs.Told.{Grew}
 use Rattle.kernel_state.specs.declared.kernel.Kernel.{Kernel}
 use Rattle.sim_model.specs.Configuration.{Config, Told}
 use Rattle.sim_model.specs.Steps.{Outcome, went, faulted, takes, ended}
 use Rattle.sim_model.specs.Runs.{after, Ruled, stop_of}
-use Rattle.sim_model.specs.Texts.{shown, report}
-use Rattle.sim_model.specs.declared.plain.Log.{Log}
-use Rattle.sim_model.specs.declared.plain.Rule.{Rule}
+use Rattle.sim_model.specs.Texts.{shown, report, choice_text}
+use Rattle.sim_model.specs.Trace.{trace_text}
 use Rattle.sim_model.specs.declared.plain.Stop.{Stop}
 use Rattle.sim_model.specs.declared.plain.Stop.TheVariants as stop
-use Rattle.sessions.specs.Fronts.{WroteFront, WroteShort, WroteFirst}
+use Rattle.file_texts.specs.Traced.{trace_so_far}
+use Rattle.sessions.specs.declared.plans.Plan.{Plan}
+use Rattle.sessions.specs.Outputs.{Texts, TookFronts, TookShort, IsFront, text_for}
 use Rattle.sessions.specs.Telling.{text_so_far}
 
--- the text of a session that stands in this configuration: the report where it has ended, and else the text so far
-abbrev pub text_at : Log → Config → Option Stop → List ℕ
-text_at log c None = text_so_far log c
-text_at log c (Some s) = report log c s
+-- The texts of a session that stands in this configuration, these choices having been taken: where it has ended, all of them; and
+-- else the report and the trace so far, and nothing of the choices.
+abbrev pub texts_at : Plan → Config → List ℕ → Option Stop → Texts
+texts_at plan c choices None = record { report = text_so_far plan.log c; trace = text_for plan.vcd (trace_so_far c); choices = [] }
+texts_at plan c choices (Some s) = record { report = report plan.log c s; trace = text_for plan.vcd (trace_text c); choices = text_for plan.choices (choice_text choices) }
 
--- what a session wrote, by its end: a cut leaves a front of its text, and any other end is the run's, with the whole report
-abbrev pub Wrote : Log → Config → Option Stop → Option (List ℕ) → Option (List ℕ) → Stop → Type 0
-Wrote log c ending old new stop.WriteFault = WroteShort old new (text_at log c ending)
-Wrote log c ending old new stop.NoMemory = WroteFront old new (text_at log c ending)
-Wrote log c ending old new stop.Done = (ending ≡ Some stop.Done) × Grew old new (report log c stop.Done)
-Wrote log c ending old new stop.Stopped = (ending ≡ Some stop.Stopped) × Grew old new (report log c stop.Stopped)
-Wrote log c ending old new stop.Budget = (ending ≡ Some stop.Budget) × Grew old new (report log c stop.Budget)
-Wrote log c ending old new (stop.Replay place) = (ending ≡ Some (stop.Replay place)) × Grew old new (report log c (stop.Replay place))
-Wrote log c ending old new (stop.Fault f) = (ending ≡ Some (stop.Fault f)) × Grew old new (report log c (stop.Fault f))
+-- what was taken of these texts of a session, by its end: at a cut fronts of them, and any other end is the run's, and all of them
+abbrev pub Wrote : (Texts → Type 0) → Option Stop → Texts → Stop → Type 0
+Wrote TookIt ending texts stop.WriteFault = TookShort TookIt texts
+Wrote TookIt ending texts stop.NoMemory = TookFronts TookIt texts
+Wrote TookIt ending texts stop.Done = (ending ≡ Some stop.Done) × TookIt texts
+Wrote TookIt ending texts stop.Stopped = (ending ≡ Some stop.Stopped) × TookIt texts
+Wrote TookIt ending texts stop.Budget = (ending ≡ Some stop.Budget) × TookIt texts
+Wrote TookIt ending texts (stop.Replay place) = (ending ≡ Some (stop.Replay place)) × TookIt texts
+Wrote TookIt ending texts (stop.Fault f) = (ending ≡ Some (stop.Fault f)) × TookIt texts
 
 -- what was told but the last
 abbrev pub all_but_last : List Told → List Told
@@ -35,16 +36,24 @@ all_but_last [] = []
 all_but_last (x ∷ []) = []
 all_but_last (x ∷ y ∷ ys) = x ∷ all_but_last (y ∷ ys)
 
+-- how the run ends in this configuration, to which so many steps with these choices led
+abbrev pub end_of : Plan → Config → List ℕ → ℕ → Option Stop
+end_of plan c choices steps = stop_of c plan.rule (length choices) steps plan.budget
+
+-- the report that was taken begins with these bytes
+abbrev pub TookFirst : (Texts → Type 0) → List ℕ → Type 0
+TookFirst TookIt first = (t : Texts) × TookIt t × IsFront first t.report
+
 -- A session is a run: so many steps with these choices, each of them what the rule picks, lead from the first configuration to
--- the last, whose end is the session's, and the sink took its text; where a cut ends the session, at most the text of the last
--- that was told is lacking.
-pub record Ran (first : Config) (rule : Rule) (log : Log) (budget : ℕ) (choices : List ℕ) (steps : ℕ) (s : Stop) (old new : Option (List ℕ)) : Type 0 where
+-- the last, whose end is the session's, and its texts were taken; where a cut ends the session, at most the text of the last that was
+-- told is lacking in the report's lines.
+pub record Ran (first : Config) (plan : Plan) (choices : List ℕ) (steps : ℕ) (s : Stop) (TookIt : Texts → Type 0) : Type 0 where
   pub last : Config
   pub is_run : after steps choices first ≡ Some last
-  pub ruled : Ruled rule steps choices first
-  pub within : steps ≤ budget
-  pub wrote : Wrote log last (stop_of last rule (length choices) steps budget) old new s
-  pub earlier : WroteFirst old new (flat_map (shown log) (all_but_last last.trace.told))
+  pub ruled : Ruled plan.rule steps choices first
+  pub within : steps ≤ plan.budget
+  pub wrote : Wrote TookIt (end_of plan last choices steps) (texts_at plan last choices (end_of plan last choices steps)) s
+  pub earlier : TookFirst TookIt (flat_map (shown plan.log) (all_but_last last.trace.told))
 
 -- an end of the run itself, and no cut
 abbrev pub IsEnd : Stop → Type 0
@@ -70,16 +79,6 @@ IsOverAs false (went d) = ⊤
 IsOverAs false (faulted f) = ⊤
 IsOverAs false takes = ⊤
 IsOverAs false ended = ⊥
-
--- what became of the closing text: written whole, or cut
-abbrev pub Closes : List ℕ → Option (List ℕ) → Option (List ℕ) → Stop → Stop → Type 0
-Closes text old new asked stop.WriteFault = WroteShort old new text
-Closes text old new asked stop.NoMemory = WroteFront old new text
-Closes text old new asked stop.Done = (stop.Done ≡ asked) × Grew old new text
-Closes text old new asked stop.Stopped = (stop.Stopped ≡ asked) × Grew old new text
-Closes text old new asked stop.Budget = (stop.Budget ≡ asked) × Grew old new text
-Closes text old new asked (stop.Replay place) = (stop.Replay place ≡ asked) × Grew old new text
-Closes text old new asked (stop.Fault f) = (stop.Fault f ≡ asked) × Grew old new text
 
 -- whether a list has nothing
 abbrev pub is_empty : {A : Type 0} → List A → Bool

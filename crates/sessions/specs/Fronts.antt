@@ -1,14 +1,7 @@
 -- Fronts of texts that a sink got.
-use Rattle.std.specs.Prelude.{◌<◌, ◌≤◌, ℕ, List, ◌++◌, length, take, Option}
+use Rattle.std.specs.Prelude.{◌≤◌, ℕ, List, length, take, Option}
 use Rattle.sim_io.specs.Told.{Grew}
 
--- a front of a text was written, or a front that lacks a byte
+-- a front of a text was written
 abbrev pub WroteFront : Option (List ℕ) → Option (List ℕ) → List ℕ → Type 0
 WroteFront old new text = (count : ℕ) × (count ≤ length text) × Grew old new (take count text)
-
-abbrev pub WroteShort : Option (List ℕ) → Option (List ℕ) → List ℕ → Type 0
-WroteShort old new text = (count : ℕ) × (count < length text) × Grew old new (take count text)
-
--- what was written begins with these bytes
-abbrev pub WroteFirst : Option (List ℕ) → Option (List ℕ) → List ℕ → Type 0
-WroteFirst old new first = (rest : List ℕ) × Grew old new (first ++ rest)

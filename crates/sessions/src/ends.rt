@@ -4,17 +4,12 @@ ghost use Rattle.sim_model.specs.Configuration.{Config};
 ghost use Rattle.sim_model.specs.Steps.{step};
 ghost use Rattle.sim_model.specs.Runs.{stop_within};
 ghost use Rattle.sim_model.specs.declared.plain.Rule.{Rule};
-ghost use Rattle.sim_model.specs.Texts as texts;
-ghost use Rattle.sim_io.specs.Cause.{RoseIf};
 ghost use Rattle.kernel_state.specs.Kernel.{StandsFor};
-ghost use Rattle.sessions.specs.Course.{Closes, IsEnd, IsEndedAs, IsOverAs, is_empty};
+ghost use Rattle.sessions.specs.Course.{IsEnd, IsEndedAs, IsOverAs, is_empty};
 
 use flat_design::Choices;
 use kernel_state::Kernel;
-use report_texts::closing;
-use sim_io::{Sink, Trouble, write_all};
 use sim_model::{Command, Phase, Stop};
-use std::alloc::Global;
 
 /// How a session that has ended came to its end.
 pub(crate) fn ended_as(k: &Kernel) -> Stop
@@ -70,21 +65,5 @@ pub(crate) fn not_ready(choices: &Choices) -> Stop
 {
     Stop::Replay {
         place: choices.as_slice().len() as u64 + 1,
-    }
-}
-
-/// Writes what follows the lines of the run.
-pub(crate) fn finish<O: Sink>(alloc: Global, k: &Kernel, stop: Stop, out: &mut O) -> Stop
-    requires { IsEnd stop }
-    ensures closes { (c : Config) → StandsFor k.now c → Closes (texts.closing c stop) (O.holds out.old) (O.holds out.new) stop result }
-    ensures cause { RoseIf (O.faults out.old) (O.faults out.new) (result ≡ Stop.WriteFault) }
-{
-    match closing(alloc, k, stop) {
-        Ok(text) => match write_all(out, text.as_slice()) {
-            Ok(()) => stop,
-            Err(Trouble::Failed) => Stop::WriteFault,
-            Err(Trouble::NoMemory) => Stop::NoMemory,
-        },
-        Err(_) => Stop::NoMemory,
     }
 }

@@ -13,6 +13,7 @@ use reached_laws::{
     designs_stay, fresh_at_start, others_have_no_goal, reached_designs_are_sound, runnable_once,
     runs_go_on, throws_are_free,
 };
+use snapshot_laws::{steps_add_snapshots, takings_add_none};
 
 /// Where a kernel stands for a configuration that a run of a sound design comes to, its next step may be made.
 pub(crate) fn runs_may_step()
@@ -32,4 +33,6 @@ pub(crate) fn sound_runs_go_on()
     runs_go_on();
     designs_stay();
     runnable_once();
+    steps_add_snapshots();
+    takings_add_none();
 }

@@ -5,7 +5,9 @@ mod ends;
 mod laws;
 mod looping;
 mod plans;
+mod recording;
 mod tellings;
+mod traces;
 
 pub use looping::run_session;
 pub use plans::{Outcome, Plan};

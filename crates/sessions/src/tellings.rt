@@ -1,15 +1,17 @@
 //! What a report tells of a step.
 ghost use Rattle.std.specs.Prelude.{◌≡◌, IfOk, Err};
 ghost use Rattle.sim_io.specs.Cause.{RoseIf};
+ghost use Rattle.sim_io.specs.Told.{Grew};
 ghost use Rattle.sim_io.specs.Taken.{TookOf};
-ghost use Rattle.sessions.specs.Telling.{TextOf, TextOfTurn, TellsInto, text_if};
+ghost use Rattle.sessions.specs.Course.{IsEnd};
+ghost use Rattle.sessions.specs.Telling.{Into, IsClosing, TextOf, TextOfTurn, text_if};
 
 use flat_design::Line;
 use kernel_runs::Telling;
 use kernel_state::Kernel;
-use report_texts::{printed_line, show, turn_text};
+use report_texts::{closing, printed_line, show, turn_text};
 use sim_io::{Sink, Trouble, write_all};
-use sim_model::Log;
+use sim_model::{Log, Stop};
 use std::alloc::{AllocError, Global};
 
 /// The text that a step adds to a report, where it adds one, by the kernel after it.
@@ -62,7 +64,7 @@ pub(crate) fn tell<O: Sink>(
     told: Telling,
     out: &mut O,
 ) -> Result<(), Trouble>
-    ensures tells { TellsInto (TextOf k.now told) (O.holds out.old) (O.holds out.new) result }
+    ensures tells { Into (TextOf k.now told) (Grew (O.holds out.old) (O.holds out.new)) result }
     ensures cause { RoseIf (O.faults out.old) (O.faults out.new) (result ≡ Err Trouble.Failed) }
 {
     match text_of(alloc, k, told) {
@@ -79,11 +81,28 @@ pub(crate) fn tell_turn<O: Sink>(
     p: u32,
     out: &mut O,
 ) -> Result<(), Trouble>
-    ensures tells { TellsInto (TextOfTurn k.now log p) (O.holds out.old) (O.holds out.new) result }
+    ensures tells { Into (TextOfTurn k.now log p) (Grew (O.holds out.old) (O.holds out.new)) result }
     ensures cause { RoseIf (O.faults out.old) (O.faults out.new) (result ≡ Err Trouble.Failed) }
 {
     match text_of_turn(alloc, k, log, p) {
         Ok(text) => write_text(out, &text),
+        Err(_) => Err(Trouble::NoMemory),
+    }
+}
+
+/// Writes what follows the lines of the run where the session ends so.
+pub(crate) fn tell_end<O: Sink>(
+    alloc: Global,
+    k: &Kernel,
+    stop: Stop,
+    out: &mut O,
+) -> Result<(), Trouble>
+    requires { IsEnd stop }
+    ensures tells { Into (IsClosing k.now stop) (Grew (O.holds out.old) (O.holds out.new)) result }
+    ensures cause { RoseIf (O.faults out.old) (O.faults out.new) (result ≡ Err Trouble.Failed) }
+{
+    match closing(alloc, k, stop) {
+        Ok(text) => write_all(out, text.as_slice()),
         Err(_) => Err(Trouble::NoMemory),
     }
 }

@@ -3,10 +3,10 @@ use Rattle.std.proofs.Common.{◌⊎◌, inl, inr, Result, ◌≡◌, ◌<◌, �
 use Rattle.std.proofs.lemmas.List.{take-take}
 use Rattle.std.proofs.Math.Seq.{take-add, take-append-add}
 use Rattle.std.specs.Io.KnownBytes.{append_known, Consumes}
-use Rattle.sim_io.specs.Told.{Files, Same, AfterTold, Grows, Grew, Lacks, IsText, IsLarge, IsWhole, IsPastLimit, text_of}
+use Rattle.sim_io.specs.Told.{Files, Same, AfterTold, WereTold, Grows, Grew, Lacks, IsText, IsLarge, IsWhole, IsPastLimit, text_of}
 use Rattle.sim_io.specs.Cause.{Rose}
 use Rattle.std.specs.Io.{StartsWith}
-use Rattle.sim_io.specs.Taken.{PieceTaken, TookOf, FileTook}
+use Rattle.sim_io.specs.Taken.{PieceTaken, TookOf}
 use Rattle.sim_io.specs.declared.outside.Trouble.{Trouble}
 use Rattle.sim_io.specs.Keeps.{IdsStay, ReadKeeps, WriteKeeps}
 
@@ -64,6 +64,17 @@ after_told_on old None (Some new) a b = absurd b
 after_told_on None (Some mid) (Some new) a b = absurd a
 after_told_on (Some old) (Some mid) (Some new) a b = λ name. b name ∙ a name
 
+-- what was told before a call that was told before another
+pub were_told_on : (old mid new : Option Files) → WereTold old mid → WereTold mid new → WereTold old new
+were_told_on old mid None a b = tt
+were_told_on old None (Some new) a b = absurd b
+were_told_on None (Some mid) (Some new) a b = absurd a
+were_told_on (Some old) (Some mid) (Some new) a b = tt
+
+pub were_told_same : (files : Option Files) → WereTold files files
+were_told_same None = tt
+were_told_same (Some files) = tt
+
 -- known bytes that grew twice grew by both
 pub append_known_on : (known : Option (List ℕ)) (first second : List ℕ) → append_known (append_known known first) second ≡ append_known known (first ++ second)
 append_known_on None first second = refl
@@ -100,8 +111,9 @@ read_keeps_on files_of writes_of Reading Created StandsFor old mid new a b = rec
 }
 
 -- two calls that write leave alone what each leaves alone
-pub write_keeps_on : {S : Type 0} (reads_of : S → ℕ) (Reading : S → ℕ → Type 0) (Created : S → ℕ → Type 0) (StandsFor : S → ℕ → List ℕ → Type 0) (old mid new : S) → WriteKeeps reads_of Reading Created StandsFor old mid → WriteKeeps reads_of Reading Created StandsFor mid new → WriteKeeps reads_of Reading Created StandsFor old new
-write_keeps_on reads_of Reading Created StandsFor old mid new a b = record {
+pub write_keeps_on : {S : Type 0} (files_of : S → Option Files) (reads_of : S → ℕ) (Reading : S → ℕ → Type 0) (Created : S → ℕ → Type 0) (StandsFor : S → ℕ → List ℕ → Type 0) (old mid new : S) → WriteKeeps files_of reads_of Reading Created StandsFor old mid → WriteKeeps files_of reads_of Reading Created StandsFor mid new → WriteKeeps files_of reads_of Reading Created StandsFor old new
+write_keeps_on files_of reads_of Reading Created StandsFor old mid new a b = record {
+  told = were_told_on (files_of old) (files_of mid) (files_of new) a.told b.told;
   reads = b.reads ∙ a.reads;
   ids = ids_stay_on Reading Created StandsFor old mid new a.ids b.ids;
 }
@@ -145,8 +157,12 @@ read_keeps_same files_of writes_of Reading Created StandsFor shelf = record {
   ids = ids_stay_same Reading Created StandsFor shelf;
 }
 
-pub write_keeps_same : {S : Type 0} (reads_of : S → ℕ) (Reading : S → ℕ → Type 0) (Created : S → ℕ → Type 0) (StandsFor : S → ℕ → List ℕ → Type 0) (shelf : S) → WriteKeeps reads_of Reading Created StandsFor shelf shelf
-write_keeps_same reads_of Reading Created StandsFor shelf = record { reads = refl; ids = ids_stay_same Reading Created StandsFor shelf }
+pub write_keeps_same : {S : Type 0} (files_of : S → Option Files) (reads_of : S → ℕ) (Reading : S → ℕ → Type 0) (Created : S → ℕ → Type 0) (StandsFor : S → ℕ → List ℕ → Type 0) (shelf : S) → WriteKeeps files_of reads_of Reading Created StandsFor shelf shelf
+write_keeps_same files_of reads_of Reading Created StandsFor shelf = record {
+  told = were_told_same (files_of shelf);
+  reads = refl;
+  ids = ids_stay_same Reading Created StandsFor shelf;
+}
 
 -- why a later file could not be read, said from before the calls that read earlier ones
 pub read_failed_on : (old mid : Option Files) (name : List ℕ) (earlier before now later : ℕ) → AfterTold old mid Same → earlier ≤ before → now ≤ later → Rose before now ⊎ Lacks mid name → Rose earlier later ⊎ Lacks old name
@@ -156,10 +172,6 @@ read_failed_on old mid name earlier before now later same a b (inr lacks) = inr 
 -- what a sink took of a piece after other bytes
 pub took_on : (old mid new : Option (List ℕ)) (first piece : List ℕ) (result : Result Unit Trouble) → Grew old mid first → TookOf mid new piece result → (bytes : List ℕ) × Grew old new (first ++ bytes) × PieceTaken piece bytes result
 took_on old mid new first piece result a (bytes, grew, taken) = (bytes, grew_on old mid new first bytes a grew, taken)
-
--- what a file took of a piece after other bytes
-pub file_took_on : (name : List ℕ) (old mid new : Option Files) (first piece : List ℕ) (result : Result Unit Trouble) → AfterTold old mid (Grows name first) → FileTook name mid new piece result → (bytes : List ℕ) × AfterTold old new (Grows name (first ++ bytes)) × PieceTaken piece bytes result
-file_took_on name old mid new first piece result a (bytes, grew, taken) = (bytes, file_grew_on name first bytes old mid new a grew, taken)
 
 -- bytes that were consumed twice
 pub consumes_on : (old mid new : Option (List ℕ)) (first second : List ℕ) → Consumes old mid first → Consumes mid new second → Consumes old new (first ++ second)
@@ -180,7 +192,3 @@ pieces_on first second a b (Err e) whole (count, short, more) = (
 pub took_both : (old mid new : Option (List ℕ)) (first second : List ℕ) (done : Unit) (result : Result Unit Trouble) → TookOf old mid first (Ok done) → TookOf mid new second result → TookOf old new (first ++ second) result
 took_both old mid new first second done result (a, grew, whole) (b, grew_more, more) =
     (a ++ b, grew_on old mid new a b grew grew_more, pieces_on first second a b result whole more)
-
-pub file_took_both : (name : List ℕ) (old mid new : Option Files) (first second : List ℕ) (done : Unit) (result : Result Unit Trouble) → FileTook name old mid first (Ok done) → FileTook name mid new second result → FileTook name old new (first ++ second) result
-file_took_both name old mid new first second done result (a, grew, whole) (b, grew_more, more) =
-    (a ++ b, file_grew_on name a b old mid new grew grew_more, pieces_on first second a b result whole more)

@@ -18,9 +18,9 @@ PieceTaken piece bytes (Err e) = (count : ℕ) × (count < length piece) × (byt
 abbrev pub TookOf : Option (List ℕ) → Option (List ℕ) → List ℕ → Result Unit Trouble → Type 0
 TookOf old new piece result = (bytes : List ℕ) × Grew old new bytes × PieceTaken piece bytes result
 
--- a file grew by what was taken of the piece, and the other files are as before
-abbrev pub FileTook : List ℕ → Option Files → Option Files → List ℕ → Result Unit Trouble → Type 0
-FileTook name old new piece result = (bytes : List ℕ) × AfterTold old new (Grows name bytes) × PieceTaken piece bytes result
+-- a file, under each name that it has, grew by what was taken of the piece, and the other files are as before
+abbrev pub FileTook : (List ℕ → Type 0) → Option Files → Option Files → List ℕ → Result Unit Trouble → Type 0
+FileTook IsName old new piece result = (bytes : List ℕ) × ((name : List ℕ) → IsName name → AfterTold old new (Grows name bytes)) × PieceTaken piece bytes result
 
 -- `create`: the file is empty at Ok; after Failed it is as before or empty; out of memory leaves it
 abbrev pub Creates : List ℕ → Result ℕ Trouble → Files → Files → Type 0

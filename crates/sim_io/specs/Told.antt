@@ -25,6 +25,12 @@ AfterTold old None P = ⊤
 AfterTold None (Some new) P = ⊥
 AfterTold (Some old) (Some new) P = P old new
 
+-- where the files are told after a call, they were told before it
+abbrev pub WereTold : Option Files → Option Files → Type 0
+WereTold old None = ⊤
+WereTold None (Some new) = ⊥
+WereTold (Some old) (Some new) = ⊤
+
 -- told as they were, or not told as they were not
 abbrev pub Unchanged : Option Files → Option Files → Type 0
 Unchanged None None = ⊤

@@ -401,7 +401,7 @@ impl Shelf for MemoryShelf {
         ensures id { IfOk result (λ id. IsCreated self.new id) }
         ensures file { IfOk result (λ id. IfSome (told self.new) (λ _. StandsFor self.new id name.now)) }
         ensures files { AfterTold (told self.old) (told self.new) (Creates name.now result) }
-        ensures kept { WriteKeeps reads_of IsReading IsCreated StandsFor self.old self.new }
+        ensures kept { WriteKeeps told reads_of IsReading IsCreated StandsFor self.old self.new }
         ensures cause { HasCause (writes_of self.old) (writes_of self.new) result }
         ensures memory { IsErrOf result Trouble.NoMemory → Unchanged (told self.old) (told self.new) }
     {
@@ -421,7 +421,7 @@ impl Shelf for MemoryShelf {
         ensures bound { IfOk result (λ count. (0 < count) × (count ≤ length piece.now)) }
         ensures bytes { (name : List ℕ) → StandsFor self.old id name →
             AfterTold (told self.old) (told self.new) (Grows name (taken result piece.now)) }
-        ensures kept { WriteKeeps reads_of IsReading IsCreated StandsFor self.old self.new }
+        ensures kept { WriteKeeps told reads_of IsReading IsCreated StandsFor self.old self.new }
         ensures cause { HasCause (writes_of self.old) (writes_of self.new) result }
         ensures memory { IsErrOf result Trouble.NoMemory → Unchanged (told self.old) (told self.new) }
     {

@@ -70,7 +70,7 @@ pub trait Shelf {
         ensures id { IfOk result (λ id. created self.new id) }
         ensures file { IfOk result (λ id. IfSome (files self.new) (λ _. stands self.new id name.now)) }
         ensures files { AfterTold (files self.old) (files self.new) (Creates name.now result) }
-        ensures kept { WriteKeeps reads reading created stands self.old self.new }
+        ensures kept { WriteKeeps files reads reading created stands self.old self.new }
         ensures cause { HasCause (writes self.old) (writes self.new) result }
         ensures memory { IsErrOf result Trouble.NoMemory → Unchanged (files self.old) (files self.new) };
 
@@ -83,7 +83,7 @@ pub trait Shelf {
         ensures bound { IfOk result (λ count. (0 < count) × (count ≤ length piece.now)) }
         ensures bytes { (name : List ℕ) → stands self.old id name →
             AfterTold (files self.old) (files self.new) (Grows name (taken result piece.now)) }
-        ensures kept { WriteKeeps reads reading created stands self.old self.new }
+        ensures kept { WriteKeeps files reads reading created stands self.old self.new }
         ensures cause { HasCause (writes self.old) (writes self.new) result }
         ensures memory { IsErrOf result Trouble.NoMemory → Unchanged (files self.old) (files self.new) };
 }

@@ -123,10 +123,9 @@ pub fn write_all<O: Sink>(sink: &mut O, piece: &[u8]) -> Result<(), Trouble>
 /// of writes rose.
 pub fn write_file<S: Shelf>(shelf: &mut S, id: u32, piece: &[u8]) -> Result<(), Trouble>
     requires { S.created shelf.old id }
-    ensures bytes { (name : List ℕ) → S.stands shelf.old id name →
-        FileTook name (S.files shelf.old) (S.files shelf.new) piece.now result }
+    ensures bytes { FileTook (S.stands shelf.old id) (S.files shelf.old) (S.files shelf.new) piece.now result }
     ensures cause { RoseIf (S.writes shelf.old) (S.writes shelf.new) (IsErrOf result Trouble.Failed) }
-    ensures kept { WriteKeeps S.reads S.reading S.created S.stands shelf.old shelf.new }
+    ensures kept { WriteKeeps S.files S.reads S.reading S.created S.stands shelf.old shelf.new }
     ensures created { S.created shelf.new id }
     ensures empty { piece.now ≡ [] → shelf.new ≡ shelf.old }
 {

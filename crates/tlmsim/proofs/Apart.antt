@@ -1,149 +1,231 @@
--- Causes that exclude each other.
-use Rattle.std.proofs.Common.{◌≡◌, ◌<◌, ◌≤◌, ◌⊎◌, ⊎_elim, ℕ, List, length, Option, Some, None, IsSome, Ok, Err, subst, ◌∙◌, ap, arith}
-use Rattle.sim_io.specs.Told.{Files, Lacks, IsText, IsLarge, text_of}
-use Rattle.model_tree.specs.Tree as tree
-use Rattle.model_tree.specs.declared.faults.Fault.{Fault}
-use Rattle.model_lexer.specs.Reads.{Reads}
-use Rattle.model_faults.specs.Passes.{first_fault}
-use Rattle.model_elaborate.specs.Elaborated.{elaboration_fault}
-use Rattle.design_rules.specs.Designs.{IsDesignOf}
-use Rattle.flat_design.specs.declared.design.Design.{Design}
-use Rattle.sim_model.specs.declared.plain.Command.{Command}
-use Rattle.script_commands.specs.ScriptText.{read_script}
-use Rattle.script_commands.specs.NamedScript.{name_script}
-use Rattle.script_commands.specs.declared.forms.TextCommand.{TextCommand}
-use Rattle.tlmsim.specs.Line.{Asked, line_of}
-use Rattle.tlmsim.specs.Call.{Call, Texts, model_limit, script_limit}
-use Rattle.tlmsim.specs.Judged.{HasNoTree, BreaksRule, BreaksWhole, IsBrokenModel, AcceptsModel, BreaksScript, IsBrokenScript, Accepts}
-use Rattle.tlmsim.specs.Headline.{ReadFailed, TooLarge, Given, ModelGiven}
-use Rattle.tlmsim.proofs.Designs.{same_naming}
+-- What a call was given, against what was read in it and what came of that.
+use Rattle.std.proofs.Common.{◌≡◌, ◌<◌, ◌≤◌, ◌⊎◌, ⊎_elim, ℕ, List, length, Option, Some, None, subst, ap, refl, arith}
+use Rattle.std.specs.Prelude.{IfSome}
+use Rattle.sim_io.specs.Told.{Files, Lacks, IsText, IsLarge}
+use Rattle.sim_io.specs.Cause.{Rose}
+use Rattle.command_line.specs.Line.{Mode, Simulation, Simulate, Format, Generate, line_of}
+use Rattle.run_input.specs.Limits.{model_limit, script_limit, replay_limit}
+use Rattle.run_input.specs.Loaded.{AreTexts}
+use Rattle.run_input.specs.Together.{Together}
+use Rattle.run_input.proofs.Present.{text_at, large_at, lacks_none}
+use Rattle.tlmsim.specs.Asked.{HasTexts, HasModel, IsModel, replay_of}
+use Rattle.tlmsim.specs.Call.{Call}
+use Rattle.tlmsim.specs.Headline.{UnreadIn, ReadFailed, LargeIn, TooLarge, Reads, Given, ModelGiven, FormatGiven, Within, PastLimit, names_model}
 
--- no text reads as two trees
-abbrev pub OneTree : Type 0
-OneTree = (text : List ℕ) (m n : tree.Model) → Reads text m → Reads text n → m ≡ n
+-- ---- one command line
 
-same_names : (words : List (List ℕ)) (a b : Asked) → line_of words ≡ Some a → line_of words ≡ Some b → a ≡ b
-same_names words a b p q = cc
+same_mode : (words : List (List ℕ)) (a b : Mode) → line_of words ≡ Some a → line_of words ≡ Some b → a ≡ b
+same_mode words a b p q = cc
 
--- where a file is there, its text is its bytes
-text_there : (file : Option (List ℕ)) (bytes : List ℕ) → file ≡ Some bytes → text_of file ≡ bytes
-text_there file bytes e = ap text_of e
+pub no_line : (words : List (List ℕ)) (a : Mode) → line_of words ≡ Some a → line_of words ≡ None → ⊥
+no_line words a p q = cc
 
-text_at : (before after : Option Files) (old new : Files) (name name' text bytes : List ℕ) → before ≡ Some old → after ≡ Some new → name ≡ name' → old name' ≡ Some bytes → IsText before after name text → text ≡ bytes
-text_at before after old new name name' text bytes b a n there is =
-    let P : Option Files → Type 0 = λ f. IsText f after name text in
-    let Q : Option Files → Type 0 = λ f. IsText (Some old) f name text in
-    let R : List ℕ → Type 0 = λ x. IsText (Some old) (Some new) x text in
-    let told : IsText (Some old) (Some new) name' text = subst R n (subst Q a (subst P b is)) in
-    told ∙ text_there (old name') bytes there
+-- no words ask for a run and for a laid-out text
+pub one_mode : (words : List (List ℕ)) (s : Simulation) (name : List ℕ) → line_of words ≡ Some (Simulate s) → line_of words ≡ Some (Format name) → ⊥
+one_mode words s name p q = cc
 
-large_at : (before after : Option Files) (old new : Files) (name name' bytes : List ℕ) (limit : ℕ) → before ≡ Some old → after ≡ Some new → name ≡ name' → old name' ≡ Some bytes → IsLarge before after name limit → limit < length bytes
-large_at before after old new name name' bytes limit b a n there is =
-    let P : Option Files → Type 0 = λ f. IsLarge f after name limit in
-    let Q : Option Files → Type 0 = λ f. IsLarge (Some old) f name limit in
-    let R : List ℕ → Type 0 = λ x. IsLarge (Some old) (Some new) x limit in
-    let S : List ℕ → Type 0 = λ x. limit < length x in
-    let told : IsLarge (Some old) (Some new) name' limit = subst R n (subst Q a (subst P b is)) in
-    subst S (text_there (old name') bytes there) told
+-- ---- one file
 
--- the texts that were read are those that were given
-pub same_model : (c : Call) (old new : Files) (model script model' script' : List ℕ) → Given c old new model script → Texts c model' script' → model' ≡ model
-same_model c old new model script model' script' g t =
-    let asked = same_names c.words t.asked g.asked t.line g.line in
-    text_at c.before.files c.after.files old new t.asked.model g.asked.model model' model g.told g.told_after (ap (λ n. n.model) asked) g.model_is t.model_is
+-- a file that is there was read
+unread_there : (c : Call) (old new : Files) (name name' text : List ℕ) → Reads c old new → name' ≡ name → old name ≡ Some text → Rose c.before.reads c.after.reads ⊎ Lacks c.before.files name' → ⊥
+unread_there c old new name name' text r n there h = ⊎_elim r.no_fault (lacks_none c.before.files old name' name text r.told n there) h
 
-pub same_script : (c : Call) (old new : Files) (model script model' script' : List ℕ) → Given c old new model script → Texts c model' script' → script' ≡ script
-same_script c old new model script model' script' g t =
-    let asked = same_names c.words t.asked g.asked t.line g.line in
-    text_at c.before.files c.after.files old new t.asked.script g.asked.script script' script g.told g.told_after (ap (λ n. n.script) asked) g.script_is t.script_is
+text_there : (c : Call) (old new : Files) (name name' text read : List ℕ) → Reads c old new → name' ≡ name → old name ≡ Some text → IsText c.before.files c.after.files name' read → read ≡ text
+text_there c old new name name' text read r n there is = text_at c.before.files c.after.files old new name' name read text r.told r.told_after n there is
 
-pub not_usage : (c : Call) (old new : Files) (model script : List ℕ) → Given c old new model script → line_of c.words ≡ None → ⊥
-not_usage c old new model script g e = let line = g.line in cc
-
-lacks_none : (before : Option Files) (old : Files) (name name' bytes : List ℕ) → before ≡ Some old → name ≡ name' → old name' ≡ Some bytes → Lacks before name → ⊥
-lacks_none before old name name' bytes b n there lacks =
-    let P : Option Files → Type 0 = λ f. Lacks f name in
-    let Q : List ℕ → Type 0 = λ x. Lacks (Some old) x in
-    let told : old name' ≡ None = subst Q n (subst P b lacks) in
-    cc
-
-pub not_read : (c : Call) (old new : Files) (model script file : List ℕ) → Given c old new model script → ReadFailed c file → ⊥
-not_read c old new model script file g r =
-    let asked = same_names c.words r.asked g.asked r.line g.line in
-    ⊎_elim
-    (λ first. ⊎_elim g.no_fault (lacks_none c.before.files old r.asked.model g.asked.model model g.told (ap (λ n. n.model) asked) g.model_is) first.1)
-    (λ second. ⊎_elim g.no_fault (lacks_none c.before.files old r.asked.script g.asked.script script g.told (ap (λ n. n.script) asked) g.script_is) second.1.3)
-    r.cause
-
-pub not_large : (c : Call) (old new : Files) (model script file : List ℕ) → Given c old new model script → length model ≤ model_limit → length script ≤ script_limit → TooLarge c file → ⊥
-not_large c old new model script file g m_within s_within l =
-    let asked = same_names c.words l.asked g.asked l.line g.line in
-    ⊎_elim
-    (λ large. let h : model_limit < length model = large_at c.before.files c.after.files old new l.asked.model g.asked.model model model_limit g.told g.told_after (ap (λ n. n.model) asked) g.model_is large.1 in omega arith)
-    (λ large. let h : script_limit < length script = large_at c.before.files c.after.files old new l.asked.script g.asked.script script script_limit g.told g.told_after (ap (λ n. n.script) asked) g.script_is large.1.3 in omega arith)
-    l.cause
-
--- a model that is given and past its limit was not read within it
-pub long_texts : (c : Call) (old new : Files) (model : List ℕ) → ModelGiven c old new model → model_limit < length model → (model' script' : List ℕ) → Texts c model' script' → ⊥
-long_texts c old new model g past model' script' t =
-    let asked = same_names c.words t.asked g.asked t.line g.line in
-    let same = ap length (text_at c.before.files c.after.files old new t.asked.model g.asked.model model' model g.told g.told_after (ap (λ n. n.model) asked) g.model_is t.model_is) in
-    let within : length model' ≤ model_limit = t.model_within in
-    let h : model_limit < length model = past in
+-- a model that is past its limit was not read within it
+too_long : (c : Call) (old new : Files) (name name' text read : List ℕ) → Reads c old new → name' ≡ name → old name ≡ Some text → model_limit < length text → IsText c.before.files c.after.files name' read → length read ≤ model_limit → ⊥
+too_long c old new name name' text read r n there past is fits =
+    let same = ap length (text_there c old new name name' text read r n there is) in
+    let long : model_limit < length text = past in
+    let within : length read ≤ model_limit = fits in
     omega arith
 
-pub long_usage : (c : Call) (old new : Files) (model : List ℕ) → ModelGiven c old new model → line_of c.words ≡ None → ⊥
-long_usage c old new model g e = let line = g.line in cc
+-- a file that is within its limit is not too large
+not_past_it : (c : Call) (old new : Files) (name name' text : List ℕ) (limit : ℕ) → Reads c old new → name' ≡ name → old name ≡ Some text → length text ≤ limit → IsLarge c.before.files c.after.files name' limit → ⊥
+not_past_it c old new name name' text limit r n there fits is =
+    let large : limit < length text = large_at c.before.files c.after.files old new name' name text limit r.told r.told_after n there is in
+    omega arith
 
+-- the replay file that is named is there, where its text is given
+replay_there : (old : Files) (named replay : Option (List ℕ)) (file : List ℕ) → Together named replay (λ name text. old name ≡ Some text) → named ≡ Some file → (text : List ℕ) × (replay ≡ Some text) × (old file ≡ Some text)
+replay_there old None replay file h e = absurd cc
+replay_there old (Some name) None file h e = absurd h
+replay_there old (Some name) (Some text) file h e =
+    let same : name ≡ file = cc in
+    let P : List ℕ → Type 0 = λ n. old n ≡ Some text in
+    (text, refl, subst P same h)
+
+same_replay_text : (before after : Option Files) (old new : Files) (named replay replay' : Option (List ℕ)) → before ≡ Some old → after ≡ Some new → Together named replay (λ name text. old name ≡ Some text) → Together named replay' (IsText before after) → replay' ≡ replay
+same_replay_text before after old new None None None b a there is = refl
+same_replay_text before after old new None None (Some read) b a there is = absurd is
+same_replay_text before after old new None (Some text) replay' b a there is = absurd there
+same_replay_text before after old new (Some name) None replay' b a there is = absurd there
+same_replay_text before after old new (Some name) (Some text) None b a there is = absurd is
+same_replay_text before after old new (Some name) (Some text) (Some read) b a there is =
+    ap (λ (t : List ℕ). Some t) (text_at before after old new name name read text b a refl there is)
+
+-- ---- the limits
+
+if_some : (o : Option (List ℕ)) (P : List ℕ → Type 0) (x : List ℕ) → IfSome o P → o ≡ Some x → P x
+if_some None P x h e = absurd cc
+if_some (Some y) P x h e = let same : y ≡ x = cc in subst P same h
+
+pub not_past : (model script : List ℕ) (replay : Option (List ℕ)) → Within model script replay → PastLimit model script replay → ⊥
+not_past model script replay w past =
+    let m : length model ≤ model_limit = w.model_within in
+    let s : length script ≤ script_limit = w.script_within in
+    ⊎_elim
+    (λ long. let h : model_limit < length model = long in omega arith)
+    (λ later. ⊎_elim
+    (λ long. let h : script_limit < length script = long in omega arith)
+    (λ long. let h : replay_limit < length long.0 = long.2 in let r : length long.0 ≤ replay_limit = w.replay_within long.0 long.1 in omega arith)
+    later)
+    past
+
+-- ---- the texts of a run
+
+-- texts that were read for a run
+pub record Found (c : Call) (model script : List ℕ) (replay : Option (List ℕ)) : Type 0 where
+  pub mode : Mode
+  pub line : line_of c.words ≡ Some mode
+  pub texts : HasTexts c mode model script replay
+
+texts_in : (c : Call) (old new : Files) (model script : List ℕ) (replay : Option (List ℕ)) (model' script' : List ℕ) (replay' : Option (List ℕ)) → (g : Given c old new model script replay) → Found c model' script' replay'
+    → AreTexts c.before.files c.after.files g.s.model g.s.script (replay_of g.s.rule) model' script' replay'
+texts_in c old new model script replay model' script' replay' g f =
+    let P : Mode → Type 0 = λ mode. HasTexts c mode model' script' replay' in
+    subst P (same_mode c.words f.mode (Simulate g.s) f.line g.line) f.texts
+
+within_of : (c : Call) (s : Simulation) (model script : List ℕ) (replay : Option (List ℕ)) → AreTexts c.before.files c.after.files s.model s.script (replay_of s.rule) model script replay → Within model script replay
+within_of c s model script replay t = record {
+  model_within = t.model_within;
+  script_within = t.script_within;
+  replay_within = λ text e. if_some replay (λ x. length x ≤ replay_limit) text t.replay_within e;
+}
+
+-- what is so of the texts that were read is so of those that were given
+pub of_given : (c : Call) (old new : Files) (model script : List ℕ) (replay : Option (List ℕ)) (model' script' : List ℕ) (replay' : Option (List ℕ)) (P : List ℕ → List ℕ → Option (List ℕ) → Type 0)
+    → Given c old new model script replay → Found c model' script' replay' → P model' script' replay' → P model script replay
+of_given c old new model script replay model' script' replay' P g f h =
+    let t = texts_in c old new model script replay model' script' replay' g f in
+    let A : List ℕ → Type 0 = λ x. P x script' replay' in
+    let B : List ℕ → Type 0 = λ x. P model x replay' in
+    let C : Option (List ℕ) → Type 0 = λ x. P model script x in
+    let one : P model script' replay' = subst A (text_there c old new g.s.model g.s.model model model' g.reads refl g.model_is t.model_is) h in
+    let two : P model script replay' = subst B (text_there c old new g.s.script g.s.script script script' g.reads refl g.script_is t.script_is) one in
+    subst C (same_replay_text c.before.files c.after.files old new (replay_of g.s.rule) replay replay' g.reads.told g.reads.told_after g.replay_is t.replay_is) two
+
+-- texts that are given and of which one is past its limit were not read
+pub not_long : (c : Call) (old new : Files) (model script : List ℕ) (replay : Option (List ℕ)) (model' script' : List ℕ) (replay' : Option (List ℕ)) → Given c old new model script replay → PastLimit model script replay → Found c model' script' replay' → ⊥
+not_long c old new model script replay model' script' replay' g past f =
+    let within = within_of c g.s model' script' replay' (texts_in c old new model script replay model' script' replay' g f) in
+    not_past model script replay (of_given c old new model script replay model' script' replay' Within g f within) past
+
+-- the model that was read for a run that is given stands beside a script and a replay text
+pub found_model : (c : Call) (old new : Files) (model script : List ℕ) (replay : Option (List ℕ)) (mode : Mode) (model' : List ℕ) → Given c old new model script replay → line_of c.words ≡ Some mode → IsModel c mode model'
+    → (script' : List ℕ) × (replay' : Option (List ℕ)) × Found c model' script' replay'
+found_model c old new model script replay mode model' g line is =
+    let P : Mode → Type 0 = λ m. IsModel c m model' in
+    let here : IsModel c (Simulate g.s) model' = subst P (same_mode c.words mode (Simulate g.s) line g.line) is in
+    (here.0, here.1, record { mode = Simulate g.s; line = g.line; texts = here.2 })
+
+-- no file that is given could not be read
+pub not_read : (c : Call) (old new : Files) (model script : List ℕ) (replay : Option (List ℕ)) (file : List ℕ) → Given c old new model script replay → ReadFailed c file → ⊥
+not_read c old new model script replay file g r =
+    let P : Mode → Type 0 = λ m. UnreadIn c m file in
+    let here : UnreadIn c (Simulate g.s) file = subst P (same_mode c.words r.mode (Simulate g.s) r.line g.line) r.cause in
+    ⊎_elim
+    (λ first. unread_there c old new g.s.model g.s.model model g.reads refl g.model_is first.1)
+    (λ later. ⊎_elim
+    (λ second. unread_there c old new g.s.script g.s.script script g.reads refl g.script_is second.1.3)
+    (λ third. let there = replay_there old (replay_of g.s.rule) replay file g.replay_is third.0 in unread_there c old new file file there.0 g.reads refl there.2 third.1.3.3)
+    later)
+    here
+
+-- nor is one that is within its limit too large
+pub not_large : (c : Call) (old new : Files) (model script : List ℕ) (replay : Option (List ℕ)) (file : List ℕ) → Given c old new model script replay → Within model script replay → TooLarge c file → ⊥
+not_large c old new model script replay file g w l =
+    let P : Mode → Type 0 = λ m. LargeIn c m file in
+    let here : LargeIn c (Simulate g.s) file = subst P (same_mode c.words l.mode (Simulate g.s) l.line g.line) l.cause in
+    ⊎_elim
+    (λ first. not_past_it c old new g.s.model g.s.model model model_limit g.reads refl g.model_is w.model_within first.1)
+    (λ later. ⊎_elim
+    (λ second. not_past_it c old new g.s.script g.s.script script script_limit g.reads refl g.script_is w.script_within second.1.3)
+    (λ third. let there = replay_there old (replay_of g.s.rule) replay file g.replay_is third.0 in
+    not_past_it c old new file file there.0 replay_limit g.reads refl there.2 (w.replay_within there.0 there.1) third.1.3.3)
+    later)
+    here
+
+-- ---- a model that is past its limit
+
+long_in : (c : Call) (old new : Files) (name model : List ℕ) (mode : Mode) (model' : List ℕ) → Reads c old new → old name ≡ Some model → model_limit < length model → names_model mode ≡ Some name → IsModel c mode model' → ⊥
+long_in c old new name model (Simulate s) model' r there past named is =
+    let n : s.model ≡ name = cc in too_long c old new name s.model model model' r n there past is.2.model_is is.2.model_within
+long_in c old new name model (Format file) model' r there past named is =
+    let n : file ≡ name = cc in too_long c old new name file model model' r n there past is.text is.within
+long_in c old new name model (Generate g) model' r there past named is = cc
+
+-- it was not read within it
+pub long_model : (c : Call) (old new : Files) (model : List ℕ) (mode : Mode) (model' : List ℕ) → ModelGiven c old new model → model_limit < length model → line_of c.words ≡ Some mode → IsModel c mode model' → ⊥
+long_model c old new model mode model' g past line is =
+    let P : Mode → Type 0 = λ m. IsModel c m model' in
+    long_in c old new g.name model g.mode model' g.reads g.model_is past g.named (subst P (same_mode c.words mode g.mode line g.line) is)
+
+model_in : (c : Call) (mode : Mode) (model script : List ℕ) (replay : Option (List ℕ)) → HasTexts c mode model script replay → IsModel c mode model
+model_in c (Simulate s) model script replay t = (script, replay, t)
+model_in c (Format name) model script replay t = absurd t
+model_in c (Generate g) model script replay t = t.0
+
+-- nor for a run
+pub long_found : (c : Call) (old new : Files) (model : List ℕ) (model' script' : List ℕ) (replay' : Option (List ℕ)) → ModelGiven c old new model → model_limit < length model → Found c model' script' replay' → ⊥
+long_found c old new model model' script' replay' g past f =
+    long_model c old new model f.mode model' g past f.line (model_in c f.mode model' script' replay' f.texts)
+
+long_unread : (c : Call) (old new : Files) (name model : List ℕ) (mode : Mode) (file : List ℕ) → Reads c old new → old name ≡ Some model → model_limit < length model → names_model mode ≡ Some name → UnreadIn c mode file → ⊥
+long_unread c old new name model (Simulate s) file r there past named h =
+    let n : s.model ≡ name = cc in
+    ⊎_elim
+    (λ first. unread_there c old new name s.model model r n there first.1)
+    (λ later. ⊎_elim
+    (λ second. too_long c old new name s.model model second.1.0 r n there past second.1.1 second.1.2)
+    (λ third. too_long c old new name s.model model third.1.0 r n there past third.1.1 third.1.2)
+    later)
+    h
+long_unread c old new name model (Format other) file r there past named h =
+    let n : other ≡ name = cc in unread_there c old new name other model r n there h.1
+long_unread c old new name model (Generate g) file r there past named h = absurd h
+
+-- and no file beside it could not be read: it is read first
 pub long_read : (c : Call) (old new : Files) (model file : List ℕ) → ModelGiven c old new model → model_limit < length model → ReadFailed c file → ⊥
 long_read c old new model file g past r =
-    let asked = same_names c.words r.asked g.asked r.line g.line in
-    let h : model_limit < length model = past in
-    ⊎_elim
-    (λ first. ⊎_elim g.no_fault (lacks_none c.before.files old r.asked.model g.asked.model model g.told (ap (λ n. n.model) asked) g.model_is) first.1)
-    (λ second.
-    let same = ap length (text_at c.before.files c.after.files old new r.asked.model g.asked.model second.1.0 model g.told g.told_after (ap (λ n. n.model) asked) g.model_is second.1.1) in
-    let within : length second.1.0 ≤ model_limit = second.1.2 in
-    omega arith)
-    r.cause
+    let P : Mode → Type 0 = λ m. UnreadIn c m file in
+    long_unread c old new g.name model g.mode file g.reads g.model_is past g.named (subst P (same_mode c.words r.mode g.mode r.line g.line) r.cause)
 
--- nothing is found, and something is
-found_none : {T : Type 0} (found : Option T) → found ≡ None → IsSome found → ⊥
-found_none None none some = cc
-found_none (Some x) none some = cc
+-- ---- a model that is to be laid out
 
-found_both : {T : Type 0} (find : tree.Model → Option T) (m n : tree.Model) → m ≡ n → find m ≡ None → IsSome (find n) → ⊥
-found_both find m n e none some = let P : tree.Model → Type 0 = λ x. find x ≡ None in found_none (find n) (subst P e none) some
+-- it is not run
+pub laid_found : (c : Call) (old new : Files) (model : List ℕ) (model' script' : List ℕ) (replay' : Option (List ℕ)) → FormatGiven c old new model → Found c model' script' replay' → ⊥
+laid_found c old new model model' script' replay' g f =
+    let P : Mode → Type 0 = λ mode. HasTexts c mode model' script' replay' in
+    let none : HasTexts c (Format g.name) model' script' replay' = subst P (same_mode c.words f.mode (Format g.name) f.line g.line) f.texts in
+    none
 
--- a model is not both accepted and refused
-pub not_broken : OneTree → (model : List ℕ) (m : tree.Model) → AcceptsModel model m → IsBrokenModel model → ⊥
-not_broken one model m a b =
-    ⊎_elim (λ none. none m a.reads)
-    (⊎_elim (λ f. found_both first_fault m f.m (one model m f.m a.reads f.reads) a.faultless f.fault)
-    (λ w. found_both elaboration_fault m w.m (one model m w.m a.reads w.reads) a.elaborated w.fault)) b
+-- the one that was read is the one that is given
+pub laid_model : (c : Call) (old new : Files) (model : List ℕ) (mode : Mode) (model' : List ℕ) → FormatGiven c old new model → line_of c.words ≡ Some mode → IsModel c mode model' → model' ≡ model
+laid_model c old new model mode model' g line is =
+    let P : Mode → Type 0 = λ m. IsModel c m model' in
+    let here : HasModel c g.name model' = subst P (same_mode c.words mode (Format g.name) line g.line) is in
+    text_there c old new g.name g.name model model' g.reads refl g.model_is here.text
 
--- nor refused for two causes
-pub not_unread : (model : List ℕ) → HasNoTree model → BreaksRule model ⊎ BreaksWhole model → ⊥
-not_unread model none b = ⊎_elim (λ f. none f.m f.reads) (λ w. none w.m w.reads) b
+pub laid_read : (c : Call) (old new : Files) (model file : List ℕ) → FormatGiven c old new model → ReadFailed c file → ⊥
+laid_read c old new model file g r =
+    let P : Mode → Type 0 = λ m. UnreadIn c m file in
+    let here : UnreadIn c (Format g.name) file = subst P (same_mode c.words r.mode (Format g.name) r.line g.line) r.cause in
+    unread_there c old new g.name g.name model g.reads refl g.model_is here.1
 
-pub not_ruled : OneTree → (model : List ℕ) → BreaksRule model → BreaksWhole model → ⊥
-not_ruled one model f w = found_both first_fault w.m f.m (one model w.m f.m w.reads f.reads) w.faultless f.fault
-
--- a script is not both accepted and refused, over whatever designs of a model
-breaks : (d e : Design) (script : List ℕ) (text : List TextCommand) (commands : List Command) → ((cs : List TextCommand) → name_script d cs ≡ name_script e cs) → read_script script ≡ Ok text → name_script d text ≡ Ok commands → BreaksScript e script → ⊥
-breaks d e script text commands same read named b =
-    ⊎_elim (λ syntax. let e = syntax.1 in cc) (λ fault. other fault.0 fault.1 fault.2 fault.3) b
-  where
-    other : (text' : List TextCommand) (f : Fault) → read_script script ≡ Ok text' → name_script e text' ≡ Err f → ⊥
-    other text' f read' named' =
-        let one : text' ≡ text = cc in
-        let P : List TextCommand → Type 0 = λ t. name_script e t ≡ Err f in
-        let here : name_script e text ≡ Err f = subst P one named' in
-        let there : name_script d text ≡ Err f = same text ∙ here in
-        cc
-
-pub not_both : OneTree → (model script : List ℕ) (m n : tree.Model) (d : Design) (commands : List Command) → Accepts model script m d commands → AcceptsModel model n → IsBrokenScript n script → ⊥
-not_both one model script m n d commands a b broken =
-    let P : tree.Model → Type 0 = λ x. IsDesignOf x broken.design in
-    let is : IsDesignOf m broken.design = subst P (one model n m b.reads a.accepted.reads) broken.is_design in
-    breaks d broken.design script a.named.0 commands (same_naming m d broken.design a.is_design is) a.named.1 a.named.2 broken.breaks
+pub laid_large : (c : Call) (old new : Files) (model file : List ℕ) → FormatGiven c old new model → length model ≤ model_limit → TooLarge c file → ⊥
+laid_large c old new model file g fits l =
+    let P : Mode → Type 0 = λ m. LargeIn c m file in
+    let here : LargeIn c (Format g.name) file = subst P (same_mode c.words l.mode (Format g.name) l.line g.line) l.cause in
+    not_past_it c old new g.name g.name model model_limit g.reads refl g.model_is fits here.1

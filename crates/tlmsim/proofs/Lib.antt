@@ -1,6 +1,6 @@
-pub mod Refusals
-pub mod Reading
+pub mod Courses
+pub mod Ends
 pub mod Lines
-pub mod Designs
 pub mod Apart
+pub mod Comes
 pub mod Answered

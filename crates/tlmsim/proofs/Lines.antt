@@ -54,6 +54,7 @@ line_some refusal.Usage = omega arith
 line_some (refusal.Read file) = omega arith
 line_some (refusal.Model f) = model_some f
 line_some (refusal.Script f) = script_some f
+line_some (refusal.Replay line) = omega arith
 line_some (refusal.TooLarge file) = omega arith
 
 -- a line that was not begun
@@ -76,6 +77,7 @@ refusal_no_end refusal.Usage = refl
 refusal_no_end (refusal.Read file) = refl
 refusal_no_end (refusal.Model f) = refl
 refusal_no_end (refusal.Script f) = refl
+refusal_no_end (refusal.Replay line) = refl
 refusal_no_end (refusal.TooLarge file) = refl
 
 -- a refusal that is told has none of them

@@ -1,7 +1,8 @@
 -- What a call of the top speaks of: the words, and the outside before and after it.
-use Rattle.std.specs.Prelude.{◌≡◌, ◌≤◌, ℕ, List, length, Option, Some}
-use Rattle.sim_io.specs.Told.{Files, AfterTold, Same, IsText}
-use Rattle.tlmsim.specs.Line.{Asked, line_of}
+use Rattle.std.specs.Prelude.{◌≡◌, ◌≤◌, ℕ, List, Option, Some, None}
+use Rattle.sim_io.specs.Told.{Files, AfterTold}
+use Rattle.command_line.specs.Line.{Mode, Simulate, Format, Generate, line_of}
+use Rattle.sessions.specs.Outputs.{Names, IsOther}
 
 -- the outside at a moment: the files where they are told, what `out` and `err` hold where they tell that, and the
 -- counts of faults
@@ -31,26 +32,28 @@ outside_of files reads writes holds faults shelf out err err_faults = record {
   err_faults = err_faults;
 }
 
--- what a call leaves of the outside, whatever it answers: no file is made or changed, and no count falls
+-- the files that the words name for writing: those of a simulation for its trace and its choices
+abbrev pub no_names : Names
+no_names = record { trace = None; choices = None }
+
+abbrev pub names_in : Mode → Names
+names_in (Simulate s) = record { trace = s.vcd; choices = s.choices }
+names_in (Format model) = no_names
+names_in (Generate g) = no_names
+
+abbrev pub names_if : Option Mode → Names
+names_if None = no_names
+names_if (Some mode) = names_in mode
+
+-- each file but these is as before
+abbrev pub OnlyThese : Names → Files → Files → Type 0
+OnlyThese names old new = (name : List ℕ) → IsOther names.trace name → IsOther names.choices name → new name ≡ old name
+
+-- what a call leaves of the outside, whatever it answers: no file is made or changed but those that the words name for writing, and
+-- no count falls
 pub record Keeps (c : Call) : Type 0 where
-  pub files : AfterTold c.before.files c.after.files Same
-  pub writes : c.after.writes ≡ c.before.writes
+  pub files : AfterTold c.before.files c.after.files (OnlyThese (names_if (line_of c.words)))
   pub reads : c.before.reads ≤ c.after.reads
+  pub writes : c.before.writes ≤ c.after.writes
   pub out_faults : c.before.out_faults ≤ c.after.out_faults
   pub err_faults : c.before.err_faults ≤ c.after.err_faults
-
--- the most bytes that a model and a script may have
-abbrev pub model_limit : ℕ
-model_limit = 1048576
-
-abbrev pub script_limit : ℕ
-script_limit = 65536
-
--- the words name two files, these are their texts where the shelf tells its files, and each is within its limit
-pub record Texts (c : Call) (model script : List ℕ) : Type 0 where
-  pub asked : Asked
-  pub line : line_of c.words ≡ Some asked
-  pub model_is : IsText c.before.files c.after.files asked.model model
-  pub script_is : IsText c.before.files c.after.files asked.script script
-  pub model_within : length model ≤ model_limit
-  pub script_within : length script ≤ script_limit

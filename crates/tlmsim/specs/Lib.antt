@@ -1,10 +1,7 @@
-pub mod Line
-pub mod Seen
 pub mod Call
-pub mod Loaded
-pub mod Judged
-pub mod Refused
-pub mod Telling
+pub mod Asked
 pub mod Orderly
+pub mod Taken
+pub mod Telling
 pub mod Headline
-pub mod Simulated
+pub mod Worked

@@ -15,6 +15,7 @@ refusal_status refusal.Usage = 1
 refusal_status (refusal.Read file) = 2
 refusal_status (refusal.Model f) = 3
 refusal_status (refusal.Script f) = 4
+refusal_status (refusal.Replay at) = 4
 refusal_status (refusal.TooLarge file) = 10
 
 -- a front of a line that lacks a byte, and behind it a front of the line that says what cut the first

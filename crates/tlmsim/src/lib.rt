@@ -1,17 +1,16 @@
 //! The simulator: the words of a command line, and the one call that runs a model under a script.
 #![tactic(auto)]
 
-mod asked;
-mod judging;
-mod laws;
-mod load;
+mod formatting;
+mod generating;
 mod main_call;
-mod simulate;
+mod running;
+mod simulating;
 mod statuses;
 mod telling;
+mod working;
 
 pub use command_line::Words;
 pub use flat_design::Choices;
-pub use laws::one_cause;
-pub use load::{MODEL_LIMIT, SCRIPT_LIMIT};
 pub use main_call::{Ended, sim_main};
+pub use run_input::{MODEL_LIMIT, SCRIPT_LIMIT, one_cause};

@@ -2,9 +2,9 @@ ghost use Rattle.std.specs.Prelude.{◌≡◌};
 ghost use Rattle.tlmsim.specs.Call.{outside_of};
 ghost use Rattle.tlmsim.specs.Headline.{Answers, IsRunStatus};
 
-use super::simulate::{SimulateStop, simulate};
 use super::statuses::stop_status;
 use super::telling::{tell_refusal, tell_stop, try_line};
+use super::working::{WorkStop, work};
 use command_line::Words;
 use flat_design::Choices;
 use model_parser::one_tree;
@@ -26,20 +26,25 @@ pub struct Ended {
     pub steps: u64,
 }
 
-/// Runs the model under the script that the words name, as they ask for it, and writes the report to `out`.
+/// Does what the words ask for, and writes the report to `out`.
 ///
-/// The words are `MODEL SCRIPT`, and any of `--budget N`, the most steps, from 1 to 67,108,864; `--order first|last|seed`,
-/// which of the runnable processes is taken; `--seed N`; `--log prints|turns`, what the report tells.
+/// `MODEL SCRIPT` runs the model under the script, with any of `--budget N`, the most steps, from 1 to 67,108,864;
+/// `--order first|last|seed`, which of the runnable processes is taken; `--seed N`; `--replay FILE`, a file that lists the
+/// processes to be taken; `--log prints|turns`, what the report tells; `--vcd FILE`, the file of the trace; `--choices FILE`,
+/// the file of the processes that were taken. `--format MODEL` writes the model laid out. `--generate N`, from 1 to 1,000, with
+/// any of budget, order and seed, runs the generated model of that size, and writes `steps K` behind its report.
 ///
-/// The statuses: 0, the script was carried out or the model stopped it; 1, the words are refused; 2, a
-/// file could not be read; 3, the model is refused: it does not read, or it breaks a rule; 4, the script is
-/// refused; 5, a run fault; 6, the step budget is used up; 7, a write failed; 8, memory was refused; 9, a
+/// The statuses: 0, the script was carried out or the model stopped it, or the model was laid out; 1, the words are refused; 2, a
+/// file could not be read; 3, the model is refused: it does not read, or it breaks a rule; 4, the script or the replay file is
+/// refused; 5, a run fault; 6, the step budget is used up; 7, a write failed, or a file was not created; 8, memory was refused; 9, a
 /// listed choice could not be taken; 10, a file is too large.
 ///
 /// `err` gets one line for a refusal of the input, which are 1, 2, 3, 4 and 10, and a line is tried there for 7 and 8:
 /// `usage: tlmsim MODEL SCRIPT [options]`; `read fault FILE`; `model LINE KIND NAME` or `model LINE Syntax`; the same two
-/// for `script`; `too large FILE`; `write fault`; `no memory`. A refusal whose line cannot be written is 7, or 8 for want of
-/// memory. With 0, 5, 6 and 9 `err` is left alone.
+/// for `script`; `replay LINE Syntax`; `too large FILE`; `write fault`; `no memory`. A refusal whose line cannot be written is 7,
+/// or 8 for want of memory. With 0, 5, 6 and 9 `err` is left alone.
+///
+/// Files are created once all is judged, the trace's before that of the choices. A run that is cut leaves fronts of its texts.
 pub fn sim_main<S: Shelf, O: Sink, E: Sink>(
     alloc: Global,
     words: &Words,
@@ -56,7 +61,7 @@ pub fn sim_main<S: Shelf, O: Sink, E: Sink>(
 {
     one_tree();
     let choices = Choices::new(alloc);
-    match simulate(alloc, words, shelf, out) {
+    match work(alloc, words, shelf, out) {
         Ok(outcome) => {
             tell_stop(outcome.stop, err);
             Ended {
@@ -65,12 +70,12 @@ pub fn sim_main<S: Shelf, O: Sink, E: Sink>(
                 steps: outcome.steps,
             }
         }
-        Err(SimulateStop::Refused(refusal)) => Ended {
+        Err(WorkStop::Refused(refusal)) => Ended {
             status: tell_refusal(alloc, &refusal, err),
             choices,
             steps: 0,
         },
-        Err(SimulateStop::NoMemory) => {
+        Err(WorkStop::NoMemory) => {
             try_line(err, memory_line());
             Ended {
                 status: NO_MEMORY,

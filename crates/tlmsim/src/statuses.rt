@@ -27,7 +27,7 @@ pub fn refusal_status(refusal: &Refusal) -> u8
         Refusal::Usage => 1,
         Refusal::Read(_) => 2,
         Refusal::Model(_) => 3,
-        Refusal::Script(_) => 4,
+        Refusal::Script(_) | Refusal::Replay(_) => 4,
         Refusal::TooLarge(_) => 10,
     }
 }

@@ -1,14 +1,30 @@
-use Rattle.std.proofs.Common.{◌<◌, ◌-◌, ◌^◌, refl, sym, ap, ◌∙◌, subst, arith}
-use Rattle.std.specs.Prelude.{Err, length}
+use Rattle.std.proofs.Common.{◌<◌, ◌+◌, ◌-◌, ◌^◌, length, refl, sym, ap, ◌∙◌, subst, arith}
 use Rattle.flat_design.specs.Code.{arena_of}
-use Rattle.sim_model.specs.Configuration.{Config}
-use Rattle.sim_model.specs.Texts.{closing}
-use Rattle.kernel_state.specs.Kernel.{StandsFor}
-use Rattle.sessions.specs.Telling.{TextOf, TextOfTurn, TellsInto}
-use Rattle.sessions.specs.Course.{Closes}
-use Rattle.sessions.proofs.Going.{cut_before_step, ended_run, faulted_run, unready_run, spent_run}
-use Rattle.sessions.proofs.Turning.{told_on, told_cut, told_refused, took_on, took_cut, took_refused}
+use Rattle.sim_io.proofs.Chains.{write_keeps_on}
+use Rattle.sessions.specs.Outputs.{AreNames}
+use Rattle.sessions.specs.Telling.{HeaderOf, Nothing, PointOf, TextFor, TextOf, TextOfTurn}
+use Rattle.sessions.proofs.Outputs.{recorded_from, finishes_from}
+use Rattle.sessions.proofs.Going.{begins, cut_before_step, cut_in_header, ended_run, faulted_run, first_keeps, unready_run, spent_run}
+use Rattle.sessions.proofs.Turning.{told_on, told_cut, took_on, took_cut}
 use Rattle.sessions.proofs.looping.run_on.Goals as goal
+
+pub returns-in-Err-clause-ran : goal.returns-in-Err-clause-ran
+returns-in-Err-clause-ran g c = λ first h s r. rw (c.cut.ensures, c.new-choices.ensures)
+    (cut_in_header c.args.plan first c.args.k.now c.args.script.now c.new-tracing.result (AreNames g.S.Shelf.stands c.args.shelf.now c.args.plan.vcd c.args.plan.choices) _ _ h s.nothing_told s.nothing_seen c.in-Err.trouble (c.in-Err.ensures.records c.args.plan.choices))
+
+pub loop-steps-init : goal.loop-steps-init
+loop-steps-init g c = record {
+  sound = c.requires.sound;
+  within = omega arith;
+  in_script = omega arith;
+  none = c.new-events.ensures.items;
+  faults_later = omega arith;
+  writes_later = c.in-Ok.ensures.cause.writes_later;
+  kept = c.in-Ok.ensures.kept;
+  going = λ first h s r. rw (c.new-choosing.ensures, c.new-choices.ensures)
+      (begins c.args.plan first c.args.k.now c.args.script.now c.new-tracing.result (AreNames g.S.Shelf.stands c.args.shelf.now c.args.plan.vcd c.args.plan.choices) _ _ h s.nothing_told s.nothing_seen s.script_left r
+      (first_keeps c.args.plan.vcd c.new-tracing.result first.trace.snapshots c.new-tracing.ensures s.nothing_seen) (c.in-Ok.ensures.records c.args.plan.choices));
+}
 
 pub make_step-requires-clause-asked : goal.make_step-requires-clause-asked
 make_step-requires-clause-asked g c =
@@ -18,30 +34,30 @@ make_step-requires-clause-asked g c =
     (subst (λ d. d.events < 2 ^ 32 - 1) (sym so_far.design) begun.events)
     (begun.code ∙ ap (λ d. arena_of d.code) (sym so_far.design))
 
-pub loop-steps-preserved-in-Ok : goal.loop-steps-preserved-in-Ok
-loop-steps-preserved-in-Ok g c = record {
+pub loop-steps-preserved-in-Ok-record_step : goal.loop-steps-preserved-in-Ok-record_step
+loop-steps-preserved-in-Ok-record_step g c = record {
   sound = c.in-Went.ensures.sound;
   within = omega arith;
   in_script = c.in-Went.ensures.within;
   none = c.in-Went.ensures.none;
-  later = omega (arith, c.in-Ok.ensures.cause.later);
+  faults_later = omega (arith, c.in-Ok-record_step.ensures.cause.faults_later);
+  writes_later = omega (arith, c.in-Ok-record_step.ensures.cause.writes_later);
+  kept = write_keeps_on _ _ _ _ _ _ _ _ c.loop-steps.invariant.kept c.in-Ok-record_step.ensures.kept;
   going = λ first h s r.
-      told_on c.sound_runs_go_on.ensures _ _ first _ _ _ c.args.plan.budget _ _ _ _ _ _ _ (c.loop-steps.invariant.going first h s r) c.in-Went.told _ c.in-Went.ensures.steps c.in-Went.ensures.rules c.in-Ok.ensures.tells;
+      told_on c.sound_runs_go_on.ensures c.args.plan first _ _ _ _ _ _ _ _ _ (AreNames g.S.Shelf.stands c.args.shelf.now c.args.plan.vcd c.args.plan.choices) _ _ _ (c.loop-steps.invariant.going first h s r)
+      c.in-Went.told c.now-time.result.0 c.now-time.ensures c.in-Went.ensures.steps _ c.in-Went.ensures.rules
+      (recorded_from g.S.Shelf.stands c.args.shelf.now c.loop-steps.shelf c.args.plan.vcd c.args.plan.choices c.loop-steps.invariant.kept.ids.stands _ _ _ _ _ _ (c.in-Ok-record_step.ensures.records c.args.plan.choices));
 }
 
-pub returns-in-Err-Failed-clause-ran : goal.returns-in-Err-Failed-clause-ran
-returns-in-Err-Failed-clause-ran g c = λ first h s r.
-    told_cut c.sound_runs_go_on.ensures _ _ first _ _ _ _ _ _ _ _ _ _ _ (c.loop-steps.invariant.going first h s r) c.in-Went.told c.in-Went.ensures.steps (omega arith)
-    (subst (λ e. TellsInto (TextOf c.make_step.new.k c.in-Went.told) (g.O.Sink.holds c.loop-steps.out) (g.O.Sink.holds c.tell.new.out) (Err e)) c.in-Err-Failed.field-0-is c.in-Err-Failed.ensures.tells)
+pub returns-in-Err-record_step-clause-ran : goal.returns-in-Err-record_step-clause-ran
+returns-in-Err-record_step-clause-ran g c = λ first h s r. rw c.cut-in-Err-record_step.ensures
+    (told_cut c.sound_runs_go_on.ensures c.args.plan first _ _ _ _ _ _ _ _ _ (AreNames g.S.Shelf.stands c.args.shelf.now c.args.plan.vcd c.args.plan.choices) _ _ _ (c.loop-steps.invariant.going first h s r)
+    c.in-Went.told c.now-time.result.0 c.now-time.ensures c.in-Went.ensures.steps c.in-Err-record_step.trouble (omega arith)
+    (recorded_from g.S.Shelf.stands c.args.shelf.now c.loop-steps.shelf c.args.plan.vcd c.args.plan.choices c.loop-steps.invariant.kept.ids.stands _ _ _ _ _ _ (c.in-Err-record_step.ensures.records c.args.plan.choices)))
 
-pub returns-in-Err-NoMemory-clause-ran : goal.returns-in-Err-NoMemory-clause-ran
-returns-in-Err-NoMemory-clause-ran g c = λ first h s r.
-    told_refused c.sound_runs_go_on.ensures _ _ first _ _ _ _ _ _ _ _ _ _ _ (c.loop-steps.invariant.going first h s r) c.in-Went.told c.in-Went.ensures.steps (omega arith)
-    (subst (λ e. TellsInto (TextOf c.make_step.new.k c.in-Went.told) (g.O.Sink.holds c.loop-steps.out) (g.O.Sink.holds c.tell.new.out) (Err e)) c.in-Err-NoMemory.field-0-is c.in-Err-NoMemory.ensures.tells)
-
-pub returns-in-Err-clause-ran : goal.returns-in-Err-clause-ran
-returns-in-Err-clause-ran g c = λ first h s r. rw c.in-Err.ensures.err
-    (cut_before_step _ _ first _ _ _ _ _ _ _ _ (c.loop-steps.invariant.going first h s r) (omega arith))
+pub returns-in-Err-push-clause-ran : goal.returns-in-Err-push-clause-ran
+returns-in-Err-push-clause-ran g c = λ first h s r. rw (c.cut-in-Err-push.ensures, c.in-Err-push.ensures.err)
+    (cut_before_step c.args.plan first _ _ _ _ _ _ _ _ _ (c.loop-steps.invariant.going first h s r) (omega arith))
 
 pub loop-steps-preserved : goal.loop-steps-preserved
 loop-steps-preserved g c = record {
@@ -49,39 +65,47 @@ loop-steps-preserved g c = record {
   within = omega arith;
   in_script = c.in-Took.ensures.within;
   none = c.in-Took.ensures.none;
-  later = omega (arith, c.in-Ok-tell_turn.ensures.cause.later);
+  faults_later = omega (arith, c.in-Ok-record_turn.ensures.cause.faults_later);
+  writes_later = c.loop-steps.invariant.writes_later;
+  kept = c.loop-steps.invariant.kept;
   going = λ first h s r.
-      took_on c.sound_runs_go_on.ensures _ _ first _ _ _ c.args.plan.budget _ _ _ _ _ _ _ (c.loop-steps.invariant.going first h s r) c.in-Took.serial _ _ c.in-Ok-push.ensures.ok c.in-Took.ensures.steps c.in-Took.ensures.rules c.in-Ok-tell_turn.ensures.tells;
+      took_on c.sound_runs_go_on.ensures c.args.plan first _ _ _ _ _ _ _ _ c.loop-steps.tracing (AreNames g.S.Shelf.stands c.args.shelf.now c.args.plan.vcd c.args.plan.choices) _ _ _ (c.loop-steps.invariant.going first h s r)
+      c.in-Took.serial _ _ c.in-Ok-push.ensures.ok c.in-Took.ensures.steps c.in-Took.ensures.rules
+      (recorded_from g.S.Shelf.stands c.args.shelf.now c.loop-steps.shelf c.args.plan.vcd c.args.plan.choices c.loop-steps.invariant.kept.ids.stands _ _ _ _ _ _ (c.in-Ok-record_turn.ensures.records c.args.plan.vcd c.args.plan.choices));
 }
 
-pub returns-in-Err-Failed-tell_turn-clause-ran : goal.returns-in-Err-Failed-tell_turn-clause-ran
-returns-in-Err-Failed-tell_turn-clause-ran g c = λ first h s r.
-    took_cut c.sound_runs_go_on.ensures _ _ first _ _ _ _ _ _ _ _ _ _ _ (c.loop-steps.invariant.going first h s r) c.in-Took.serial _ _ c.in-Ok-push.ensures.ok c.in-Took.ensures.steps c.in-Took.ensures.rules (omega arith)
-    (subst (λ e. TellsInto (TextOfTurn c.make_step.new.k c.args.plan.log c.in-Took.serial) (g.O.Sink.holds c.loop-steps.out) (g.O.Sink.holds c.tell_turn.new.out) (Err e)) c.in-Err-Failed-tell_turn.field-0-is c.in-Err-Failed-tell_turn.ensures.tells)
-
-pub returns-in-Err-NoMemory-tell_turn-clause-ran : goal.returns-in-Err-NoMemory-tell_turn-clause-ran
-returns-in-Err-NoMemory-tell_turn-clause-ran g c = λ first h s r.
-    took_refused c.sound_runs_go_on.ensures _ _ first _ _ _ _ _ _ _ _ _ _ _ (c.loop-steps.invariant.going first h s r) c.in-Took.serial _ _ c.in-Ok-push.ensures.ok c.in-Took.ensures.steps c.in-Took.ensures.rules (omega arith)
-    (subst (λ e. TellsInto (TextOfTurn c.make_step.new.k c.args.plan.log c.in-Took.serial) (g.O.Sink.holds c.loop-steps.out) (g.O.Sink.holds c.tell_turn.new.out) (Err e)) c.in-Err-NoMemory-tell_turn.field-0-is c.in-Err-NoMemory-tell_turn.ensures.tells)
+pub returns-in-Err-record_turn-clause-ran : goal.returns-in-Err-record_turn-clause-ran
+returns-in-Err-record_turn-clause-ran g c = λ first h s r. rw c.cut-in-Err-record_turn.ensures
+    (took_cut c.sound_runs_go_on.ensures c.args.plan first _ _ _ _ _ _ _ _ c.loop-steps.tracing (AreNames g.S.Shelf.stands c.args.shelf.now c.args.plan.vcd c.args.plan.choices) _ _ _ (c.loop-steps.invariant.going first h s r)
+    c.in-Took.serial _ _ c.in-Ok-push.ensures.ok c.in-Took.ensures.steps c.in-Took.ensures.rules c.in-Err-record_turn.trouble (omega arith)
+    (recorded_from g.S.Shelf.stands c.args.shelf.now c.loop-steps.shelf c.args.plan.vcd c.args.plan.choices c.loop-steps.invariant.kept.ids.stands _ _ _ _ _ _ (c.in-Err-record_turn.ensures.records c.args.plan.vcd c.args.plan.choices)))
 
 pub returns-in-Ended-clause-ran : goal.returns-in-Ended-clause-ran
-returns-in-Ended-clause-ran g c = λ first h s r.
-    ended_run _ _ first _ _ _ _ _ c.sound_runs_go_on.ensures _ _ _ _ _ _ _ (c.loop-steps.invariant.going first h s r) _ c.in-Ended.ensures.steps c.loop-steps-test.true c.ended_as-ending.ensures.ended c.finish-stop.ensures.closes
+returns-in-Ended-clause-ran g c = λ first h s r. rw (c.finish.ensures.choices, c.finish.ensures.steps)
+    (ended_run c.args.plan first _ _ _ (AreNames g.S.Shelf.stands c.args.shelf.now c.args.plan.vcd c.args.plan.choices) _ c.sound_runs_go_on.ensures _ _ _ _ _ _ _ _ (c.loop-steps.invariant.going first h s r)
+    _ c.ended_as-ending.ensures.end c.in-Ended.ensures.steps c.loop-steps-test.true c.ended_as-ending.ensures.ended
+    (finishes_from g.S.Shelf.stands c.args.shelf.now c.loop-steps.shelf c.args.plan.vcd c.args.plan.choices c.loop-steps.invariant.kept.ids.stands _ _ _ _ _ _ _ c.finish.ensures.finishes))
 
 pub returns-in-Fault-clause-ran : goal.returns-in-Fault-clause-ran
-returns-in-Fault-clause-ran g c = λ first h s r.
-    faulted_run _ _ first _ _ _ _ _ c.sound_runs_go_on.ensures _ _ _ _ _ _ _ (c.loop-steps.invariant.going first h s r) _ c.in-Fault.ensures.steps c.loop-steps-test.true c.finish-stop-in-Fault.ensures.closes
+returns-in-Fault-clause-ran g c = λ first h s r. rw (c.finish-in-Fault.ensures.choices, c.finish-in-Fault.ensures.steps)
+    (faulted_run c.args.plan first _ _ _ (AreNames g.S.Shelf.stands c.args.shelf.now c.args.plan.vcd c.args.plan.choices) _ c.sound_runs_go_on.ensures _ _ _ _ _ _ _ _ (c.loop-steps.invariant.going first h s r)
+    _ c.in-Fault.ensures.steps c.loop-steps-test.true
+    (finishes_from g.S.Shelf.stands c.args.shelf.now c.loop-steps.shelf c.args.plan.vcd c.args.plan.choices c.loop-steps.invariant.kept.ids.stands _ _ _ _ _ _ _ c.finish-in-Fault.ensures.finishes))
 
 pub returns-in-NotReady-clause-ran : goal.returns-in-NotReady-clause-ran
-returns-in-NotReady-clause-ran g c = λ first h s r.
-    unready_run _ _ first _ _ _ _ _ c.sound_runs_go_on.ensures _ _ _ _ _ _ _ (c.loop-steps.invariant.going first h s r) _ c.make_step.new.choosing refl c.in-NotReady.ensures.steps c.in-NotReady.ensures.rules c.loop-steps-test.true
-    (subst (λ x. (d : Config) → StandsFor c.make_step.new.k d → Closes (closing d x) (g.O.Sink.holds c.loop-steps.out) (g.O.Sink.holds c.finish-stop-in-NotReady.new.out) x c.finish-stop-in-NotReady.result) c.not_ready-ending.ensures.place c.finish-stop-in-NotReady.ensures.closes)
+returns-in-NotReady-clause-ran g c = λ first h s r. rw (c.finish-in-NotReady.ensures.choices, c.finish-in-NotReady.ensures.steps)
+    (unready_run c.args.plan first _ _ _ (AreNames g.S.Shelf.stands c.args.shelf.now c.args.plan.vcd c.args.plan.choices) _ c.sound_runs_go_on.ensures _ _ _ _ _ _ _ _ (c.loop-steps.invariant.going first h s r)
+    (length c.loop-steps.choices + 1) c.make_step.new.choosing refl c.in-NotReady.ensures.steps c.in-NotReady.ensures.rules c.loop-steps-test.true
+    (finishes_from g.S.Shelf.stands c.args.shelf.now c.loop-steps.shelf c.args.plan.vcd c.args.plan.choices c.loop-steps.invariant.kept.ids.stands _ _ _ _ _ _ _ (rw c.not_ready-ending.ensures.place at c.finish-in-NotReady.ensures.finishes)))
 
 pub returns-in-NoMemory-clause-ran : goal.returns-in-NoMemory-clause-ran
-returns-in-NoMemory-clause-ran g c = λ first h s r.
-    cut_before_step _ _ first _ _ _ _ _ _ _ _ (c.loop-steps.invariant.going first h s r) (omega arith)
+returns-in-NoMemory-clause-ran g c = λ first h s r. rw c.cut-in-NoMemory.ensures
+    (cut_before_step c.args.plan first _ _ _ _ _ _ _ _ _ (c.loop-steps.invariant.going first h s r) (omega arith))
 
 pub returns-clause-ran : goal.returns-clause-ran
 returns-clause-ran g c = λ first h s r.
     let so_far = c.loop-steps.invariant.going first h s r in
-    spent_run _ _ first _ _ _ _ _ _ _ _ _ _ _ so_far c.loop-steps.invariant.within c.loop-steps-test.false (c.end_at_budget-ending.ensures.ending so_far.at c.args.plan.rule (length c.loop-steps.choices) so_far.stands so_far.left) c.finish-stop-2.ensures.closes
+    rw (c.finish-2.ensures.choices, c.finish-2.ensures.steps)
+    (spent_run c.args.plan first _ _ _ (AreNames g.S.Shelf.stands c.args.shelf.now c.args.plan.vcd c.args.plan.choices) _ _ _ _ _ _ _ _ so_far c.end_at_budget-ending.ensures.end c.loop-steps.invariant.within c.loop-steps-test.false
+    (c.end_at_budget-ending.ensures.ending so_far.at c.args.plan.rule (length c.loop-steps.choices) so_far.stands so_far.left)
+    (finishes_from g.S.Shelf.stands c.args.shelf.now c.loop-steps.shelf c.args.plan.vcd c.args.plan.choices c.loop-steps.invariant.kept.ids.stands _ _ _ _ _ _ _ c.finish-2.ensures.finishes))

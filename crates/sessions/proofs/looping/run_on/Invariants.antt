@@ -1,8 +1,11 @@
 use Rattle.std.proofs.Common.{◌-◌, ◌≡◌, ◌≤◌, [], drop, length}
+use Rattle.std.specs.Prelude.{IfSome}
+use Rattle.sim_io.specs.Keeps.{WriteKeeps}
 use Rattle.sim_model.specs.Configuration.{Config}
 use Rattle.kernel_state.specs.Kernel.{StandsFor, IsSound}
 use Rattle.reached_laws.specs.Reached.{IsReached}
 use Rattle.sessions.specs.Begun.{IsFirst}
+use Rattle.sessions.specs.Outputs.{AreNames, outer_of}
 use Rattle.sessions.proofs.Going.{Going}
 use Rattle.sessions.proofs.looping.run_on.Given as goal
 
@@ -13,9 +16,12 @@ invariant-loop-steps g l = record {
   within : l.steps ≤ l.budget;
   in_script : l.place ≤ length l.script;
   none : l.events.items ≡ [];
-  later : g.O.Sink.faults l.initial.out ≤ g.O.Sink.faults l.out;
+  faults_later : g.O.Sink.faults l.fn.out ≤ g.O.Sink.faults l.out;
+  writes_later : g.S.Shelf.writes l.fn.shelf ≤ g.S.Shelf.writes l.shelf;
+  kept : WriteKeeps g.S.Shelf.files g.S.Shelf.reads g.S.Shelf.reading g.S.Shelf.created g.S.Shelf.stands l.fn.shelf l.shelf;
   going : (first : Config) → StandsFor l.initial.k first → IsFirst first l.script → IsReached first
-      → Going l.fn.plan.rule l.fn.plan.log first l.choosing l.choices l.steps l.k (drop l.place l.script) (g.O.Sink.holds l.initial.out) (g.O.Sink.holds l.out);
+      → Going l.fn.plan first l.choosing l.choices l.steps l.k (drop l.place l.script) l.tracing (AreNames g.S.Shelf.stands l.fn.shelf l.fn.plan.vcd l.fn.plan.choices)
+      (outer_of g.S.Shelf.files g.O.Sink.holds l.fn.shelf l.fn.out) (outer_of g.S.Shelf.files g.O.Sink.holds l.shelf l.out);
 }
 
 abbrev pub decreases-loop-steps : goal.decreases-loop-steps

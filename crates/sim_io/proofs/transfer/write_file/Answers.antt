@@ -12,15 +12,15 @@ loop-done-preserved g c =
           (c.in-Ok.ensures.bytes name (c.loop-done.invariant.kept.ids.stands c.args.id name stands));
       within = within;
       later = omega (arith, c.in-Ok.ensures.cause.later);
-      kept = write_keeps_on _ _ _ _ _ _ _ c.loop-done.invariant.kept c.in-Ok.ensures.kept;
+      kept = write_keeps_on _ _ _ _ _ _ _ _ c.loop-done.invariant.kept c.in-Ok.ensures.kept;
       created = c.in-Ok.ensures.kept.ids.created c.args.id c.loop-done.invariant.created;
       untouched = λ none. absurd (omega (arith, c.in-Ok.ensures.bound.0));
     }
 
 pub returns-in-Err-clause-bytes : goal.returns-in-Err-clause-bytes
-returns-in-Err-clause-bytes g c = λ name stands. (
+returns-in-Err-clause-bytes g c = (
   take c.loop-done.done c.args.piece.now,
-  file_grew_none_on name _ _ _ _ (c.loop-done.invariant.bytes name stands)
+  λ name stands. file_grew_none_on name _ _ _ _ (c.loop-done.invariant.bytes name stands)
       (c.in-Err.ensures.bytes name (c.loop-done.invariant.kept.ids.stands c.args.id name stands)),
   (c.loop-done.done, c.loop-done-test.true, refl),
 )

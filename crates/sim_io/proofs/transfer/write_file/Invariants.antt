@@ -9,7 +9,7 @@ invariant-loop-done g l = record {
       AfterTold (g.S.Shelf.files l.initial.shelf) (g.S.Shelf.files l.shelf) (Grows name (take l.done l.piece));
   within : l.done ≤ length l.piece;
   later : g.S.Shelf.writes l.initial.shelf ≤ g.S.Shelf.writes l.shelf;
-  kept : WriteKeeps g.S.Shelf.reads g.S.Shelf.reading g.S.Shelf.created g.S.Shelf.stands l.initial.shelf l.shelf;
+  kept : WriteKeeps g.S.Shelf.files g.S.Shelf.reads g.S.Shelf.reading g.S.Shelf.created g.S.Shelf.stands l.initial.shelf l.shelf;
   created : g.S.Shelf.created l.shelf l.id;
   untouched : l.done ≡ 0 → l.shelf ≡ l.initial.shelf;
 }

@@ -1,16 +1,16 @@
 use Rattle.std.proofs.Common.{refl, ap}
 use Rattle.tlmsim.proofs.Lines.{end_of, told_no_end, memory_no_end}
-use Rattle.tlmsim.proofs.Answered.{of_outcome, of_refusal, of_memory, refused_for}
+use Rattle.tlmsim.proofs.Answered.{of_outcome, of_refusal, of_memory}
 use Rattle.tlmsim.proofs.main_call.sim_main.Goals as goal
 
 pub returns-in-Ok-clause-answers : goal.returns-in-Ok-clause-answers
 returns-in-Ok-clause-answers g c =
     rw c.stop_status.ensures
-    (of_outcome c.one_tree.ensures _ c.in-Ok.outcome (c.in-Ok.ensures.causes _ _ _ _) c.tell_stop.ensures.told (λ end. ap g.E.Sink.faults (c.tell_stop.ensures.silent end))
+    (of_outcome c.one_tree.ensures _ c.in-Ok.outcome (c.in-Ok.ensures.works _ _ _ _) c.tell_stop.ensures.told (λ end. ap g.E.Sink.faults (c.tell_stop.ensures.silent end))
     (record {
       files = c.in-Ok.ensures.files;
-      writes = c.in-Ok.ensures.writes;
       reads = c.in-Ok.ensures.reads;
+      writes = c.in-Ok.ensures.writes;
       out_faults = c.in-Ok.ensures.out_faults;
       err_faults = c.tell_stop.ensures.later;
     }))
@@ -21,12 +21,12 @@ returns-in-Ok-clause-silent g c = rw c.stop_status.ensures (λ h. c.tell_stop.en
 pub returns-in-Err-Refused-clause-answers : goal.returns-in-Err-Refused-clause-answers
 returns-in-Err-Refused-clause-answers g c =
     rw c.new-choices.ensures
-    (of_refusal c.one_tree.ensures _ _ _ _ _ (refused_for _ _ _ c.in-Err-Refused.field-0-is (c.in-Err-Refused.ensures.causes _ _ _ _)) c.tell_refusal.ensures.told
-    (record { no_choices = refl; no_steps = refl; out = c.in-Err-Refused.ensures.untouched })
+    (of_refusal c.one_tree.ensures _ _ _ _ _ _ c.in-Err-Refused.field-0-is (c.in-Err-Refused.ensures.works _ _ _ _)
+    (record { no_choices = refl; no_steps = refl }) c.tell_refusal.ensures.told
     (record {
       files = c.in-Err-Refused.ensures.files;
-      writes = c.in-Err-Refused.ensures.writes;
       reads = c.in-Err-Refused.ensures.reads;
+      writes = c.in-Err-Refused.ensures.writes;
       out_faults = c.in-Err-Refused.ensures.out_faults;
       err_faults = c.tell_refusal.ensures.later;
     }))
@@ -37,12 +37,12 @@ returns-in-Err-Refused-clause-silent g c = λ h. absurd (told_no_end _ _ _ _ _ _
 pub returns-in-Err-NoMemory-clause-answers : goal.returns-in-Err-NoMemory-clause-answers
 returns-in-Err-NoMemory-clause-answers g c =
     rw c.new-choices.ensures
-    (of_memory _ _ _ (rw c.memory_line.ensures at c.try_line.ensures.front)
-    (record { no_choices = refl; no_steps = refl; out = c.in-Err-NoMemory.ensures.untouched })
+    (of_memory _ _ _ _ c.in-Err-NoMemory.field-0-is (c.in-Err-NoMemory.ensures.works _ _ _ _)
+    (record { no_choices = refl; no_steps = refl }) (rw c.memory_line.ensures at c.try_line.ensures.front)
     (record {
       files = c.in-Err-NoMemory.ensures.files;
-      writes = c.in-Err-NoMemory.ensures.writes;
       reads = c.in-Err-NoMemory.ensures.reads;
+      writes = c.in-Err-NoMemory.ensures.writes;
       out_faults = c.in-Err-NoMemory.ensures.out_faults;
       err_faults = c.try_line.ensures.later;
     }))

@@ -1,0 +1,354 @@
+-- What the work that the words ask for comes to.
+use Rattle.std.proofs.Common.{◌≡◌, ◌≤◌, ◌<◌, ◌⊎◌, ⊎_elim, inl, inr, ℕ, Bool, true, false, not, List, [], ◌++◌, length, take, drop, Option, Some, None, Ok, Err, refl, sym, ◌∙◌, ap, subst, arith, length-take, take-append-drop}
+use Rattle.std.specs.Prelude.{IfSome, codes, option_copied, ⊤}
+use Rattle.std.specs.Borrow.{Bor}
+use Rattle.std.proofs.lemmas.Bool.{false≢true}
+use Rattle.std.proofs.lemmas.Slice.Eq.{bytes_eq-Decides}
+use Rattle.sim_io.specs.Cause.{Rose}
+use Rattle.sim_io.specs.Told.{Files, AfterTold, Grew, IsText, Same, WereTold}
+use Rattle.sim_io.specs.Taken.{TookOf}
+use Rattle.sim_io.proofs.Chains.{grew_none, grew_on, rose_on}
+use Rattle.sim_io.specs.declared.outside.Trouble.{Trouble}
+use Rattle.sim_io.specs.declared.outside.Trouble.TheVariants as trouble
+use Rattle.flat_design.specs.Sound.{SoundDesign}
+use Rattle.flat_design.specs.declared.design.Design.{Design}
+use Rattle.whole_language.specs.Whole.{nothing_missing}
+use Rattle.model_tree.specs.Tree as tree
+use Rattle.sim_model.specs.Configuration.{start}
+use Rattle.sim_model.specs.declared.plain.Command.{Command}
+use Rattle.sim_model.specs.declared.plain.Stop.{Stop}
+use Rattle.sim_model.specs.declared.plain.Stop.TheVariants as stop
+use Rattle.command_line.specs.Line.{Simulation, Mode, Simulate, Format, Generate, are_apart, line_of}
+use Rattle.command_line.specs.Seen.{text_of}
+use Rattle.command_line.specs.declared.modes.Generated.{Generated}
+use Rattle.sessions.specs.Course.{Ran, IsEnd}
+use Rattle.sessions.specs.Cut.{cut_by}
+use Rattle.sessions.specs.Outputs.{AreApart, AreNames, FilesGot, IsFront, IsOther, Names, Outer, Texts, Took}
+use Rattle.sessions.specs.declared.plans.Plan.{Plan}
+use Rattle.sessions.specs.declared.plans.Outcome.{Outcome}
+use Rattle.session_files.specs.Held.{FilesHold, FilesMade, FilesSpared, IsSpared}
+use Rattle.model_gen.specs.Generated.{generated}
+use Rattle.run_input.specs.Limits.{model_limit}
+use Rattle.run_input.specs.Loaded.{AreTexts, FileCause, LoadCause}
+use Rattle.run_input.specs.Judged.{Accepts, HasModelFault, IsLayoutOf, ReadsReplay}
+use Rattle.run_input.specs.Refused.{HasTextFault, IfModelFault}
+use Rattle.run_input.specs.Together.{Together}
+use Rattle.run_input.specs.declared.loading.LoadStop.{LoadStop}
+use Rattle.run_input.specs.declared.loading.LoadStop.TheVariants as load_stop
+use Rattle.run_input.specs.declared.judging.JudgeStop.{JudgeStop}
+use Rattle.run_input.specs.declared.judging.JudgeStop.TheVariants as judge_stop
+use Rattle.run_input.specs.declared.judging.ModelStop.{ModelStop}
+use Rattle.run_input.specs.declared.judging.ModelStop.TheVariants as model_stop
+use Rattle.tlmsim.specs.Asked.{HasModel, HasTexts, IsPlan, PlansRun, replay_of}
+use Rattle.tlmsim.specs.Call.{Call, OnlyThese, names_in, no_names}
+use Rattle.tlmsim.specs.Headline.{Accepted, Ended, EndedShort, IsCut, LaidOut, LaysOut, NoRun, NotBegun, OneRose, PageShort, Session}
+use Rattle.tlmsim.specs.Orderly.{Orderly}
+use Rattle.tlmsim.specs.Taken.{Holds, Spared, TakesAll, TakesShort, steps_line}
+use Rattle.tlmsim.specs.Worked.{CutNow, EndedSo, TellsBy, TellsSteps, Unmoved, Works, unfit, unformed, unread}
+use Rattle.tlmsim.proofs.Courses.{ran_with}
+
+-- ---- texts and files, seen from a later moment
+
+text_later : (old mid new : Option Files) (name text : List ℕ) → WereTold mid new → IsText old mid name text → IsText old new name text
+text_later old mid None name text told is = tt
+text_later old None (Some new) name text told is = absurd told
+text_later None (Some mid) (Some new) name text told is = tt
+text_later (Some old) (Some mid) (Some new) name text told is = is
+
+together_later : (old mid new : Option Files) (replay text : Option (List ℕ)) → WereTold mid new → Together replay text (IsText old mid) → Together replay text (IsText old new)
+together_later old mid new None None told is = tt
+together_later old mid new None (Some text) told is = is
+together_later old mid new (Some name) None told is = is
+together_later old mid new (Some name) (Some text) told is = text_later old mid new name text told is
+
+pub texts_later : (old mid new : Option Files) (model script : List ℕ) (replay : Option (List ℕ)) (m s : List ℕ) (r : Option (List ℕ)) → WereTold mid new → AreTexts old mid model script replay m s r → AreTexts old new model script replay m s r
+texts_later old mid new model script replay m s r told t = record {
+  model_is = text_later old mid new model m told t.model_is;
+  script_is = text_later old mid new script s told t.script_is;
+  replay_is = together_later old mid new replay r told t.replay_is;
+  model_within = t.model_within;
+  script_within = t.script_within;
+  replay_within = t.replay_within;
+}
+
+pub were_told : (old new : Option Files) (P : Files → Files → Type 0) → AfterTold old new P → WereTold old new
+were_told old None P h = tt
+were_told None (Some new) P h = absurd h
+were_told (Some old) (Some new) P h = tt
+
+-- names of files that are borrowed
+pub copied_text : (t : Option (Bor (List ℕ))) → option_copied t ≡ text_of t
+copied_text None = refl
+copied_text (Some t) = refl
+
+-- a list there is where a replay file is named
+pub named_list : (old new : Option Files) (file text list : Option (List ℕ)) → Together file text (IsText old new) → ReadsReplay text list → Together file list (λ name xs. ⊤)
+named_list old new None None None a b = tt
+named_list old new None None (Some list) a b = b
+named_list old new None (Some text) list a b = absurd a
+named_list old new (Some file) None list a b = absurd a
+named_list old new (Some file) (Some text) None a b = b
+named_list old new (Some file) (Some text) (Some list) a b = tt
+
+-- ---- what is left of the files
+
+only_on : (names : Names) (old mid new : Option Files) (P : Files → Files → Type 0) → AfterTold old mid Same → AfterTold mid new P → ((a b : Files) → P a b → OnlyThese names a b) → AfterTold old new (OnlyThese names)
+only_on names old mid None P x y only = tt
+only_on names old None (Some new) P x y only = absurd y
+only_on names None (Some mid) (Some new) P x y only = absurd x
+only_on names (Some old) (Some mid) (Some new) P x y only = λ name a b. only mid new y name a b ∙ x name
+
+pub only_same : (names : Names) (old new : Option Files) → AfterTold old new Same → AfterTold old new (OnlyThese names)
+only_same names old None x = tt
+only_same names None (Some new) x = absurd x
+only_same names (Some old) (Some new) x = λ name a b. x name
+
+pub only_spared : (names : Names) (old mid new : Option Files) → AfterTold old mid Same → AfterTold mid new (FilesSpared names) → AfterTold old new (OnlyThese names)
+only_spared names old mid new x y = only_on names old mid new (FilesSpared names) x y (λ a b h. h.others)
+
+pub only_held : (names : Names) (t : Texts) (old new : Option Files) → AfterTold old new (FilesHold names t) → AfterTold old new (OnlyThese names)
+only_held names t old None x = tt
+only_held names t None (Some new) x = absurd x
+only_held names t (Some old) (Some new) x = x.others
+
+pub spared_on : (names : Names) (old mid new : Option Files) → AfterTold old mid Same → AfterTold mid new (FilesSpared names) → AfterTold old new (FilesSpared names)
+spared_on names old mid None x y = tt
+spared_on names old None (Some new) x y = absurd y
+spared_on names None (Some mid) (Some new) x y = absurd x
+spared_on names (Some old) (Some mid) (Some new) x y = record { trace = spare names.trace y.trace; choices = spare names.choices y.choices; others = λ name a b. y.others name a b ∙ x name }
+  where
+    spare : (one : Option (List ℕ)) → IsSpared one mid new → IsSpared one old new
+    spare None h = tt
+    spare (Some n) (inl is) = inl (is ∙ x n)
+    spare (Some n) (inr empty) = inr empty
+
+pub made_on : (names : Names) (old mid new : Option Files) → AfterTold old mid Same → AfterTold mid new (FilesMade names) → AfterTold old new (FilesMade names)
+made_on names old mid None x y = tt
+made_on names old None (Some new) x y = absurd y
+made_on names None (Some mid) (Some new) x y = absurd x
+made_on names (Some old) (Some mid) (Some new) x y = record { trace = y.trace; choices = y.choices; others = λ name a b. y.others name a b ∙ x name }
+
+-- ---- refusals
+
+pub unread_works : (c : Call) (s : Simulation) → line_of c.words ≡ Some (Simulate s) → (st : LoadStop) → LoadCause c.before.files c.after.files (Rose c.before.reads c.after.reads) s.model s.script (replay_of s.rule) st → Unmoved c → Works c (Err (unread st))
+unread_works c s line (load_stop.Failed file) cause unmoved = (record { mode = Simulate s; line = line; cause = cause }, unmoved)
+unread_works c s line (load_stop.TooLarge file) cause unmoved = (record { mode = Simulate s; line = line; cause = cause }, unmoved)
+unread_works c s line load_stop.NoMemory cause unmoved = unmoved
+
+pub unread_page : (c : Call) (name : List ℕ) → line_of c.words ≡ Some (Format name) → (st : LoadStop) → FileCause c.before.files c.after.files (Rose c.before.reads c.after.reads) name model_limit st → Unmoved c → Works c (Err (unread st))
+unread_page c name line (load_stop.Failed file) cause unmoved = (record { mode = Format name; line = line; cause = cause }, unmoved)
+unread_page c name line (load_stop.TooLarge file) cause unmoved = (record { mode = Format name; line = line; cause = cause }, unmoved)
+unread_page c name line load_stop.NoMemory cause unmoved = unmoved
+
+pub unformed_page : (c : Call) (name : List ℕ) → line_of c.words ≡ Some (Format name) → (model : List ℕ) → HasModel c name model → (st : ModelStop) → IfModelFault st (HasModelFault model) → Unmoved c → Works c (Err (unformed st))
+unformed_page c name line model has (model_stop.Fault f) fault unmoved = (record { mode = Format name; line = line; model = model; is_model = has; fault = fault }, unmoved)
+unformed_page c name line model has model_stop.NoMemory fault unmoved = unmoved
+
+-- of a simulation
+pub unfit_works : (c : Call) (s : Simulation) → line_of c.words ≡ Some (Simulate s) → (model script : List ℕ) (replay : Option (List ℕ)) → HasTexts c (Simulate s) model script replay → (st : JudgeStop) → HasTextFault model script replay st → Unmoved c → Works c (Err (unfit st))
+unfit_works c s line model script replay texts (judge_stop.Model f) fault unmoved = (record { mode = Simulate s; line = line; model = model; is_model = (script, replay, texts); fault = fault }, unmoved)
+unfit_works c s line model script replay texts (judge_stop.Script f) fault unmoved =
+    (record { mode = Simulate s; line = line; model = model; script = script; replay = replay; texts = texts; m = fault.0; accepted = fault.2; design = fault.1; is_design = fault.3; fault = fault.4 }, unmoved)
+unfit_works c s line model script replay texts (judge_stop.Replay at) fault unmoved =
+    (record { mode = Simulate s; line = line; model = model; script = script; replay = replay; texts = texts; m = fault.0; design = fault.1; commands = fault.2; accepts = fault.3; fault = fault.4 }, unmoved)
+unfit_works c s line model script replay texts judge_stop.NoMemory fault unmoved = unmoved
+
+-- of a generated model
+pub unfit_generated : (c : Call) (g : Generated) → line_of c.words ≡ Some (Generate g) → (model : List ℕ) → model ≡ generated g.size → (st : JudgeStop) → HasTextFault model (codes "run") None st → Unmoved c → Works c (Err (unfit st))
+unfit_generated c g line model is (judge_stop.Model f) fault unmoved = (record { mode = Generate g; line = line; model = model; is_model = is; fault = fault }, unmoved)
+unfit_generated c g line model is (judge_stop.Script f) fault unmoved =
+    (record { mode = Generate g; line = line; model = model; script = codes "run"; replay = None; texts = (is, refl, refl); m = fault.0; accepted = fault.2; design = fault.1; is_design = fault.3; fault = fault.4 }, unmoved)
+unfit_generated c g line model is (judge_stop.Replay at) fault unmoved =
+    (record { mode = Generate g; line = line; model = model; script = codes "run"; replay = None; texts = (is, refl, refl); m = fault.0; design = fault.1; commands = fault.2; accepts = fault.3; fault = fault.4 }, unmoved)
+unfit_generated c g line model is judge_stop.NoMemory fault unmoved = unmoved
+
+-- ---- ends
+
+-- files that were not created
+pub not_begun : (c : Call) → NotBegun c [] 0 → (e : Trouble) → (e ≡ trouble.Failed → OneRose c) → EndedSo c [] 0 (cut_by e)
+not_begun c n trouble.Failed rose = (inr (inr (inr n)), rose refl)
+not_begun c n trouble.NoMemory rose = inr (inr (inr n))
+
+-- a simulation that was run
+pub simulated : (c : Call) (s : Simulation) → line_of c.words ≡ Some (Simulate s) → (model script : List ℕ) (replay : Option (List ℕ)) → HasTexts c (Simulate s) model script replay → (m : tree.Model) (design : Design) (commands : List Command)
+    → Accepts model script m design commands → (listed : Option (List ℕ)) → ReadsReplay replay listed → SoundDesign nothing_missing design → Orderly design commands → (plan : Plan) → PlansRun s listed plan
+    → (choices : List ℕ) (steps : ℕ) (st : Stop) → Ran (start design commands) plan choices steps st (Holds c (names_in (Simulate s))) → (st ≡ stop.WriteFault → OneRose c) → EndedSo c choices steps st
+simulated c s line model script replay texts m design commands accepts listed reads sound orderly plan planned choices steps st ran rose = by st ran rose
+  where
+    accepted : Accepted c
+    accepted = record { mode = Simulate s; line = line; model = model; script = script; replay = replay; texts = texts; m = m; design = design; commands = commands; accepts = accepts; listed = listed; reads = reads; sound = sound }
+
+    whole : (x : Stop) → Ran (start design commands) plan choices steps x (Holds c (names_in (Simulate s))) → Ended c choices steps x
+    whole x r = record { accepted = accepted; orderly = orderly; plan = plan; planned = planned; ran = r }
+
+    part : (x : Stop) → Ran (start design commands) plan choices steps x (Holds c (names_in (Simulate s))) → IsCut c choices steps x
+    part x r = inl (record { accepted = accepted; orderly = orderly; plan = plan; planned = planned; ran = r })
+
+    by : (x : Stop) → Ran (start design commands) plan choices steps x (Holds c (names_in (Simulate s))) → (x ≡ stop.WriteFault → OneRose c) → EndedSo c choices steps x
+    by stop.Done r rose = inl (whole stop.Done r)
+    by stop.Stopped r rose = whole stop.Stopped r
+    by stop.Budget r rose = whole stop.Budget r
+    by (stop.Replay place) r rose = whole (stop.Replay place) r
+    by (stop.Fault f) r rose = whole (stop.Fault f) r
+    by stop.WriteFault r rose = (part stop.WriteFault r, rose refl)
+    by stop.NoMemory r rose = part stop.NoMemory r
+
+-- a text that was laid out, whole or in part
+pub laid_out_so : (c : Call) (page : List ℕ) → LaysOut c page → Grew c.before.out c.after.out page → EndedSo c [] 0 stop.Done
+laid_out_so c page lays out = inr (record { page = page; lays = lays; out = out; no_run = record { no_choices = refl; no_steps = refl } })
+
+pub page_cut : (c : Call) (page part : List ℕ) → LaysOut c page → IsFront part page → length part < length page → Grew c.before.out c.after.out part → (e : Trouble) → (e ≡ trouble.Failed → Rose c.before.out_faults c.after.out_faults) → EndedSo c [] 0 (cut_by e)
+page_cut c page part lays front short out e rose = by e rose
+  where
+    cut : (x : Stop) → (x ≡ stop.WriteFault → Rose c.before.out_faults c.after.out_faults) → IsCut c [] 0 x
+    cut x r = inr (inr (inl (record { page = page; lays = lays; part = part; front = front; short = short; out = out; rose = r; no_run = record { no_choices = refl; no_steps = refl } })))
+
+    by : (x : Trouble) → (x ≡ trouble.Failed → Rose c.before.out_faults c.after.out_faults) → EndedSo c [] 0 (cut_by x)
+    by trouble.Failed r = (cut stop.WriteFault (λ is. r refl), inl (r refl))
+    by trouble.NoMemory r = cut stop.NoMemory (λ is. absurd (differ is))
+      where
+        differ : stop.NoMemory ≡ stop.WriteFault → ⊥
+        differ is = cc
+
+-- a generated model that was run, behind whose report its steps were told
+pub generated_so : (c : Call) (g : Generated) → line_of c.words ≡ Some (Generate g) → (model : List ℕ) → model ≡ generated g.size → (m : tree.Model) (design : Design) (commands : List Command)
+    → Accepts model (codes "run") m design commands → SoundDesign nothing_missing design → Orderly design commands → (plan : Plan) → IsPlan (Generate g) None plan
+    → (run told : Outcome) (mid : Option (List ℕ)) → TellsSteps mid c.after.out run told → Ran (start design commands) plan run.choices run.steps run.stop (λ t. Grew c.before.out mid t.report)
+    → AfterTold c.before.files c.after.files Same → (told.stop ≡ stop.WriteFault → OneRose c) → EndedSo c told.choices told.steps told.stop
+generated_so c g line model is m design commands accepts sound orderly plan planned run told mid tells ran same rose =
+    subst (λ n. EndedSo c told.choices n told.stop) (sym tells.steps) (subst (λ cs. EndedSo c cs run.steps told.stop) (sym tells.choices) (by run.stop refl))
+  where
+    accepted : Accepted c
+    accepted = record { mode = Generate g; line = line; model = model; script = codes "run"; replay = None; texts = (is, refl, refl); m = m; design = design; commands = commands; accepts = accepts; listed = None; reads = tt; sound = sound }
+
+    session : (x : Stop) (T : Mode → Texts → Type 0) → Ran (start design commands) plan run.choices run.steps x (T (Generate g)) → Session c run.choices run.steps x T
+    session x T r = record { accepted = accepted; orderly = orderly; plan = plan; planned = planned; ran = r }
+
+    hold : (t : Texts) → AfterTold c.before.files c.after.files (FilesHold no_names t)
+    hold t = held c.before.files c.after.files same
+      where
+        held : (a b : Option Files) → AfterTold a b Same → AfterTold a b (FilesHold no_names t)
+        held a None x = tt
+        held None (Some b) x = absurd x
+        held (Some a) (Some b) x = record { trace = tt; choices = tt; others = λ name p q. x name }
+
+    more : (line : List ℕ) → Grew mid c.after.out line → (t : Texts) → Grew c.before.out mid t.report → Holds c no_names (record t { report = t.report ++ line })
+    more line grew t first = record { report = grew_on c.before.out mid c.after.out t.report line first grew; files = hold (record t { report = t.report ++ line }) }
+
+    due : (x : Stop) → run.stop ≡ x → Ran (start design commands) plan run.choices run.steps x (λ t. Grew c.before.out mid t.report)
+    due x is = subst (λ y. Ran (start design commands) plan run.choices run.steps y (λ t. Grew c.before.out mid t.report)) is ran
+
+    whole : (x : Stop) → run.stop ≡ x → Grew mid c.after.out (steps_line run.steps) → Ended c run.choices run.steps x
+    whole x is grew = session x (λ mode. TakesAll c mode run.steps) (ran_with (start design commands) plan run.choices run.steps x (λ t. Grew c.before.out mid t.report) (TakesAll c (Generate g) run.steps) (more (steps_line run.steps) grew) (due x is))
+
+    short : (x : Stop) → run.stop ≡ x → IsEnd x → (part : List ℕ) → IsFront part (steps_line run.steps) → length part < length (steps_line run.steps) → Grew mid c.after.out part → EndedShort c run.choices run.steps
+    short x is end part front less grew = (
+      x,
+      end,
+      session x (λ mode. TakesShort c mode run.steps)
+          (ran_with (start design commands) plan run.choices run.steps x (λ t. Grew c.before.out mid t.report) (TakesShort c (Generate g) run.steps) (λ t first. record { part = part; front = front; short = less; held = more part grew t first }) (due x is)),
+    )
+
+    alone : (x : Stop) → run.stop ≡ x → c.after.out ≡ mid → IsCut c run.choices run.steps x
+    alone x is kept = inl (session x (λ mode. Holds c (names_in mode))
+        (ran_with (start design commands) plan run.choices run.steps x (λ t. Grew c.before.out mid t.report) (Holds c no_names) (λ t first. record { report = subst (λ o. Grew c.before.out o t.report) (sym kept) first; files = hold t }) (due x is)))
+
+    told_by : (x y : Stop) → run.stop ≡ x → IsEnd x → TellsBy mid c.after.out (steps_line run.steps) x y → (y ≡ stop.WriteFault → OneRose c) → EndedSo c run.choices run.steps y
+    told_by x stop.WriteFault is end (part, front, less, grew) rose = (inr (inl (short x is end part front less grew)), rose refl)
+    told_by x stop.NoMemory is end (part, front, less, grew) rose = inr (inl (short x is end part front less grew))
+    told_by x stop.Done is end (same, grew) rose = inl (whole stop.Done (is ∙ sym same) grew)
+    told_by x stop.Stopped is end (same, grew) rose = whole stop.Stopped (is ∙ sym same) grew
+    told_by x stop.Budget is end (same, grew) rose = whole stop.Budget (is ∙ sym same) grew
+    told_by x (stop.Replay place) is end (same, grew) rose = whole (stop.Replay place) (is ∙ sym same) grew
+    told_by x (stop.Fault f) is end (same, grew) rose = whole (stop.Fault f) (is ∙ sym same) grew
+
+    ended_by : (x : Stop) → run.stop ≡ x → IsEnd x → EndedSo c run.choices run.steps told.stop
+    ended_by x is end = told_by x told.stop is end (subst (λ y. TellsBy mid c.after.out (steps_line run.steps) y told.stop) is (tells.ended (subst IsEnd (sym is) end))) rose
+
+    cut_at : (x : Stop) → run.stop ≡ x → (IsEnd x → ⊥) → (told.stop ≡ x) × (c.after.out ≡ mid)
+    cut_at x is none = let (same, kept) = tells.cut (λ end. none (subst IsEnd is end)) in (same ∙ is, kept)
+
+    by : (x : Stop) → run.stop ≡ x → EndedSo c run.choices run.steps told.stop
+    by stop.Done is = ended_by stop.Done is tt
+    by stop.Stopped is = ended_by stop.Stopped is tt
+    by stop.Budget is = ended_by stop.Budget is tt
+    by (stop.Replay place) is = ended_by (stop.Replay place) is tt
+    by (stop.Fault f) is = ended_by (stop.Fault f) is tt
+    by stop.WriteFault is = let (same, kept) = cut_at stop.WriteFault is (λ end. end) in subst (EndedSo c run.choices run.steps) (sym same) (alone stop.WriteFault is kept, rose same)
+    by stop.NoMemory is = let (same, kept) = cut_at stop.NoMemory is (λ end. end) in subst (EndedSo c run.choices run.steps) (sym same) (alone stop.NoMemory is kept)
+
+-- ---- the line of the steps, and the laid-out text
+
+front_taken : (count : ℕ) (text part : List ℕ) → part ≡ take count text → IsFront part text
+front_taken count text part is = (drop count text, sym (take-append-drop count text) ∙ ap (λ p. p ++ drop count text) (sym is))
+
+short_taken : (count : ℕ) (text part : List ℕ) → count < length text → part ≡ take count text → length part < length text
+short_taken count text part less is = omega (arith, less, ap length is, length-take count text)
+
+-- a page that was cut while it was written
+pub page_short : (c : Call) (page : List ℕ) → LaysOut c page → (e : Trouble) → TookOf c.before.out c.after.out page (Err e) → (e ≡ trouble.Failed → Rose c.before.out_faults c.after.out_faults) → EndedSo c [] 0 (cut_by e)
+page_short c page lays e (part, grew, (count, less, is)) rose = page_cut c page part lays (front_taken count page part is) (short_taken count page part less is) grew e rose
+
+pub told_cut : (old new : Option (List ℕ)) (run : Outcome) (e : Trouble) → IsEnd run.stop → TookOf old new (steps_line run.steps) (Err e) → TellsSteps old new run (record { stop = cut_by e; choices = run.choices; steps = run.steps })
+told_cut old new run e end (part, grew, (count, less, is)) = record { choices = refl; steps = refl; cut = λ none. absurd (none end); ended = λ h. by e }
+  where
+    by : (x : Trouble) → TellsBy old new (steps_line run.steps) run.stop (cut_by x)
+    by trouble.Failed = (part, front_taken count (steps_line run.steps) part is, short_taken count (steps_line run.steps) part less is, grew)
+    by trouble.NoMemory = (part, front_taken count (steps_line run.steps) part is, short_taken count (steps_line run.steps) part less is, grew)
+
+-- a line for which there was no memory
+pub told_none : (sink : Option (List ℕ)) (run : Outcome) → IsEnd run.stop → TellsSteps sink sink run (record { stop = stop.NoMemory; choices = run.choices; steps = run.steps })
+told_none sink run end = record { choices = refl; steps = refl; cut = λ none. absurd (none end); ended = λ h. ([], (steps_line run.steps, refl), omega arith, grew_none sink) }
+
+pub told_whole : (old new : Option (List ℕ)) (run : Outcome) → IsEnd run.stop → Grew old new (steps_line run.steps) → TellsSteps old new run run
+told_whole old new run end grew = record { choices = refl; steps = refl; cut = λ none. absurd (none end); ended = λ h. by run.stop end }
+  where
+    by : (x : Stop) → IsEnd x → TellsBy old new (steps_line run.steps) x x
+    by stop.Done h = (refl, grew)
+    by stop.Stopped h = (refl, grew)
+    by stop.Budget h = (refl, grew)
+    by (stop.Replay place) h = (refl, grew)
+    by (stop.Fault f) h = (refl, grew)
+    by stop.WriteFault h = absurd h
+    by stop.NoMemory h = absurd h
+
+-- ---- files of a generated run, and whose fault it was
+
+no_ids : {S : Type 0} (stands : S → ℕ → List ℕ → Type 0) (shelf : S) → AreNames stands shelf None None no_names
+no_ids stands shelf = record { trace_is = tt; choices_is = tt; apart = tt }
+
+-- a session without files leaves each as before
+pub files_stay : {S : Type 0} (stands : S → ℕ → List ℕ → Type 0) (shelf : S) (old new : Outer) (t : Texts) → Took (AreNames stands shelf None None) old new t → AfterTold old.files new.files Same
+files_stay stands shelf old new t took = stay old.files new.files (took.files no_names (no_ids stands shelf))
+  where
+    stay : (a b : Option Files) → AfterTold a b (FilesGot no_names t) → AfterTold a b Same
+    stay a None x = tt
+    stay None (Some b) x = absurd x
+    stay (Some a) (Some b) x = λ name. x.others name tt tt
+
+end_or_cut : (s : Stop) → IsEnd s ⊎ (IsEnd s → ⊥)
+end_or_cut stop.Done = inl tt
+end_or_cut stop.Stopped = inl tt
+end_or_cut stop.Budget = inl tt
+end_or_cut (stop.Replay place) = inl tt
+end_or_cut (stop.Fault f) = inl tt
+end_or_cut stop.WriteFault = inr (λ end. end)
+end_or_cut stop.NoMemory = inr (λ end. end)
+
+pub steps_rose : (old new : Option (List ℕ)) (run told : Outcome) (f0 f1 f2 w0 w1 : ℕ) → TellsSteps old new run told → f0 ≤ f1 → f1 ≤ f2 → (run.stop ≡ stop.WriteFault → Rose f0 f1 ⊎ Rose w0 w1) → (CutNow run told → Rose f1 f2) → told.stop ≡ stop.WriteFault → Rose f0 f2 ⊎ Rose w0 w1
+steps_rose old new run told f0 f1 f2 w0 w1 tells first second ran cut fault =
+    ⊎_elim (λ end. inl (rose_on f0 f1 f2 f2 first (cut (end, fault)) (omega arith)))
+    (λ none. ⊎_elim (λ r. inl (rose_on f0 f0 f1 f2 (omega arith) r second)) (λ r. inr r) (ran (sym (tells.cut none).0 ∙ fault))) (end_or_cut run.stop)
+
+-- ---- names that are apart
+
+pub apart_of : (a b : Option (List ℕ)) → are_apart a b ≡ true → AreApart a b
+apart_of None None e = tt
+apart_of None (Some b) e = tt
+apart_of (Some a) None e = tt
+apart_of (Some a) (Some b) e = λ same. false≢true (sym (ap not ((bytes_eq-Decides a b).1 (sym same))) ∙ e)
+
+-- names of ids that are the same
+pub named_by : {S : Type 0} (stands : S → ℕ → List ℕ → Type 0) (shelf : S) (a b a' b' : Option ℕ) (names : Names) (told : Option Files) → a' ≡ a → b' ≡ b → IfSome told (λ files. AreNames stands shelf a b names) → IfSome told (λ files. AreNames stands shelf a' b' names)
+named_by stands shelf a b a' b' names told is at named =
+    subst (λ x. IfSome told (λ files. AreNames stands shelf x b' names)) (sym is) (subst (λ y. IfSome told (λ files. AreNames stands shelf a y names)) (sym at) named)

@@ -1,4 +1,0 @@
-use Rattle.tlmsim.proofs.judging.read_model.Goals as goal
-
-pub returns-in-Err-Syntax-clause-fault : goal.returns-in-Err-Syntax-clause-fault
-returns-in-Err-Syntax-clause-fault c = λ m reads. let only = c.in-Err-Syntax.ensures.only m reads in cc (only, c.in-Err-Syntax.field-0-is)

@@ -1,0 +1,82 @@
+-- What the work below the statuses comes to.
+use Rattle.std.specs.Prelude.{◌≡◌, ◌<◌, ◌⊎◌, ℕ, Bool, true, false, List, length, Option, Result, Ok, Err}
+use Rattle.sim_io.specs.Told.{AfterTold, Grew, Same}
+use Rattle.sim_model.specs.declared.plain.Stop.{Stop}
+use Rattle.sim_model.specs.declared.plain.Stop.TheVariants as stop
+use Rattle.sessions.specs.Course.{IsEnd}
+use Rattle.sessions.specs.Outputs.{IsFront}
+use Rattle.sessions.specs.declared.plans.Outcome.{Outcome}
+use Rattle.refusal_lines.specs.declared.refusals.Refusal.TheVariants as refusal
+use Rattle.run_input.specs.declared.loading.LoadStop.{LoadStop}
+use Rattle.run_input.specs.declared.loading.LoadStop.TheVariants as load_stop
+use Rattle.run_input.specs.declared.judging.JudgeStop.{JudgeStop}
+use Rattle.run_input.specs.declared.judging.JudgeStop.TheVariants as judge_stop
+use Rattle.run_input.specs.declared.judging.ModelStop.{ModelStop}
+use Rattle.run_input.specs.declared.judging.ModelStop.TheVariants as model_stop
+use Rattle.tlmsim.specs.Call.{Call}
+use Rattle.tlmsim.specs.Headline.{Ended, IsCut, LaidOut, OneRose, RefusedFor}
+use Rattle.tlmsim.specs.Taken.{steps_line}
+use Rattle.tlmsim.specs.declared.working.WorkStop.{WorkStop}
+use Rattle.tlmsim.specs.declared.working.WorkStop.TheVariants as work_stop
+
+-- why nothing was begun where a file was not read, or a text was not accepted
+abbrev pub unread : LoadStop → WorkStop
+unread (load_stop.Failed file) = work_stop.Refused (refusal.Read file)
+unread (load_stop.TooLarge file) = work_stop.Refused (refusal.TooLarge file)
+unread load_stop.NoMemory = work_stop.NoMemory
+
+abbrev pub unfit : JudgeStop → WorkStop
+unfit (judge_stop.Model f) = work_stop.Refused (refusal.Model f)
+unfit (judge_stop.Script f) = work_stop.Refused (refusal.Script f)
+unfit (judge_stop.Replay at) = work_stop.Refused (refusal.Replay at)
+unfit judge_stop.NoMemory = work_stop.NoMemory
+
+abbrev pub unformed : ModelStop → WorkStop
+unformed (model_stop.Fault f) = work_stop.Refused (refusal.Model f)
+unformed model_stop.NoMemory = work_stop.NoMemory
+
+-- by how it ended: a run with all its texts, or a text that was laid out; or one that was cut
+abbrev pub EndedSo : Call → List ℕ → ℕ → Stop → Type 0
+EndedSo c choices steps stop.Done = Ended c choices steps stop.Done ⊎ LaidOut c choices steps
+EndedSo c choices steps stop.Stopped = Ended c choices steps stop.Stopped
+EndedSo c choices steps stop.Budget = Ended c choices steps stop.Budget
+EndedSo c choices steps (stop.Replay place) = Ended c choices steps (stop.Replay place)
+EndedSo c choices steps (stop.Fault f) = Ended c choices steps (stop.Fault f)
+EndedSo c choices steps stop.WriteFault = IsCut c choices steps stop.WriteFault × OneRose c
+EndedSo c choices steps stop.NoMemory = IsCut c choices steps stop.NoMemory
+
+-- whether a run was cut, or ended by itself
+abbrev pub IsCutAs : Stop → Bool → Type 0
+IsCutAs s true = IsEnd s → ⊥
+IsCutAs s false = IsEnd s
+
+-- what became of a run behind which the line of its steps was to be written: it was cut before, or there is the line, or a part of
+-- it and the run is cut there
+abbrev pub TellsBy : Option (List ℕ) → Option (List ℕ) → List ℕ → Stop → Stop → Type 0
+TellsBy old new line due stop.WriteFault = (part : List ℕ) × IsFront part line × (length part < length line) × Grew old new part
+TellsBy old new line due stop.NoMemory = (part : List ℕ) × IsFront part line × (length part < length line) × Grew old new part
+TellsBy old new line due stop.Done = (stop.Done ≡ due) × Grew old new line
+TellsBy old new line due stop.Stopped = (stop.Stopped ≡ due) × Grew old new line
+TellsBy old new line due stop.Budget = (stop.Budget ≡ due) × Grew old new line
+TellsBy old new line due (stop.Replay place) = (stop.Replay place ≡ due) × Grew old new line
+TellsBy old new line due (stop.Fault f) = (stop.Fault f ≡ due) × Grew old new line
+
+pub record TellsSteps (old new : Option (List ℕ)) (run told : Outcome) : Type 0 where
+  pub choices : told.choices ≡ run.choices
+  pub steps : told.steps ≡ run.steps
+  pub cut : (IsEnd run.stop → ⊥) → (told.stop ≡ run.stop) × (new ≡ old)
+  pub ended : IsEnd run.stop → TellsBy old new (steps_line run.steps) run.stop told.stop
+
+-- it is cut there by a fault
+abbrev pub CutNow : Outcome → Outcome → Type 0
+CutNow run told = IsEnd run.stop × (told.stop ≡ stop.WriteFault)
+
+-- `out` and the files are as they were
+pub record Unmoved (c : Call) : Type 0 where
+  pub out : c.after.out ≡ c.before.out
+  pub files : AfterTold c.before.files c.after.files Same
+
+abbrev pub Works : Call → Result Outcome WorkStop → Type 0
+Works c (Ok o) = EndedSo c o.choices o.steps o.stop
+Works c (Err (work_stop.Refused r)) = RefusedFor c r × Unmoved c
+Works c (Err work_stop.NoMemory) = Unmoved c
