@@ -1,25 +1,53 @@
 //! Runs cases that are given as data over files and sinks in memory, and tells of each that did not give what it says.
 #![tactic(auto)]
 
-mod case_files;
-mod cases;
-mod facts;
-mod judging;
-mod outcomes;
-mod quoting;
-mod running;
-#[cfg(test)]
-mod tests;
-
 use anyhow::Result;
-use case_files::read_cases;
-use judging::{Counts, difference};
+use case_files::{Case, Counts, Outcome, Outside, difference, outside_of, read_cases};
+use std::alloc::{AllocError, Global};
 use std::process::ExitCode;
 use std::rt::{Env, Files};
 use std::{env, fs};
+use tlmsim::{Ended, Words, sim_main};
 
 /// The status where a case came out otherwise than it says.
 const WRONG: u8 = 1;
+
+fn words_of(alloc: Global, given: &[String]) -> Result<Words, AllocError> {
+    let mut words = Words::new(alloc);
+    for word in given {
+        words.push(word.as_str())?;
+    }
+    Ok(words)
+}
+
+/// Runs the whole program. This function alone calls it: what stands around the call is checked with the whole of the
+/// call's contract at hand.
+fn run_program(alloc: Global, words: &Words, mut outside: Outside) -> Outcome {
+    let Ended {
+        status,
+        choices,
+        steps,
+    } = sim_main(
+        alloc,
+        words,
+        &mut outside.shelf,
+        &mut outside.out,
+        &mut outside.err,
+    );
+    Outcome {
+        status,
+        steps,
+        choices,
+        outside,
+    }
+}
+
+/// Runs a case.
+fn run_case(alloc: Global, case: &Case) -> Result<Outcome, AllocError> {
+    let words = words_of(alloc, case.words.as_slice())?;
+    let outside = outside_of(alloc, case)?;
+    Ok(run_program(alloc, &words, outside))
+}
 
 /// Runs the cases of one file, in order.
 fn run_file(rt: &(impl Files + Print + AllocGlobal), name: &str) -> Result<Counts> {
@@ -27,7 +55,8 @@ fn run_file(rt: &(impl Files + Print + AllocGlobal), name: &str) -> Result<Count
     let cases = read_cases(rt.alloc(), text.as_str())?;
     let mut counts = Counts::new();
     for case in &cases {
-        let told = difference(rt.alloc(), case)?;
+        let outcome = run_case(rt.alloc(), case)?;
+        let told = difference(rt.alloc(), case, &outcome)?;
         counts.add(told.is_none());
         if let Some(shown) = told {
             rt.print(shown.as_str())?;

@@ -2,9 +2,23 @@
 
 use super::cases::{Case, bytes_of};
 use super::facts::Fact;
-use super::running::{ProgramRun, run_program};
+use super::outside::Outside;
+use plain_lists::Items;
 use sim_io::MemoryShelf;
 use std::alloc::{AllocError, Global};
+
+/// What came of a run of the whole program.
+#[derive(Drop)]
+pub struct Outcome {
+    /// The status that it ended with.
+    pub status: u8,
+    /// The number of its steps.
+    pub steps: u64,
+    /// The serials that were chosen, in order.
+    pub choices: Items<u32>,
+    /// The outside after it.
+    pub outside: Outside,
+}
 
 /// Adds a fact that is told in words.
 fn add_words(
@@ -95,24 +109,19 @@ fn add_files(
     Ok(())
 }
 
-/// What came of a run of the whole program.
-fn facts_of_program(alloc: Global, case: &Case, run: &ProgramRun) -> Result<Vec<Fact>, AllocError> {
+/// What came of a case, fact by fact.
+pub(crate) fn facts_of(
+    alloc: Global,
+    case: &Case,
+    outcome: &Outcome,
+) -> Result<Vec<Fact>, AllocError> {
     let mut facts = Vec::new(alloc);
-    let status = run.ended.status;
+    let status = outcome.status;
     add_words(alloc, &mut facts, "status", format!(in alloc; "{status}")?)?;
-    add_steps(
-        alloc,
-        &mut facts,
-        run.ended.steps,
-        run.ended.choices.as_slice(),
-    )?;
-    add_sink(alloc, &mut facts, "out", run.out.bytes())?;
-    add_sink(alloc, &mut facts, "err", run.err.bytes())?;
-    add_files(alloc, &mut facts, case, &run.shelf)?;
+    add_steps(alloc, &mut facts, outcome.steps, outcome.choices.as_slice())?;
+    let outside = &outcome.outside;
+    add_sink(alloc, &mut facts, "out", outside.out.bytes())?;
+    add_sink(alloc, &mut facts, "err", outside.err.bytes())?;
+    add_files(alloc, &mut facts, case, &outside.shelf)?;
     Ok(facts)
-}
-
-/// Runs a case, and tells what came of it.
-pub fn facts_of(alloc: Global, case: &Case) -> Result<Vec<Fact>, AllocError> {
-    facts_of_program(alloc, case, &run_program(alloc, case)?)
 }

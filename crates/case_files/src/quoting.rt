@@ -3,7 +3,7 @@
 //! A text is one or more quoted pieces with blanks between them, and stands for all of them joined.
 //! `N * "PIECE"` stands for the piece N times. In a piece `\n`, `\t`, `\\`, `\"` and `\xNN` stand for one byte.
 
-use super::case_files::LineError;
+use super::reading::LineError;
 use std::alloc::{AllocError, Global};
 
 /// The most times that a piece is repeated.

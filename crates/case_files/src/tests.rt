@@ -1,24 +1,8 @@
-use super::case_files::read_cases;
-use super::judging::difference;
-use model_tree::Name;
+use super::{Case, Counts, Outcome, difference, outside_of, read_cases};
+use plain_lists::Items;
+use sim_io::write_all;
+use std::alloc::Global;
 use std::test::Fail;
-use tlmsim::Choices;
-
-// A copy of a name, which the program does not make yet, and a list of choices. The wanted values are worked out by hand.
-#[test]
-fn names_are_copied_and_choices_listed(rt: HostRuntime) -> Result<(), Fail> {
-    let bytes = Vec::from_slice(rt.alloc(), b"clk_0")?;
-    let copy = match Name::try_new(bytes) {
-        Some(name) => Some(name.try_clone(rt.alloc())?),
-        None => None,
-    };
-    assert_eq!(rt; copy.as_ref().map(Name::bytes), Some(b"clk_0".as_slice()));
-    let mut choices = Choices::new(rt.alloc());
-    choices.push(3)?;
-    choices.push(1)?;
-    assert_eq!(rt; choices.as_slice(), [3, 1].as_slice());
-    Ok(())
-}
 
 /// Two cases of one run: the first says what comes of it, the second another line, and no number of steps.
 const TWO_CASES: &str = r#"
@@ -28,7 +12,7 @@ case it says what comes
   gives
     status 0
     steps 5
-    choices none
+    choices 3 1
     out "end done "
         "0\n"
     err ""
@@ -40,7 +24,7 @@ case it says something else
   script "run"
   gives
     status 0
-    choices none
+    choices 3 1
     out "final m.a 0\n"
         "end done 0\n"
     err ""
@@ -58,17 +42,36 @@ const DIFFERENCE: &str = r#"WRONG it says something else
     out "end done 0\n"
 "#;
 
+/// What the first of them says, as a run answers it.
+fn outcome_of(alloc: Global, case: &Case) -> Result<Outcome, Fail> {
+    let mut outside = outside_of(alloc, case)?;
+    write_all(&mut outside.out, b"end done 0\n")?;
+    let mut choices = Items::new(alloc);
+    choices.push(3)?;
+    choices.push(1)?;
+    Ok(Outcome {
+        status: 0,
+        steps: 5,
+        choices,
+        outside,
+    })
+}
+
 // A case that says something else than what comes is told.
 #[test]
 fn wrong_cases_are_told(rt: HostRuntime) -> Result<(), Fail> {
     let cases = read_cases(rt.alloc(), TWO_CASES)?;
-    assert_eq!(rt; cases.len(), 2);
     let mut told = String::new(rt.alloc());
+    let mut counts = Counts::new();
     for case in &cases {
-        if let Some(shown) = difference(rt.alloc(), case)? {
+        let outcome = outcome_of(rt.alloc(), case)?;
+        let shown = difference(rt.alloc(), case, &outcome)?;
+        counts.add(shown.is_none());
+        if let Some(shown) = shown {
             told.push_str(shown.as_str())?;
         }
     }
     assert_eq!(rt; told.as_str(), DIFFERENCE);
+    assert!(rt; counts.right == 1 && counts.wrong == 1);
     Ok(())
 }

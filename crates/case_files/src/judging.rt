@@ -2,7 +2,7 @@
 
 use super::cases::Case;
 use super::facts::{Fact, has, push_fact};
-use super::outcomes::facts_of;
+use super::outcomes::{Outcome, facts_of};
 use std::alloc::{AllocError, Global};
 use std::fmt;
 
@@ -71,9 +71,13 @@ fn push_lacking(
     Ok(())
 }
 
-/// Runs a case, and tells what of it did not come and what came in its place, or none where just that came which it says.
-pub fn difference(alloc: Global, case: &Case) -> Result<Option<String>, AllocError> {
-    let came = facts_of(alloc, case)?;
+/// Tells what of a case did not come and what came in its place, or none where just that came which it says.
+pub fn difference(
+    alloc: Global,
+    case: &Case,
+    outcome: &Outcome,
+) -> Result<Option<String>, AllocError> {
+    let came = facts_of(alloc, case, outcome)?;
     let (came, wanted) = (came.as_slice(), case.wanted.as_slice());
     if has_all(came, wanted) && has_all(wanted, came) {
         return Ok(None);

@@ -1,29 +1,18 @@
-//! What is run for a case.
+//! The outside that a case is run over.
 
 use super::cases::{Case, File, SinkForm};
 use sim_io::{MemoryShelf, MemorySink};
 use std::alloc::{AllocError, Global};
-use tlmsim::{Ended, Words, sim_main};
 
-/// A run of the whole program, and what the outside holds after it.
+/// Files and sinks in memory.
 #[derive(Drop)]
-pub struct ProgramRun {
-    /// What the top call answered.
-    pub ended: Ended,
-    /// The shelf after the run.
+pub struct Outside {
+    /// The shelf.
     pub shelf: MemoryShelf,
-    /// The sink of the report after the run.
+    /// The sink of the report.
     pub out: MemorySink,
-    /// The sink of messages after the run.
+    /// The sink of messages.
     pub err: MemorySink,
-}
-
-fn words_of(alloc: Global, given: &[String]) -> Result<Words, AllocError> {
-    let mut words = Words::new(alloc);
-    for word in given {
-        words.push(word.as_str())?;
-    }
-    Ok(words)
 }
 
 fn copies(alloc: Global, files: &[File]) -> Result<Vec<(String, Vec<u8>)>, AllocError> {
@@ -47,17 +36,11 @@ fn shelf_of(alloc: Global, case: &Case) -> Result<MemoryShelf, AllocError> {
     Ok(MemoryShelf::new(alloc, files, failing))
 }
 
-/// Runs the whole program.
-pub fn run_program(alloc: Global, case: &Case) -> Result<ProgramRun, AllocError> {
-    let words = words_of(alloc, case.words.as_slice())?;
-    let mut shelf = shelf_of(alloc, case)?;
-    let mut out = sink_of(alloc, &case.out)?;
-    let mut err = sink_of(alloc, &case.err)?;
-    let ended = sim_main(alloc, &words, &mut shelf, &mut out, &mut err);
-    Ok(ProgramRun {
-        ended,
-        shelf,
-        out,
-        err,
+/// The outside of a case before its run.
+pub fn outside_of(alloc: Global, case: &Case) -> Result<Outside, AllocError> {
+    Ok(Outside {
+        shelf: shelf_of(alloc, case)?,
+        out: sink_of(alloc, &case.out)?,
+        err: sink_of(alloc, &case.err)?,
     })
 }
