@@ -8,14 +8,14 @@ use std::alloc::{AllocError, Global};
 pub enum Value {
     /// Words, as `as before`.
     Words(String),
-    /// The bytes that a sink took.
+    /// The bytes that a sink took, or that a file holds.
     Bytes(Vec<u8>),
 }
 
 /// One thing that came of a run, or is wanted of it.
 #[derive(Drop)]
 pub struct Fact {
-    /// What it is about, as `status` or `out`.
+    /// What it is about, as `status`, `out` or `holds c.vcd`.
     pub subject: String,
     /// What it says of that.
     pub value: Value,
@@ -27,6 +27,14 @@ impl Fact {
         Ok(Fact {
             subject: String::from_str(alloc, subject)?,
             value: Value::Words(words),
+        })
+    }
+
+    /// That a file holds these bytes.
+    pub fn of_file(alloc: Global, name: &str, bytes: Vec<u8>) -> Result<Fact, AllocError> {
+        Ok(Fact {
+            subject: format!(in alloc; "holds {name}")?,
+            value: Value::Bytes(bytes),
         })
     }
 

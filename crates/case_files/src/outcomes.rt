@@ -1,6 +1,6 @@
 //! What came of a case, as facts.
 
-use super::cases::{Case, bytes_of};
+use super::cases::{Case, File, bytes_of};
 use super::facts::Fact;
 use super::outside::Outside;
 use plain_lists::Items;
@@ -31,8 +31,15 @@ fn add_words(
     Ok(())
 }
 
-/// The serials that were chosen, in order.
+/// The most choices that are told one by one.
+const MOST_TOLD: usize = 1_000;
+
+/// The serials that were chosen, in order; of a longer list only how many there are.
 fn choices_text(alloc: Global, choices: &[u32]) -> Result<String, AllocError> {
+    let count = choices.len();
+    if count > MOST_TOLD {
+        return format!(in alloc; "{count} in all");
+    }
     let mut shown = String::new(alloc);
     if choices.is_empty() {
         shown.push_str("none")?;
@@ -69,17 +76,49 @@ fn add_sink(
     Ok(())
 }
 
-/// What a file that was given holds now.
-fn state_of(shelf: &MemoryShelf, name: &str, before: &[u8]) -> &'static str {
+/// Adds what a file is now, and what it holds where that is told.
+fn add_state(
+    alloc: Global,
+    facts: &mut Vec<Fact>,
+    name: &str,
+    state: &str,
+    held: Option<&[u8]>,
+) -> Result<(), AllocError> {
+    add_words(alloc, facts, "file", format!(in alloc; "{name} {state}")?)?;
+    if let Some(bytes) = held {
+        let bytes = Vec::from_slice(alloc, bytes)?;
+        facts.push(Fact::of_file(alloc, name, bytes)?)?;
+    }
+    Ok(())
+}
+
+/// Adds what the shelf has now of a file that was given.
+fn add_given(
+    alloc: Global,
+    facts: &mut Vec<Fact>,
+    file: &File,
+    shelf: &MemoryShelf,
+) -> Result<(), AllocError> {
+    let name = file.name.as_str();
     match shelf.file(name) {
-        Some(bytes) => {
-            if bytes == before {
-                "as before"
-            } else {
-                "changed"
-            }
+        None => add_state(alloc, facts, name, "gone", None),
+        Some(bytes) if bytes == file.bytes.as_slice() => {
+            add_state(alloc, facts, name, "as before", None)
         }
-        None => "gone",
+        Some(bytes) => add_state(alloc, facts, name, "changed", Some(bytes)),
+    }
+}
+
+/// Adds what the shelf has now under a word that named no file.
+fn add_other(
+    alloc: Global,
+    facts: &mut Vec<Fact>,
+    name: &str,
+    shelf: &MemoryShelf,
+) -> Result<(), AllocError> {
+    match shelf.file(name) {
+        None => add_state(alloc, facts, name, "none", None),
+        Some(bytes) => add_state(alloc, facts, name, "made", Some(bytes)),
     }
 }
 
@@ -91,19 +130,11 @@ fn add_files(
     shelf: &MemoryShelf,
 ) -> Result<(), AllocError> {
     for file in &case.files {
-        let name = file.name.as_str();
-        let state = state_of(shelf, name, file.bytes.as_slice());
-        add_words(alloc, facts, "file", format!(in alloc; "{name} {state}")?)?;
+        add_given(alloc, facts, file, shelf)?;
     }
     for word in &case.words {
-        let name = word.as_str();
-        if bytes_of(case.files.as_slice(), name).is_none() {
-            let state = if shelf.file(name).is_none() {
-                "none"
-            } else {
-                "made"
-            };
-            add_words(alloc, facts, "file", format!(in alloc; "{name} {state}")?)?;
+        if bytes_of(case.files.as_slice(), word.as_str()).is_none() {
+            add_other(alloc, facts, word.as_str(), shelf)?;
         }
     }
     Ok(())

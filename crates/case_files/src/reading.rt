@@ -6,9 +6,10 @@
 //! the case has. `quoting` has the form of a TEXT.
 //!
 //! Behind a line `gives` stands what is wanted, each as the program tells it: `status NUMBER`, `steps NUMBER`,
-//! `choices none` or `choices SERIAL..`, `out TEXT`, `err TEXT`, and `file NAME STATE`
-//! for each file that is given and each word that names none. A line that begins with a double quote goes on with the
-//! TEXT before it. A case is right where just these facts come: one that is left out is told as wrong.
+//! `choices none`, `choices SERIAL..` or, of more than a thousand, `choices NUMBER in all`, `out TEXT`, `err TEXT`,
+//! `file NAME STATE` for each file that is given and each word that names none, and `holds NAME TEXT` for each of these
+//! that is changed or made. A line that begins with a double quote goes on with the TEXT before it. A case is right where
+//! just these facts come: one that is left out is told as wrong.
 
 use super::cases::{Case, File, MODEL, SCRIPT, SinkForm};
 use super::facts::{Fact, Value};
@@ -128,10 +129,18 @@ fn add_given(alloc: Global, case: &mut Case, word: &str, rest: &str) -> Result<(
     }
 }
 
+/// What a line says that a file holds.
+fn held(alloc: Global, rest: &str) -> Result<Fact, LineError> {
+    let (name, text) = first_word(rest);
+    let bytes = text_bytes(alloc, text)?;
+    Ok(Fact::of_file(alloc, name, bytes)?)
+}
+
 /// Adds what a line says of what is wanted.
 fn add_wanted(alloc: Global, case: &mut Case, word: &str, rest: &str) -> Result<(), LineError> {
     let fact = match word {
         "out" | "err" => Fact::in_bytes(alloc, word, text_bytes(alloc, rest)?)?,
+        "holds" => held(alloc, rest)?,
         _ => Fact::in_words(alloc, word, String::from_str(alloc, rest)?)?,
     };
     case.wanted.push(fact)?;

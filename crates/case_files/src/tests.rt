@@ -1,6 +1,6 @@
 use super::{Case, Counts, Outcome, difference, outside_of, read_cases};
 use plain_lists::Items;
-use sim_io::write_all;
+use sim_io::{Shelf, write_all, write_file};
 use std::alloc::Global;
 use std::test::Fail;
 
@@ -17,7 +17,8 @@ case it says what comes
         "0\n"
     err ""
     file m.tlm as before
-    file s.txt as before
+    file s.txt changed
+    holds s.txt "x\n"
 
 case it says something else
   model "module M { } top M m;"
@@ -29,7 +30,8 @@ case it says something else
         "end done 0\n"
     err ""
     file m.tlm as before
-    file s.txt as before
+    file s.txt changed
+    holds s.txt "y\n"
 "#;
 
 /// What is told of the second.
@@ -37,15 +39,19 @@ const DIFFERENCE: &str = r#"WRONG it says something else
   wanted
     out "final m.a 0\n"
         "end done 0\n"
+    holds s.txt "y\n"
   came
     steps 5
     out "end done 0\n"
+    holds s.txt "x\n"
 "#;
 
 /// What the first of them says, as a run answers it.
 fn outcome_of(alloc: Global, case: &Case) -> Result<Outcome, Fail> {
     let mut outside = outside_of(alloc, case)?;
     write_all(&mut outside.out, b"end done 0\n")?;
+    let script = outside.shelf.create("s.txt")?;
+    write_file(&mut outside.shelf, script, b"x\n")?;
     let mut choices = Items::new(alloc);
     choices.push(3)?;
     choices.push(1)?;
