@@ -20,8 +20,9 @@ fn words_of(alloc: Global, given: &[String]) -> Result<Words, AllocError> {
     Ok(words)
 }
 
-/// Runs the whole program. This function alone calls it: what stands around the call is checked with the whole of the
-/// call's contract at hand.
+/// Runs the whole program. This function alone calls it, and has no goal that a tactic would have to try: what stands
+/// around the call is checked with the whole of the call's contract at hand.
+#[tactic(none)]
 fn run_program(alloc: Global, words: &Words, mut outside: Outside) -> Outcome {
     let Ended {
         status,
