@@ -1,10 +1,10 @@
 -- From files that were made empty to what they hold behind a session.
-use Rattle.std.proofs.Common.{◌≡◌, ◌≢◌, ◌⊎◌, inl, inr, ℕ, List, [], Option, Some, None, refl, sym, ◌∙◌, ap, subst}
+use Rattle.std.proofs.Common.{◌≡◌, ◌≢◌, inl, inr, ℕ, List, Option, Some, None, refl, sym, ◌∙◌, ap, subst}
 use Rattle.std.specs.Io.KnownBytes.{append_known}
 use Rattle.std.specs.Prelude.{IfSome}
-use Rattle.sim_io.specs.Told.{Files, AfterTold, Same, Others, WereTold}
-use Rattle.sessions.specs.Outputs.{AreApart, AreNames, FileGot, FilesGot, IsOther, Names, Outer, Texts, Took}
-use Rattle.session_files.specs.Held.{FileHolds, FileMade, FileSpared, FilesHold, FilesMade, FilesSpared, IsEmptied, IsSpared, names_of}
+use Rattle.sim_io.specs.Told.{Files, AfterTold, WereTold}
+use Rattle.sessions.specs.Outputs.{AreApart, FileGot, FilesGot, IsOther, Names, Texts}
+use Rattle.session_files.specs.Held.{FileHolds, FileMade, FileSpared, FilesHold, FilesMade, FilesSpared, IsAsBefore, IsEmptied, IsSpared, names_of}
 
 after_on : (P Q R : Files → Files → Type 0) (old mid new : Option Files) → AfterTold old mid P → AfterTold mid new Q → ((a b c : Files) → P a b → Q b c → R a c) → AfterTold old new R
 after_on P Q R old mid None x y joins = tt
@@ -63,6 +63,10 @@ untouched_by : (one other : Option (List ℕ)) (old new : Files) → AreApart on
 untouched_by None other old new apart spared name is = spared name
 untouched_by (Some a) other old new apart spared name is = spared.1 name (subst (λ o. AreApart (Some a) o) is apart)
 
+left_as_before : (one : Option (List ℕ)) (old new : Files) → ((name : List ℕ) → one ≡ Some name → new name ≡ old name) → IsAsBefore one old new
+left_as_before None old new same = tt
+left_as_before (Some a) old new same = same a refl
+
 -- the first was refused
 pub first_spared : (trace choices : Option (List ℕ)) (old new : Option Files) → AreApart trace choices → AfterTold old new (FileSpared trace) → AfterTold old new (FilesSpared (names_of trace choices))
 first_spared trace choices old None apart spared = tt
@@ -70,12 +74,17 @@ first_spared trace choices None (Some new) apart spared = absurd spared
 first_spared trace choices (Some old) (Some new) apart spared = record {
   trace = is_spared trace old new spared;
   choices = spared_same choices old new (untouched_by trace choices old new apart spared);
+  in_order = inl (left_as_before choices old new (untouched_by trace choices old new apart spared));
   others = λ name p q. spared_other trace old new name spared p;
 }
 
 spared_stays : (one : Option (List ℕ)) (old mid new : Files) → ((name : List ℕ) → one ≡ Some name → new name ≡ mid name) → IsEmptied one mid → IsSpared one old new
 spared_stays None old mid new same empty = tt
 spared_stays (Some a) old mid new same empty = inr (same a refl ∙ empty)
+
+left_empty : (one : Option (List ℕ)) (mid new : Files) → ((name : List ℕ) → one ≡ Some name → new name ≡ mid name) → IsEmptied one mid → IsEmptied one new
+left_empty None mid new same empty = tt
+left_empty (Some a) mid new same empty = same a refl ∙ empty
 
 spared_on : (one : Option (List ℕ)) (old mid new : Files) → ((name : List ℕ) → one ≡ Some name → mid name ≡ old name) → IsSpared one mid new → IsSpared one old new
 spared_on None old mid new same spared = tt
@@ -91,6 +100,7 @@ pub second_spared : (trace choices : Option (List ℕ)) (old mid new : Option Fi
 second_spared trace choices old mid new apart first second = after_on (FileMade trace) (FileSpared choices) (FilesSpared (names_of trace choices)) old mid new first second (λ a b c x y. record {
   trace = spared_stays trace a b c (untouched_by choices trace b c (apart_swapped trace choices apart) y) (made_empty trace a b x);
   choices = spared_on choices a b c (made_untouched trace choices a b apart x) (is_spared choices b c y);
+  in_order = inr (left_empty trace b c (untouched_by choices trace b c (apart_swapped trace choices apart) y) (made_empty trace a b x));
   others = λ name p q. spared_other choices b c name y q ∙ made_other trace a b name x p;
 })
 

@@ -41,10 +41,15 @@ abbrev pub IsSpared : Option (List ℕ) → Files → Files → Type 0
 IsSpared None old new = ⊤
 IsSpared (Some name) old new = (new name ≡ old name) ⊎ (new name ≡ Some [])
 
--- each of these is as before or empty, and each other file is as before
+abbrev pub IsAsBefore : Option (List ℕ) → Files → Files → Type 0
+IsAsBefore None old new = ⊤
+IsAsBefore (Some name) old new = new name ≡ old name
+
+-- each of these is as before or empty, the choices' as before where the trace's was not made, and each other file is as before
 pub record FilesSpared (names : Names) (old new : Files) : Type 0 where
   pub trace : IsSpared names.trace old new
   pub choices : IsSpared names.choices old new
+  pub in_order : IsAsBefore names.choices old new ⊎ IsEmptied names.trace new
   pub others : (name : List ℕ) → IsOther names.trace name → IsOther names.choices name → new name ≡ old name
 
 abbrev pub FileHolds : Option (List ℕ) → List ℕ → Files → Type 0

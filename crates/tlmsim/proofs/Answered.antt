@@ -1,5 +1,5 @@
 -- Each status from its cause.
-use Rattle.std.proofs.Common.{◌≡◌, ◌≤◌, ◌⊎◌, inl, inr, ⊎_elim, ℕ, Bool, true, false, ◌||◌, nat_eq, nat_le, List, if◌then◌else◌, length, slice_get, ◌+◌, Option, Some, None, Ok, Err, subst, sym, ◌∙◌, ap, arith, refl}
+use Rattle.std.proofs.Common.{◌≡◌, ◌≤◌, inl, inr, ⊎_elim, ℕ, Bool, true, false, ◌||◌, nat_eq, nat_le, List, if◌then◌else◌, length, slice_get, ◌+◌, Option, Some, None, Ok, Err, subst, sym, ◌∙◌, ap, arith, refl}
 use Rattle.std.proofs.lemmas.Bool.{false≢true}
 use Rattle.std.proofs.lemmas.Bool.Decides.{nat_tests}
 use Rattle.flat_design.specs.declared.faults.RunFault.{RunFault}
@@ -190,6 +190,7 @@ of_stop one c choices steps s h told faults kept =
       replay_comes = comes.replay;
       format_comes = comes.format;
       complete = comes.complete;
+      generates = comes.generates;
       lays_out = comes.lays;
     }
 
@@ -261,6 +262,7 @@ of_none c choices steps status no_end cause comes untouched kept =
       replay_comes = comes.replay;
       format_comes = comes.format;
       complete = comes.complete;
+      generates = comes.generates;
       lays_out = comes.lays;
     }
 

@@ -1,5 +1,5 @@
 -- Which status comes of what a call is given, by what came of it.
-use Rattle.std.proofs.Common.{◌≡◌, ◌<◌, ◌≤◌, ◌⊎◌, inl, inr, ⊎_elim, ℕ, List, length, Option, None, subst, sym, refl}
+use Rattle.std.proofs.Common.{◌≡◌, ◌<◌, ◌≤◌, ◌⊎◌, inl, inr, ⊎_elim, ℕ, List, length, codes, Option, Some, None, subst, sym, refl}
 use Rattle.sim_io.specs.Told.{Files}
 use Rattle.sim_io.specs.Cause.{Rose}
 use Rattle.model_tree.specs.Tree as tree
@@ -7,17 +7,20 @@ use Rattle.flat_design.specs.declared.design.Design.{Design}
 use Rattle.sim_model.specs.declared.plain.Command.{Command}
 use Rattle.sim_model.specs.declared.plain.Stop.{Stop}
 use Rattle.sim_model.specs.declared.plain.Stop.TheVariants as stop
-use Rattle.command_line.specs.Line.{Simulate, Format, line_of}
+use Rattle.command_line.specs.Line.{Mode, Simulate, Format, Generate, line_of}
+use Rattle.command_line.specs.declared.modes.Generated.{Generated}
+use Rattle.model_gen.specs.Generated.{generated}
 use Rattle.refusal_lines.specs.declared.refusals.ModelFault.{ModelFault}
 use Rattle.refusal_lines.specs.declared.refusals.ScriptFault.{ScriptFault}
 use Rattle.refusal_lines.specs.declared.refusals.Refusal.{Refusal}
 use Rattle.refusal_lines.specs.declared.refusals.Refusal.TheVariants as refusal
 use Rattle.run_input.specs.Limits.{model_limit}
-use Rattle.run_input.specs.Judged.{IsBrokenModel, AcceptsModel, IsBrokenScript, Accepts, ReadsReplay, IsBrokenReplay}
+use Rattle.run_input.specs.Judged.{IsBrokenModel, AcceptsModel, IsBrokenScript, Accepts, ReadsReplay, HasReplayFault, IsBrokenReplay}
 use Rattle.run_input.proofs.Refusals.{model_broken_by, script_broken_by, replay_broken_by}
 use Rattle.run_input.proofs.Apart.{OneTree, not_broken, not_both, not_listed, not_laid_out}
 use Rattle.tlmsim.specs.Call.{Call}
-use Rattle.tlmsim.specs.Headline.{ReadFailed, TooLarge, ModelRefused, ScriptRefused, ReplayRefused, RefusedFor, Accepted, LaysOut, PageShort, IsCut, OneRose, Given, ModelGiven, FormatGiven, Within, PastLimit, Gives, IsRunStatus, stop_status}
+use Rattle.tlmsim.specs.Asked.{HasTexts, IsModel}
+use Rattle.tlmsim.specs.Headline.{UnreadIn, LargeIn, ReadFailed, TooLarge, ModelRefused, ScriptRefused, ReplayRefused, RefusedFor, Accepted, LaysOut, PageShort, IsCut, OneRose, Given, ModelGiven, FormatGiven, Within, PastLimit, Gives, IsRunStatus, stop_status}
 use Rattle.tlmsim.specs.Telling.{refusal_status}
 use Rattle.tlmsim.specs.Worked.{EndedSo}
 use Rattle.tlmsim.proofs.Apart.{Found, no_line, one_mode, of_given, not_long, found_model, not_read, not_large, long_model, long_found, long_read, laid_found, laid_model, laid_read, laid_large}
@@ -36,6 +39,8 @@ pub record Comes (c : Call) (status : ℕ) : Type 0 where
   pub complete : (old new : Files) (model script : List ℕ) (replay : Option (List ℕ)) → Given c old new model script replay → Within model script replay
       → (m : tree.Model) (d : Design) (commands : List Command) (listed : Option (List ℕ)) → Accepts model script m d commands → ReadsReplay replay listed
       → (OneRose c → ⊥) → IsRunStatus status ⊎ (status ≡ 8)
+  pub generates : (g : Generated) → line_of c.words ≡ Some (Generate g) → (m : tree.Model) (d : Design) (commands : List Command)
+      → Accepts (generated g.size) (codes "run") m d commands → (OneRose c → ⊥) → IsRunStatus status ⊎ (status ≡ 8)
   pub lays : (old new : Files) (model : List ℕ) → FormatGiven c old new model → length model ≤ model_limit → (m : tree.Model) → AcceptsModel model m
       → (Rose c.before.out_faults c.after.out_faults → ⊥) → (status ≡ 0) ⊎ (status ≡ 8)
 
@@ -64,8 +69,45 @@ of_run one c status a due = record {
   replay = λ old new model script replay g within m d commands accepts broken. absurd (not_listed replay a.listed (run_reads c old new model script replay g a) broken);
   format = λ old new model g within broken. absurd (laid_found c old new model a.model a.script a.replay g (found_run c a));
   complete = λ old new model script replay g within m d commands listed accepts reads no_fault. due no_fault;
+  generates = λ g line m d commands accepts no_fault. due no_fault;
   lays = λ old new model g within m accepted no_fault. absurd (laid_found c old new model a.model a.script a.replay g (found_run c a));
 }
+
+-- ---- the run of a generated model
+
+-- what the words ask for
+other_mode : (words : List (List ℕ)) (g : Generated) (name : List ℕ) → line_of words ≡ Some (Generate g) → line_of words ≡ Some (Format name) → ⊥
+other_mode words g name p q = cc
+
+mode_is : (words : List (List ℕ)) (mode : Mode) (g : Generated) → line_of words ≡ Some mode → line_of words ≡ Some (Generate g) → mode ≡ Generate g
+mode_is words mode g p q = cc
+
+-- no file is read
+unread_in : (c : Call) (file : List ℕ) → ReadFailed c file → (g : Generated) → line_of c.words ≡ Some (Generate g) → ⊥
+unread_in c file r g line = subst (λ mode. UnreadIn c mode file) (mode_is c.words r.mode g r.line line) r.cause
+
+large_in : (c : Call) (file : List ℕ) → TooLarge c file → (g : Generated) → line_of c.words ≡ Some (Generate g) → ⊥
+large_in c file l g line = subst (λ mode. LargeIn c mode file) (mode_is c.words l.mode g l.line line) l.cause
+
+-- its text is the generated one
+generated_broken : (c : Call) (f : ModelFault) → ModelRefused c f → (g : Generated) → line_of c.words ≡ Some (Generate g) → IsBrokenModel (generated g.size)
+generated_broken c f r g line = subst IsBrokenModel (subst (λ mode. IsModel c mode r.model) (mode_is c.words r.mode g r.line line) r.is_model) (model_broken_by r.model f r.fault)
+
+-- and its script is run
+generated_texts : (c : Call) (mode : Mode) (model script : List ℕ) (replay : Option (List ℕ)) → line_of c.words ≡ Some mode → HasTexts c mode model script replay
+    → (g : Generated) → line_of c.words ≡ Some (Generate g) → (model ≡ generated g.size) × (script ≡ codes "run") × (replay ≡ None)
+generated_texts c mode model script replay at texts g line = subst (λ one. HasTexts c one model script replay) (mode_is c.words mode g at line) texts
+
+generated_accepts : (c : Call) (f : ScriptFault) (r : ScriptRefused c f) (g : Generated) → line_of c.words ≡ Some (Generate g) → AcceptsModel (generated g.size) r.m
+generated_accepts c f r g line = subst (λ model. AcceptsModel model r.m) (generated_texts c r.mode r.model r.script r.replay r.line r.texts g line).0 r.accepted
+
+generated_breaks : (c : Call) (f : ScriptFault) (r : ScriptRefused c f) (g : Generated) → line_of c.words ≡ Some (Generate g) → IsBrokenScript r.m (codes "run")
+generated_breaks c f r g line =
+    subst (λ script. IsBrokenScript r.m script) (generated_texts c r.mode r.model r.script r.replay r.line r.texts g line).1
+    (record { design = r.design; is_design = r.is_design; breaks = script_broken_by r.design r.script f r.fault })
+
+no_replay : (c : Call) (at : ℕ) (r : ReplayRefused c at) (g : Generated) → line_of c.words ≡ Some (Generate g) → ⊥
+no_replay c at r g line = subst (λ replay. HasReplayFault replay at) (generated_texts c r.mode r.model r.script r.replay r.line r.texts g line).2 r.fault
 
 -- ---- a laid-out text
 
@@ -84,6 +126,7 @@ of_page one c status page l due = record {
   replay = λ old new model script replay g within m d commands accepts broken. absurd (not_given c old new model script replay page g l);
   format = λ old new model g within broken. absurd (not_laid_out one l.model page l.layout (subst IsBrokenModel (sym (laid_model c old new model (Format l.name) l.model g l.line l.is_model)) broken));
   complete = λ old new model script replay g within m d commands listed accepts reads no_fault. absurd (not_given c old new model script replay page g l);
+  generates = λ g line m d commands accepts no_fault. absurd (other_mode c.words g l.name line l.line);
   lays = λ old new model g within m accepted no_fault. due no_fault;
 }
 
@@ -123,6 +166,7 @@ of_usage c status none due = record {
   replay = λ old new model script replay g within m d commands accepts broken. absurd (no_line c.words (Simulate g.s) g.line none);
   format = λ old new model g within broken. absurd (no_line c.words (Format g.name) g.line none);
   complete = λ old new model script replay g within m d commands listed accepts reads no_fault. absurd (no_line c.words (Simulate g.s) g.line none);
+  generates = λ g line m d commands accepts no_fault. absurd (no_line c.words (Generate g) line none);
   lays = λ old new model g within m accepted no_fault. absurd (no_line c.words (Format g.name) g.line none);
 }
 
@@ -136,6 +180,7 @@ of_read c status file r = record {
   replay = λ old new model script replay g within m d commands accepts broken. absurd (not_read c old new model script replay file g r);
   format = λ old new model g within broken. absurd (laid_read c old new model file g r);
   complete = λ old new model script replay g within m d commands listed accepts reads no_fault. absurd (not_read c old new model script replay file g r);
+  generates = λ g line m d commands accepts no_fault. absurd (unread_in c file r g line);
   lays = λ old new model g within m accepted no_fault. absurd (laid_read c old new model file g r);
 }
 
@@ -149,6 +194,7 @@ of_large c status file l due = record {
   replay = λ old new model script replay g within m d commands accepts broken. absurd (not_large c old new model script replay file g within l);
   format = λ old new model g within broken. absurd (laid_large c old new model file g within l);
   complete = λ old new model script replay g within m d commands listed accepts reads no_fault. absurd (not_large c old new model script replay file g within l);
+  generates = λ g line m d commands accepts no_fault. absurd (large_in c file l g line);
   lays = λ old new model g within m accepted no_fault. absurd (laid_large c old new model file g within l);
 }
 
@@ -176,6 +222,7 @@ of_model one c status f r due = record {
   replay = λ old new model script replay g within m d commands accepts broken. absurd (not_broken one model m accepts.accepted (model_broken c old new model script replay f g r));
   format = λ old new model g within broken. due;
   complete = λ old new model script replay g within m d commands listed accepts reads no_fault. absurd (not_broken one model m accepts.accepted (model_broken c old new model script replay f g r));
+  generates = λ g line m d commands accepts no_fault. absurd (not_broken one (generated g.size) m accepts.accepted (generated_broken c f r g line));
   lays = λ old new model g within m accepted no_fault. absurd (not_broken one model m accepted (laid_broken c old new model f g r));
 }
 
@@ -203,6 +250,8 @@ of_script one c status f r due = record {
   format = λ old new model g within broken. absurd (laid_found c old new model r.model r.script r.replay g (found_script c f r));
   complete = λ old new model script replay g within m d commands listed accepts reads no_fault.
       absurd (not_both one model script m r.m d commands accepts (script_accepts c old new model script replay f g r) (script_broken c old new model script replay f g r));
+  generates = λ g line m d commands accepts no_fault.
+      absurd (not_both one (generated g.size) (codes "run") m r.m d commands accepts (generated_accepts c f r g line) (generated_breaks c f r g line));
   lays = λ old new model g within m accepted no_fault. absurd (laid_found c old new model r.model r.script r.replay g (found_script c f r));
 }
 
@@ -228,6 +277,7 @@ of_replay one c status at r due = record {
   replay = λ old new model script replay g within m d commands accepts broken. due;
   format = λ old new model g within broken. absurd (laid_found c old new model r.model r.script r.replay g (found_replay c at r));
   complete = λ old new model script replay g within m d commands listed accepts reads no_fault. absurd (not_listed replay listed reads (replay_broken c old new model script replay at g r));
+  generates = λ g line m d commands accepts no_fault. absurd (no_replay c at r g line);
   lays = λ old new model g within m accepted no_fault. absurd (laid_found c old new model r.model r.script r.replay g (found_replay c at r));
 }
 
@@ -242,6 +292,7 @@ of_want c = record {
   replay = λ old new model script replay g within m d commands accepts broken. inr (inl refl);
   format = λ old new model g within broken. inr (inl refl);
   complete = λ old new model script replay g within m d commands listed accepts reads no_fault. inr refl;
+  generates = λ g line m d commands accepts no_fault. inr refl;
   lays = λ old new model g within m accepted no_fault. inr refl;
 }
 

@@ -1,13 +1,13 @@
 -- Runs, by what was taken of their texts.
-use Rattle.std.proofs.Common.{◌≡◌, ◌≤◌, ◌⊎◌, inl, inr, ℕ, List, [], ◌++◌, Option, Some, None, refl, sym, ◌∙◌, ap, subst, append_assoc}
+use Rattle.std.proofs.Common.{◌≡◌, ℕ, List, ◌++◌, Option, Some, None, sym, ◌∙◌, subst}
 use Rattle.std.specs.Prelude.{IfSome}
 use Rattle.sim_io.specs.Told.{Files, AfterTold, Grew, Same, WereTold}
 use Rattle.sim_io.proofs.Chains.{grew_on}
 use Rattle.sim_model.specs.Configuration.{Config}
 use Rattle.sim_model.specs.declared.plain.Stop.{Stop}
 use Rattle.sim_model.specs.declared.plain.Stop.TheVariants as stop
-use Rattle.sessions.specs.Course.{Ran, Wrote, IsEnd}
-use Rattle.sessions.specs.Outputs.{FilesGot, IsOther, Names, Outer, Texts, Took}
+use Rattle.sessions.specs.Course.{Ran, Wrote}
+use Rattle.sessions.specs.Outputs.{FilesGot, Names, Outer, Texts, Took}
 use Rattle.sessions.specs.declared.plans.Plan.{Plan}
 use Rattle.session_files.specs.Held.{FilesHold, FilesMade}
 use Rattle.session_files.proofs.Holding.{held_by}

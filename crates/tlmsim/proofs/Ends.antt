@@ -1,5 +1,5 @@
 -- What the work that the words ask for comes to.
-use Rattle.std.proofs.Common.{◌≡◌, ◌≤◌, ◌<◌, ◌⊎◌, ⊎_elim, inl, inr, ℕ, Bool, true, false, not, List, [], ◌++◌, length, take, drop, Option, Some, None, Ok, Err, refl, sym, ◌∙◌, ap, subst, arith, length-take, take-append-drop}
+use Rattle.std.proofs.Common.{◌≡◌, ◌≤◌, ◌<◌, ◌⊎◌, ⊎_elim, inl, inr, ℕ, true, not, List, [], ◌++◌, length, take, drop, Option, Some, None, Err, refl, sym, ◌∙◌, ap, subst, arith, length-take, take-append-drop}
 use Rattle.std.specs.Prelude.{IfSome, codes, option_copied, ⊤}
 use Rattle.std.specs.Borrow.{Bor}
 use Rattle.std.proofs.lemmas.Bool.{false≢true}
@@ -23,14 +23,14 @@ use Rattle.command_line.specs.Seen.{text_of}
 use Rattle.command_line.specs.declared.modes.Generated.{Generated}
 use Rattle.sessions.specs.Course.{Ran, IsEnd}
 use Rattle.sessions.specs.Cut.{cut_by}
-use Rattle.sessions.specs.Outputs.{AreApart, AreNames, FilesGot, IsFront, IsOther, Names, Outer, Texts, Took}
+use Rattle.sessions.specs.Outputs.{AreApart, AreNames, FilesGot, IsFront, Names, Outer, Texts, Took}
 use Rattle.sessions.specs.declared.plans.Plan.{Plan}
 use Rattle.sessions.specs.declared.plans.Outcome.{Outcome}
-use Rattle.session_files.specs.Held.{FilesHold, FilesMade, FilesSpared, IsSpared}
+use Rattle.session_files.specs.Held.{FilesHold, FilesMade, FilesSpared, IsAsBefore, IsSpared}
 use Rattle.model_gen.specs.Generated.{generated}
 use Rattle.run_input.specs.Limits.{model_limit}
 use Rattle.run_input.specs.Loaded.{AreTexts, FileCause, LoadCause}
-use Rattle.run_input.specs.Judged.{Accepts, HasModelFault, IsLayoutOf, ReadsReplay}
+use Rattle.run_input.specs.Judged.{Accepts, HasModelFault, ReadsReplay}
 use Rattle.run_input.specs.Refused.{HasTextFault, IfModelFault}
 use Rattle.run_input.specs.Together.{Together}
 use Rattle.run_input.specs.declared.loading.LoadStop.{LoadStop}
@@ -41,9 +41,9 @@ use Rattle.run_input.specs.declared.judging.ModelStop.{ModelStop}
 use Rattle.run_input.specs.declared.judging.ModelStop.TheVariants as model_stop
 use Rattle.tlmsim.specs.Asked.{HasModel, HasTexts, IsPlan, PlansRun, replay_of}
 use Rattle.tlmsim.specs.Call.{Call, OnlyThese, names_in, no_names}
-use Rattle.tlmsim.specs.Headline.{Accepted, Ended, EndedShort, IsCut, LaidOut, LaysOut, NoRun, NotBegun, OneRose, PageShort, Session}
+use Rattle.tlmsim.specs.Headline.{Accepted, Ended, EndedShort, IsCut, LaysOut, OneRose, Session}
 use Rattle.tlmsim.specs.Orderly.{Orderly}
-use Rattle.tlmsim.specs.Taken.{Holds, Spared, TakesAll, TakesShort, steps_line}
+use Rattle.tlmsim.specs.Taken.{Spared, Holds, TakesAll, TakesShort, steps_line}
 use Rattle.tlmsim.specs.Worked.{CutNow, EndedSo, TellsBy, TellsSteps, Unmoved, Works, unfit, unformed, unread}
 use Rattle.tlmsim.proofs.Courses.{ran_with}
 
@@ -115,8 +115,12 @@ pub spared_on : (names : Names) (old mid new : Option Files) → AfterTold old m
 spared_on names old mid None x y = tt
 spared_on names old None (Some new) x y = absurd y
 spared_on names None (Some mid) (Some new) x y = absurd x
-spared_on names (Some old) (Some mid) (Some new) x y = record { trace = spare names.trace y.trace; choices = spare names.choices y.choices; others = λ name a b. y.others name a b ∙ x name }
+spared_on names (Some old) (Some mid) (Some new) x y = record { trace = spare names.trace y.trace; choices = spare names.choices y.choices; in_order = ⊎_elim (λ same. inl (left names.choices same)) inr y.in_order; others = λ name a b. y.others name a b ∙ x name }
   where
+    left : (one : Option (List ℕ)) → IsAsBefore one mid new → IsAsBefore one old new
+    left None h = tt
+    left (Some n) h = h ∙ x n
+
     spare : (one : Option (List ℕ)) → IsSpared one mid new → IsSpared one old new
     spare None h = tt
     spare (Some n) (inl is) = inl (is ∙ x n)
@@ -165,9 +169,18 @@ unfit_generated c g line model is judge_stop.NoMemory fault unmoved = unmoved
 -- ---- ends
 
 -- files that were not created
-pub not_begun : (c : Call) → NotBegun c [] 0 → (e : Trouble) → (e ≡ trouble.Failed → OneRose c) → EndedSo c [] 0 (cut_by e)
-not_begun c n trouble.Failed rose = (inr (inr (inr n)), rose refl)
-not_begun c n trouble.NoMemory rose = inr (inr (inr n))
+pub not_begun : (c : Call) (a : Accepted c) → Spared c a.mode → (e : Trouble) → (e ≡ trouble.Failed → Rose c.before.writes c.after.writes) → EndedSo c [] 0 (cut_by e)
+not_begun c a spared e rose = by e rose
+  where
+    begun : (x : Stop) → (x ≡ stop.WriteFault → Rose c.before.writes c.after.writes) → IsCut c [] 0 x
+    begun x r = inr (inr (inr (record { accepted = a; spared = spared; rose = r; no_run = record { no_choices = refl; no_steps = refl } })))
+
+    by : (x : Trouble) → (x ≡ trouble.Failed → Rose c.before.writes c.after.writes) → EndedSo c [] 0 (cut_by x)
+    by trouble.Failed r = (begun stop.WriteFault (λ is. r refl), inr (r refl))
+    by trouble.NoMemory r = begun stop.NoMemory (λ is. absurd (differ is))
+      where
+        differ : stop.NoMemory ≡ stop.WriteFault → ⊥
+        differ is = cc
 
 -- a simulation that was run
 pub simulated : (c : Call) (s : Simulation) → line_of c.words ≡ Some (Simulate s) → (model script : List ℕ) (replay : Option (List ℕ)) → HasTexts c (Simulate s) model script replay → (m : tree.Model) (design : Design) (commands : List Command)
@@ -214,8 +227,9 @@ page_cut c page part lays front short out e rose = by e rose
 pub generated_so : (c : Call) (g : Generated) → line_of c.words ≡ Some (Generate g) → (model : List ℕ) → model ≡ generated g.size → (m : tree.Model) (design : Design) (commands : List Command)
     → Accepts model (codes "run") m design commands → SoundDesign nothing_missing design → Orderly design commands → (plan : Plan) → IsPlan (Generate g) None plan
     → (run told : Outcome) (mid : Option (List ℕ)) → TellsSteps mid c.after.out run told → Ran (start design commands) plan run.choices run.steps run.stop (λ t. Grew c.before.out mid t.report)
-    → AfterTold c.before.files c.after.files Same → (told.stop ≡ stop.WriteFault → OneRose c) → EndedSo c told.choices told.steps told.stop
-generated_so c g line model is m design commands accepts sound orderly plan planned run told mid tells ran same rose =
+    → AfterTold c.before.files c.after.files Same → (told.stop ≡ stop.WriteFault → OneRose c) → (IsEnd run.stop → told.stop ≡ stop.WriteFault → Rose c.before.out_faults c.after.out_faults)
+    → EndedSo c told.choices told.steps told.stop
+generated_so c g line model is m design commands accepts sound orderly plan planned run told mid tells ran same rose out_rose =
     subst (λ n. EndedSo c told.choices n told.stop) (sym tells.steps) (subst (λ cs. EndedSo c cs run.steps told.stop) (sym tells.choices) (by run.stop refl))
   where
     accepted : Accepted c
@@ -241,21 +255,23 @@ generated_so c g line model is m design commands accepts sound orderly plan plan
     whole : (x : Stop) → run.stop ≡ x → Grew mid c.after.out (steps_line run.steps) → Ended c run.choices run.steps x
     whole x is grew = session x (λ mode. TakesAll c mode run.steps) (ran_with (start design commands) plan run.choices run.steps x (λ t. Grew c.before.out mid t.report) (TakesAll c (Generate g) run.steps) (more (steps_line run.steps) grew) (due x is))
 
-    short : (x : Stop) → run.stop ≡ x → IsEnd x → (part : List ℕ) → IsFront part (steps_line run.steps) → length part < length (steps_line run.steps) → Grew mid c.after.out part → EndedShort c run.choices run.steps
-    short x is end part front less grew = (
+    short : (x y : Stop) → run.stop ≡ x → IsEnd x → (part : List ℕ) → IsFront part (steps_line run.steps) → length part < length (steps_line run.steps) → Grew mid c.after.out part
+        → (y ≡ stop.WriteFault → Rose c.before.out_faults c.after.out_faults) → EndedShort c run.choices run.steps y
+    short x y is end part front less grew r = (
       x,
       end,
       session x (λ mode. TakesShort c mode run.steps)
           (ran_with (start design commands) plan run.choices run.steps x (λ t. Grew c.before.out mid t.report) (TakesShort c (Generate g) run.steps) (λ t first. record { part = part; front = front; short = less; held = more part grew t first }) (due x is)),
+      r,
     )
 
     alone : (x : Stop) → run.stop ≡ x → c.after.out ≡ mid → IsCut c run.choices run.steps x
     alone x is kept = inl (session x (λ mode. Holds c (names_in mode))
         (ran_with (start design commands) plan run.choices run.steps x (λ t. Grew c.before.out mid t.report) (Holds c no_names) (λ t first. record { report = subst (λ o. Grew c.before.out o t.report) (sym kept) first; files = hold t }) (due x is)))
 
-    told_by : (x y : Stop) → run.stop ≡ x → IsEnd x → TellsBy mid c.after.out (steps_line run.steps) x y → (y ≡ stop.WriteFault → OneRose c) → EndedSo c run.choices run.steps y
-    told_by x stop.WriteFault is end (part, front, less, grew) rose = (inr (inl (short x is end part front less grew)), rose refl)
-    told_by x stop.NoMemory is end (part, front, less, grew) rose = inr (inl (short x is end part front less grew))
+    told_by : (x y : Stop) → run.stop ≡ x → IsEnd x → TellsBy mid c.after.out (steps_line run.steps) x y → (y ≡ stop.WriteFault → Rose c.before.out_faults c.after.out_faults) → EndedSo c run.choices run.steps y
+    told_by x stop.WriteFault is end (part, front, less, grew) rose = (inr (inl (short x stop.WriteFault is end part front less grew rose)), inl (rose refl))
+    told_by x stop.NoMemory is end (part, front, less, grew) rose = inr (inl (short x stop.NoMemory is end part front less grew rose))
     told_by x stop.Done is end (same, grew) rose = inl (whole stop.Done (is ∙ sym same) grew)
     told_by x stop.Stopped is end (same, grew) rose = whole stop.Stopped (is ∙ sym same) grew
     told_by x stop.Budget is end (same, grew) rose = whole stop.Budget (is ∙ sym same) grew
@@ -263,7 +279,7 @@ generated_so c g line model is m design commands accepts sound orderly plan plan
     told_by x (stop.Fault f) is end (same, grew) rose = whole (stop.Fault f) (is ∙ sym same) grew
 
     ended_by : (x : Stop) → run.stop ≡ x → IsEnd x → EndedSo c run.choices run.steps told.stop
-    ended_by x is end = told_by x told.stop is end (subst (λ y. TellsBy mid c.after.out (steps_line run.steps) y told.stop) is (tells.ended (subst IsEnd (sym is) end))) rose
+    ended_by x is end = told_by x told.stop is end (subst (λ y. TellsBy mid c.after.out (steps_line run.steps) y told.stop) is (tells.ended (subst IsEnd (sym is) end))) (out_rose (subst IsEnd (sym is) end))
 
     cut_at : (x : Stop) → run.stop ≡ x → (IsEnd x → ⊥) → (told.stop ≡ x) × (c.after.out ≡ mid)
     cut_at x is none = let (same, kept) = tells.cut (λ end. none (subst IsEnd is end)) in (same ∙ is, kept)
@@ -339,6 +355,9 @@ pub steps_rose : (old new : Option (List ℕ)) (run told : Outcome) (f0 f1 f2 w0
 steps_rose old new run told f0 f1 f2 w0 w1 tells first second ran cut fault =
     ⊎_elim (λ end. inl (rose_on f0 f1 f2 f2 first (cut (end, fault)) (omega arith)))
     (λ none. ⊎_elim (λ r. inl (rose_on f0 f0 f1 f2 (omega arith) r second)) (λ r. inr r) (ran (sym (tells.cut none).0 ∙ fault))) (end_or_cut run.stop)
+
+pub end_rose : (run told : Outcome) (f0 f1 f2 : ℕ) → f0 ≤ f1 → (CutNow run told → Rose f1 f2) → IsEnd run.stop → told.stop ≡ stop.WriteFault → Rose f0 f2
+end_rose run told f0 f1 f2 first cut end fault = rose_on f0 f1 f2 f2 first (cut (end, fault)) (omega arith)
 
 -- ---- names that are apart
 

@@ -1,5 +1,5 @@
 -- The answers of the top call, the cause of each, and what `err` gets with it.
-use Rattle.std.specs.Prelude.{◌≡◌, ◌≤◌, ◌⊎◌, ◌<◌, ℕ, List, [], Option, Some, None, length}
+use Rattle.std.specs.Prelude.{◌≡◌, ◌≤◌, ◌⊎◌, ◌<◌, ℕ, List, [], Option, Some, None, length, codes}
 use Rattle.sim_io.specs.Told.{Files, AfterTold, Grew, Lacks, IsLarge, Same}
 use Rattle.sim_io.specs.Cause.{Rose}
 use Rattle.flat_design.specs.declared.faults.RunFault.{RunFault}
@@ -13,6 +13,8 @@ use Rattle.sim_model.specs.declared.plain.Command.{Command}
 use Rattle.sim_model.specs.declared.plain.Stop.{Stop}
 use Rattle.sim_model.specs.declared.plain.Stop.TheVariants as stop
 use Rattle.command_line.specs.Line.{Mode, Simulation, Simulate, Format, Generate, line_of}
+use Rattle.command_line.specs.declared.modes.Generated.{Generated}
+use Rattle.model_gen.specs.Generated.{generated}
 use Rattle.sessions.specs.Course.{Ran, IsEnd}
 use Rattle.sessions.specs.Fronts.{WroteFront}
 use Rattle.sessions.specs.Outputs.{Texts, IsFront}
@@ -160,9 +162,9 @@ Finished c choices steps = Ended c choices steps stop.Done ⊎ (Ended c choices 
 
 -- ---- cuts
 
--- what an end of a run leaves of its texts where the line of its steps was not written whole
-abbrev pub EndedShort : Call → List ℕ → ℕ → Type 0
-EndedShort c choices steps = (s : Stop) × IsEnd s × Session c choices steps s (λ mode. TakesShort c mode steps)
+-- what an end of a run leaves of its texts where the line of its steps was not written whole; and where a write failed it was one to `out`
+abbrev pub EndedShort : Call → List ℕ → ℕ → Stop → Type 0
+EndedShort c choices steps cut = (s : Stop) × IsEnd s × Session c choices steps s (λ mode. TakesShort c mode steps) × (cut ≡ stop.WriteFault → Rose c.before.out_faults c.after.out_faults)
 
 -- `out` took a front of the laid-out text, which lacks a byte; and where a write failed it was one to `out`
 pub record PageShort (c : Call) (choices : List ℕ) (steps : ℕ) (s : Stop) : Type 0 where
@@ -175,17 +177,18 @@ pub record PageShort (c : Call) (choices : List ℕ) (steps : ℕ) (s : Stop) : 
   pub rose : s ≡ stop.WriteFault → Rose c.before.out_faults c.after.out_faults
   pub no_run : NoRun choices steps
 
--- the texts are accepted, and no run was begun, since not all of its files were created
-pub record NotBegun (c : Call) (choices : List ℕ) (steps : ℕ) : Type 0 where
+-- the texts are accepted, and no run was begun, since not all of its files were created; and where that failed a write to the files did
+pub record NotBegun (c : Call) (choices : List ℕ) (steps : ℕ) (s : Stop) : Type 0 where
   pub accepted : Accepted c
   pub spared : Spared c accepted.mode
+  pub rose : s ≡ stop.WriteFault → Rose c.before.writes c.after.writes
   pub no_run : NoRun choices steps
 
 -- The texts that were cut: those of a run, taken in fronts; a run's that had ended, whose steps were not told whole; the laid-out text
 -- of a model; or none, where a file was not created.
 abbrev pub IsCut : Call → List ℕ → ℕ → Stop → Type 0
 IsCut c choices steps s =
-    Session c choices steps s (λ mode. Holds c (names_in mode)) ⊎ (EndedShort c choices steps ⊎ (PageShort c choices steps s ⊎ NotBegun c choices steps))
+    Session c choices steps s (λ mode. Holds c (names_in mode)) ⊎ (EndedShort c choices steps s ⊎ (PageShort c choices steps s ⊎ NotBegun c choices steps s))
 
 -- `out` or a file that the words name was not written: a count of faults rose
 abbrev pub OneRose : Call → Type 0
@@ -339,5 +342,7 @@ pub record Answers (c : Call) (status : ℕ) (choices : List ℕ) (steps : ℕ) 
   pub complete : (old new : Files) (model script : List ℕ) (replay : Option (List ℕ)) → Given c old new model script replay → Within model script replay
       → (m : tree.Model) (d : Design) (commands : List Command) (listed : Option (List ℕ)) → Accepts model script m d commands → ReadsReplay replay listed
       → (OneRose c → ⊥) → IsRunStatus status ⊎ (status ≡ 8)
+  pub generates : (g : Generated) → line_of c.words ≡ Some (Generate g) → (m : tree.Model) (d : Design) (commands : List Command)
+      → Accepts (generated g.size) (codes "run") m d commands → (OneRose c → ⊥) → IsRunStatus status ⊎ (status ≡ 8)
   pub lays_out : (old new : Files) (model : List ℕ) → FormatGiven c old new model → length model ≤ model_limit → (m : tree.Model) → AcceptsModel model m
       → (Rose c.before.out_faults c.after.out_faults → ⊥) → (status ≡ 0) ⊎ (status ≡ 8)

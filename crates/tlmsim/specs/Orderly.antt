@@ -1,13 +1,16 @@
 -- What holds of a run whatever is chosen in it, and however control calls are nested.
-use Rattle.std.specs.Prelude.{◌≡◌, ℕ, List, Some}
+use Rattle.std.specs.Prelude.{◌≡◌, ℕ, List, ◌∷◌, Some}
 use Rattle.flat_design.specs.declared.design.Design.{Design}
+use Rattle.transport_phases.specs.History.{Entry}
 use Rattle.transport_laws.specs.Lawful.{Lawful}
 use Rattle.sim_model.specs.Clean.{Clean}
 use Rattle.sim_model.specs.Configuration.{Config, start}
 use Rattle.sim_model.specs.Runs.{after}
+use Rattle.sim_model.specs.Steps.{step}
 use Rattle.sim_model.specs.Transport.{history}
 use Rattle.sim_model.specs.declared.plain.Command.{Command}
-use Rattle.once_laws.specs.Once.{Begins, HasNoGoal, ends_of, innermost_first, once_each}
+use Rattle.once_laws.specs.Once.{Begins, HasNoGoal, IsFirst, IsOnTop, ends_of, innermost_first, once_each}
+use Rattle.protocol_laws.specs.Added.{WouldAdd, IsJudged, WouldAddFreed, IsJudgedFreed}
 use Rattle.ended_laws.specs.Nowhere.{HasEnded, IsNamedNowhere}
 
 -- the configuration after so many steps with these choices
@@ -24,5 +27,12 @@ pub record Orderly (design : Design) (script : List Command) : Type 0 where
   -- once an unwinding is over, the unwind block of each guard that it began with has run exactly once, the innermost first
   pub once : (n : ℕ) (choices : List ℕ) (c d : Config) → IsAfter design script n choices c → (q : ℕ) (guards : List ℕ) → Begins c d q guards
       → (m : ℕ) (more : List ℕ) (e : Config) → after m more d ≡ Some e → HasNoGoal e q → ends_of guards e.trace.marks ≡ once_each q (innermost_first guards)
+  -- and, where it is another's, before the one that began it goes on
+  pub before_the_caller : (n : ℕ) (choices : List ℕ) (c d : Config) → IsAfter design script n choices c → (p q : ℕ) (rest guards : List ℕ) → Begins c d q guards
+      → d.processes.stack ≡ q ∷ p ∷ rest → (m : ℕ) (more : List ℕ) (e : Config) → IsFirst (IsOnTop p) m more d e → ends_of guards e.trace.marks ≡ once_each q (innermost_first guards)
   -- the history of each hop is lawful
   pub lawful : (n : ℕ) (choices : List ℕ) (c : Config) → IsAfter design script n choices c → (hop : ℕ) → Lawful (history c hop)
+  -- what a step would add to a history is added exactly where the history with it is lawful, and else the step is the fault of the first
+  -- broken rule; the same where the payload of a call that ends is freed
+  pub exact : (n : ℕ) (choices : List ℕ) (c : Config) → IsAfter design script n choices c → (hop t : ℕ) (entry : Entry) → WouldAdd c hop t entry → IsJudged c hop t entry (step c)
+  pub exact_freed : (n : ℕ) (choices : List ℕ) (c : Config) → IsAfter design script n choices c → (hop t : ℕ) (entry : Entry) → WouldAddFreed c hop t entry → IsJudgedFreed c hop t entry (step c)

@@ -13,8 +13,8 @@ use command_line::Order;
 use ended_laws::{nothing_names_what_has_ended, what_has_ended_never_runs_again};
 use flat_design::Design;
 use mark_laws::runs_are_clean;
-use once_laws::unwind_blocks_run_once;
-use protocol_laws::histories_are_lawful;
+use once_laws::{unwind_blocks_run_once, unwinding_ends_before_the_caller_goes_on};
+use protocol_laws::{faults_of_the_protocol_are_exact, histories_are_lawful};
 use script_commands::Script;
 use sessions::{Outcome, Plan, run_session};
 use sim_io::{Shelf, Sink};
@@ -55,6 +55,8 @@ pub(crate) fn run<S: Shelf, O: Sink>(
     what_has_ended_never_runs_again();
     nothing_names_what_has_ended();
     unwind_blocks_run_once();
+    unwinding_ends_before_the_caller_goes_on();
     histories_are_lawful();
+    faults_of_the_protocol_are_exact();
     run_session(alloc, design, script.as_slice(), plan, shelf, out)
 }

@@ -1,9 +1,6 @@
-use Rattle.std.proofs.Common.{ℕ, List}
 use Rattle.sim_io.specs.Told.{Grew}
-use Rattle.sim_model.specs.Configuration.{start}
-use Rattle.sessions.specs.Outputs.{AreNames, Texts, Took, outer_of}
 use Rattle.tlmsim.proofs.Courses.{ran_with}
-use Rattle.tlmsim.proofs.Ends.{files_stay, generated_so, steps_rose}
+use Rattle.tlmsim.proofs.Ends.{end_rose, files_stay, generated_so, steps_rose}
 use Rattle.tlmsim.proofs.generating.generate.Goals as goal
 
 pub returns-clause-files : goal.returns-clause-files
@@ -20,3 +17,4 @@ returns-clause-works g c = λ words err err' faults faults' line.
     (ran_with _ _ _ _ _ _ (λ t. Grew (g.O.Sink.holds c.args.out.now) (g.O.Sink.holds c.run-outcome.new.out) t.report) (λ t took. took.report) c.run-outcome.ensures.ran)
     (files_stay g.S.Shelf.stands c.args.shelf.now _ _ ran.earlier.0 ran.earlier.1)
     (steps_rose _ _ _ _ _ _ _ _ _ c.tell_steps.ensures.tells c.run-outcome.ensures.cause.faults_later c.tell_steps.ensures.cause.later c.run-outcome.ensures.cause.rose c.tell_steps.ensures.cause.rose)
+    (end_rose c.run-outcome.result c.tell_steps.result _ _ _ c.run-outcome.ensures.cause.faults_later c.tell_steps.ensures.cause.rose)

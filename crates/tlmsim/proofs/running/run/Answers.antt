@@ -11,5 +11,8 @@ returns-clause-orderly g c =
       nowhere = c.nothing_names_what_has_ended.ensures d script;
       stays = c.what_has_ended_never_runs_again.ensures.stays nothing_missing d script sound;
       once = c.unwind_blocks_run_once.ensures.after nothing_missing d script sound;
+      before_the_caller = c.unwinding_ends_before_the_caller_goes_on.ensures.done nothing_missing d script sound;
       lawful = c.histories_are_lawful.ensures nothing_missing d script sound;
+      exact = c.faults_of_the_protocol_are_exact.ensures.live nothing_missing d script sound;
+      exact_freed = c.faults_of_the_protocol_are_exact.ensures.freed nothing_missing d script sound;
     }

@@ -1,10 +1,9 @@
-use Rattle.std.proofs.Common.{◌≡◌, ◌≤◌, Err, ap, arith, inl, inr, refl, ⊎_elim}
+use Rattle.std.proofs.Common.{Err, ap, arith, inl, inr, refl, ⊎_elim}
 use Rattle.sim_io.proofs.Chains.{rose_on, were_told_on}
 use Rattle.command_line.specs.Line.{Simulate}
 use Rattle.command_line.specs.Seen.{simulation_of}
 use Rattle.sessions.specs.Outputs.{AreNames}
 use Rattle.tlmsim.specs.Call.{names_in}
-use Rattle.tlmsim.specs.Taken.{Holds}
 use Rattle.tlmsim.proofs.Courses.{holds_by, ran_with}
 use Rattle.tlmsim.proofs.Ends.{copied_text, made_on, named_by, not_begun, only_held, simulated, spared_on, texts_later, unfit_works}
 use Rattle.session_files.proofs.Holding.{held_by}
@@ -19,28 +18,25 @@ pub returns-in-Err-create_files-clause-works : goal.returns-in-Err-create_files-
 returns-in-Err-create_files-clause-works g c = λ words err err' faults faults' line. rw (c.cut.ensures, c.new.ensures)
     (not_begun _
     (record {
-      accepted = record {
-        mode = Simulate (simulation_of c.args.simulation);
-        line = line;
-        model = c.in-Ok.texts.model;
-        script = c.in-Ok.texts.script;
-        replay = c.in-Ok.texts.replay;
-        texts = texts_later _ _ _ _ _ _ _ _ _ c.in-Err-create_files.ensures.kept.told (rw c.replay_file.ensures at c.in-Ok.ensures.texts);
-        m = c.in-Ok-judge.ensures.accepted.0;
-        design = c.in-Ok-judge.judged.design;
-        commands = c.in-Ok-judge.judged.script;
-        accepts = c.in-Ok-judge.ensures.accepted.1;
-        listed = c.in-Ok-judge.judged.replay;
-        reads = c.in-Ok-judge.ensures.replay;
-        sound = c.in-Ok-judge.ensures.runs.sound;
-      };
-      spared = record {
-        out = refl;
-        files = spared_on (names_in (Simulate (simulation_of c.args.simulation))) _ _ _ c.in-Ok.ensures.files (rw (copied_text c.args.simulation.vcd, copied_text c.args.simulation.choices) at c.in-Err-create_files.ensures.spared);
-      };
-      no_run = record { no_choices = refl; no_steps = refl };
+      mode = Simulate (simulation_of c.args.simulation);
+      line = line;
+      model = c.in-Ok.texts.model;
+      script = c.in-Ok.texts.script;
+      replay = c.in-Ok.texts.replay;
+      texts = texts_later _ _ _ _ _ _ _ _ _ c.in-Err-create_files.ensures.kept.told (rw c.replay_file.ensures at c.in-Ok.ensures.texts);
+      m = c.in-Ok-judge.ensures.accepted.0;
+      design = c.in-Ok-judge.judged.design;
+      commands = c.in-Ok-judge.judged.script;
+      accepts = c.in-Ok-judge.ensures.accepted.1;
+      listed = c.in-Ok-judge.judged.replay;
+      reads = c.in-Ok-judge.ensures.replay;
+      sound = c.in-Ok-judge.ensures.runs.sound;
     })
-    c.in-Err-create_files.trouble (λ is. inr (rw c.in-Ok.ensures.writes at (c.in-Err-create_files.ensures.cause.rose (ap (λ e. Err e) is)))))
+    (record {
+      out = refl;
+      files = spared_on (names_in (Simulate (simulation_of c.args.simulation))) _ _ _ c.in-Ok.ensures.files (rw (copied_text c.args.simulation.vcd, copied_text c.args.simulation.choices) at c.in-Err-create_files.ensures.spared);
+    })
+    c.in-Err-create_files.trouble (λ is. rw c.in-Ok.ensures.writes at (c.in-Err-create_files.ensures.cause.rose (ap (λ e. Err e) is))))
 
 pub returns-clause-works : goal.returns-clause-works
 returns-clause-works g c = λ words err err' faults faults' line.
