@@ -1,7 +1,7 @@
 //! The calls of a map with room.
 use crate::clock::{Spent, numbers, rounds};
 use anyhow::Result;
-use room_map::RoomMap;
+use ready_set::room_map_api::RoomMap;
 use std::io;
 use std::rt::Clock;
 use std::time::Instant;

@@ -3,11 +3,11 @@ ghost use Rattle.std.specs.Prelude.{◌≡◌, ◌+◌, ◌≤◌, vec_len, vec_
 
 use crate::clock::{Spent, numbers, rounds};
 use anyhow::Result;
-use sim_time::Time;
 use std::alloc::AllocError;
 use std::io;
 use std::rt::Clock;
 use std::time::Instant;
+use timed_queue::sim_time_api::Time;
 use timed_queue::{TimedQueue, due_names_are_held};
 
 // Gives each number, as a name, the time of the product of itself and the factor.

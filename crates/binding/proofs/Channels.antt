@@ -6,13 +6,13 @@ use Rattle.std.proofs.lemmas.Bool.{cases_eq, cases_lt, eqb-true}
 use Rattle.std.proofs.lemmas.List.{get_or_past}
 use Rattle.std.proofs.lemmas.List.Elements.{All-contains}
 use Rattle.std.proofs.lemmas.Option.{slice_get-get_or, slice_get_within, same_Some, unwrap_or-slice_get}
-use Rattle.flat_design.specs.declared.objects.Binding.{Binding}
-use Rattle.flat_design.specs.declared.objects.Objects.{Objects}
-use Rattle.binding_rules.specs.Objects.{form_at, bindings_of}
-use Rattle.binding_rules.specs.Formed.{HasForm, AreFormed}
-use Rattle.binding_rules.specs.Paths.{is_end, itself_or, ends_of}
-use Rattle.binding_rules.proofs.Lists.{filter_from, each_of, head_in}
-use Rattle.binding_rules.proofs.Rounds.{ends_follow}
+use Rattle.design_rules.specs.FlatDesign.declared.objects.Binding.{Binding}
+use Rattle.design_rules.specs.FlatDesign.declared.objects.Objects.{Objects}
+use Rattle.design_rules.specs.Objects.{form_at, bindings_of}
+use Rattle.design_rules.specs.Formed.{HasForm, AreFormed}
+use Rattle.design_rules.specs.Paths.{is_end, itself_or, ends_of}
+use Rattle.design_rules.proofs.Lists.{filter_from, each_of, head_in}
+use Rattle.design_rules.proofs.Rounds.{ends_follow}
 use Rattle.binding.specs.Rows.{row_at, AreRows}
 use Rattle.binding.specs.Order.{IsOrder}
 use Rattle.binding.specs.Ends.{kept_ends, leads}

@@ -5,13 +5,13 @@ use Rattle.std.specs.Bool.{MatchBool}
 use Rattle.std.proofs.lemmas.Bool.{cases_lt, false≢true}
 use Rattle.std.proofs.lemmas.List.Elements.{All-filter, All-weaker}
 use Rattle.std.proofs.lemmas.Option.{slice_get-get_or, slice_get_within, same_Some}
-use Rattle.flat_design.specs.declared.objects.Binding.{Binding}
-use Rattle.flat_design.specs.declared.objects.Objects.{Objects}
-use Rattle.binding_rules.specs.Objects.{form_at, bindings_of}
-use Rattle.binding_rules.specs.Formed.{HasForm, AreFormed}
-use Rattle.binding_rules.specs.Paths.{is_end, itself_or, ends_of}
-use Rattle.binding_rules.proofs.Rounds.{ends_follow}
-use Rattle.binding_rules.specs.Faults.{has_twice}
+use Rattle.design_rules.specs.FlatDesign.declared.objects.Binding.{Binding}
+use Rattle.design_rules.specs.FlatDesign.declared.objects.Objects.{Objects}
+use Rattle.design_rules.specs.Objects.{form_at, bindings_of}
+use Rattle.design_rules.specs.Formed.{HasForm, AreFormed}
+use Rattle.design_rules.specs.Paths.{is_end, itself_or, ends_of}
+use Rattle.design_rules.proofs.Rounds.{ends_follow}
+use Rattle.design_rules.specs.BindingFaults.{has_twice}
 use Rattle.binding.specs.Order.{IsOrder}
 use Rattle.binding.specs.Ends.{leads}
 use Rattle.binding.specs.Twice.{if_so, times, reached, all_leads, MeetsTwice, ReachesTwice, ReachesOnce, AreMarked, IsFollowed, AreWithin}

@@ -3,11 +3,11 @@ use Rattle.std.proofs.Common.{◌≡◌, ◌≤◌, ℕ, List, length, min, refl
 use Rattle.std.specs.Prelude.{◌==◌, ◌||◌, nat_lt}
 use Rattle.std.proofs.lemmas.Bool.Decides.{nat_tests}
 use Rattle.std.proofs.lemmas.List.{length-take}
-use Rattle.model_tree.specs.declared.types.BoundRule.{BoundRule}
-use Rattle.model_tree.specs.declared.types.BoundRule.TheVariants as bound
-use Rattle.flat_design.specs.declared.objects.Objects.{Objects}
-use Rattle.binding_rules.specs.Paths.{ends_of}
-use Rattle.binding_rules.specs.Faults.{first_broken, has_twice, has_too_few, port_fault}
+use Rattle.design_rules.specs.ModelTree.declared.types.BoundRule.{BoundRule}
+use Rattle.design_rules.specs.ModelTree.declared.types.BoundRule.TheVariants as bound
+use Rattle.design_rules.specs.FlatDesign.declared.objects.Objects.{Objects}
+use Rattle.design_rules.specs.Paths.{ends_of}
+use Rattle.design_rules.specs.BindingFaults.{first_broken, has_twice, has_too_few, port_fault}
 use Rattle.binding.specs.Ends.{kept_ends}
 
 many_kept : (size n : ℕ) → size ≤ 64 → nat_lt size (min 65 n) ≡ nat_lt size n

@@ -7,13 +7,13 @@ use Rattle.std.proofs.lemmas.List.{append-nil, append_assoc, get_or_past, get_or
 use Rattle.std.proofs.lemmas.List.Elements.{All-contains}
 use Rattle.std.proofs.lemmas.List.Folds.{list_any-append}
 use Rattle.std.proofs.lemmas.Option.{slice_get-get_or, same_Some, unwrap_or-slice_get}
-use Rattle.flat_design.specs.declared.objects.Binding.{Binding}
-use Rattle.flat_design.specs.declared.objects.Objects.{Objects}
-use Rattle.binding_rules.specs.Objects.{form_at, bindings_to}
-use Rattle.binding_rules.specs.Formed.{HasForm, AreFormed}
-use Rattle.binding_rules.specs.Paths.{is_beginning, itself_or, leaders_of}
-use Rattle.binding_rules.proofs.Lists.{filter_from, each_of}
-use Rattle.binding_rules.proofs.Rounds.{leaders_follow}
+use Rattle.design_rules.specs.FlatDesign.declared.objects.Binding.{Binding}
+use Rattle.design_rules.specs.FlatDesign.declared.objects.Objects.{Objects}
+use Rattle.design_rules.specs.Objects.{form_at, bindings_to}
+use Rattle.design_rules.specs.Formed.{HasForm, AreFormed}
+use Rattle.design_rules.specs.Paths.{is_beginning, itself_or, leaders_of}
+use Rattle.design_rules.proofs.Lists.{filter_from, each_of}
+use Rattle.design_rules.proofs.Rounds.{leaders_follow}
 use Rattle.binding.specs.declared.leading.Leading.{Leading}
 use Rattle.binding.specs.declared.leading.Leading.TheVariants as leading
 use Rattle.binding.specs.Rows.{row_at, AreRows}

@@ -6,10 +6,10 @@ use Rattle.std.proofs.lemmas.Bool.Decides.{nat_tests}
 use Rattle.std.proofs.lemmas.List.{append-nil, length-take, take-append-drop, take_more, drop_more, nil_from_length}
 use Rattle.std.proofs.lemmas.List.Concat.{flat_map-append}
 use Rattle.std.proofs.lemmas.List.Elements.{Contains-append_left, Contains-push}
-use Rattle.flat_design.specs.declared.objects.Binding.{Binding}
-use Rattle.flat_design.specs.declared.objects.Objects.{Objects}
-use Rattle.binding_rules.specs.Objects.{form_at}
-use Rattle.binding_rules.specs.Paths.{is_end, itself_or, ends_of}
+use Rattle.design_rules.specs.FlatDesign.declared.objects.Binding.{Binding}
+use Rattle.design_rules.specs.FlatDesign.declared.objects.Objects.{Objects}
+use Rattle.design_rules.specs.Objects.{form_at}
+use Rattle.design_rules.specs.Paths.{is_end, itself_or, ends_of}
 use Rattle.binding.specs.Rows.{row_at, AreRows}
 use Rattle.binding.specs.Ends.{kept_ends, leads}
 use Rattle.binding.specs.Twice.{if_so, times, reached, all_leads, leads_on, is_marked, marked_if, MeetsTwice, AreMarked}

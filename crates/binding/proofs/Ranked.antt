@@ -8,13 +8,13 @@ use Rattle.std.proofs.lemmas.List.Elements.{All-from_recursion, All-map, All-wea
 use Rattle.std.proofs.lemmas.Option.{same_Some, slice_get_within, get_or_from_slice_get}
 use Rattle.std.proofs.lemmas.List.{length-map, get_or-map}
 use Rattle.std.proofs.lemmas.Bool.{cases_lt}
-use Rattle.flat_design.specs.declared.objects.Object.{Object}
-use Rattle.flat_design.specs.declared.objects.Binding.{Binding}
-use Rattle.flat_design.specs.declared.objects.Objects.{Objects}
-use Rattle.binding_rules.specs.Objects.{object_at}
-use Rattle.binding_rules.specs.Formed.{AreFormed}
-use Rattle.binding_rules.proofs.Ranks.{rank, rank_of, falls}
-use Rattle.binding_rules.proofs.Lists.{head_in, tail_in}
+use Rattle.design_rules.specs.FlatDesign.declared.objects.Object.{Object}
+use Rattle.design_rules.specs.FlatDesign.declared.objects.Binding.{Binding}
+use Rattle.design_rules.specs.FlatDesign.declared.objects.Objects.{Objects}
+use Rattle.design_rules.specs.Objects.{object_at}
+use Rattle.design_rules.specs.Formed.{AreFormed}
+use Rattle.design_rules.proofs.Ranks.{rank, rank_of, falls}
+use Rattle.design_rules.proofs.Lists.{head_in, tail_in}
 use Rattle.binding.specs.declared.order.Ranked.{Ranked}
 use Rattle.binding.specs.Order.{rank_in, ranked_from, numbers_of, IsOrder}
 

@@ -4,7 +4,7 @@ use Rattle.std.specs.Prelude.{◌==◌, ◌||◌, slice_get, slice_set}
 use Rattle.std.specs.List.{list_any}
 use Rattle.std.proofs.lemmas.Bool.{eqb-true}
 use Rattle.std.proofs.lemmas.Bool.Decides.{nat_tests}
-use Rattle.binding_rules.specs.Faults.{has_twice}
+use Rattle.design_rules.specs.BindingFaults.{has_twice}
 use Rattle.binding.specs.Twice.{if_so, times, sum_at}
 
 module _ (f : ℕ → ℕ) where

@@ -1,10 +1,10 @@
 -- Paths: each object but the top one adds its name behind the path of the instance that it is in.
 use Rattle.std.proofs.Common.{◌≡◌, ◌<◌, ◌≤◌, ◌+◌, ℕ, zero, suc, Bool, true, false, List, [], ◌∷◌, ◌++◌, Option, Some, None, cond, refl, sym, ap, ◌∙◌, inl, inr, arith, eq-eqb}
 use Rattle.std.proofs.lemmas.Bool.{false≢true}
-use Rattle.flat_design.specs.declared.objects.Object.{Object}
-use Rattle.flat_design.specs.declared.objects.Objects.{Objects}
-use Rattle.binding_rules.specs.Objects.{object_at, name_of, is_own_parent, parent_of, parent_at, below, path_up, path_of}
-use Rattle.binding_rules.specs.Formed.{AreFormed}
+use Rattle.design_rules.specs.FlatDesign.declared.objects.Object.{Object}
+use Rattle.design_rules.specs.FlatDesign.declared.objects.Objects.{Objects}
+use Rattle.design_rules.specs.Objects.{object_at, name_of, is_own_parent, parent_of, parent_at, below, path_up, path_of}
+use Rattle.design_rules.specs.Formed.{AreFormed}
 use Rattle.binding.specs.Names.{path_through}
 
 module _ (os : Objects) (formed : AreFormed os) where

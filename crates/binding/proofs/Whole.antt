@@ -5,16 +5,16 @@ use Rattle.std.specs.Option.{option_or}
 use Rattle.std.proofs.lemmas.Bool.Decides.{nat_tests}
 use Rattle.std.proofs.lemmas.List.{append-nil, append_assoc, take_all, drop_more}
 use Rattle.std.proofs.lemmas.Option.{same_Some, slice_get_read}
-use Rattle.flat_design.specs.declared.objects.Object.{Object}
-use Rattle.flat_design.specs.declared.objects.ObjectForm.{ObjectForm}
-use Rattle.flat_design.specs.declared.objects.ObjectForm.TheVariants as form
-use Rattle.flat_design.specs.declared.objects.Objects.{Objects}
-use Rattle.binding_rules.specs.declared.bindings.BoundPort.{BoundPort}
-use Rattle.binding_rules.specs.Objects.{object_at}
-use Rattle.binding_rules.specs.Formed.{HasSize, AreFormed}
-use Rattle.binding_rules.specs.Paths.{ends_of}
-use Rattle.binding_rules.specs.Faults.{first_broken, has_twice, has_too_few, broken_at, fault_of, object_fault, objects_fault}
-use Rattle.binding_rules.specs.Bound.{is_port, port_if, ports_from}
+use Rattle.design_rules.specs.FlatDesign.declared.objects.Object.{Object}
+use Rattle.design_rules.specs.FlatDesign.declared.objects.ObjectForm.{ObjectForm}
+use Rattle.design_rules.specs.FlatDesign.declared.objects.ObjectForm.TheVariants as form
+use Rattle.design_rules.specs.FlatDesign.declared.objects.Objects.{Objects}
+use Rattle.design_rules.specs.declared.bindings.BoundPort.{BoundPort}
+use Rattle.design_rules.specs.Objects.{object_at}
+use Rattle.design_rules.specs.Formed.{HasSize, AreFormed}
+use Rattle.design_rules.specs.Paths.{ends_of}
+use Rattle.design_rules.specs.BindingFaults.{first_broken, has_twice, has_too_few, broken_at, fault_of, object_fault, objects_fault}
+use Rattle.design_rules.specs.Bound.{is_port, port_if, ports_from}
 use Rattle.binding.specs.declared.known.Known.{Known}
 use Rattle.binding.specs.Rows.{row_at}
 use Rattle.binding.specs.Known.{IsKnown}

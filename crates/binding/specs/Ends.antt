@@ -1,8 +1,8 @@
 -- The channels of an object, as far as they are kept.
 use Rattle.std.specs.Prelude.{ℕ, List, take}
-use Rattle.flat_design.specs.declared.objects.Objects.{Objects}
-use Rattle.binding_rules.specs.Objects.{form_at}
-use Rattle.binding_rules.specs.Paths.{is_end, itself_or, ends_of}
+use Rattle.design_rules.specs.FlatDesign.declared.objects.Objects.{Objects}
+use Rattle.design_rules.specs.Objects.{form_at}
+use Rattle.design_rules.specs.Paths.{is_end, itself_or, ends_of}
 
 -- a port has at most 64 channels: one more tells that there are too many
 abbrev pub kept_ends : Objects → ℕ → List ℕ

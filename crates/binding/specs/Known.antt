@@ -1,6 +1,6 @@
 -- What is found out of all objects before they are judged.
-use Rattle.flat_design.specs.declared.objects.Objects.{Objects}
-use Rattle.binding_rules.specs.Objects.{bindings_of}
+use Rattle.design_rules.specs.FlatDesign.declared.objects.Objects.{Objects}
+use Rattle.design_rules.specs.Objects.{bindings_of}
 use Rattle.binding.specs.declared.known.Known.{Known}
 use Rattle.binding.specs.Rows.{AreRows}
 use Rattle.binding.specs.Order.{IsOrder}

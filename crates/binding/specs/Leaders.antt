@@ -1,10 +1,10 @@
 -- How many initiators lead to a socket: none, one, or two that differ.
 use Rattle.std.specs.Prelude.{◌≡◌, ◌==◌, ℕ, Bool, true, false, not, List, [], ◌∷◌, fold, slice_get, unwrap_or}
 use Rattle.std.specs.List.{list_any}
-use Rattle.flat_design.specs.declared.objects.Binding.{Binding}
-use Rattle.flat_design.specs.declared.objects.Objects.{Objects}
-use Rattle.binding_rules.specs.Objects.{form_at}
-use Rattle.binding_rules.specs.Paths.{is_beginning, leaders_of}
+use Rattle.design_rules.specs.FlatDesign.declared.objects.Binding.{Binding}
+use Rattle.design_rules.specs.FlatDesign.declared.objects.Objects.{Objects}
+use Rattle.design_rules.specs.Objects.{form_at}
+use Rattle.design_rules.specs.Paths.{is_beginning, leaders_of}
 use Rattle.binding.specs.declared.leading.Leading.{Leading}
 use Rattle.binding.specs.declared.leading.Leading.TheVariants as leading
 

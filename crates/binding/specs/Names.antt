@@ -1,7 +1,7 @@
 -- A path, put together from the names of objects.
 use Rattle.std.specs.Prelude.{ℕ, List, [], ◌∷◌}
-use Rattle.flat_design.specs.declared.objects.Objects.{Objects}
-use Rattle.binding_rules.specs.Objects.{object_at, name_of, below}
+use Rattle.design_rules.specs.FlatDesign.declared.objects.Objects.{Objects}
+use Rattle.design_rules.specs.Objects.{object_at, name_of, below}
 
 -- from an object up to those just below a path
 abbrev pub path_through : Objects → List ℕ → List ℕ → List ℕ

@@ -1,10 +1,10 @@
 -- An order of the objects in which what an object is bound to stands before it.
 use Rattle.std.specs.Prelude.{◌≡◌, ◌+◌, ◌-◌, ◌<◌, ℕ, List, [], ◌∷◌, map, length, slice_get, Some, All, Contains}
-use Rattle.flat_design.specs.declared.objects.Object.{Object}
-use Rattle.flat_design.specs.declared.objects.ObjectForm.{ObjectForm}
-use Rattle.flat_design.specs.declared.objects.ObjectForm.TheVariants as form
-use Rattle.flat_design.specs.declared.objects.Binding.{Binding}
-use Rattle.flat_design.specs.declared.objects.Objects.{Objects}
+use Rattle.design_rules.specs.FlatDesign.declared.objects.Object.{Object}
+use Rattle.design_rules.specs.FlatDesign.declared.objects.ObjectForm.{ObjectForm}
+use Rattle.design_rules.specs.FlatDesign.declared.objects.ObjectForm.TheVariants as form
+use Rattle.design_rules.specs.FlatDesign.declared.objects.Binding.{Binding}
+use Rattle.design_rules.specs.FlatDesign.declared.objects.Objects.{Objects}
 use Rattle.binding.specs.declared.order.Ranked.{Ranked}
 
 -- what an object of this form is ordered by, in an instance of this number, among so many objects: a path of bindings goes

@@ -1,10 +1,10 @@
 -- How often channels are reached, from objects that are marked and through bindings.
 use Rattle.std.specs.Prelude.{◌≡◌, ◌==◌, ◌||◌, ◌+◌, ◌<◌, ◌≤◌, ◌⊎◌, ℕ, Bool, true, false, not, List, [], ◌∷◌, length, slice_get, slice_set, Some, unwrap_or, All, Contains}
 use Rattle.std.specs.List.{flat_map}
-use Rattle.flat_design.specs.declared.objects.Binding.{Binding}
-use Rattle.flat_design.specs.declared.objects.Objects.{Objects}
-use Rattle.binding_rules.specs.Objects.{form_at, bindings_of}
-use Rattle.binding_rules.specs.Paths.{is_end, ends_of}
+use Rattle.design_rules.specs.FlatDesign.declared.objects.Binding.{Binding}
+use Rattle.design_rules.specs.FlatDesign.declared.objects.Objects.{Objects}
+use Rattle.design_rules.specs.Objects.{form_at, bindings_of}
+use Rattle.design_rules.specs.Paths.{is_end, ends_of}
 use Rattle.binding.specs.Rows.{row_at}
 use Rattle.binding.specs.Ends.{leads}
 

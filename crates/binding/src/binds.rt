@@ -1,18 +1,18 @@
 ghost use Rattle.std.specs.Prelude.{◌≡◌, ◌++◌, Some, None, IfOk, IfErr, OnOk};
-ghost use Rattle.model_tree.specs.Stops.{IfRefused};
-ghost use Rattle.binding_rules.specs.Formed.{AreFormed};
-ghost use Rattle.binding_rules.specs.Paths.{begins_path};
-ghost use Rattle.binding_rules.specs.Bound.{is_port, ports_from, hop_if, hops_from, bound};
-ghost use Rattle.binding_rules.specs.Faults.{first_fault, objects_fault};
+ghost use Rattle.design_rules.specs.ModelTree.Stops.{IfRefused};
+ghost use Rattle.design_rules.specs.Formed.{AreFormed};
+ghost use Rattle.design_rules.specs.Paths.{begins_path};
+ghost use Rattle.design_rules.specs.Bound.{is_port, ports_from, hop_if, hops_from, bound};
+ghost use Rattle.design_rules.specs.BindingFaults.{first_fault, objects_fault};
 ghost use Rattle.binding.specs.Known.{IsKnown};
 
 use super::forms::{begins_path, is_port};
 use super::judge::{judge_bindings, judge_objects};
 use super::known::{Known, find_out};
-use binding_rules::{Bindings, BoundPort, Joined};
-use flat_design::{ObjectForm, Objects};
-use model_tree::CheckStop;
-use plain_lists::Items;
+use design_rules::flat_design_api::{ObjectForm, Objects};
+use design_rules::model_tree_api::CheckStop;
+use design_rules::plain_lists_api::Items;
+use design_rules::{Bindings, BoundPort, Joined};
 use std::alloc::{AllocError, Global};
 
 /// A port with these channels.

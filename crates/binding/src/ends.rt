@@ -1,16 +1,16 @@
 //! Where each object leads, as far as it is kept.
 ghost use Rattle.std.specs.Prelude.{◌≡◌, ◌≤◌, ◌++◌, length, take, IfOk, OnOk};
 ghost use Rattle.std.specs.List.{flat_map};
-ghost use Rattle.binding_rules.specs.Objects.{bindings_of};
-ghost use Rattle.binding_rules.specs.Formed.{AreFormed};
+ghost use Rattle.design_rules.specs.Objects.{bindings_of};
+ghost use Rattle.design_rules.specs.Formed.{AreFormed};
 ghost use Rattle.binding.specs.Rows.{row_at, AreRows};
 ghost use Rattle.binding.specs.Order.{IsOrder};
 ghost use Rattle.binding.specs.Ends.{kept_ends, leads};
 
 use super::forms::is_end;
 use super::rows::Rows;
-use flat_design::{Binding, Objects};
-use plain_lists::Items;
+use design_rules::flat_design_api::{Binding, Objects};
+use design_rules::plain_lists_api::Items;
 use std::alloc::{AllocError, Global};
 
 /// One more than the greatest number of channels of a port: so many are kept of an object.

@@ -1,8 +1,8 @@
 ghost use Rattle.std.specs.Prelude.{◌≡◌};
-ghost use Rattle.binding_rules.specs.Fits as spec;
+ghost use Rattle.design_rules.specs.Fits as spec;
 
 use super::forms::form_at;
-use flat_design::{Binding, LeadsTo, ObjectForm, Objects, ValueType};
+use design_rules::flat_design_api::{Binding, LeadsTo, ObjectForm, Objects, ValueType};
 
 /// Whether two types of values are the same.
 fn is_same_type(s: ValueType, t: ValueType) -> bool

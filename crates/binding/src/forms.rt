@@ -1,9 +1,9 @@
 ghost use Rattle.std.specs.Prelude.{◌≡◌};
-ghost use Rattle.binding_rules.specs.Objects.{form_at};
-ghost use Rattle.binding_rules.specs.Paths.{ends_path, is_end, begins_path, is_beginning};
-ghost use Rattle.binding_rules.specs.Bound.{is_port};
+ghost use Rattle.design_rules.specs.Objects.{form_at};
+ghost use Rattle.design_rules.specs.Paths.{ends_path, is_end, begins_path, is_beginning};
+ghost use Rattle.design_rules.specs.Bound.{is_port};
 
-use flat_design::{ObjectForm, Objects};
+use design_rules::flat_design_api::{ObjectForm, Objects};
 
 /// The form of the object of this number; none where there is no such object.
 pub(crate) fn form_at(objects: &Objects, i: u32) -> Option<ObjectForm>

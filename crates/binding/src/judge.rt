@@ -1,17 +1,17 @@
 //! The first fault of the bindings and the objects of a design.
 ghost use Rattle.std.specs.Prelude.{◌≡◌, Some, None, OnOk, IfErr};
-ghost use Rattle.model_tree.specs.Stops.{IfRefused};
-ghost use Rattle.binding_rules.specs.Objects.{object_at};
-ghost use Rattle.binding_rules.specs.Formed.{AreFormed};
-ghost use Rattle.binding_rules.specs.Faults.{object_fault, objects_fault, bindings_fault};
+ghost use Rattle.design_rules.specs.ModelTree.Stops.{IfRefused};
+ghost use Rattle.design_rules.specs.Objects.{object_at};
+ghost use Rattle.design_rules.specs.Formed.{AreFormed};
+ghost use Rattle.design_rules.specs.BindingFaults.{object_fault, objects_fault, bindings_fault};
 ghost use Rattle.binding.specs.Known.{IsKnown};
 
 use super::fits::kind_differs;
 use super::kinds::kind_at;
 use super::known::Known;
 use super::paths::refused;
-use flat_design::{Object, Objects};
-use model_tree::{CheckStop, Kind};
+use design_rules::flat_design_api::{Object, Objects};
+use design_rules::model_tree_api::{CheckStop, Kind};
 use std::alloc::Global;
 
 /// Judges each binding, in object order.

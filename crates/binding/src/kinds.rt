@@ -1,10 +1,10 @@
 //! What is wrong with an object: by the number of its bindings, its channels, and the initiators that lead to it.
 ghost use Rattle.std.specs.Prelude.{◌≡◌, ◌≤◌, ◌<◌, ℕ, List, Some, false, length, IfOk};
-ghost use Rattle.binding_rules.specs.Objects.{form_at};
-ghost use Rattle.binding_rules.specs.Formed.{AreFormed};
-ghost use Rattle.binding_rules.specs.Paths.{is_end, ends_of};
-ghost use Rattle.binding_rules.specs.Faults.{has_twice, port_fault, broken_at};
-ghost use Rattle.binding_rules.specs.Faults as spec;
+ghost use Rattle.design_rules.specs.Objects.{form_at};
+ghost use Rattle.design_rules.specs.Formed.{AreFormed};
+ghost use Rattle.design_rules.specs.Paths.{is_end, ends_of};
+ghost use Rattle.design_rules.specs.BindingFaults.{has_twice, port_fault, broken_at};
+ghost use Rattle.design_rules.specs.BindingFaults as spec;
 ghost use Rattle.binding.specs.Leaders.{leading_of};
 ghost use Rattle.binding.specs.Known.{IsKnown};
 
@@ -12,8 +12,8 @@ use super::ends::KEPT;
 use super::known::Known;
 use super::leading::{Leading, is_nobody, is_several, leading_at};
 use super::twice::{has_twice, is_reached_twice};
-use flat_design::{ObjectForm, Objects};
-use model_tree::{BoundRule, Kind};
+use design_rules::flat_design_api::{ObjectForm, Objects};
+use design_rules::model_tree_api::{BoundRule, Kind};
 use std::alloc::{AllocError, Global};
 
 /// At one object the kinds are tried in this order.

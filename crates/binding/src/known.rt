@@ -1,6 +1,6 @@
 //! What is found out of all objects before they are judged.
 ghost use Rattle.std.specs.Prelude.{IfOk};
-ghost use Rattle.binding_rules.specs.Formed.{AreFormed};
+ghost use Rattle.design_rules.specs.Formed.{AreFormed};
 ghost use Rattle.binding.specs.Known.{IsKnown};
 
 use super::ends::all_ends;
@@ -8,7 +8,7 @@ use super::leading::{Leading, all_leading};
 use super::links::{by_left, by_right};
 use super::order::order_of;
 use super::rows::Rows;
-use flat_design::{Binding, Objects};
+use design_rules::flat_design_api::{Binding, Objects};
 use std::alloc::{AllocError, Global};
 
 /// What is found out of all objects before they are judged.

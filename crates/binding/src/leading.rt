@@ -1,14 +1,14 @@
 //! How many initiators lead to each socket.
 ghost use Rattle.std.specs.Prelude.{◌≡◌, IfOk};
-ghost use Rattle.binding_rules.specs.Objects.{bindings_to};
-ghost use Rattle.binding_rules.specs.Formed.{AreFormed};
+ghost use Rattle.design_rules.specs.Objects.{bindings_to};
+ghost use Rattle.design_rules.specs.Formed.{AreFormed};
 ghost use Rattle.binding.specs.Rows.{AreRows};
 ghost use Rattle.binding.specs.Order.{IsOrder};
 ghost use Rattle.binding.specs.Leaders as spec;
 
 use super::forms::is_beginning;
 use super::rows::Rows;
-use flat_design::{Binding, Objects};
+use design_rules::flat_design_api::{Binding, Objects};
 use std::alloc::{AllocError, Global};
 
 /// The initiators that lead to a socket, as far as they are told apart.

@@ -4,8 +4,6 @@
 mod binds;
 mod ends;
 mod fits;
-#[cfg(test)]
-mod formed;
 mod forms;
 mod judge;
 mod kinds;
@@ -15,8 +13,7 @@ mod links;
 mod order;
 mod paths;
 mod rows;
-#[cfg(test)]
-mod tests;
 mod twice;
 
 pub use binds::bind;
+pub use design_rules as design_rules_api;

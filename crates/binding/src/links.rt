@@ -1,11 +1,11 @@
 //! The bindings of each left end, and those of each right end.
 ghost use Rattle.std.specs.Prelude.{IfOk};
-ghost use Rattle.binding_rules.specs.Objects.{bindings_of, bindings_to};
-ghost use Rattle.binding_rules.specs.Formed.{AreFormed};
+ghost use Rattle.design_rules.specs.Objects.{bindings_of, bindings_to};
+ghost use Rattle.design_rules.specs.Formed.{AreFormed};
 ghost use Rattle.binding.specs.Rows.{AreRows};
 
 use super::rows::Rows;
-use flat_design::{Binding, Objects};
+use design_rules::flat_design_api::{Binding, Objects};
 use std::alloc::{AllocError, Global};
 
 /// The bindings of each left end, in text order.

@@ -1,10 +1,10 @@
 //! The objects in an order in which what an object is bound to stands before it.
 ghost use Rattle.std.specs.Prelude.{◌≡◌, ◌≤◌, ◌^◌, ◌<◌, length, IfOk};
 ghost use Rattle.std.specs.List.Sorted.{IsNonDecreasingBy, IsPermutation};
-ghost use Rattle.binding_rules.specs.Formed.{AreFormed};
+ghost use Rattle.design_rules.specs.Formed.{AreFormed};
 ghost use Rattle.binding.specs.Order.{rank_in, ranked_from, numbers_of, IsOrder};
 
-use flat_design::{Object, ObjectForm, Objects};
+use design_rules::flat_design_api::{Object, ObjectForm, Objects};
 use std::alloc::{AllocError, Global};
 
 /// An object with what it is ordered by.

@@ -1,14 +1,14 @@
 //! Paths of objects, and refusals that tell them.
 ghost use Rattle.std.specs.Prelude.{◌≡◌, IfOk};
-ghost use Rattle.model_tree.specs.Stops.{IfRefused};
-ghost use Rattle.binding_rules.specs.Objects.{object_at, name_of, is_own_parent, parent_at, path_of};
-ghost use Rattle.binding_rules.specs.Formed.{AreFormed};
-ghost use Rattle.binding_rules.specs.Faults.{fault_of};
+ghost use Rattle.design_rules.specs.ModelTree.Stops.{IfRefused};
+ghost use Rattle.design_rules.specs.Objects.{object_at, name_of, is_own_parent, parent_at, path_of};
+ghost use Rattle.design_rules.specs.Formed.{AreFormed};
+ghost use Rattle.design_rules.specs.BindingFaults.{fault_of};
 ghost use Rattle.binding.specs.Names.{path_through};
 
-use flat_design::Objects;
-use logic_values::Text;
-use model_tree::{CheckStop, Fault, Kind};
+use design_rules::flat_design_api::Objects;
+use design_rules::logic_values_api::Text;
+use design_rules::model_tree_api::{CheckStop, Fault, Kind};
 use std::alloc::{AllocError, Global};
 
 /// The own name of an object.

@@ -1,10 +1,10 @@
 //! Whether an object reaches a channel twice, however many it reaches.
 ghost use Rattle.std.specs.Prelude.{◌≡◌, ◌&&◌, ◌<◌, true, false, length, replicate, slice_set, IfOk};
 ghost use Rattle.std.specs.Bool.{MatchBool};
-ghost use Rattle.binding_rules.specs.Objects.{form_at, bindings_of};
-ghost use Rattle.binding_rules.specs.Formed.{AreFormed};
-ghost use Rattle.binding_rules.specs.Paths.{is_end, ends_of};
-ghost use Rattle.binding_rules.specs.Faults.{has_twice};
+ghost use Rattle.design_rules.specs.Objects.{form_at, bindings_of};
+ghost use Rattle.design_rules.specs.Formed.{AreFormed};
+ghost use Rattle.design_rules.specs.Paths.{is_end, ends_of};
+ghost use Rattle.design_rules.specs.BindingFaults.{has_twice};
 ghost use Rattle.binding.specs.Rows.{AreRows};
 ghost use Rattle.binding.specs.Order.{IsOrder};
 ghost use Rattle.binding.specs.Ends.{kept_ends};
@@ -12,7 +12,7 @@ ghost use Rattle.binding.specs.Twice.{leads_on, is_marked, marked_if, AreWithin,
 
 use super::forms::is_end;
 use super::rows::Rows;
-use flat_design::{Binding, Objects};
+use design_rules::flat_design_api::{Binding, Objects};
 use std::alloc::{AllocError, Global};
 
 /// Whether a number stands in a list twice.

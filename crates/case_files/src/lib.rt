@@ -9,8 +9,6 @@ mod outcomes;
 mod outside;
 mod quoting;
 mod reading;
-#[cfg(test)]
-mod tests;
 
 pub use cases::{Case, File, SinkForm};
 pub use facts::{Fact, Value};

@@ -4,8 +4,8 @@ ghost use Rattle.flat_design.specs.Code.{arena_of};
 
 use crate::parts::copy_items;
 use crate::statements::copy_statements;
+use flat_design::plain_lists_api::Items;
 use flat_design::{Code, CodeBody, Local, StmtId};
-use plain_lists::Items;
 use std::alloc::{AllocError, Global};
 
 /// A parameter or a local variable in memory of its own.

@@ -6,7 +6,6 @@ mod bodies;
 mod parts;
 mod statements;
 mod terms;
-#[cfg(test)]
-mod tests;
 
 pub use bodies::copy_code;
+pub use flat_design as flat_design_api;

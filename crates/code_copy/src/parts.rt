@@ -3,9 +3,9 @@ ghost use Rattle.std.specs.Prelude.{◌≡◌, IfOk, map};
 ghost use Rattle.flat_design.specs.Code.{argument_term, await_term, channel_term, destination_term, event_term, event_terms, spawn_term};
 
 use crate::terms::{copy_expr, copy_exprs, copy_option};
+use flat_design::model_tree_api::PrintText;
+use flat_design::plain_lists_api::Items;
 use flat_design::{Argument, Await, ChannelUse, Destination, EventUse, SpawnForm};
-use model_tree::PrintText;
-use plain_lists::Items;
 use std::alloc::{AllocError, Global};
 
 /// Values in memory of their own.

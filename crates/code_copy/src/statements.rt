@@ -7,7 +7,7 @@ use crate::parts::{
 };
 use crate::terms::{copy_expr, copy_option};
 use flat_design::Statement;
-use plain_lists::Items;
+use flat_design::plain_lists_api::Items;
 use std::alloc::{AllocError, Global};
 
 /// A statement in memory of its own.

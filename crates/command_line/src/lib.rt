@@ -7,12 +7,11 @@ mod laws;
 mod modes;
 mod numbers;
 mod reading;
-#[cfg(test)]
-mod tests;
 mod words;
 
 pub use laws::{simulations_write_apart, two_names_are_a_simulation, what_excludes_what};
 pub use modes::{ChoiceRule, Generated, Mode, Order, Simulation, WordsStop};
 pub use numbers::{BUDGET_LIMIT, DEFAULT_BUDGET, GENERATED_LIMIT};
 pub use reading::read_line;
+pub use sim_model as sim_model_api;
 pub use words::Words;

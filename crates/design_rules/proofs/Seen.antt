@@ -1,8 +1,8 @@
 -- The design that is written by hand is that of the tree.
 use Rattle.std.specs.Prelude.{refl}
-use Rattle.object_rules.specs.Listing.{inside_within, binds_within}
-use Rattle.binding_rules.specs.Paths.{ends_within}
-use Rattle.code_of_model.specs.Bodies.{IsCodeOf}
+use Rattle.design_rules.specs.Listing.{inside_within, binds_within}
+use Rattle.design_rules.specs.Paths.{ends_within}
+use Rattle.code_rules.specs.Bodies.{IsCodeOf}
 use Rattle.design_rules.specs.Designs.{IsDesignOf}
 use Rattle.design_rules.specs.Written.{sensitive_to_both, seen}
 

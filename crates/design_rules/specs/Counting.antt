@@ -1,8 +1,8 @@
 -- The objects of a design along their order, each with what comes before it.
 use Rattle.std.specs.Prelude.{◌+◌, List, [], ◌∷◌, ◌++◌}
-use Rattle.flat_design.specs.declared.objects.Object.{Object}
-use Rattle.flat_design.specs.declared.objects.ObjectForm.{ObjectForm}
-use Rattle.flat_design.specs.declared.objects.ObjectForm.TheVariants as form
+use Rattle.code_rules.specs.FlatDesign.declared.objects.Object.{Object}
+use Rattle.code_rules.specs.FlatDesign.declared.objects.ObjectForm.{ObjectForm}
+use Rattle.code_rules.specs.FlatDesign.declared.objects.ObjectForm.TheVariants as form
 use Rattle.design_rules.specs.declared.counts.Counts.{Counts}
 
 abbrev pub nothing_before : Counts

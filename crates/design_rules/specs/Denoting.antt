@@ -1,16 +1,16 @@
 -- What an object is to a body that names it, and what the names that a module declares stand for in an instance of it.
 use Rattle.std.specs.Prelude.{ℕ, ◌==◌, true, false, Bool, List, [], ◌∷◌, drop, map, position, slice_get, unwrap_or, Option, Some, None}
-use Rattle.model_tree.specs.Tree as tree
-use Rattle.flat_design.specs.declared.objects.Object.{Object}
-use Rattle.flat_design.specs.declared.objects.ObjectForm.{ObjectForm}
-use Rattle.flat_design.specs.declared.objects.ObjectForm.TheVariants as form
-use Rattle.flat_design.specs.declared.design.ChannelId.TheVariants as channel
-use Rattle.flat_design.specs.declared.design.Denoted.{Denoted}
-use Rattle.flat_design.specs.declared.design.Denoted.TheVariants as denoted
-use Rattle.model_scopes.specs.Meanings.{Declared, declarations}
-use Rattle.object_rules.specs.Forms.{Name}
-use Rattle.object_rules.specs.Listing.{child}
-use Rattle.binding_rules.specs.declared.bindings.Joined.{Joined}
+use Rattle.code_rules.specs.ModelTree.Tree as tree
+use Rattle.code_rules.specs.FlatDesign.declared.objects.Object.{Object}
+use Rattle.code_rules.specs.FlatDesign.declared.objects.ObjectForm.{ObjectForm}
+use Rattle.code_rules.specs.FlatDesign.declared.objects.ObjectForm.TheVariants as form
+use Rattle.code_rules.specs.FlatDesign.declared.design.ChannelId.TheVariants as channel
+use Rattle.code_rules.specs.FlatDesign.declared.design.Denoted.{Denoted}
+use Rattle.code_rules.specs.FlatDesign.declared.design.Denoted.TheVariants as denoted
+use Rattle.code_rules.specs.ModelRules.Meanings.{Declared, declarations}
+use Rattle.design_rules.specs.Forms.{Name}
+use Rattle.design_rules.specs.Listing.{child}
+use Rattle.design_rules.specs.declared.bindings.Joined.{Joined}
 use Rattle.design_rules.specs.declared.counts.Counts.{Counts}
 use Rattle.design_rules.specs.Counting.{nothing_before, along}
 

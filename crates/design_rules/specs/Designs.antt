@@ -1,9 +1,9 @@
 -- That a design is the one of a model: its objects, each kind of them in object order, what names stand for, and its code.
 use Rattle.std.specs.Prelude.{◌≡◌}
-use Rattle.model_tree.specs.Tree as tree
-use Rattle.flat_design.specs.declared.design.Design.{Design}
-use Rattle.object_rules.specs.Listing.{objects_of}
-use Rattle.code_of_model.specs.Bodies.{exceptions_of, IsCodeOf}
+use Rattle.code_rules.specs.ModelTree.Tree as tree
+use Rattle.code_rules.specs.FlatDesign.declared.design.Design.{Design}
+use Rattle.design_rules.specs.Listing.{objects_of}
+use Rattle.code_rules.specs.Bodies.{exceptions_of, IsCodeOf}
 use Rattle.design_rules.specs.Counting.{totals}
 use Rattle.design_rules.specs.Parts.{instances_of, signals_of, resolved_of, fifos_of, semaphores_of, memories_of, variables_of, ports_of, hops_of, visible_of}
 use Rattle.design_rules.specs.Statics.{static_lists, processes_of}

@@ -1,32 +1,32 @@
 -- The parts of a design that its objects and their bindings give, each kind in object order.
 use Rattle.std.specs.Prelude.{ℕ, false, List, [], ◌∷◌, map, filter_map, slice_get, unwrap_or, Option, Some, None}
-use Rattle.model_tree.specs.Tree as tree
-use Rattle.model_tree.specs.declared.items.SignalKind.TheVariants as signal_kind
-use Rattle.flat_design.specs.ValueTypes.{default_value}
-use Rattle.flat_design.specs.declared.value_types.ValueType.TheVariants as type
-use Rattle.flat_design.specs.declared.objects.Object.{Object}
-use Rattle.flat_design.specs.declared.objects.Objects.{Objects}
-use Rattle.flat_design.specs.declared.objects.ObjectForm.{ObjectForm}
-use Rattle.flat_design.specs.declared.objects.ObjectForm.TheVariants as form
-use Rattle.flat_design.specs.declared.design.ChannelId.{ChannelId}
-use Rattle.flat_design.specs.declared.design.Denoted.{Denoted}
-use Rattle.flat_design.specs.declared.design.Denoted.TheVariants as denoted
-use Rattle.flat_design.specs.declared.design.InstancePart.{InstancePart}
-use Rattle.flat_design.specs.declared.design.SignalPart.{SignalPart}
-use Rattle.flat_design.specs.declared.design.ResolvedPart.{ResolvedPart}
-use Rattle.flat_design.specs.declared.design.FifoPart.{FifoPart}
-use Rattle.flat_design.specs.declared.design.SemaphorePart.{SemaphorePart}
-use Rattle.flat_design.specs.declared.design.MemoryPart.{MemoryPart}
-use Rattle.flat_design.specs.declared.design.VariablePart.{VariablePart}
-use Rattle.flat_design.specs.declared.design.PortPart.{PortPart}
-use Rattle.flat_design.specs.declared.design.Hop.{Hop}
-use Rattle.flat_design.specs.declared.design.Visible.{Visible}
-use Rattle.flat_design.specs.declared.design.VisibleId.TheVariants as visible
-use Rattle.object_rules.specs.Forms.{items_at}
-use Rattle.binding_rules.specs.declared.bindings.Joined.{Joined}
-use Rattle.binding_rules.specs.Objects.{form_at, parent_at}
-use Rattle.binding_rules.specs.Paths.{ends_of}
-use Rattle.binding_rules.specs.Bound.{bound}
+use Rattle.code_rules.specs.ModelTree.Tree as tree
+use Rattle.code_rules.specs.ModelTree.declared.items.SignalKind.TheVariants as signal_kind
+use Rattle.code_rules.specs.FlatDesign.ValueTypes.{default_value}
+use Rattle.code_rules.specs.FlatDesign.declared.value_types.ValueType.TheVariants as type
+use Rattle.code_rules.specs.FlatDesign.declared.objects.Object.{Object}
+use Rattle.code_rules.specs.FlatDesign.declared.objects.Objects.{Objects}
+use Rattle.code_rules.specs.FlatDesign.declared.objects.ObjectForm.{ObjectForm}
+use Rattle.code_rules.specs.FlatDesign.declared.objects.ObjectForm.TheVariants as form
+use Rattle.code_rules.specs.FlatDesign.declared.design.ChannelId.{ChannelId}
+use Rattle.code_rules.specs.FlatDesign.declared.design.Denoted.{Denoted}
+use Rattle.code_rules.specs.FlatDesign.declared.design.Denoted.TheVariants as denoted
+use Rattle.code_rules.specs.FlatDesign.declared.design.InstancePart.{InstancePart}
+use Rattle.code_rules.specs.FlatDesign.declared.design.SignalPart.{SignalPart}
+use Rattle.code_rules.specs.FlatDesign.declared.design.ResolvedPart.{ResolvedPart}
+use Rattle.code_rules.specs.FlatDesign.declared.design.FifoPart.{FifoPart}
+use Rattle.code_rules.specs.FlatDesign.declared.design.SemaphorePart.{SemaphorePart}
+use Rattle.code_rules.specs.FlatDesign.declared.design.MemoryPart.{MemoryPart}
+use Rattle.code_rules.specs.FlatDesign.declared.design.VariablePart.{VariablePart}
+use Rattle.code_rules.specs.FlatDesign.declared.design.PortPart.{PortPart}
+use Rattle.code_rules.specs.FlatDesign.declared.design.Hop.{Hop}
+use Rattle.code_rules.specs.FlatDesign.declared.design.Visible.{Visible}
+use Rattle.code_rules.specs.FlatDesign.declared.design.VisibleId.TheVariants as visible
+use Rattle.design_rules.specs.Forms.{items_at}
+use Rattle.design_rules.specs.declared.bindings.Joined.{Joined}
+use Rattle.design_rules.specs.Objects.{form_at, parent_at}
+use Rattle.design_rules.specs.Paths.{ends_of}
+use Rattle.design_rules.specs.Bound.{bound}
 use Rattle.design_rules.specs.declared.counts.Counts.{Counts}
 use Rattle.design_rules.specs.Counting.{nothing_before, along}
 use Rattle.design_rules.specs.Denoting.{all_denoted, object_denoted, names_in}

@@ -1,26 +1,26 @@
 -- The processes of a design, with their static sensitivities.
 use Rattle.std.specs.Prelude.{ℕ, ◌+◌, false, List, [], ◌∷◌, map, filter_map, slice_get, unwrap_or, option_to_list, Option, Some, None}
 use Rattle.std.specs.List.{flat_map}
-use Rattle.event_core.specs.declared.event.Ev.{Ev}
-use Rattle.event_core.specs.declared.event.Ev.TheVariants as ev
-use Rattle.model_tree.specs.Tree as tree
-use Rattle.model_tree.specs.declared.items.ProcessKind.TheVariants as process_kind
-use Rattle.flat_design.specs.declared.names.EventMember.{EventMember}
-use Rattle.flat_design.specs.declared.names.EventMember.TheVariants as event
-use Rattle.flat_design.specs.declared.code.StaticUse.{StaticUse}
-use Rattle.flat_design.specs.declared.objects.Object.{Object}
-use Rattle.flat_design.specs.declared.objects.ObjectForm.{ObjectForm}
-use Rattle.flat_design.specs.declared.objects.ObjectForm.TheVariants as form
-use Rattle.flat_design.specs.declared.design.ChannelId.{ChannelId}
-use Rattle.flat_design.specs.declared.design.ChannelId.TheVariants as channel
-use Rattle.flat_design.specs.declared.design.Denoted.{Denoted}
-use Rattle.flat_design.specs.declared.design.Denoted.TheVariants as denoted
-use Rattle.flat_design.specs.declared.design.InstancePart.{InstancePart}
-use Rattle.flat_design.specs.declared.design.PortPart.{PortPart}
-use Rattle.flat_design.specs.declared.design.ProcessPart.{ProcessPart}
-use Rattle.model_scopes.specs.Scopes.{item_scope}
-use Rattle.code_of_model.specs.Deeds.{static_use}
-use Rattle.code_of_model.specs.Bodies.{Source, of_function, of_process, of_clock, source_of}
+use Rattle.code_rules.specs.EventCore.declared.event.Ev.{Ev}
+use Rattle.code_rules.specs.EventCore.declared.event.Ev.TheVariants as ev
+use Rattle.code_rules.specs.ModelTree.Tree as tree
+use Rattle.code_rules.specs.ModelTree.declared.items.ProcessKind.TheVariants as process_kind
+use Rattle.code_rules.specs.FlatDesign.declared.names.EventMember.{EventMember}
+use Rattle.code_rules.specs.FlatDesign.declared.names.EventMember.TheVariants as event
+use Rattle.code_rules.specs.FlatDesign.declared.code.StaticUse.{StaticUse}
+use Rattle.code_rules.specs.FlatDesign.declared.objects.Object.{Object}
+use Rattle.code_rules.specs.FlatDesign.declared.objects.ObjectForm.{ObjectForm}
+use Rattle.code_rules.specs.FlatDesign.declared.objects.ObjectForm.TheVariants as form
+use Rattle.code_rules.specs.FlatDesign.declared.design.ChannelId.{ChannelId}
+use Rattle.code_rules.specs.FlatDesign.declared.design.ChannelId.TheVariants as channel
+use Rattle.code_rules.specs.FlatDesign.declared.design.Denoted.{Denoted}
+use Rattle.code_rules.specs.FlatDesign.declared.design.Denoted.TheVariants as denoted
+use Rattle.code_rules.specs.FlatDesign.declared.design.InstancePart.{InstancePart}
+use Rattle.code_rules.specs.FlatDesign.declared.design.PortPart.{PortPart}
+use Rattle.code_rules.specs.FlatDesign.declared.design.ProcessPart.{ProcessPart}
+use Rattle.code_rules.specs.ModelRules.Scopes.{item_scope}
+use Rattle.code_rules.specs.Deeds.{static_use}
+use Rattle.code_rules.specs.Bodies.{Source, of_function, of_process, of_clock, source_of}
 use Rattle.design_rules.specs.Counting.{nothing_before, along}
 use Rattle.design_rules.specs.Denoting.{object_denoted}
 use Rattle.design_rules.specs.Parts.{home_of}

@@ -1,37 +1,37 @@
 -- Models written by hand: each item with its line.
 use Rattle.std.specs.Prelude.{ℕ, false, List, [], ◌∷◌, codes, Option, Some, None}
-use Rattle.sim_time.specs.declared.moments.Unit.TheVariants as unit
-use Rattle.event_core.specs.declared.event.Ev.{Ev}
-use Rattle.event_core.specs.declared.event.Ev.TheVariants as ev
-use Rattle.model_tree.specs.Tree as tree
-use Rattle.model_tree.specs.declared.items.PlainKind.TheVariants as plain
-use Rattle.model_tree.specs.declared.items.ProcessKind.{ProcessKind}
-use Rattle.model_tree.specs.declared.items.ProcessKind.TheVariants as process_kind
-use Rattle.model_tree.specs.declared.items.SignalKind.TheVariants as signal_kind
-use Rattle.model_tree.specs.declared.items.InitiatorRole.TheVariants as initiator
-use Rattle.model_tree.specs.declared.items.TargetRole.TheVariants as target
-use Rattle.model_tree.specs.declared.types.TypeForm.TheVariants as type_form
-use Rattle.model_tree.specs.declared.types.ConstantForm.TheVariants as constant
-use Rattle.model_tree.specs.declared.types.BoundRule.TheVariants as rule
-use Rattle.model_tree.specs.declared.types.Interface.TheVariants as interface
-use Rattle.model_tree.specs.declared.types.VarType.TheVariants as var_type
-use Rattle.flat_design.specs.ValueTypes.{default_value}
-use Rattle.flat_design.specs.declared.value_types.ValueType.TheVariants as type
-use Rattle.flat_design.specs.declared.objects.LeadsTo.TheVariants as leads
-use Rattle.flat_design.specs.declared.code.BodyKind.TheVariants as body_kind
-use Rattle.flat_design.specs.declared.code.Code.{Code}
-use Rattle.flat_design.specs.declared.design.ChannelId.{ChannelId}
-use Rattle.flat_design.specs.declared.design.ChannelId.TheVariants as channel
-use Rattle.flat_design.specs.declared.design.Denoted.{Denoted}
-use Rattle.flat_design.specs.declared.design.Denoted.TheVariants as denoted
-use Rattle.flat_design.specs.declared.design.InstancePart.{InstancePart}
-use Rattle.flat_design.specs.declared.design.ProcessPart.{ProcessPart}
-use Rattle.flat_design.specs.declared.design.SignalPart.{SignalPart}
-use Rattle.flat_design.specs.declared.design.VisibleId.TheVariants as visible
-use Rattle.flat_design.specs.declared.design.Design.{Design}
-use Rattle.object_rules.specs.Forms.{Name}
-use Rattle.object_rules.specs.Listing.{objects_of}
-use Rattle.object_rules.specs.Written.{models, a_module, typed, signal, thread, function, inst, own, of_child}
+use Rattle.code_rules.specs.SimTime.declared.moments.Unit.TheVariants as unit
+use Rattle.code_rules.specs.EventCore.declared.event.Ev.{Ev}
+use Rattle.code_rules.specs.EventCore.declared.event.Ev.TheVariants as ev
+use Rattle.code_rules.specs.ModelTree.Tree as tree
+use Rattle.code_rules.specs.ModelTree.declared.items.PlainKind.TheVariants as plain
+use Rattle.code_rules.specs.ModelTree.declared.items.ProcessKind.{ProcessKind}
+use Rattle.code_rules.specs.ModelTree.declared.items.ProcessKind.TheVariants as process_kind
+use Rattle.code_rules.specs.ModelTree.declared.items.SignalKind.TheVariants as signal_kind
+use Rattle.code_rules.specs.ModelTree.declared.items.InitiatorRole.TheVariants as initiator
+use Rattle.code_rules.specs.ModelTree.declared.items.TargetRole.TheVariants as target
+use Rattle.code_rules.specs.ModelTree.declared.types.TypeForm.TheVariants as type_form
+use Rattle.code_rules.specs.ModelTree.declared.types.ConstantForm.TheVariants as constant
+use Rattle.code_rules.specs.ModelTree.declared.types.BoundRule.TheVariants as rule
+use Rattle.code_rules.specs.ModelTree.declared.types.Interface.TheVariants as interface
+use Rattle.code_rules.specs.ModelTree.declared.types.VarType.TheVariants as var_type
+use Rattle.code_rules.specs.FlatDesign.ValueTypes.{default_value}
+use Rattle.code_rules.specs.FlatDesign.declared.value_types.ValueType.TheVariants as type
+use Rattle.code_rules.specs.FlatDesign.declared.objects.LeadsTo.TheVariants as leads
+use Rattle.code_rules.specs.FlatDesign.declared.code.BodyKind.TheVariants as body_kind
+use Rattle.code_rules.specs.FlatDesign.declared.code.Code.{Code}
+use Rattle.code_rules.specs.FlatDesign.declared.design.ChannelId.{ChannelId}
+use Rattle.code_rules.specs.FlatDesign.declared.design.ChannelId.TheVariants as channel
+use Rattle.code_rules.specs.FlatDesign.declared.design.Denoted.{Denoted}
+use Rattle.code_rules.specs.FlatDesign.declared.design.Denoted.TheVariants as denoted
+use Rattle.code_rules.specs.FlatDesign.declared.design.InstancePart.{InstancePart}
+use Rattle.code_rules.specs.FlatDesign.declared.design.ProcessPart.{ProcessPart}
+use Rattle.code_rules.specs.FlatDesign.declared.design.SignalPart.{SignalPart}
+use Rattle.code_rules.specs.FlatDesign.declared.design.VisibleId.TheVariants as visible
+use Rattle.code_rules.specs.FlatDesign.declared.design.Design.{Design}
+use Rattle.design_rules.specs.Forms.{Name}
+use Rattle.design_rules.specs.Listing.{objects_of}
+use Rattle.design_rules.specs.WrittenObjects.{models, a_module, typed, signal, thread, function, inst, own, of_child}
 use Rattle.design_rules.specs.Parts.{instances_of, ports_of}
 use Rattle.design_rules.specs.Statics.{static_lists, processes_of}
 

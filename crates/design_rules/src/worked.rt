@@ -1,16 +1,16 @@
 //! The definitions, worked out for models written by hand: what they give there is computed by the checker.
-#![tactic(auto, unfolding(object_rules::specs::Listing::inside_within, object_rules::specs::Listing::binds_within, binding_rules::specs::Paths::ends_within))]
+#![tactic(auto, unfolding(crate::specs::Listing::inside_within, crate::specs::Listing::binds_within, crate::specs::Paths::ends_within))]
 
 ghost use Rattle.std.specs.Prelude.{◌≡◌, ◌∷◌, [], codes, None, Some, true, false};
-ghost use Rattle.event_core.specs.declared.event.Ev.TheVariants as ev;
-ghost use Rattle.logic_values.specs.declared.kinds.Value.TheVariants as value;
-ghost use Rattle.model_tree.specs.declared.items.SignalKind.TheVariants as signal_kind;
-ghost use Rattle.model_tree.specs.declared.items.ProcessKind.TheVariants as process_kind;
-ghost use Rattle.flat_design.specs.declared.value_types.ValueType.TheVariants as type;
-ghost use Rattle.flat_design.specs.declared.design.ChannelId.TheVariants as channel;
-ghost use Rattle.flat_design.specs.declared.design.Denoted.TheVariants as denoted;
-ghost use Rattle.flat_design.specs.declared.design.VisibleId.TheVariants as visible;
-ghost use Rattle.object_rules.specs.Listing.{objects_of, list_of};
+ghost use Rattle.code_rules.specs.EventCore.declared.event.Ev.TheVariants as ev;
+ghost use Rattle.code_rules.specs.LogicValues.declared.kinds.Value.TheVariants as value;
+ghost use Rattle.code_rules.specs.ModelTree.declared.items.SignalKind.TheVariants as signal_kind;
+ghost use Rattle.code_rules.specs.ModelTree.declared.items.ProcessKind.TheVariants as process_kind;
+ghost use Rattle.code_rules.specs.FlatDesign.declared.value_types.ValueType.TheVariants as type;
+ghost use Rattle.code_rules.specs.FlatDesign.declared.design.ChannelId.TheVariants as channel;
+ghost use Rattle.code_rules.specs.FlatDesign.declared.design.Denoted.TheVariants as denoted;
+ghost use Rattle.code_rules.specs.FlatDesign.declared.design.VisibleId.TheVariants as visible;
+ghost use Rattle.design_rules.specs.Listing.{objects_of, list_of};
 ghost use Rattle.design_rules.specs.Counting.{totals};
 ghost use Rattle.design_rules.specs.Parts.{signals_of, resolved_of, fifos_of, semaphores_of, memories_of, variables_of, ports_of, hops_of, visible_of};
 ghost use Rattle.design_rules.specs.Designs.{IsDesignOf};

@@ -7,12 +7,11 @@ ghost use Rattle.std.specs.Prelude.{◌≡◌, ◌<◌, IfOk, length, replicate,
 
 mod event;
 mod notifications;
-#[cfg(test)]
-mod tests;
 
 pub use event::{Ev, same_event, same_events_are_equal};
 pub use notifications::{Effect, Pending, When};
 use notifications::{answer_to, surviving};
+pub use sim_time as sim_time_api;
 use std::alloc::{AllocError, Global};
 use std::marker::Model;
 

@@ -1,7 +1,7 @@
 -- The two parts in which a chain is evaluated make up its value.
 use Rattle.std.proofs.Common.{◌≡◌, refl, sym, ap, ◌∙◌}
 use Rattle.std.specs.Prelude.{ℕ, Option, Some, None, Result, Ok, Err}
-use Rattle.logic_values.specs.declared.kinds.Value.{Value}
+use Rattle.sim_model.specs.LogicValues.declared.kinds.Value.{Value}
 use Rattle.flat_design.specs.Code as code
 use Rattle.flat_design.specs.Code.{Term}
 use Rattle.flat_design.specs.declared.value_types.ValueType.{ValueType}

@@ -6,13 +6,13 @@ use Rattle.std.proofs.lemmas.List.{take_all, take_min, take-take, take-replicate
 use Rattle.std.proofs.lemmas.Option.{slice_get_within, slice_get_past, get_or_from_slice_get}
 use Rattle.std.proofs.Math.ListN.{drop_of_length-le}
 use Rattle.std.proofs.Math.Seq.{take-append-add}
-use Rattle.logic_values.specs.declared.kinds.Digit.{Digit}
-use Rattle.logic_values.specs.declared.kinds.Digit.TheVariants.{Zero, One, Z, X}
-use Rattle.logic_values.specs.declared.planes.Lv.{Lv}
-use Rattle.logic_values.specs.Digits.{digits}
-use Rattle.logic_values.specs.Planes.{unknown_bit, one_bit, plane_of, clipped, lv_of}
-use Rattle.logic_values.specs.Vectors.{digit_by_digit, binary_digit, binary_digits, resized}
-use Rattle.logic_values.proofs.VectorLaws.{same_fields, is_lv_of, length-digits}
+use Rattle.sim_model.specs.LogicValues.declared.kinds.Digit.{Digit}
+use Rattle.sim_model.specs.LogicValues.declared.kinds.Digit.TheVariants.{Zero, One, Z, X}
+use Rattle.sim_model.specs.LogicValues.declared.planes.Lv.{Lv}
+use Rattle.sim_model.specs.LogicValues.Digits.{digits}
+use Rattle.sim_model.specs.LogicValues.Planes.{unknown_bit, one_bit, plane_of, clipped, lv_of}
+use Rattle.sim_model.specs.LogicValues.Vectors.{digit_by_digit, binary_digit, binary_digits, resized}
+use Rattle.sim_model.proofs.LogicValues.VectorLaws.{same_fields, is_lv_of, length-digits}
 use Rattle.sim_model.specs.Values.{one_digit}
 
 -- the vector of a list is that of its first 64 digits

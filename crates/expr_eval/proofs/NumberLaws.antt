@@ -2,9 +2,9 @@
 use Rattle.std.proofs.Common.{ℕ, ◌≡◌, ◌+◌, ◌-◌, ◌*◌, ◌/◌, ◌%◌, ◌^◌, ◌<◌, ◌≤◌, min, pos, refl, sym, ap, ◌∙◌, ⊎_elim, arith}
 use Rattle.std.proofs.Math.Nat.{pow-le-pow_right, mod-eq_of_lt, mod-one, div-le_self}
 use Rattle.std.proofs.lemmas.Bool.{cases_lt}
-use Rattle.logic_values.specs.declared.kinds.Sign.{Sign}
-use Rattle.logic_values.specs.declared.kinds.Sign.TheVariants.{Signed, Unsigned}
-use Rattle.logic_values.specs.Integers.{bits_of, twos_complement, cut_of}
+use Rattle.sim_model.specs.LogicValues.declared.kinds.Sign.{Sign}
+use Rattle.sim_model.specs.LogicValues.declared.kinds.Sign.TheVariants.{Signed, Unsigned}
+use Rattle.sim_model.specs.LogicValues.Integers.{bits_of, twos_complement, cut_of}
 use Rattle.sim_model.specs.Values.{bits_between}
 
 -- nothing is left at width 0

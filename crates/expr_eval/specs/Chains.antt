@@ -1,7 +1,7 @@
 -- A chain of a name, its place and its indices, in the two parts in which it is evaluated: first the place and the indices,
 -- and then, once what follows the chain is evaluated too, the reading.
 use Rattle.std.specs.Prelude.{ℕ, Option, Some, None, Result, Ok}
-use Rattle.logic_values.specs.declared.kinds.Value.{Value}
+use Rattle.sim_model.specs.LogicValues.declared.kinds.Value.{Value}
 use Rattle.flat_design.specs.Code as code
 use Rattle.flat_design.specs.Code.{Term}
 use Rattle.flat_design.specs.declared.faults.RunFault.{RunFault}

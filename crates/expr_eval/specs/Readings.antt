@@ -1,6 +1,6 @@
 -- What a reading answers where the expression stands.
 use Rattle.std.specs.Prelude.{ℕ, Option, Some, Result, Ok}
-use Rattle.logic_values.specs.declared.kinds.Value.{Value}
+use Rattle.sim_model.specs.LogicValues.declared.kinds.Value.{Value}
 use Rattle.flat_design.specs.declared.faults.RunFault.{RunFault}
 use Rattle.sim_model.specs.Values.{on_ok}
 use Rattle.sim_model.specs.Reading.{Here, read_name, read_wide, channel_here, channel_value, channel_member, member_value, memory_here, byte_in, payload_here, payload_bytes}

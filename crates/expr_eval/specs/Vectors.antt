@@ -1,9 +1,9 @@
 -- Digits as the code keeps them: in a vector, or in none where there are none.
 use Rattle.std.specs.Prelude.{Option, Some, None, List, []}
-use Rattle.logic_values.specs.declared.kinds.Digit.{Digit}
-use Rattle.logic_values.specs.declared.planes.Lv.{Lv}
-use Rattle.logic_values.specs.Digits.{digits}
-use Rattle.logic_values.specs.Vectors.{digit_by_digit}
+use Rattle.sim_model.specs.LogicValues.declared.kinds.Digit.{Digit}
+use Rattle.sim_model.specs.LogicValues.declared.planes.Lv.{Lv}
+use Rattle.sim_model.specs.LogicValues.Digits.{digits}
+use Rattle.sim_model.specs.LogicValues.Vectors.{digit_by_digit}
 
 abbrev pub listed : Option Lv → List Digit
 listed None = []

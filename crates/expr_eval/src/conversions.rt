@@ -1,13 +1,13 @@
 //! Conversions of values.
 ghost use Rattle.std.specs.Prelude.{◌≡◌};
-ghost use Rattle.logic_values.specs.Planes.{lv_of};
-ghost use Rattle.logic_values.specs.Vectors.{binary_digits, resized, value_of};
+ghost use Rattle.sim_model.specs.LogicValues.Planes.{lv_of};
+ghost use Rattle.sim_model.specs.LogicValues.Vectors.{binary_digits, resized, value_of};
 ghost use Rattle.sim_model.specs.Values as spec;
 ghost use Rattle.expr_eval.specs.Vectors.{listed};
 
 use crate::values::{bits, digits_of, first_digit, signed, truth, unsigned, vector};
 use flat_design::ValueType;
-use logic_values::{Digit, Lv, Value, vector_of_digits};
+use sim_model::logic_values_api::{Digit, Lv, Value, vector_of_digits};
 
 /// A conversion to the first type from the second.
 pub(crate) fn converted(to: ValueType, from: ValueType, v: Value) -> Value

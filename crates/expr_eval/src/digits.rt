@@ -1,14 +1,16 @@
 //! Digits and bits of a value, by their places.
 ghost use Rattle.std.specs.Prelude.{◌≡◌, ◌+◌, ◌-◌, ◌++◌, Ok, drop, take, slice_get};
-ghost use Rattle.logic_values.specs.declared.kinds.Value.TheVariants as value;
-ghost use Rattle.logic_values.specs.Digits.{digits};
-ghost use Rattle.logic_values.specs.Planes.{lv_of};
+ghost use Rattle.sim_model.specs.LogicValues.declared.kinds.Value.TheVariants as value;
+ghost use Rattle.sim_model.specs.LogicValues.Digits.{digits};
+ghost use Rattle.sim_model.specs.LogicValues.Planes.{lv_of};
 ghost use Rattle.sim_model.specs.Values as spec;
 ghost use Rattle.expr_eval.specs.Vectors.{listed};
 
 use crate::values::{bits, digits_of, unsigned, vector};
 use flat_design::{RunFault, ValueType};
-use logic_values::{Digit, Lv, Sign, Value, concat, cut, digit, shr, slice, vector_of_digits};
+use sim_model::logic_values_api::{
+    Digit, Lv, Sign, Value, concat, cut, digit, shr, slice, vector_of_digits,
+};
 
 /// The digit, or the bit, of a place.
 pub(crate) fn digit_at(t: ValueType, v: Value, i: u64) -> Result<Value, RunFault>

@@ -11,7 +11,7 @@ use crate::operators::{binary, decides, unary};
 use crate::values::{bits, truth, widened};
 use crate::views::{Reading, View};
 use flat_design::{Expr, RunFault};
-use logic_values::Value;
+use sim_model::logic_values_api::Value;
 
 /// The value of the expression, or its first fault from left to right. It takes no memory.
 ///

@@ -9,11 +9,16 @@ mod conversions;
 mod digits;
 mod expressions;
 mod operators;
-#[cfg(test)]
-mod tests;
 mod values;
 mod views;
 
 pub use expressions::{eval, eval_if, eval_place};
+pub use flat_design as flat_design_api;
+pub use sim_model as sim_model_api;
+pub use sim_model::{
+    event_core_api as event_core_api, logic_values_api as logic_values_api,
+    model_tree_api as model_tree_api, plain_lists_api as plain_lists_api,
+    sim_time_api as sim_time_api, transport_phases_api as transport_phases_api,
+};
 pub use values::{bits, cut_to, moment, payload_handle, process_handle, truth, widened};
 pub use views::{Reading, View};

@@ -1,9 +1,9 @@
 //! Operators on values.
 ghost use Rattle.std.specs.Prelude.{◌≡◌, ◌&&◌, ◌||◌, IfSome, IfNone, Ok, Err, map, bit_and, bit_or, bit_xor};
-ghost use Rattle.logic_values.specs.LogicTables.{and_of, or_of, xor_of, not_of};
-ghost use Rattle.logic_values.specs.Vectors.{digit_by_digit};
-ghost use Rattle.logic_values.specs.declared.kinds.Digit.{Digit};
-ghost use Rattle.logic_values.specs.declared.kinds.Value.TheVariants as value;
+ghost use Rattle.sim_model.specs.LogicValues.LogicTables.{and_of, or_of, xor_of, not_of};
+ghost use Rattle.sim_model.specs.LogicValues.Vectors.{digit_by_digit};
+ghost use Rattle.sim_model.specs.LogicValues.declared.kinds.Digit.{Digit};
+ghost use Rattle.sim_model.specs.LogicValues.declared.kinds.Value.TheVariants as value;
 ghost use Rattle.flat_design.specs.declared.faults.RunFault.TheVariants as fault;
 ghost use Rattle.sim_model.specs.Values as spec;
 ghost use Rattle.expr_eval.specs.Vectors.{listed, paired};
@@ -12,16 +12,16 @@ use crate::values::{
     bits, digits_of, first_digit, moment, sign_of, signed, signed_as, truth, unsigned, vector,
 };
 use flat_design::{RunFault, ValueType};
-use logic_values::{Lv, Sign, Value};
-use model_tree::{BinaryOp, UnaryOp};
-use sim_time::Time;
+use sim_model::logic_values_api::{Lv, Sign, Value};
+use sim_model::model_tree_api::{BinaryOp, UnaryOp};
+use sim_model::sim_time_api::Time;
 
 /// A prefix operator before an operand of this type.
 pub(crate) fn unary(op: UnaryOp, t: ValueType, v: Value) -> Value
     ensures { result ≡ spec.unary op t v }
 {
     match op {
-        UnaryOp::Negate => signed_as(sign_of(t), logic_values::sub(0, bits(v))),
+        UnaryOp::Negate => signed_as(sign_of(t), sim_model::logic_values_api::sub(0, bits(v))),
         UnaryOp::Not => Value::Bool(!truth(v)),
         UnaryOp::Complement => complement(t, v),
     }
@@ -45,7 +45,7 @@ fn turned(digits: Option<Lv>) -> Option<Lv>
     ensures { listed result ≡ map not_of (listed digits) }
 {
     match digits {
-        Some(v) => Some(logic_values::not(v)),
+        Some(v) => Some(sim_model::logic_values_api::not(v)),
         None => None,
     }
 }
@@ -71,25 +71,34 @@ pub(crate) fn binary(op: BinaryOp, t: ValueType, l: Value, r: Value) -> Result<V
         BinaryOp::BitOr => Ok(bit_or(t, l, r)),
         BinaryOp::BitXor => Ok(bit_xor(t, l, r)),
         BinaryOp::BitAnd => Ok(bit_and(t, l, r)),
-        BinaryOp::Equal => Ok(Value::Bool(logic_values::is_same(l, r))),
-        BinaryOp::NotEqual => Ok(Value::Bool(!logic_values::is_same(l, r))),
+        BinaryOp::Equal => Ok(Value::Bool(sim_model::logic_values_api::is_same(l, r))),
+        BinaryOp::NotEqual => Ok(Value::Bool(!sim_model::logic_values_api::is_same(l, r))),
         BinaryOp::Less => Ok(Value::Bool(less(t, l, r))),
         BinaryOp::LessEqual => Ok(Value::Bool(!less(t, r, l))),
         BinaryOp::Greater => Ok(Value::Bool(less(t, r, l))),
         BinaryOp::GreaterEqual => Ok(Value::Bool(!less(t, l, r))),
-        BinaryOp::ShiftLeft => Ok(signed_as(sign_of(t), logic_values::shl(bits(l), bits(r)))),
+        BinaryOp::ShiftLeft => Ok(signed_as(
+            sign_of(t),
+            sim_model::logic_values_api::shl(bits(l), bits(r)),
+        )),
         BinaryOp::ShiftRight => Ok(signed_as(
             sign_of(t),
-            logic_values::shr(sign_of(t), bits(l), bits(r)),
+            sim_model::logic_values_api::shr(sign_of(t), bits(l), bits(r)),
         )),
         BinaryOp::Add => sum(t, l, r),
         BinaryOp::Subtract => difference(t, l, r),
         BinaryOp::Multiply => product(t, l, r),
         BinaryOp::Divide => {
-            unless_zero(sign_of(t), logic_values::div(sign_of(t), bits(l), bits(r)))
+            unless_zero(
+                sign_of(t),
+                sim_model::logic_values_api::div(sign_of(t), bits(l), bits(r)),
+            )
         }
         BinaryOp::Remainder => {
-            unless_zero(sign_of(t), logic_values::rem(sign_of(t), bits(l), bits(r)))
+            unless_zero(
+                sign_of(t),
+                sim_model::logic_values_api::rem(sign_of(t), bits(l), bits(r)),
+            )
         }
     }
 }
@@ -112,7 +121,7 @@ fn and_digits(l: Value, r: Value) -> Value
     ensures { result ≡ spec.vector (digit_by_digit and_of (spec.digit_list l) (spec.digit_list r)) }
 {
     let both = match pair(l, r) {
-        Some((a, b)) => Some(logic_values::and(a, b)),
+        Some((a, b)) => Some(sim_model::logic_values_api::and(a, b)),
         None => None,
     };
     Value::Vector(vector(both))
@@ -122,7 +131,7 @@ fn or_digits(l: Value, r: Value) -> Value
     ensures { result ≡ spec.vector (digit_by_digit or_of (spec.digit_list l) (spec.digit_list r)) }
 {
     let both = match pair(l, r) {
-        Some((a, b)) => Some(logic_values::or(a, b)),
+        Some((a, b)) => Some(sim_model::logic_values_api::or(a, b)),
         None => None,
     };
     Value::Vector(vector(both))
@@ -132,7 +141,7 @@ fn xor_digits(l: Value, r: Value) -> Value
     ensures { result ≡ spec.vector (digit_by_digit xor_of (spec.digit_list l) (spec.digit_list r)) }
 {
     let both = match pair(l, r) {
-        Some((a, b)) => Some(logic_values::xor(a, b)),
+        Some((a, b)) => Some(sim_model::logic_values_api::xor(a, b)),
         None => None,
     };
     Value::Vector(vector(both))
@@ -182,8 +191,8 @@ fn less(t: ValueType, l: Value, r: Value) -> bool
     ensures { result ≡ spec.less t l r }
 {
     match t {
-        ValueType::Int(_) => logic_values::lt(Sign::Signed, bits(l), bits(r)),
-        ValueType::Uint(_) => logic_values::lt(Sign::Unsigned, bits(l), bits(r)),
+        ValueType::Int(_) => sim_model::logic_values_api::lt(Sign::Signed, bits(l), bits(r)),
+        ValueType::Uint(_) => sim_model::logic_values_api::lt(Sign::Unsigned, bits(l), bits(r)),
         ValueType::Time => moment(l).0 < moment(r).0,
         ValueType::Bool
         | ValueType::Logic
@@ -197,9 +206,9 @@ fn sum(t: ValueType, l: Value, r: Value) -> Result<Value, RunFault>
     ensures { result ≡ spec.sum t l r }
 {
     match t {
-        ValueType::Int(_) => Ok(signed(logic_values::add(bits(l), bits(r)))),
-        ValueType::Uint(_) => Ok(unsigned(logic_values::add(bits(l), bits(r)))),
-        ValueType::Time => within(sim_time::add(moment(l), moment(r))),
+        ValueType::Int(_) => Ok(signed(sim_model::logic_values_api::add(bits(l), bits(r)))),
+        ValueType::Uint(_) => Ok(unsigned(sim_model::logic_values_api::add(bits(l), bits(r)))),
+        ValueType::Time => within(sim_model::sim_time_api::add(moment(l), moment(r))),
         ValueType::Bool
         | ValueType::Logic
         | ValueType::Vector(_)
@@ -212,9 +221,9 @@ fn difference(t: ValueType, l: Value, r: Value) -> Result<Value, RunFault>
     ensures { result ≡ spec.difference t l r }
 {
     match t {
-        ValueType::Int(_) => Ok(signed(logic_values::sub(bits(l), bits(r)))),
-        ValueType::Uint(_) => Ok(unsigned(logic_values::sub(bits(l), bits(r)))),
-        ValueType::Time => within(sim_time::sub(moment(l), moment(r))),
+        ValueType::Int(_) => Ok(signed(sim_model::logic_values_api::sub(bits(l), bits(r)))),
+        ValueType::Uint(_) => Ok(unsigned(sim_model::logic_values_api::sub(bits(l), bits(r)))),
+        ValueType::Time => within(sim_model::sim_time_api::sub(moment(l), moment(r))),
         ValueType::Bool
         | ValueType::Logic
         | ValueType::Vector(_)
@@ -227,9 +236,9 @@ fn product(t: ValueType, l: Value, r: Value) -> Result<Value, RunFault>
     ensures { result ≡ spec.product t l r }
 {
     match t {
-        ValueType::Int(_) => Ok(signed(logic_values::mul(bits(l), bits(r)))),
-        ValueType::Uint(_) => Ok(unsigned(logic_values::mul(bits(l), bits(r)))),
-        ValueType::Time => within(sim_time::times(moment(l), bits(r))),
+        ValueType::Int(_) => Ok(signed(sim_model::logic_values_api::mul(bits(l), bits(r)))),
+        ValueType::Uint(_) => Ok(unsigned(sim_model::logic_values_api::mul(bits(l), bits(r)))),
+        ValueType::Time => within(sim_model::sim_time_api::times(moment(l), bits(r))),
         ValueType::Bool
         | ValueType::Logic
         | ValueType::Vector(_)

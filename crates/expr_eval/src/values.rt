@@ -1,13 +1,13 @@
 //! A value as what an operation takes it for: a truth value, a number, digits, a time or a handle.
 ghost use Rattle.std.specs.Prelude.{◌≡◌};
-ghost use Rattle.logic_values.specs.Integers.{cut_of};
-ghost use Rattle.logic_values.specs.Planes.{lv_of};
+ghost use Rattle.sim_model.specs.LogicValues.Integers.{cut_of};
+ghost use Rattle.sim_model.specs.LogicValues.Planes.{lv_of};
 ghost use Rattle.sim_model.specs.Values as spec;
 ghost use Rattle.expr_eval.specs.Vectors.{listed};
 
 use flat_design::ValueType;
-use logic_values::{Digit, Lv, Sign, Value, cut, digit, vector_of_digits};
-use sim_time::Time;
+use sim_model::logic_values_api::{Digit, Lv, Sign, Value, cut, digit, vector_of_digits};
+use sim_model::sim_time_api::Time;
 
 /// A truth value; any other counts as false.
 pub fn truth(value: Value) -> bool

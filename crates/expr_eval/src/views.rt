@@ -4,8 +4,8 @@ ghost use Rattle.sim_model.specs.Reading.{Here};
 ghost use Rattle.expr_eval.specs.Readings.{answer};
 
 use flat_design::{Member, NameUse, PayloadBytes, RunFault};
-use logic_values::Value;
-use sim_time::Time;
+use sim_model::logic_values_api::Value;
+use sim_model::sim_time_api::Time;
 
 /// One thing that an expression reads, its place and its index evaluated. Numbers of names are places among the names
 /// that the module declares.

@@ -3,8 +3,6 @@
 
 mod fifo;
 mod locks;
-#[cfg(test)]
-mod tests;
 
 pub use fifo::{Fifo, FifoChange, Full};
 pub use locks::{Mutex, Semaphore};

@@ -1,6 +1,6 @@
 -- The code as contracts speak of it: numbered blocks of numbered statements, with nothing of how memory keeps them.
 use Rattle.std.specs.Prelude.{ℕ, Bool, List, Option, map, option_map, slice_get, unwrap_or, []}
-use Rattle.logic_values.specs.declared.kinds.Value.{Value}
+use Rattle.model_tree.specs.LogicValues.declared.kinds.Value.{Value}
 use Rattle.model_tree.specs.declared.expressions.UnaryOp.{UnaryOp}
 use Rattle.model_tree.specs.declared.expressions.BinaryOp.{BinaryOp}
 use Rattle.model_tree.specs.declared.items.ProcessKind.{ProcessKind}

@@ -1,8 +1,8 @@
 -- The constructs of the language that code is made of, so that it can be said that none of them is missing.
 use Rattle.std.specs.Prelude.{ℕ, List, [], ◌∷◌, ◌++◌, Option, Some, None}
 use Rattle.std.specs.List.{flat_map}
-use Rattle.logic_values.specs.declared.kinds.Value.{Value}
-use Rattle.logic_values.specs.declared.kinds.Value.TheVariants as value
+use Rattle.model_tree.specs.LogicValues.declared.kinds.Value.{Value}
+use Rattle.model_tree.specs.LogicValues.declared.kinds.Value.TheVariants as value
 use Rattle.model_tree.specs.declared.constructs.Construct.{Construct}
 use Rattle.model_tree.specs.declared.constructs.Construct.TheVariants as k
 use Rattle.model_tree.specs.declared.expressions.UnaryOp.{UnaryOp}

@@ -1,10 +1,10 @@
 -- Types of values, the values that they begin with, and the types that expressions have.
 use Rattle.std.specs.Prelude.{ℕ, false, nat_lt, if◌then◌else◌, replicate, None}
-use Rattle.logic_values.specs.declared.kinds.Digit.TheVariants as digit
-use Rattle.logic_values.specs.declared.kinds.Value.{Value}
-use Rattle.logic_values.specs.declared.kinds.Value.TheVariants as value
-use Rattle.logic_values.specs.declared.planes.Lv.{Lv}
-use Rattle.logic_values.specs.Planes.{lv_of}
+use Rattle.model_tree.specs.LogicValues.declared.kinds.Digit.TheVariants as digit
+use Rattle.model_tree.specs.LogicValues.declared.kinds.Value.{Value}
+use Rattle.model_tree.specs.LogicValues.declared.kinds.Value.TheVariants as value
+use Rattle.model_tree.specs.LogicValues.declared.planes.Lv.{Lv}
+use Rattle.model_tree.specs.LogicValues.Planes.{lv_of}
 use Rattle.flat_design.specs.declared.value_types.ValueType.{ValueType}
 use Rattle.flat_design.specs.declared.value_types.ValueType.TheVariants as type
 

@@ -1,9 +1,9 @@
 use super::names::{EventMember, NameId, NameUse, PayloadBytes, PayloadField};
 use super::terms::Expr;
 use super::value_types::ValueType;
-use logic_values::Text;
+use model_tree::logic_values_api::Text;
+use model_tree::plain_lists_api::Items;
 use model_tree::{Control, PrintText, ProcessKind};
-use plain_lists::Items;
 
 /// The number of the body of a function, a process or a clock.
 pub type CodeId = u32;

@@ -2,9 +2,9 @@ use super::code::{Code, CodeId};
 use super::objects::{LeadsTo, Objects};
 use super::value_types::ValueType;
 use event_core::Ev;
-use logic_values::{Text, Value};
+use model_tree::logic_values_api::{Text, Value};
+use model_tree::plain_lists_api::Items;
 use model_tree::{ProcessKind, SignalKind};
-use plain_lists::Items;
 
 /// A channel, by its number among the channels of its kind in object order, and its first event.
 #[derive(Clone, Copy, Debug, PartialEq, Eq)]

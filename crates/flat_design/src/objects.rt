@@ -1,9 +1,9 @@
 use super::code::CodeId;
 use super::value_types::ValueType;
-use logic_values::{Text, Value};
+use event_core::sim_time_api::Time;
+use model_tree::logic_values_api::{Text, Value};
+use model_tree::plain_lists_api::Items;
 use model_tree::{BoundRule, ProcessKind, SignalKind};
-use plain_lists::Items;
-use sim_time::Time;
 
 /// What a port or an export leads to.
 #[derive(Clone, Copy, Debug, PartialEq, Eq)]

@@ -1,4 +1,4 @@
-use plain_lists::Items;
+use model_tree::plain_lists_api::Items;
 
 /// The serials of the processes that were taken, in order of taking.
 pub type Choices = Items<u32>;

@@ -1,6 +1,6 @@
 use super::names::{Member, NameUse, PayloadBytes};
 use super::value_types::ValueType;
-use logic_values::Value;
+use model_tree::logic_values_api::Value;
 use model_tree::{BinaryOp, UnaryOp};
 
 /// An expression of the code. Integers have 64 bits in it, and each operation knows the type of its operands: where

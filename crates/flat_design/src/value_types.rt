@@ -1,7 +1,7 @@
 ghost use Rattle.std.specs.Prelude.{◌≡◌};
 ghost use Rattle.flat_design.specs.ValueTypes as spec;
 
-use logic_values::{Digit, Lv, Value, vector_of_digits};
+use model_tree::logic_values_api::{Digit, Lv, Value, vector_of_digits};
 
 /// A type of values. Widths are from 1 to 64.
 #[derive(Clone, Copy, Debug, PartialEq, Eq)]

@@ -2,11 +2,11 @@
 
 use super::cases::{Case, Wanted};
 use super::rules::{first_fault, module_fault};
-use logic_values::Text;
-use model_lexer::{Token, TokenKind, tokens};
+use model_parser::model_lexer_api::{Token, TokenKind, tokens};
 use model_parser::parse;
+use model_print::logic_values_api::Text;
+use model_print::model_tree_api::{ParseStop, Tree};
 use model_print::print;
-use model_tree::{ParseStop, Tree};
 use std::alloc::{AllocError, Global};
 
 /// The most bytes of a text.

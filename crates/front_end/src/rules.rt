@@ -1,8 +1,8 @@
 //! The first fault of a tree, in one line.
 
-use model_elaborate::bound_objects;
-use model_tree::{CheckStop, Fault, Kind, Tree};
-use rule_check::judge_rules;
+use elaborate::bound_objects;
+use elaborate::model_check_api::judge_rules;
+use model_print::model_tree_api::{CheckStop, Fault, Kind, Tree};
 use std::alloc::{AllocError, Global};
 
 /// The name of a kind of fault.

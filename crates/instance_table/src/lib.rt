@@ -10,8 +10,6 @@ ghost use Rattle.std.specs.Borrow.{sem};
 ghost use Rattle.std.specs.FinMap as map;
 
 mod instances;
-#[cfg(test)]
-mod tests;
 
 pub use instances::{Deadline, Instance, ProcessKind, Waiting};
 use numbered_slots::Slots;

@@ -2,10 +2,10 @@
 use Rattle.std.proofs.Common.{◌≡◌, ◌≤◌, ℕ, zero, suc, Bool, true, false, List, [], ◌∷◌, slice_get, Option, Some, None, refl, sym, ap, ◌∙◌, subst, arith, true≢false}
 use Rattle.std.specs.Prelude.{nat_lt, is_some, unwrap_or, if◌then◌else◌}
 use Rattle.std.proofs.lemmas.Bool.Decides.{nat_tests}
-use Rattle.sim_model.specs.Configuration.{Config, Instance, Deadline, no_deadline, next_delta, at_time}
-use Rattle.sim_model.specs.Phases.{earlier, earlier_deadline, earliest_deadline, earliest_event, earliest}
-use Rattle.schedule.specs.Seen.{bare, shown_at, body_at}
-use Rattle.process_moves.specs.Times.{HasNoTime, IsEarliestTime}
+use Rattle.kernel_state.specs.SimModel.Configuration.{Config, Instance, Deadline, no_deadline, next_delta, at_time}
+use Rattle.kernel_state.specs.SimModel.Phases.{earlier, earlier_deadline, earliest_deadline, earliest_event, earliest}
+use Rattle.kernel_state.specs.KernelProcesses.Seen.{bare, shown_at, body_at}
+use Rattle.kernel_state.specs.KernelProcesses.Times.{HasNoTime, IsEarliestTime}
 use Rattle.kernel_state.specs.Processes.{TellsBy, Tells}
 use Rattle.kernel_state.specs.Kernel.{Shows, StandsFor, whole_design}
 use Rattle.kernel_state.specs.declared.kernel.Kept.{Kept}

@@ -3,18 +3,18 @@ use Rattle.std.proofs.Common.{◌≡◌, ◌≢◌, ◌≤◌, ◌==◌, ◌||�
 use Rattle.std.specs.Prelude.{is_some, if◌then◌else◌}
 use Rattle.std.proofs.lemmas.Bool.{cases_eq}
 use Rattle.std.specs.FinMap as map
-use Rattle.instance_table.specs.declared.instances.Instance.{Instance as Entry}
-use Rattle.flat_design.specs.declared.design.ProcessPart.{ProcessPart}
-use Rattle.sim_model.specs.Configuration.{Config, Instance, change, change_instance, with_runnable}
-use Rattle.sim_model.specs.Waits.{holds, freed}
-use Rattle.sim_model.specs.Phases.{initialize_each}
-use Rattle.wake_laws.specs.Woken.{if_there}
-use Rattle.schedule.specs.Seen.{seen, shown_at, as_instance}
-use Rattle.schedule.specs.Sound as schedules
-use Rattle.schedule.specs.Moves.{MovesOne}
-use Rattle.schedule.specs.declared.parts.Process.{Process}
-use Rattle.schedule.specs.declared.parts.Schedule.{Schedule}
-use Rattle.process_moves.specs.Moved.{same_stack, is_suspended}
+use Rattle.kernel_state.specs.InstanceTable.declared.instances.Instance.{Instance as Entry}
+use Rattle.kernel_state.specs.FlatDesign.declared.design.ProcessPart.{ProcessPart}
+use Rattle.kernel_state.specs.SimModel.Configuration.{Config, Instance, change, change_instance, with_runnable}
+use Rattle.kernel_state.specs.SimModel.Waits.{holds, freed}
+use Rattle.kernel_state.specs.SimModel.Phases.{initialize_each}
+use Rattle.kernel_state.specs.KernelProcesses.Woken.{if_there}
+use Rattle.kernel_state.specs.KernelProcesses.Seen.{seen, shown_at, as_instance}
+use Rattle.kernel_state.specs.KernelProcesses.Sound as schedules
+use Rattle.kernel_state.specs.KernelProcesses.Moves.{MovesOne}
+use Rattle.kernel_state.specs.KernelProcesses.declared.parts.Process.{Process}
+use Rattle.kernel_state.specs.KernelProcesses.declared.parts.Schedule.{Schedule}
+use Rattle.kernel_state.specs.KernelProcesses.Moved.{same_stack, is_suspended}
 use Rattle.kernel_state.specs.Kernel.{Shows, StandsFor, IsSound, whole_design}
 use Rattle.kernel_state.specs.Moves.{Moves, Lives, KeepsBodies}
 use Rattle.kernel_state.specs.declared.kernel.Kept.{Kept}

@@ -1,8 +1,8 @@
 -- Which phase follows a notification phase.
 use Rattle.std.proofs.Common.{◌≡◌, ◌||◌, ℕ, true, false, List, [], ◌∷◌, sym, ap, ◌∙◌, refl, true≢false, eq-eqb}
-use Rattle.sim_model.specs.Waits.{holds}
-use Rattle.sim_model.specs.Phases.{phase_after}
-use Rattle.sim_model.specs.declared.plain.Phase.TheVariants as phase
+use Rattle.kernel_state.specs.SimModel.Waits.{holds}
+use Rattle.kernel_state.specs.SimModel.Phases.{phase_after}
+use Rattle.kernel_state.specs.SimModel.declared.plain.Phase.TheVariants as phase
 
 holds_first : (p : ℕ) (ps : List ℕ) → holds (p ∷ ps) p ≡ true
 holds_first p ps = ap (λ b. b || holds ps p) (eq-eqb p p refl)

@@ -1,20 +1,20 @@
 -- Events fire and those that are due wake: the kernel stands for what that makes of a configuration.
 use Rattle.std.proofs.Common.{◌≡◌, ◌≤◌, ◌+◌, ◌^◌, ℕ, Bool, false, List, [], ◌∷◌, map, refl, sym, ap, ◌∙◌, subst}
-use Rattle.event_core.specs.declared.event.Ev.TheVariants as ev
-use Rattle.event_core.specs.declared.notifications.Pending.{Pending}
-use Rattle.event_board.specs.Numbered.{fixed}
-use Rattle.sim_model.specs.Configuration.{Config, Instance, Deadline, no_deadline}
-use Rattle.sim_model.specs.Waits.{fire, fire_all, wake_all}
-use Rattle.sim_model.specs.Phases.{due_events, due_instances, without_pending, without_deadline, fire_due}
-use Rattle.wake_laws.specs.Woken as woken
-use Rattle.wake_laws.specs.Woken.{after_event, joins_by, after_wake, joins}
-use Rattle.wake_laws.proofs.Wakes.{fire_rouses}
-use Rattle.schedule.specs.Seen.{is_on}
-use Rattle.schedule.specs.Seen.{body_at as kept_at}
-use Rattle.schedule.specs.Sound as schedules
-use Rattle.schedule.specs.Moves.{Rouses}
-use Rattle.schedule.specs.declared.parts.Schedule.{Schedule}
-use Rattle.process_moves.specs.Times.{TakesDue, WakesThose, those_on, those_join}
+use Rattle.kernel_state.specs.EventCore.declared.event.Ev.TheVariants as ev
+use Rattle.kernel_state.specs.EventCore.declared.notifications.Pending.{Pending}
+use Rattle.kernel_state.specs.KernelEvents.Numbered.{fixed}
+use Rattle.kernel_state.specs.SimModel.Configuration.{Config, Instance, Deadline, no_deadline}
+use Rattle.kernel_state.specs.SimModel.Waits.{fire, fire_all, wake_all}
+use Rattle.kernel_state.specs.SimModel.Phases.{due_events, due_instances, without_pending, without_deadline, fire_due}
+use Rattle.kernel_state.specs.KernelProcesses.Woken as woken
+use Rattle.kernel_state.specs.KernelProcesses.Woken.{after_event, joins_by, after_wake, joins}
+use Rattle.kernel_state.proofs.KernelProcesses.Wakes.{fire_rouses}
+use Rattle.kernel_state.specs.KernelProcesses.Seen.{is_on}
+use Rattle.kernel_state.specs.KernelProcesses.Seen.{body_at as kept_at}
+use Rattle.kernel_state.specs.KernelProcesses.Sound as schedules
+use Rattle.kernel_state.specs.KernelProcesses.Moves.{Rouses}
+use Rattle.kernel_state.specs.KernelProcesses.declared.parts.Schedule.{Schedule}
+use Rattle.kernel_state.specs.KernelProcesses.Times.{TakesDue, WakesThose, those_on, those_join}
 use Rattle.kernel_state.specs.Processes.{StandsForProcesses}
 use Rattle.kernel_state.specs.Kernel.{Shows, StandsFor, IsSound, whole_design}
 use Rattle.kernel_state.specs.Moves.{Moves, KeepsBodies}

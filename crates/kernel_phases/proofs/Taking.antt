@@ -3,12 +3,12 @@ use Rattle.std.proofs.Common.{◌≡◌, ◌<◌, ◌+◌, ◌||◌, ℕ, zero, 
 use Rattle.std.specs.Prelude.{if◌then◌else◌, reverse}
 use Rattle.std.proofs.lemmas.Option.{slice_get-map}
 use Rattle.std.proofs.lemmas.List.{length-map}
-use Rattle.sim_model.specs.Configuration.{Instance, Processes, Deadline, no_deadline}
-use Rattle.sim_model.specs.Phases.{due_instances, without_deadline}
-use Rattle.wake_laws.specs.Woken.{if_there}
-use Rattle.schedule.specs.Seen.{bare, is_on, shown_at, body_at}
-use Rattle.schedule.specs.declared.parts.Schedule.{Schedule}
-use Rattle.process_moves.specs.Times.{TakesDue}
+use Rattle.kernel_state.specs.SimModel.Configuration.{Instance, Processes, Deadline, no_deadline}
+use Rattle.kernel_state.specs.SimModel.Phases.{due_instances, without_deadline}
+use Rattle.kernel_state.specs.KernelProcesses.Woken.{if_there}
+use Rattle.kernel_state.specs.KernelProcesses.Seen.{bare, is_on, shown_at, body_at}
+use Rattle.kernel_state.specs.KernelProcesses.declared.parts.Schedule.{Schedule}
+use Rattle.kernel_state.specs.KernelProcesses.Times.{TakesDue}
 use Rattle.kernel_state.specs.Processes.{Beside, beside, TellsBy, Tells, StandsForProcesses}
 use Rattle.kernel_state.proofs.ProcessFrames.{Agrees, tells_after}
 

@@ -3,26 +3,26 @@ use Rattle.std.proofs.Common.{◌≡◌, ◌≢◌, ◌==◌, ◌||◌, not, con
 use Rattle.std.specs.Prelude.{is_some, reverse, unwrap_or, if◌then◌else◌}
 use Rattle.std.specs.FinMap as map
 use Rattle.std.specs.FinSet as set
-use Rattle.instance_table.specs.declared.instances.Instance.{Instance as Entry}
-use Rattle.flat_design.specs.Code.{arena_of}
-use Rattle.sim_model.specs.Residual.{begun}
-use Rattle.sim_model.specs.Configuration.{Config, Instance, turn, change, changed_at, change_instance, instance_at, with_residual, with_stack, with_runnable, with_told, arena}
-use Rattle.sim_model.specs.Waits.{holds, without}
-use Rattle.sim_model.specs.Control.{begins}
-use Rattle.sim_model.specs.Steps.{turn_line, instance_taken}
-use Rattle.body_model.proofs.Strips.{strip-entered}
-use Rattle.wake_laws.proofs.Wakes.{change-here}
-use Rattle.process_state.specs.Bodies as bodies
-use Rattle.process_state.specs.Bodies.{left_in}
-use Rattle.process_state.specs.declared.body.Body.{Body}
-use Rattle.schedule.specs.Seen.{seen, shown_at, as_instance}
-use Rattle.schedule.specs.Seen.{body_at as kept_at}
-use Rattle.schedule.specs.Sound as schedules
-use Rattle.schedule.specs.Moves.{MovesOne}
-use Rattle.schedule.specs.declared.parts.Process.{Process}
-use Rattle.schedule.specs.declared.parts.Schedule.{Schedule}
-use Rattle.process_moves.specs.Moved.{joins_top, same_stack, started_as}
-use Rattle.process_moves.proofs.OtherBody.{puts_body}
+use Rattle.kernel_state.specs.InstanceTable.declared.instances.Instance.{Instance as Entry}
+use Rattle.kernel_state.specs.FlatDesign.Code.{arena_of}
+use Rattle.kernel_state.specs.SimModel.Residual.{begun}
+use Rattle.kernel_state.specs.SimModel.Configuration.{Config, Instance, turn, change, changed_at, change_instance, instance_at, with_residual, with_stack, with_runnable, with_told, arena}
+use Rattle.kernel_state.specs.SimModel.Waits.{holds, without}
+use Rattle.kernel_state.specs.SimModel.Control.{begins}
+use Rattle.kernel_state.specs.SimModel.Steps.{turn_line, instance_taken}
+use Rattle.kernel_state.proofs.KernelBodies.Strips.{strip-entered}
+use Rattle.kernel_state.proofs.KernelProcesses.Wakes.{change-here}
+use Rattle.kernel_state.specs.ProcessState.Bodies as bodies
+use Rattle.kernel_state.specs.ProcessState.Bodies.{left_in}
+use Rattle.kernel_state.specs.ProcessState.declared.body.Body.{Body}
+use Rattle.kernel_state.specs.KernelProcesses.Seen.{seen, shown_at, as_instance}
+use Rattle.kernel_state.specs.KernelProcesses.Seen.{body_at as kept_at}
+use Rattle.kernel_state.specs.KernelProcesses.Sound as schedules
+use Rattle.kernel_state.specs.KernelProcesses.Moves.{MovesOne}
+use Rattle.kernel_state.specs.KernelProcesses.declared.parts.Process.{Process}
+use Rattle.kernel_state.specs.KernelProcesses.declared.parts.Schedule.{Schedule}
+use Rattle.kernel_state.specs.KernelProcesses.Moved.{joins_top, same_stack, started_as}
+use Rattle.kernel_state.proofs.KernelProcesses.OtherBody.{puts_body}
 use Rattle.kernel_state.specs.Processes.{beside, TellsBy, Tells}
 use Rattle.kernel_state.specs.Kernel.{Shows, StandsFor, IsSound, whole_design}
 use Rattle.kernel_state.specs.Moves.{Moves, MovesAt, Lives}

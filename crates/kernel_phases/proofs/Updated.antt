@@ -1,21 +1,21 @@
 -- Channels are updated, and what that announced is pending.
 use Rattle.std.proofs.Common.{◌≡◌, ◌+◌, ℕ, Bool, true, false, List, [], ◌∷◌, length, refl, sym, ap, ◌∙◌, subst}
-use Rattle.event_core.specs.declared.notifications.Pending.{Pending}
-use Rattle.sim_model.specs.Configuration.{Config, Channels, Cycle}
-use Rattle.sim_model.specs.Phases.{channels_updated, update_phase, resolved_change, was_some}
-use Rattle.event_core.specs.declared.notifications.When.TheVariants as when
-use Rattle.event_core.specs.Notifications.{notified}
-use Rattle.signal_channel.specs.Signals.{change_of}
-use Rattle.signal_channel.specs.Drivers.{Driven}
-use Rattle.signal_channel.specs.declared.signal.Signal.{Signal}
-use Rattle.signal_channel.specs.declared.signal.Changed.{Changed}
-use Rattle.fifo_sync.specs.Fifos.{Queued}
-use Rattle.flat_design.specs.declared.design.SignalPart.{SignalPart}
-use Rattle.flat_design.specs.declared.design.ResolvedPart.{ResolvedPart}
-use Rattle.flat_design.specs.declared.design.FifoPart.{FifoPart}
-use Rattle.flat_design.specs.declared.design.Design.{Design}
-use Rattle.wake_laws.proofs.Wakes.{change-length}
-use Rattle.channel_board.specs.Announced.{delta_if, told, told_by_signals, told_by_resolved, told_by_fifos, told_by}
+use Rattle.kernel_state.specs.EventCore.declared.notifications.Pending.{Pending}
+use Rattle.kernel_state.specs.SimModel.Configuration.{Config, Channels, Cycle}
+use Rattle.kernel_state.specs.SimModel.Phases.{channels_updated, update_phase, resolved_change, was_some}
+use Rattle.kernel_state.specs.EventCore.declared.notifications.When.TheVariants as when
+use Rattle.kernel_state.specs.EventCore.Notifications.{notified}
+use Rattle.kernel_state.specs.SignalChannel.Signals.{change_of}
+use Rattle.kernel_state.specs.SignalChannel.Drivers.{Driven}
+use Rattle.kernel_state.specs.SignalChannel.declared.signal.Signal.{Signal}
+use Rattle.kernel_state.specs.SignalChannel.declared.signal.Changed.{Changed}
+use Rattle.kernel_state.specs.FifoSync.Fifos.{Queued}
+use Rattle.kernel_state.specs.FlatDesign.declared.design.SignalPart.{SignalPart}
+use Rattle.kernel_state.specs.FlatDesign.declared.design.ResolvedPart.{ResolvedPart}
+use Rattle.kernel_state.specs.FlatDesign.declared.design.FifoPart.{FifoPart}
+use Rattle.kernel_state.specs.FlatDesign.declared.design.Design.{Design}
+use Rattle.kernel_state.proofs.KernelProcesses.Wakes.{change-length}
+use Rattle.kernel_state.specs.KernelChannels.Announced.{delta_if, told, told_by_signals, told_by_resolved, told_by_fifos, told_by}
 use Rattle.kernel_state.specs.Kernel.{StandsFor, IsSound, cycle_of}
 use Rattle.kernel_state.specs.Moves.{Moves}
 use Rattle.kernel_state.specs.declared.kernel.Cycle.{Cycle as Kept}

@@ -2,12 +2,12 @@
 use Rattle.std.proofs.Common.{◌≡◌, ◌&&◌, ◌||◌, ℕ, Bool, true, false, List, [], ◌∷◌, slice_get, Option, Some, None, option_map, refl, sym, ap, ◌∙◌, eq-eqb, ne_eqb, ⊎_elim}
 use Rattle.std.specs.Prelude.{if◌then◌else◌}
 use Rattle.std.proofs.lemmas.Bool.{cases_eq}
-use Rattle.sim_model.specs.Configuration.{Config, Instance, no_deadline}
-use Rattle.sim_model.specs.Waits.{freed, holds, is_active, wake, wake_all}
-use Rattle.wake_laws.specs.Woken.{if_there, is_deaf, roused, after_wake, joins, at_only, joins_only, Rouses}
-use Rattle.wake_laws.proofs.Wakes.{wake_rouses}
-use Rattle.schedule.specs.Seen.{bare, is_on}
-use Rattle.process_moves.specs.Times.{those_on, those_join}
+use Rattle.kernel_state.specs.SimModel.Configuration.{Config, Instance, no_deadline}
+use Rattle.kernel_state.specs.SimModel.Waits.{freed, holds, is_active, wake, wake_all}
+use Rattle.kernel_state.specs.KernelProcesses.Woken.{if_there, is_deaf, roused, after_wake, joins, at_only, joins_only, Rouses}
+use Rattle.kernel_state.proofs.KernelProcesses.Wakes.{wake_rouses}
+use Rattle.kernel_state.specs.KernelProcesses.Seen.{bare, is_on}
+use Rattle.kernel_state.specs.KernelProcesses.Times.{those_on, those_join}
 use Rattle.kernel_state.specs.Processes.{Beside, beside}
 use Rattle.kernel_state.proofs.ProcessFrames.{Rousing, rousing_wake}
 

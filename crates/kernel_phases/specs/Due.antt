@@ -1,13 +1,13 @@
 -- A kernel between the taking of what is due and its wakes.
 use Rattle.std.specs.Prelude.{◌≡◌, ◌≤◌, ◌+◌, ◌^◌, ℕ, List, [], length, vec_capacity, Some}
 use Rattle.std.specs.Global.{Vec}
-use Rattle.event_board.specs.Numbered.{fixed}
-use Rattle.sim_model.specs.Configuration.{Config}
-use Rattle.sim_model.specs.Waits.{fire_all, wake_all}
-use Rattle.process_state.specs.Bodies as bodies
-use Rattle.schedule.specs.Seen.{is_on, body_at}
-use Rattle.schedule.specs.Sound as schedules
-use Rattle.transaction_board.specs.Board.{IsWithin}
+use Rattle.kernel_state.specs.KernelEvents.Numbered.{fixed}
+use Rattle.kernel_state.specs.SimModel.Configuration.{Config}
+use Rattle.kernel_state.specs.SimModel.Waits.{fire_all, wake_all}
+use Rattle.kernel_state.specs.ProcessState.Bodies as bodies
+use Rattle.kernel_state.specs.KernelProcesses.Seen.{is_on, body_at}
+use Rattle.kernel_state.specs.KernelProcesses.Sound as schedules
+use Rattle.kernel_state.specs.KernelTransactions.Board.{IsWithin}
 use Rattle.kernel_state.specs.Kernel.{StandsFor}
 use Rattle.kernel_state.specs.declared.kernel.Kept.{Kept}
 use Rattle.kernel_state.specs.declared.kernel.Kernel.{Kernel}

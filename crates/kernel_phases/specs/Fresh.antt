@@ -1,7 +1,7 @@
 -- A kernel whose processes have not begun.
 use Rattle.std.specs.Prelude.{◌≡◌, ◌<◌, ℕ, false, [], length}
 use Rattle.std.specs.FinMap as map
-use Rattle.process_moves.specs.Moved.{is_suspended}
+use Rattle.kernel_state.specs.KernelProcesses.Moved.{is_suspended}
 use Rattle.kernel_state.specs.Moves.{Lives}
 use Rattle.kernel_state.specs.declared.kernel.Kernel.{Kernel}
 

@@ -1,7 +1,7 @@
 -- Whether a body has begun.
 use Rattle.std.specs.Prelude.{Bool, true, Option, Some, None}
-use Rattle.instance_table.specs.declared.instances.Instance.{Instance as Entry}
-use Rattle.schedule.specs.declared.parts.Process.{Process}
+use Rattle.kernel_state.specs.InstanceTable.declared.instances.Instance.{Instance as Entry}
+use Rattle.kernel_state.specs.KernelProcesses.declared.parts.Process.{Process}
 use Rattle.kernel_state.specs.declared.kernel.Kept.{Kept}
 
 -- where there is no instance there is nothing to begin

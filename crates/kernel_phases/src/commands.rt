@@ -1,15 +1,15 @@
 //! What a script asks of a kernel.
 ghost use Rattle.std.specs.Prelude.{◌≡◌, slice_get, true, false};
-ghost use Rattle.sim_model.specs.Configuration.{Config};
-ghost use Rattle.sim_model.specs.Steps as step;
+ghost use Rattle.kernel_state.specs.SimModel.Configuration.{Config};
+ghost use Rattle.kernel_state.specs.SimModel.Steps as step;
 ghost use Rattle.kernel_state.specs.Kernel.{StandsFor, IsSound};
 ghost use Rattle.kernel_state.specs.Moves.{Moves, Follows, KeepsBodies};
 
-use flat_design::{RunFault, VisibleId};
 use kernel_state::Kernel;
-use logic_values::Value;
-use sim_model::Phase;
-use sim_time::{Time, add};
+use kernel_state::flat_design_api::{RunFault, VisibleId};
+use kernel_state::logic_values_api::Value;
+use kernel_state::sim_model_api::Phase;
+use kernel_state::sim_time_api::{Time, add};
 
 /// Asks for an update of an object that has values to be seen, by its number among these in object order; the script is no
 /// writer. Nothing changes where there is none of this number, or where it is a resolved signal. It takes no memory.

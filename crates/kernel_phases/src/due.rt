@@ -1,21 +1,20 @@
 //! What is due fires, and what waited until then wakes.
 ghost use Rattle.std.specs.Prelude.{◌≡◌, ◌≤◌, [], ℕ, List, length, vec_capacity};
-ghost use Rattle.event_board.specs.Numbered.{fixed};
-ghost use Rattle.sim_model.specs.Configuration.{Config};
-ghost use Rattle.sim_model.specs.Phases as phases;
-ghost use Rattle.sim_model.specs.Waits.{fire_all, wake_all};
-ghost use Rattle.schedule.specs.Seen.{is_on};
+ghost use Rattle.kernel_state.specs.KernelEvents.Numbered.{fixed};
+ghost use Rattle.kernel_state.specs.SimModel.Configuration.{Config};
+ghost use Rattle.kernel_state.specs.SimModel.Phases as phases;
+ghost use Rattle.kernel_state.specs.SimModel.Waits.{fire_all, wake_all};
+ghost use Rattle.kernel_state.specs.KernelProcesses.Seen.{is_on};
 ghost use Rattle.kernel_state.specs.Kernel.{StandsFor, IsSound};
 ghost use Rattle.kernel_state.specs.Moves.{Moves, KeepsBodies};
 ghost use Rattle.kernel_phases.specs.Due.{IsBetween, HasRoom, SetsOff};
 
 use super::updates::set_phase;
-use event_core::Ev;
 use kernel_state::Kernel;
-use process_moves::{take_zero, wake_due};
-use ready_set::least_of_a_set;
-use schedule::fire;
-use sim_model::Phase;
+use kernel_state::event_core_api::Ev;
+use kernel_state::kernel_processes_api::{fire, take_zero, wake_due};
+use kernel_state::ready_set_api::least_of_a_set;
+use kernel_state::sim_model_api::Phase;
 
 /// Fires events one after another.
 fn fire_events(k: &mut Kernel, events: &[u32])

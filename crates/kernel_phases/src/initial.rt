@@ -1,6 +1,6 @@
 //! Initialization.
 ghost use Rattle.std.specs.Prelude.{◌≡◌, ◌≤◌, length};
-ghost use Rattle.sim_model.specs.Phases as phases;
+ghost use Rattle.kernel_state.specs.SimModel.Phases as phases;
 ghost use Rattle.kernel_state.specs.Kernel.{IsSound};
 ghost use Rattle.kernel_state.specs.Moves.{Moves, KeepsBodies};
 ghost use Rattle.kernel_phases.specs.Due.{HasRoom};
@@ -9,8 +9,8 @@ ghost use Rattle.kernel_phases.specs.Fresh.{IsFresh};
 use super::due::notify_deltas;
 use super::updates::{set_phase, update_channels};
 use kernel_state::Kernel;
-use process_moves::initialize as make_runnable;
-use sim_model::Phase;
+use kernel_state::kernel_processes_api::initialize as make_runnable;
+use kernel_state::sim_model_api::Phase;
 
 /// Makes every process runnable that is not left out.
 fn make_all_runnable(k: &mut Kernel)

@@ -1,7 +1,7 @@
 //! The timed notification phase.
 ghost use Rattle.std.specs.Prelude.{◌≡◌, ◌==◌, not, option_map};
-ghost use Rattle.sim_model.specs.Configuration.{Config, with_phase};
-ghost use Rattle.sim_model.specs.Phases as phases;
+ghost use Rattle.kernel_state.specs.SimModel.Configuration.{Config, with_phase};
+ghost use Rattle.kernel_state.specs.SimModel.Phases as phases;
 ghost use Rattle.kernel_state.specs.Kernel.{StandsFor, IsSound};
 ghost use Rattle.kernel_state.specs.Moves.{Moves, KeepsBodies};
 ghost use Rattle.kernel_phases.specs.Due.{HasRoom};
@@ -9,9 +9,9 @@ ghost use Rattle.kernel_phases.specs.Due.{HasRoom};
 use super::due::{phase_after, set_off};
 use super::updates::set_phase;
 use kernel_state::Kernel;
-use process_moves::{earliest as earliest_deadline, take_due};
-use sim_model::Phase;
-use sim_time::Time;
+use kernel_state::kernel_processes_api::{earliest as earliest_deadline, take_due};
+use kernel_state::sim_model_api::Phase;
+use kernel_state::sim_time_api::Time;
 
 /// The earlier of a time and one that there may be.
 fn earlier(a: Option<Time>, b: Time) -> Option<Time>

@@ -2,16 +2,16 @@
 ghost use Rattle.std.specs.Prelude.{◌≡◌, [], true, IfSome, IfNone, is_some};
 ghost use Rattle.std.specs.FinMap as map;
 ghost use Rattle.std.specs.FinSet as set;
-ghost use Rattle.sim_model.specs.Configuration.{change_instance, with_residual, instance_at, arena};
-ghost use Rattle.sim_model.specs.Control as control;
-ghost use Rattle.sim_model.specs.Residual.{begun};
-ghost use Rattle.sim_model.specs.Steps.{instance_taken};
+ghost use Rattle.kernel_state.specs.SimModel.Configuration.{change_instance, with_residual, instance_at, arena};
+ghost use Rattle.kernel_state.specs.SimModel.Control as control;
+ghost use Rattle.kernel_state.specs.SimModel.Residual.{begun};
+ghost use Rattle.kernel_state.specs.SimModel.Steps.{instance_taken};
 ghost use Rattle.kernel_state.specs.Kernel.{IsSound};
 ghost use Rattle.kernel_state.specs.Moves.{Moves, MovesAt, Lives};
 ghost use Rattle.kernel_phases.specs.Turns.{is_begun};
 
 use kernel_state::Kernel;
-use process_moves::{begin, take};
+use kernel_state::kernel_processes_api::{begin, take};
 
 /// Whether the body of an instance has begun.
 fn is_begun(k: &Kernel, p: u32) -> bool

@@ -1,13 +1,13 @@
 //! The update phase.
 ghost use Rattle.std.specs.Prelude.{◌≡◌, length};
-ghost use Rattle.sim_model.specs.Configuration.{with_phase};
-ghost use Rattle.sim_model.specs.Phases as phases;
+ghost use Rattle.kernel_state.specs.SimModel.Configuration.{with_phase};
+ghost use Rattle.kernel_state.specs.SimModel.Phases as phases;
 ghost use Rattle.kernel_state.specs.Kernel.{IsSound};
 ghost use Rattle.kernel_state.specs.Moves.{Moves, KeepsBodies};
 
-use channel_board::what_an_update_phase_announces;
 use kernel_state::Kernel;
-use sim_model::Phase;
+use kernel_state::kernel_channels_api::what_an_update_phase_announces;
+use kernel_state::sim_model_api::Phase;
 
 /// Another phase comes next.
 pub(crate) fn set_phase(k: &mut Kernel, x: Phase)

@@ -4,26 +4,26 @@ use Rattle.std.specs.Prelude.{is_some, IsSomeAnd}
 use Rattle.std.proofs.lemmas.List.{reverse-append}
 use Rattle.std.specs.FinSet as set
 use Rattle.flat_design.specs.declared.faults.RunFault.{RunFault}
-use Rattle.sim_model.specs.Configuration.{Config, Instance, instance_at}
-use Rattle.sim_model.specs.Waits.{holds}
-use Rattle.sim_model.specs.Statements.{statement_step}
-use Rattle.sim_model.specs.Phases.{update_step}
-use Rattle.sim_model.specs.Steps.{takes, as_outcome, evaluate, taken_if, taking}
-use Rattle.sim_model.specs.Runs.{Chooser, picked, held_then}
+use Rattle.kernel_phases.specs.SimModel.Configuration.{Config, Instance, instance_at}
+use Rattle.kernel_phases.specs.SimModel.Waits.{holds}
+use Rattle.kernel_phases.specs.SimModel.Statements.{statement_step}
+use Rattle.kernel_phases.specs.SimModel.Phases.{update_step}
+use Rattle.kernel_phases.specs.SimModel.Steps.{takes, as_outcome, evaluate, taken_if, taking}
+use Rattle.kernel_phases.specs.SimModel.Runs.{Chooser, picked, held_then}
 use Rattle.std.specs.FinMap as map
-use Rattle.instance_table.specs.declared.instances.Instance.{Instance as Entry}
-use Rattle.schedule.specs.Seen.{Seen, seen, shown_at}
-use Rattle.schedule.specs.Seen.{body_at as kept_at}
-use Rattle.schedule.specs.Sound.{IsNobody, FitsAs, Fits}
-use Rattle.schedule.specs.declared.parts.Process.{Process}
-use Rattle.process_choice.proofs.Chosen.{alike}
-use Rattle.process_choice.proofs.Sure.{sure}
-use Rattle.kernel_state.specs.Processes.{Tells}
-use Rattle.kernel_state.specs.Kernel.{Shows, StandsFor, IsSound, whole_design}
-use Rattle.kernel_state.specs.Moves.{Moves, IsOnTop, Lives}
-use Rattle.kernel_state.specs.declared.kernel.Kept.{Kept}
-use Rattle.kernel_state.specs.declared.kernel.Kernel.{Kernel}
-use Rattle.kernel_state.proofs.Frames.{shown_where_lives, lives_on_top}
+use Rattle.kernel_phases.specs.InstanceTable.declared.instances.Instance.{Instance as Entry}
+use Rattle.kernel_phases.specs.KernelProcesses.Seen.{Seen, seen, shown_at}
+use Rattle.kernel_phases.specs.KernelProcesses.Seen.{body_at as kept_at}
+use Rattle.kernel_phases.specs.KernelProcesses.Sound.{IsNobody, FitsAs, Fits}
+use Rattle.kernel_phases.specs.KernelProcesses.declared.parts.Process.{Process}
+use Rattle.kernel_phases.proofs.Chosen.{alike}
+use Rattle.kernel_phases.proofs.Sure.{sure}
+use Rattle.kernel_phases.specs.KernelState.Processes.{Tells}
+use Rattle.kernel_phases.specs.KernelState.Kernel.{Shows, StandsFor, IsSound, whole_design}
+use Rattle.kernel_phases.specs.KernelState.Moves.{Moves, IsOnTop, Lives}
+use Rattle.kernel_phases.specs.KernelState.declared.kernel.Kept.{Kept}
+use Rattle.kernel_phases.specs.KernelState.declared.kernel.Kernel.{Kernel}
+use Rattle.kernel_phases.proofs.KernelState.Frames.{shown_where_lives, lives_on_top}
 use Rattle.kernel_steps.specs.Told.{TellsAll, MakesStep}
 use Rattle.kernel_steps.specs.declared.answers.StepAnswer.{StepAnswer}
 use Rattle.kernel_steps.specs.declared.answers.StepAnswer.TheVariants as answer

@@ -1,15 +1,15 @@
 -- A taking follows what is picked from the runnable list, in whatever order the configuration has it.
 use Rattle.std.proofs.Common.{◌≡◌, ◌≤◌, ℕ, Bool, true, false, Option, Some, None, refl, sym, ap, ◌∙◌, subst}
 use Rattle.std.specs.FinSet as set
-use Rattle.ready_set.specs.Ready.{rising}
-use Rattle.sim_model.specs.Clean.{times}
-use Rattle.sim_model.specs.Configuration.{Config, instance_at}
-use Rattle.sim_model.specs.Steps.{taking, taken_if, instance_taken}
-use Rattle.sim_model.specs.Runs.{Chooser, picked}
-use Rattle.process_choice.proofs.Chosen.{alike}
-use Rattle.kernel_state.specs.Kernel.{StandsFor}
-use Rattle.kernel_state.specs.Moves.{Moves}
-use Rattle.kernel_state.specs.declared.kernel.Kernel.{Kernel}
+use Rattle.kernel_phases.specs.ReadySet.Ready.{rising}
+use Rattle.kernel_phases.specs.SimModel.Clean.{times}
+use Rattle.kernel_phases.specs.SimModel.Configuration.{Config, instance_at}
+use Rattle.kernel_phases.specs.SimModel.Steps.{taking, taken_if, instance_taken}
+use Rattle.kernel_phases.specs.SimModel.Runs.{Chooser, picked}
+use Rattle.kernel_phases.proofs.Chosen.{alike}
+use Rattle.kernel_phases.specs.KernelState.Kernel.{StandsFor}
+use Rattle.kernel_phases.specs.KernelState.Moves.{Moves}
+use Rattle.kernel_phases.specs.KernelState.declared.kernel.Kernel.{Kernel}
 use Rattle.kernel_runs.specs.Taken.{taking_of, FollowsTaking, Takes}
 
 module _ (old : Kernel) (k : Chooser) (o : Option ℕ) (is : o ≡ picked k (rising old.schedule.ready.members)) where

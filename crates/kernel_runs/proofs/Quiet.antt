@@ -1,17 +1,17 @@
 -- The phases keep the design and the script's rest, and tell nothing.
 use Rattle.std.proofs.Common.{◌==◌, ◌++◌, ℕ, suc, Bool, true, List, [], ◌∷◌, Option, Some, None, refl, sym, ap, subst}
 use Rattle.std.specs.Prelude.{map, unwrap_or}
-use Rattle.event_core.specs.declared.event.Ev.{Ev}
-use Rattle.event_core.specs.declared.notifications.Pending.{Pending}
+use Rattle.kernel_phases.specs.EventCore.declared.event.Ev.{Ev}
+use Rattle.kernel_phases.specs.EventCore.declared.notifications.Pending.{Pending}
 use Rattle.flat_design.specs.declared.design.ProcessPart.{ProcessPart}
-use Rattle.channel_board.proofs.Telling.{phase_told}
-use Rattle.sim_model.specs.Configuration.{Config, Deadline, instance_at, change_instance, with_runnable, with_phase}
-use Rattle.sim_model.specs.Waits.{freed, fire, fire_all, wake, wake_all}
-use Rattle.sim_model.specs.Phases.{with_snapshot, update_phase, without_pending, without_deadline, due_events, due_instances, fire_due, is_delta, is_zero_timeout, delta_step, initialize_each, initialization, unchanged, now_becomes, is_at, is_due_at, is_past, run_over, phase_at, fired_at, timed_at, timed_step, update_step, earliest}
-use Rattle.sim_model.specs.Steps.{went}
-use Rattle.sim_model.specs.declared.plain.Phase.TheVariants as phase
-use Rattle.kernel_state.specs.Kernel.{StandsFor}
-use Rattle.kernel_state.specs.declared.kernel.Kernel.{Kernel}
+use Rattle.kernel_phases.proofs.KernelChannels.Telling.{phase_told}
+use Rattle.kernel_phases.specs.SimModel.Configuration.{Config, Deadline, instance_at, change_instance, with_runnable, with_phase}
+use Rattle.kernel_phases.specs.SimModel.Waits.{freed, fire, fire_all, wake, wake_all}
+use Rattle.kernel_phases.specs.SimModel.Phases.{with_snapshot, update_phase, without_pending, without_deadline, due_events, due_instances, fire_due, is_delta, is_zero_timeout, delta_step, initialize_each, initialization, unchanged, now_becomes, is_at, is_due_at, is_past, run_over, phase_at, fired_at, timed_at, timed_step, update_step, earliest}
+use Rattle.kernel_phases.specs.SimModel.Steps.{went}
+use Rattle.kernel_phases.specs.SimModel.declared.plain.Phase.TheVariants as phase
+use Rattle.kernel_phases.specs.KernelState.Kernel.{StandsFor}
+use Rattle.kernel_phases.specs.KernelState.declared.kernel.Kernel.{Kernel}
 use Rattle.kernel_steps.specs.Kept.{Quiet}
 use Rattle.kernel_steps.proofs.Silent.{either, fire_quiet, wake_quiet}
 use Rattle.kernel_runs.specs.Made.{GoesTo}

@@ -1,21 +1,21 @@
 -- Commands of a script.
 use Rattle.std.proofs.Common.{◌≡◌, ℕ, ◌+◌, false, [], ◌∷◌, ◌++◌, Option, Some, None, Result, Ok, Err, sym, ap, ◌∙◌, refl, append-nil}
 use Rattle.std.specs.Prelude.{slice_get}
-use Rattle.sim_time.specs.declared.moments.Time.{Time}
-use Rattle.logic_values.specs.declared.kinds.Value.{Value}
+use Rattle.kernel_phases.specs.SimTime.declared.moments.Time.{Time}
+use Rattle.kernel_phases.specs.LogicValues.declared.kinds.Value.{Value}
 use Rattle.flat_design.specs.declared.design.Visible.{Visible}
 use Rattle.flat_design.specs.declared.design.VisibleId.{VisibleId}
 use Rattle.flat_design.specs.declared.design.VisibleId.TheVariants as visible_id
 use Rattle.flat_design.specs.declared.faults.RunFault.{RunFault}
-use Rattle.sim_model.specs.Values.{on_ok, time_within}
-use Rattle.sim_model.specs.Configuration.{Config, Told, line, path_of, with_told}
-use Rattle.sim_model.specs.Phases.{visible_value}
-use Rattle.sim_model.specs.Steps.{went, as_outcome, step, next_command, begin_run, run_begun, show_line, shows, sets, sets_visible}
-use Rattle.sim_model.specs.declared.plain.Phase.TheVariants as phase
-use Rattle.kernel_state.specs.Kernel.{StandsFor}
-use Rattle.kernel_state.specs.Moves.{Follows}
-use Rattle.kernel_state.specs.declared.kernel.Kernel.{Kernel}
-use Rattle.kernel_state.proofs.Frames.{trace_moves}
+use Rattle.kernel_phases.specs.SimModel.Values.{on_ok, time_within}
+use Rattle.kernel_phases.specs.SimModel.Configuration.{Config, Told, line, path_of, with_told}
+use Rattle.kernel_phases.specs.SimModel.Phases.{visible_value}
+use Rattle.kernel_phases.specs.SimModel.Steps.{went, as_outcome, step, next_command, begin_run, run_begun, show_line, shows, sets, sets_visible}
+use Rattle.kernel_phases.specs.SimModel.declared.plain.Phase.TheVariants as phase
+use Rattle.kernel_phases.specs.KernelState.Kernel.{StandsFor}
+use Rattle.kernel_phases.specs.KernelState.Moves.{Follows}
+use Rattle.kernel_phases.specs.KernelState.declared.kernel.Kernel.{Kernel}
+use Rattle.kernel_phases.proofs.KernelState.Frames.{trace_moves}
 use Rattle.kernel_runs.specs.Made.{GoesTo, IsFault, told_by_show}
 use Rattle.kernel_runs.specs.declared.answers.Telling.TheVariants as telling
 

@@ -1,12 +1,12 @@
 -- The taking of an instance, and what is told of it.
 use Rattle.std.proofs.Common.{◌≡◌, ◌++◌, ◌∷◌, [], ℕ, Bool, true, false, Some, None, refl, sym, ap, ◌∙◌, subst}
 use Rattle.std.specs.Prelude.{option_map, if◌then◌else◌}
-use Rattle.wake_laws.proofs.Wakes.{change-here}
-use Rattle.sim_model.specs.Residual.{begun}
-use Rattle.sim_model.specs.Configuration.{Config, Instance, turn, instance_at, change_instance, with_runnable, with_stack, with_told, arena}
-use Rattle.sim_model.specs.Waits.{holds, without}
-use Rattle.sim_model.specs.Control.{begins}
-use Rattle.sim_model.specs.Steps.{turn_line, instance_taken, taken_if, taking}
+use Rattle.kernel_phases.proofs.KernelProcesses.Wakes.{change-here}
+use Rattle.kernel_phases.specs.SimModel.Residual.{begun}
+use Rattle.kernel_phases.specs.SimModel.Configuration.{Config, Instance, turn, instance_at, change_instance, with_runnable, with_stack, with_told, arena}
+use Rattle.kernel_phases.specs.SimModel.Waits.{holds, without}
+use Rattle.kernel_phases.specs.SimModel.Control.{begins}
+use Rattle.kernel_phases.specs.SimModel.Steps.{turn_line, instance_taken, taken_if, taking}
 use Rattle.kernel_runs.specs.Made.{TellsTurn}
 
 -- an instance is there, with this path, at the same time, with the same rest of the script

@@ -1,12 +1,12 @@
 -- What a step of a session asks of its kernel.
 use Rattle.std.specs.Prelude.{◌≡◌, ℕ}
-use Rattle.sim_model.specs.declared.plain.Phase.TheVariants as phase
-use Rattle.body_code.specs.declared.program.Program.{Program}
-use Rattle.kernel_state.specs.Moves.{IsOnTop}
-use Rattle.kernel_state.specs.declared.kernel.Kernel.{Kernel}
+use Rattle.kernel_phases.specs.SimModel.declared.plain.Phase.TheVariants as phase
+use Rattle.kernel_phases.specs.KernelBodies.declared.program.Program.{Program}
+use Rattle.kernel_phases.specs.KernelState.Moves.{IsOnTop}
+use Rattle.kernel_phases.specs.KernelState.declared.kernel.Kernel.{Kernel}
 use Rattle.kernel_phases.specs.Fresh.{IsFresh}
-use Rattle.control_statements.specs.Thrown.{OthersHaveNoGoal}
-use Rattle.guard_statements.specs.Unwound.{ThrowsFreeNext}
+use Rattle.kernel_steps.specs.ExecControl.Thrown.{OthersHaveNoGoal}
+use Rattle.kernel_steps.specs.ExecControl.Unwound.{ThrowsFreeNext}
 use Rattle.kernel_steps.specs.Ready.{Ready}
 
 -- In a run of a sound design all of it holds.

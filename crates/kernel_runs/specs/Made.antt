@@ -2,15 +2,15 @@
 use Rattle.std.specs.Prelude.{◌≡◌, ◌≤◌, ℕ, false, List, [], ◌∷◌, ◌++◌, slice_get, Option, Some, None}
 use Rattle.flat_design.specs.declared.design.Visible.{Visible}
 use Rattle.flat_design.specs.declared.faults.RunFault.{RunFault}
-use Rattle.sim_model.specs.Clean.{times}
-use Rattle.sim_model.specs.Configuration.{Config, Instance, Told, line, turn, instance_at, path_of}
-use Rattle.sim_model.specs.Phases.{visible_value}
-use Rattle.sim_model.specs.Steps.{Outcome, went, faulted, takes, ended, show_line, turn_line, taking}
-use Rattle.sim_model.specs.Runs.{Chooser, picked, held_then}
-use Rattle.sim_model.specs.declared.plain.Command.{Command}
-use Rattle.process_choice.specs.Own.{ChoosesItself}
-use Rattle.kernel_state.specs.Kernel.{StandsFor}
-use Rattle.kernel_state.specs.declared.kernel.Kernel.{Kernel}
+use Rattle.kernel_phases.specs.SimModel.Clean.{times}
+use Rattle.kernel_phases.specs.SimModel.Configuration.{Config, Instance, Told, line, turn, instance_at, path_of}
+use Rattle.kernel_phases.specs.SimModel.Phases.{visible_value}
+use Rattle.kernel_phases.specs.SimModel.Steps.{Outcome, went, faulted, takes, ended, show_line, turn_line, taking}
+use Rattle.kernel_phases.specs.SimModel.Runs.{Chooser, picked, held_then}
+use Rattle.kernel_phases.specs.SimModel.declared.plain.Command.{Command}
+use Rattle.kernel_phases.specs.Own.{ChoosesItself}
+use Rattle.kernel_phases.specs.KernelState.Kernel.{StandsFor}
+use Rattle.kernel_phases.specs.KernelState.declared.kernel.Kernel.{Kernel}
 use Rattle.kernel_steps.specs.Told.{AddsLine}
 use Rattle.kernel_steps.specs.declared.answers.StepAnswer.{StepAnswer}
 use Rattle.kernel_steps.specs.declared.answers.StepAnswer.TheVariants as answer

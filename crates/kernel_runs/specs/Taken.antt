@@ -1,11 +1,11 @@
 -- What the taking of the process that is picked makes of a kernel.
 use Rattle.std.specs.Prelude.{◌≡◌, ◌≤◌, ℕ, Option, Some, None}
-use Rattle.sim_model.specs.Clean.{times}
-use Rattle.sim_model.specs.Configuration.{Config}
-use Rattle.sim_model.specs.Steps.{taking}
-use Rattle.sim_model.specs.Runs.{Chooser, picked}
-use Rattle.kernel_state.specs.Kernel.{StandsFor}
-use Rattle.kernel_state.specs.declared.kernel.Kernel.{Kernel}
+use Rattle.kernel_phases.specs.SimModel.Clean.{times}
+use Rattle.kernel_phases.specs.SimModel.Configuration.{Config}
+use Rattle.kernel_phases.specs.SimModel.Steps.{taking}
+use Rattle.kernel_phases.specs.SimModel.Runs.{Chooser, picked}
+use Rattle.kernel_phases.specs.KernelState.Kernel.{StandsFor}
+use Rattle.kernel_phases.specs.KernelState.declared.kernel.Kernel.{Kernel}
 
 -- the taking of what is picked: there is none where none is picked or the one that is picked is not runnable
 abbrev pub taking_of : Config → Option ℕ → Option Config

@@ -3,8 +3,8 @@ ghost use Rattle.std.specs.Prelude.{◌≡◌};
 ghost use Rattle.kernel_runs.specs.Made.{made_of};
 
 use flat_design::{RunFault, StmtId};
+use kernel_phases::logic_values_api::Value;
 use kernel_steps::StepAnswer;
-use logic_values::Value;
 
 /// What a report tells of a step.
 #[derive(Clone, Copy)]

@@ -1,13 +1,13 @@
 //! Commands of a script.
 ghost use Rattle.std.specs.Prelude.{◌≡◌, ◌≤◌, drop, length};
-ghost use Rattle.sim_model.specs.Steps as spec;
-ghost use Rattle.kernel_state.specs.Kernel.{IsSound};
+ghost use Rattle.kernel_phases.specs.SimModel.Steps as spec;
+ghost use Rattle.kernel_phases.specs.KernelState.Kernel.{IsSound};
 ghost use Rattle.kernel_runs.specs.Made.{Makes, StepsOn, IsPlain};
 
 use crate::answers::{Made, Telling};
+use kernel_phases::kernel_state_api::Kernel;
+use kernel_phases::sim_model_api::Command;
 use kernel_phases::{begin_run, set_signal};
-use kernel_state::Kernel;
-use sim_model::Command;
 
 /// Carries a command out.
 fn carry_out(k: &mut Kernel, command: Command) -> Made

@@ -1,21 +1,20 @@
 //! The evaluation phase.
 ghost use Rattle.std.specs.Prelude.{◌≡◌, []};
-ghost use Rattle.sim_model.specs.Steps.{evaluate};
-ghost use Rattle.sim_model.specs.Runs.{Chooser};
-ghost use Rattle.kernel_state.specs.Kernel.{IsSound};
-ghost use Rattle.kernel_state.specs.Moves.{IsOnTop};
+ghost use Rattle.kernel_phases.specs.SimModel.Steps.{evaluate};
+ghost use Rattle.kernel_phases.specs.SimModel.Runs.{Chooser};
+ghost use Rattle.kernel_phases.specs.KernelState.Kernel.{IsSound};
+ghost use Rattle.kernel_phases.specs.KernelState.Moves.{IsOnTop};
 ghost use Rattle.kernel_runs.specs.Asked.{MayStep};
 ghost use Rattle.kernel_runs.specs.Made.{Makes, Rules};
 
 use crate::answers::{Made, Telling, of_instance};
 use crate::takings::take_next;
-use body_code::Program;
-use kernel_phases::update;
-use kernel_state::Kernel;
+use kernel_phases::kernel_bodies_api::Program;
+use kernel_phases::kernel_processes_api::top;
+use kernel_phases::kernel_state_api::Kernel;
+use kernel_phases::ready_set_api::least_of_a_set;
+use kernel_phases::{Choosing, update};
 use kernel_steps::step_statement;
-use process_choice::Choosing;
-use process_moves::top;
-use ready_set::least_of_a_set;
 use std::alloc::Global;
 
 /// With no instance active, the rule picks a runnable one, which is taken; with none runnable either the update phase follows.

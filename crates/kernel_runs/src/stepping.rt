@@ -1,9 +1,9 @@
 //! One step of a session.
 ghost use Rattle.std.specs.Prelude.{◌≡◌, ◌≢◌, ◌≤◌, [], drop, length, false, OnOk};
-ghost use Rattle.sim_model.specs.Phases as phases;
-ghost use Rattle.sim_model.specs.Steps as spec;
-ghost use Rattle.sim_model.specs.declared.plain.Phase.TheVariants as phase;
-ghost use Rattle.kernel_state.specs.Kernel.{IsSound};
+ghost use Rattle.kernel_phases.specs.SimModel.Phases as phases;
+ghost use Rattle.kernel_phases.specs.SimModel.Steps as spec;
+ghost use Rattle.kernel_phases.specs.SimModel.declared.plain.Phase.TheVariants as phase;
+ghost use Rattle.kernel_phases.specs.KernelState.Kernel.{IsSound};
 ghost use Rattle.kernel_phases.specs.Due.{HasRoom};
 ghost use Rattle.kernel_phases.specs.Fresh.{IsFresh};
 ghost use Rattle.kernel_runs.specs.Asked.{MayStep};
@@ -12,11 +12,10 @@ ghost use Rattle.kernel_runs.specs.Made.{Makes, StepsOn, Rules, IsPlain};
 use crate::answers::{Made, Telling};
 use crate::commands::next_command;
 use crate::evaluation::evaluate;
-use body_code::Program;
-use kernel_phases::{delta, initialize, timed};
-use kernel_state::Kernel;
-use process_choice::Choosing;
-use sim_model::{Command, Phase};
+use kernel_phases::kernel_bodies_api::Program;
+use kernel_phases::kernel_state_api::Kernel;
+use kernel_phases::sim_model_api::{Command, Phase};
+use kernel_phases::{Choosing, delta, initialize, timed};
 use std::alloc::{AllocError, Global};
 
 /// Room for all events in a list without members.

@@ -1,12 +1,11 @@
 //! The next process to run.
 ghost use Rattle.std.specs.Prelude.{◌≡◌, [], None};
-ghost use Rattle.sim_model.specs.Runs.{held_then};
-ghost use Rattle.kernel_state.specs.Kernel.{IsSound};
+ghost use Rattle.kernel_phases.specs.SimModel.Runs.{held_then};
+ghost use Rattle.kernel_phases.specs.KernelState.Kernel.{IsSound};
 ghost use Rattle.kernel_runs.specs.Taken.{Takes};
 
-use kernel_phases::turn;
-use kernel_state::Kernel;
-use process_choice::Choosing;
+use kernel_phases::kernel_state_api::Kernel;
+use kernel_phases::{Choosing, turn};
 
 /// Takes the runnable process that a rule of choices picks, which is asked once, and says which it is (IEEE 1666-2011,
 /// 4.2.1.2). None is taken, and nothing of the kernel changes, where the rule picks none or one that is not runnable:

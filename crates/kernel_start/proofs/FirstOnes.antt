@@ -5,25 +5,25 @@ use Rattle.std.proofs.lemmas.Bool.{cases_eq}
 use Rattle.std.proofs.lemmas.List.{map-append}
 use Rattle.std.specs.FinMap as maps
 use Rattle.std.specs.FinSet as set
-use Rattle.event_core.specs.declared.event.Ev.{Ev}
-use Rattle.instance_table.specs.declared.instances.Instance.{Instance as Entry}
-use Rattle.instance_table.specs.declared.instances.ProcessKind.{ProcessKind}
-use Rattle.flat_design.specs.Code.{arena_of}
-use Rattle.flat_design.specs.declared.design.Design.{Design}
-use Rattle.flat_design.specs.declared.design.ProcessPart.{ProcessPart}
-use Rattle.sim_model.specs.Residual.{skip}
-use Rattle.sim_model.specs.Configuration.{Instance, Processes, first_instance, path_of}
-use Rattle.sim_model.specs.Waits.{holds}
-use Rattle.body_code.specs.declared.program.Program.{Program}
-use Rattle.process_state.specs.Bodies as bodies
-use Rattle.process_state.specs.Bodies.{left_in}
-use Rattle.process_state.specs.declared.body.Body.{Body}
-use Rattle.schedule.specs.Seen.{seen, bare, as_instance, shown_at, kind_of}
-use Rattle.schedule.specs.Seen.{body_at as kept_at}
-use Rattle.schedule.specs.Sound as schedules
-use Rattle.schedule.specs.declared.parts.Process.{Process}
-use Rattle.schedule.specs.declared.parts.Schedule.{Schedule}
-use Rattle.process_moves.specs.Moved.{Spawns, spawned_as}
+use Rattle.kernel_state.specs.EventCore.declared.event.Ev.{Ev}
+use Rattle.kernel_state.specs.InstanceTable.declared.instances.Instance.{Instance as Entry}
+use Rattle.kernel_state.specs.InstanceTable.declared.instances.ProcessKind.{ProcessKind}
+use Rattle.kernel_state.specs.FlatDesign.Code.{arena_of}
+use Rattle.kernel_state.specs.FlatDesign.declared.design.Design.{Design}
+use Rattle.kernel_state.specs.FlatDesign.declared.design.ProcessPart.{ProcessPart}
+use Rattle.kernel_state.specs.SimModel.Residual.{skip}
+use Rattle.kernel_state.specs.SimModel.Configuration.{Instance, Processes, first_instance, path_of}
+use Rattle.kernel_state.specs.SimModel.Waits.{holds}
+use Rattle.kernel_state.specs.KernelBodies.declared.program.Program.{Program}
+use Rattle.kernel_state.specs.ProcessState.Bodies as bodies
+use Rattle.kernel_state.specs.ProcessState.Bodies.{left_in}
+use Rattle.kernel_state.specs.ProcessState.declared.body.Body.{Body}
+use Rattle.kernel_state.specs.KernelProcesses.Seen.{seen, bare, as_instance, shown_at, kind_of}
+use Rattle.kernel_state.specs.KernelProcesses.Seen.{body_at as kept_at}
+use Rattle.kernel_state.specs.KernelProcesses.Sound as schedules
+use Rattle.kernel_state.specs.KernelProcesses.declared.parts.Process.{Process}
+use Rattle.kernel_state.specs.KernelProcesses.declared.parts.Schedule.{Schedule}
+use Rattle.kernel_state.specs.KernelProcesses.Moved.{Spawns, spawned_as}
 use Rattle.kernel_state.specs.Processes.{beside, StandsForProcesses}
 use Rattle.kernel_state.specs.Kernel.{Shows}
 use Rattle.kernel_start.specs.Made.{IsMade, with_process, Adds, AddsAll}

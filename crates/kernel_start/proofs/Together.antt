@@ -1,18 +1,18 @@
 -- The parts that a kernel begins with, together.
 use Rattle.std.proofs.Common.{◌≡◌, ◌≤◌, ◌+◌, ◌^◌, List, [], length, map, replicate, refl, sym, ap, ◌∙◌, subst, arith}
 use Rattle.std.specs.Global.{Vec}
-use Rattle.instance_table.specs.declared.TheConstants.{MAX_LIVE}
-use Rattle.event_core.specs.declared.notifications.Pending.TheVariants as pending
-use Rattle.quantum_keeper.specs.Keepers.{at_start}
-use Rattle.flat_design.specs.declared.design.Design.{Design}
-use Rattle.flat_design.specs.declared.design.ProcessPart.{ProcessPart}
-use Rattle.flat_design.specs.declared.design.VariablePart.{VariablePart}
-use Rattle.flat_design.specs.declared.design.MemoryPart.{MemoryPart}
-use Rattle.sim_model.specs.Configuration.{start, first_channels, first_instance}
-use Rattle.sim_model.specs.declared.plain.Command.{Command}
-use Rattle.body_code.specs.declared.program.Program.{Program}
-use Rattle.schedule.specs.declared.parts.Schedule.{Schedule}
-use Rattle.transaction_board.specs.Board.{StandsForTransactions, StandsForQuantum, IsWithin}
+use Rattle.kernel_state.specs.InstanceTable.declared.TheConstants.{MAX_LIVE}
+use Rattle.kernel_state.specs.EventCore.declared.notifications.Pending.TheVariants as pending
+use Rattle.kernel_state.specs.QuantumKeeper.Keepers.{at_start}
+use Rattle.kernel_state.specs.FlatDesign.declared.design.Design.{Design}
+use Rattle.kernel_state.specs.FlatDesign.declared.design.ProcessPart.{ProcessPart}
+use Rattle.kernel_state.specs.FlatDesign.declared.design.VariablePart.{VariablePart}
+use Rattle.kernel_state.specs.FlatDesign.declared.design.MemoryPart.{MemoryPart}
+use Rattle.kernel_state.specs.SimModel.Configuration.{start, first_channels, first_instance}
+use Rattle.kernel_state.specs.SimModel.declared.plain.Command.{Command}
+use Rattle.kernel_state.specs.KernelBodies.declared.program.Program.{Program}
+use Rattle.kernel_state.specs.KernelProcesses.declared.parts.Schedule.{Schedule}
+use Rattle.kernel_state.specs.KernelTransactions.Board.{StandsForTransactions, StandsForQuantum, IsWithin}
 use Rattle.kernel_state.specs.Processes.{StandsForProcesses}
 use Rattle.kernel_state.specs.Kernel.{Shows, StandsFor, IsSound, cycle_of}
 use Rattle.kernel_state.specs.declared.kernel.Cycle.{Cycle}

@@ -1,14 +1,14 @@
 -- The processes of a design before the first command.
 use Rattle.std.specs.Prelude.{◌≡◌, ℕ, List, [], ◌∷◌, ◌++◌, map, false, Some, None}
-use Rattle.flat_design.specs.declared.design.Design.{Design}
-use Rattle.flat_design.specs.declared.design.ProcessPart.{ProcessPart}
-use Rattle.sim_model.specs.Configuration.{Cycle, Processes, first_instance}
-use Rattle.sim_model.specs.declared.plain.Phase.TheVariants as phase
-use Rattle.body_code.specs.declared.program.Program.{Program}
-use Rattle.process_state.specs.Bodies as bodies
-use Rattle.schedule.specs.Seen.{body_at as kept_at}
-use Rattle.schedule.specs.Sound as schedules
-use Rattle.schedule.specs.declared.parts.Schedule.{Schedule}
+use Rattle.kernel_state.specs.FlatDesign.declared.design.Design.{Design}
+use Rattle.kernel_state.specs.FlatDesign.declared.design.ProcessPart.{ProcessPart}
+use Rattle.kernel_state.specs.SimModel.Configuration.{Cycle, Processes, first_instance}
+use Rattle.kernel_state.specs.SimModel.declared.plain.Phase.TheVariants as phase
+use Rattle.kernel_state.specs.KernelBodies.declared.program.Program.{Program}
+use Rattle.kernel_state.specs.ProcessState.Bodies as bodies
+use Rattle.kernel_state.specs.KernelProcesses.Seen.{body_at as kept_at}
+use Rattle.kernel_state.specs.KernelProcesses.Sound as schedules
+use Rattle.kernel_state.specs.KernelProcesses.declared.parts.Schedule.{Schedule}
 use Rattle.kernel_state.specs.Processes.{StandsForProcesses}
 use Rattle.kernel_state.specs.Kernel.{Shows}
 use Rattle.kernel_state.specs.declared.kernel.Kept.{Kept}

@@ -5,4 +5,6 @@ mod making;
 mod parts;
 mod processes;
 
+pub use kernel_state as kernel_state_api;
+pub use kernel_state::kernel_bodies_api as kernel_bodies_api;
 pub use making::first_kernel;

@@ -1,23 +1,23 @@
 //! The parts of the first kernel, together.
 ghost use Rattle.std.specs.Prelude.{◌≡◌, ◌≤◌, ◌<◌, ℕ, List, IfOk, Contains, length};
-ghost use Rattle.instance_table.specs.declared.TheConstants.{MAX_LIVE};
-ghost use Rattle.flat_design.specs.Code as code;
-ghost use Rattle.flat_design.specs.Code.{arena_of};
-ghost use Rattle.flat_design.specs.Reach.{IsIn, inner_blocks};
-ghost use Rattle.sim_model.specs.Configuration.{start};
-ghost use Rattle.sim_model.specs.declared.plain.Command.{Command};
+ghost use Rattle.kernel_state.specs.InstanceTable.declared.TheConstants.{MAX_LIVE};
+ghost use Rattle.kernel_state.specs.FlatDesign.Code as code;
+ghost use Rattle.kernel_state.specs.FlatDesign.Code.{arena_of};
+ghost use Rattle.kernel_state.specs.FlatDesign.Reach.{IsIn, inner_blocks};
+ghost use Rattle.kernel_state.specs.SimModel.Configuration.{start};
+ghost use Rattle.kernel_state.specs.SimModel.declared.plain.Command.{Command};
 ghost use Rattle.kernel_state.specs.Kernel.{StandsFor, IsSound, cycle_of};
 ghost use Rattle.kernel_start.specs.Made.{first_cycle};
 
 use crate::parts::{First, first_parts};
 use crate::processes::first_processes;
-use body_code::Program;
-use flat_design::{Code, Design};
+use kernel_state::flat_design_api::{Code, Design};
+use kernel_state::kernel_bodies_api::Program;
+use kernel_state::kernel_processes_api::Schedule;
+use kernel_state::plain_lists_api::Items;
+use kernel_state::sim_model_api::Phase;
+use kernel_state::sim_time_api::Time;
 use kernel_state::{Cycle, Kept, Kernel};
-use plain_lists::Items;
-use schedule::Schedule;
-use sim_model::Phase;
-use sim_time::Time;
 use std::alloc::{AllocError, Global};
 use std::mem;
 

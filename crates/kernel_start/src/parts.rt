@@ -1,19 +1,19 @@
 //! What there is beside the processes before the first command.
 ghost use Rattle.std.specs.Prelude.{◌≡◌, [], IfOk, length, map, replicate};
-ghost use Rattle.quantum_keeper.specs.Keepers.{at_start};
-ghost use Rattle.flat_design.specs.declared.design.VariablePart.{VariablePart as Variable};
-ghost use Rattle.flat_design.specs.declared.design.MemoryPart.{MemoryPart as Memory};
-ghost use Rattle.sim_model.specs.Configuration.{first_channels};
-ghost use Rattle.transaction_board.specs.Board.{StandsForTransactions, StandsForQuantum, IsWithin};
+ghost use Rattle.kernel_state.specs.QuantumKeeper.Keepers.{at_start};
+ghost use Rattle.kernel_state.specs.FlatDesign.declared.design.VariablePart.{VariablePart as Variable};
+ghost use Rattle.kernel_state.specs.FlatDesign.declared.design.MemoryPart.{MemoryPart as Memory};
+ghost use Rattle.kernel_state.specs.SimModel.Configuration.{first_channels};
+ghost use Rattle.kernel_state.specs.KernelTransactions.Board.{StandsForTransactions, StandsForQuantum, IsWithin};
 
-use channel_board::ChannelBoard;
-use event_board::EventBoard;
-use event_core::Pending;
-use flat_design::{Design, MemoryPart, VariablePart};
-use logic_values::Value;
-use plain_lists::{Bytes, Items};
+use kernel_state::event_core_api::Pending;
+use kernel_state::flat_design_api::{Design, MemoryPart, VariablePart};
+use kernel_state::kernel_channels_api::ChannelBoard;
+use kernel_state::kernel_events_api::EventBoard;
+use kernel_state::kernel_transactions_api::TransactionBoard;
+use kernel_state::logic_values_api::Value;
+use kernel_state::plain_lists_api::{Bytes, Items};
 use std::alloc::{AllocError, Global};
-use transaction_board::TransactionBoard;
 
 /// What there is beside the processes before the first command.
 #[derive(Drop)]

@@ -1,18 +1,17 @@
 //! The processes of a design before the first command.
 ghost use Rattle.std.specs.Prelude.{◌≡◌, ◌≤◌, ◌<◌, ◌+◌, ◌-◌, ◌^◌, ℕ, IfOk, OnOk, length};
-ghost use Rattle.instance_table.specs.declared.TheConstants.{MAX_LIVE};
-ghost use Rattle.schedule.specs.Seen.{kind_of};
+ghost use Rattle.kernel_state.specs.InstanceTable.declared.TheConstants.{MAX_LIVE};
+ghost use Rattle.kernel_state.specs.KernelProcesses.Seen.{kind_of};
 ghost use Rattle.kernel_start.specs.Made.{IsMade, Adds, AddsAll};
 
-use body_code::Program;
-use flat_design::ProcessPart;
-use instance_table::ProcessKind;
+use kernel_state::flat_design_api::ProcessPart;
+use kernel_state::instance_table_api::ProcessKind;
+use kernel_state::kernel_bodies_api::Program;
+use kernel_state::kernel_processes_api::{Schedule, empty, spawn};
+use kernel_state::model_tree_api::ProcessKind as Kind;
+use kernel_state::plain_lists_api::Items;
+use kernel_state::process_state_api::Body;
 use kernel_state::{Kept, PathOf};
-use model_tree::ProcessKind as Kind;
-use plain_lists::Items;
-use process_moves::spawn;
-use process_state::Body;
-use schedule::{Schedule, empty};
 use std::alloc::{AllocError, Global};
 
 fn kind_by(kind: Kind) -> ProcessKind

@@ -1,18 +1,18 @@
 -- A byte of a payload is written.
 use Rattle.std.proofs.Common.{◌≡◌, ℕ, Bool, true, false, length, refl, sym, ap, ◌∙◌, subst, true≢false}
 use Rattle.std.specs.Prelude.{nat_lt, Result, Ok, Err, if◌then◌else◌}
-use Rattle.flat_design.specs.declared.faults.RunFault.{RunFault}
-use Rattle.flat_design.specs.declared.faults.RunFault.TheVariants as fault
-use Rattle.flat_design.specs.declared.names.PayloadBytes.{PayloadBytes}
-use Rattle.sim_model.specs.Values.{on_ok, index_within}
-use Rattle.sim_model.specs.Residual.{settle}
-use Rattle.sim_model.specs.Configuration.{Config, arena}
-use Rattle.sim_model.specs.Reading.{live_payload}
-use Rattle.sim_model.specs.Statements.{settled_in}
-use Rattle.sim_model.specs.Storing.{passes, bytes_in, set_payload, with_byte}
-use Rattle.transaction_board.specs.Board as board
-use Rattle.transaction_board.specs.Board.{StandsForTransactions, SameQuantum}
-use Rattle.transaction_board.specs.declared.TransactionBoard.{TransactionBoard}
+use Rattle.kernel_processes.specs.FlatDesign.declared.faults.RunFault.{RunFault}
+use Rattle.kernel_processes.specs.FlatDesign.declared.faults.RunFault.TheVariants as fault
+use Rattle.kernel_processes.specs.FlatDesign.declared.names.PayloadBytes.{PayloadBytes}
+use Rattle.kernel_processes.specs.SimModel.Values.{on_ok, index_within}
+use Rattle.kernel_processes.specs.SimModel.Residual.{settle}
+use Rattle.kernel_processes.specs.SimModel.Configuration.{Config, arena}
+use Rattle.kernel_processes.specs.SimModel.Reading.{live_payload}
+use Rattle.kernel_processes.specs.SimModel.Statements.{settled_in}
+use Rattle.kernel_processes.specs.SimModel.Storing.{passes, bytes_in, set_payload, with_byte}
+use Rattle.kernel_transactions.specs.Board as board
+use Rattle.kernel_transactions.specs.Board.{StandsForTransactions, SameQuantum}
+use Rattle.kernel_transactions.specs.declared.TransactionBoard.{TransactionBoard}
 use Rattle.kernel_state.specs.Kernel.{StandsFor}
 use Rattle.kernel_state.specs.Moves.{Steps, Does}
 use Rattle.kernel_state.specs.declared.kernel.Kernel.{Kernel}

@@ -4,21 +4,21 @@ use Rattle.std.specs.Prelude.{filter, is_some, unwrap_or, nat_lt, if◌then◌el
 use Rattle.std.specs.Ordering.{nat_cmp}
 use Rattle.std.specs.FinMap as map
 use Rattle.std.proofs.lemmas.Bool.{cases_eq, cases_lt, lt-ltb, le-ltb}
-use Rattle.map_lemmas.proofs.MapLemmas.{same_gets, is_updated, len-updated, get-remove_same, get-remove_other}
-use Rattle.instance_table.specs.declared.TheConstants.{MAX_LIVE}
-use Rattle.instance_table.specs.declared.SpawnStop.{SpawnStop}
-use Rattle.instance_table.specs.declared.SpawnStop.TheVariants as spawn_stop
-use Rattle.instance_table.specs.declared.instances.Instance.{Instance as Entry}
-use Rattle.flat_design.specs.declared.faults.RunFault.{RunFault}
-use Rattle.flat_design.specs.declared.faults.RunFault.TheVariants as fault
-use Rattle.sim_model.specs.Residual.{Residual, settle}
-use Rattle.sim_model.specs.Configuration.{Config, Instance, changed_at, arena}
-use Rattle.sim_model.specs.Statements.{settled_in}
-use Rattle.sim_model.specs.Calls.{is_alive, may_spawn}
-use Rattle.schedule.specs.Seen.{seen, shown_at, as_instance}
-use Rattle.schedule.specs.Seen.{body_at as kept_at}
-use Rattle.schedule.specs.declared.parts.Process.{Process}
-use Rattle.schedule.specs.declared.parts.Schedule.{Schedule}
+use Rattle.kernel_processes.proofs.Lemmas.MapLemmas.{same_gets, is_updated, len-updated, get-remove_same, get-remove_other}
+use Rattle.kernel_processes.specs.InstanceTable.declared.TheConstants.{MAX_LIVE}
+use Rattle.kernel_processes.specs.InstanceTable.declared.SpawnStop.{SpawnStop}
+use Rattle.kernel_processes.specs.InstanceTable.declared.SpawnStop.TheVariants as spawn_stop
+use Rattle.kernel_processes.specs.InstanceTable.declared.instances.Instance.{Instance as Entry}
+use Rattle.kernel_processes.specs.FlatDesign.declared.faults.RunFault.{RunFault}
+use Rattle.kernel_processes.specs.FlatDesign.declared.faults.RunFault.TheVariants as fault
+use Rattle.kernel_processes.specs.SimModel.Residual.{Residual, settle}
+use Rattle.kernel_processes.specs.SimModel.Configuration.{Config, Instance, changed_at, arena}
+use Rattle.kernel_processes.specs.SimModel.Statements.{settled_in}
+use Rattle.kernel_processes.specs.SimModel.Calls.{is_alive, may_spawn}
+use Rattle.kernel_processes.specs.Seen.{seen, shown_at, as_instance}
+use Rattle.kernel_processes.specs.Seen.{body_at as kept_at}
+use Rattle.kernel_processes.specs.declared.parts.Process.{Process}
+use Rattle.kernel_processes.specs.declared.parts.Schedule.{Schedule}
 use Rattle.kernel_state.specs.Processes.{TellsBy, Tells}
 use Rattle.kernel_state.specs.Kernel.{IsSound, Shows, StandsFor, whole_design}
 use Rattle.kernel_state.specs.Moves.{Lives}

@@ -3,17 +3,17 @@ use Rattle.std.proofs.Common.{◌≡◌, ◌&&◌, ℕ, Bool, true, false, List,
 use Rattle.std.specs.Prelude.{is_some, if◌then◌else◌, Result, Ok, Err}
 use Rattle.std.proofs.lemmas.Bool.{cases_eq}
 use Rattle.std.specs.FinMap as map
-use Rattle.flat_design.specs.declared.faults.RunFault.{RunFault}
-use Rattle.flat_design.specs.declared.faults.RunFault.TheVariants as fault
-use Rattle.sim_model.specs.Residual.{has_goal, goal}
-use Rattle.sim_model.specs.Unwinding.{unw, left_by_unw}
-use Rattle.sim_model.specs.Configuration.{Config, Instance, change, instance_at, with_residual}
-use Rattle.sim_model.specs.Calls.{with_left}
-use Rattle.sim_model.specs.Control.{is_top, is_below_top, pushed, pushed_unless_top, unwinds, ends_or_restarts, unless_ended}
-use Rattle.sim_model.specs.declared.plain.Goal.{Goal}
-use Rattle.wake_laws.proofs.Wakes.{change-here, change-other}
-use Rattle.schedule.specs.Seen.{shown_at}
-use Rattle.schedule.specs.Seen.{body_at as kept_at}
+use Rattle.kernel_processes.specs.FlatDesign.declared.faults.RunFault.{RunFault}
+use Rattle.kernel_processes.specs.FlatDesign.declared.faults.RunFault.TheVariants as fault
+use Rattle.kernel_processes.specs.SimModel.Residual.{has_goal, goal}
+use Rattle.kernel_processes.specs.SimModel.Unwinding.{unw, left_by_unw}
+use Rattle.kernel_processes.specs.SimModel.Configuration.{Config, Instance, change, instance_at, with_residual}
+use Rattle.kernel_processes.specs.SimModel.Calls.{with_left}
+use Rattle.kernel_processes.specs.SimModel.Control.{is_top, is_below_top, pushed, pushed_unless_top, unwinds, ends_or_restarts, unless_ended}
+use Rattle.kernel_processes.specs.SimModel.declared.plain.Goal.{Goal}
+use Rattle.kernel_processes.proofs.Wakes.{change-here, change-other}
+use Rattle.kernel_processes.specs.Seen.{shown_at}
+use Rattle.kernel_processes.specs.Seen.{body_at as kept_at}
 use Rattle.kernel_state.specs.Processes.{TellsBy, Tells}
 use Rattle.kernel_state.specs.Kernel.{Shows, StandsFor, whole_design}
 use Rattle.kernel_state.specs.Moves.{Follows, Lives}

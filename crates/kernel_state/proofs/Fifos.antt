@@ -1,15 +1,15 @@
 -- A write to a fifo.
 use Rattle.std.proofs.Common.{◌≡◌, ◌==◌, ◌+◌, ◌++◌, not, ℕ, zero, suc, Bool, true, false, List, [], ◌∷◌, slice_get, slice_set, Option, Some, None, option_map, refl, sym, ap, ◌∙◌, subst, true≢false}
 use Rattle.std.specs.Prelude.{is_some, if◌then◌else◌, unwrap_or}
-use Rattle.logic_values.specs.declared.kinds.Value.{Value}
-use Rattle.event_core.specs.declared.event.Ev.TheVariants as ev
-use Rattle.fifo_sync.specs.Fifos.{Queued, free, after_write}
-use Rattle.flat_design.specs.declared.design.ChannelId.TheVariants as channel
-use Rattle.sim_model.specs.Residual.{Residual, settle, put, skip}
-use Rattle.sim_model.specs.Configuration.{Config, Instance, Channels, changed_at, change, instance_at, arena}
-use Rattle.sim_model.specs.Storing.{passes}
-use Rattle.sim_model.specs.Channels.{blocks, set_fifo, write_fifo}
-use Rattle.sim_model.specs.Statements.{settled_in}
+use Rattle.kernel_processes.specs.LogicValues.declared.kinds.Value.{Value}
+use Rattle.kernel_processes.specs.EventCore.declared.event.Ev.TheVariants as ev
+use Rattle.kernel_processes.specs.FifoSync.Fifos.{Queued, free, after_write}
+use Rattle.kernel_processes.specs.FlatDesign.declared.design.ChannelId.TheVariants as channel
+use Rattle.kernel_processes.specs.SimModel.Residual.{Residual, settle, put, skip}
+use Rattle.kernel_processes.specs.SimModel.Configuration.{Config, Instance, Channels, changed_at, change, instance_at, arena}
+use Rattle.kernel_processes.specs.SimModel.Storing.{passes}
+use Rattle.kernel_processes.specs.SimModel.Channels.{blocks, set_fifo, write_fifo}
+use Rattle.kernel_processes.specs.SimModel.Statements.{settled_in}
 use Rattle.kernel_state.specs.Kernel.{StandsFor}
 use Rattle.kernel_state.specs.Moves.{Moves, Steps, stepped}
 use Rattle.kernel_state.specs.declared.kernel.Kernel.{Kernel}

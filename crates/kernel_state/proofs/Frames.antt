@@ -4,39 +4,39 @@ use Rattle.std.specs.Prelude.{is_some}
 use Rattle.std.proofs.lemmas.Bool.{cases_eq}
 use Rattle.std.specs.FinMap as map
 use Rattle.std.specs.FinSet as set
-use Rattle.event_core.specs.declared.event.Ev.{Ev}
-use Rattle.event_core.specs.declared.notifications.Pending.{Pending}
-use Rattle.logic_values.specs.declared.kinds.Value.{Value}
-use Rattle.instance_table.specs.declared.instances.Instance.{Instance as Entry}
-use Rattle.flat_design.specs.Code.{Arena, arena_of}
-use Rattle.sim_model.specs.Residual.{Residual, settle, in_innermost, goal}
-use Rattle.sim_model.specs.Unwinding.{unw}
-use Rattle.sim_model.specs.declared.plain.Goal.{Goal}
-use Rattle.sim_model.specs.Configuration as model
-use Rattle.sim_model.specs.Configuration.{Config, Instance, Processes, Channels, Transactions, Trace, changed_at, change, change_instance, instance_at, with_residual, with_marks, arena}
-use Rattle.sim_model.specs.Waits.{holds, fire, wake, waits, leaves_stack}
-use Rattle.sim_model.specs.Statements.{settled_in}
-use Rattle.sim_model.specs.Storing.{with_local, set_local}
-use Rattle.body_model.specs.Strip.{strip}
-use Rattle.body_model.proofs.Strips.{strip-settle, strip-in_innermost, strip-unw}
-use Rattle.numbered_slots.specs.Numbered.{with_value}
-use Rattle.wake_laws.specs.Woken.{after_wake, joins, after_event, joins_by, at_only, joins_only}
-use Rattle.process_moves.proofs.OtherBody.{puts_body, puts_sound}
-use Rattle.schedule.proofs.Sounding.{on_top}
-use Rattle.wake_laws.proofs.Wakes.{set-here, change-here, change-other, wake_rouses, fire_rouses}
+use Rattle.kernel_processes.specs.EventCore.declared.event.Ev.{Ev}
+use Rattle.kernel_processes.specs.EventCore.declared.notifications.Pending.{Pending}
+use Rattle.kernel_processes.specs.LogicValues.declared.kinds.Value.{Value}
+use Rattle.kernel_processes.specs.InstanceTable.declared.instances.Instance.{Instance as Entry}
+use Rattle.kernel_processes.specs.FlatDesign.Code.{Arena, arena_of}
+use Rattle.kernel_processes.specs.SimModel.Residual.{Residual, settle, in_innermost, goal}
+use Rattle.kernel_processes.specs.SimModel.Unwinding.{unw}
+use Rattle.kernel_processes.specs.SimModel.declared.plain.Goal.{Goal}
+use Rattle.kernel_processes.specs.SimModel.Configuration as model
+use Rattle.kernel_processes.specs.SimModel.Configuration.{Config, Instance, Processes, Channels, Transactions, Trace, changed_at, change, change_instance, instance_at, with_residual, with_marks, arena}
+use Rattle.kernel_processes.specs.SimModel.Waits.{holds, fire, wake, waits, leaves_stack}
+use Rattle.kernel_processes.specs.SimModel.Statements.{settled_in}
+use Rattle.kernel_processes.specs.SimModel.Storing.{with_local, set_local}
+use Rattle.process_state.specs.KernelBodies.Strip.{strip}
+use Rattle.process_state.proofs.KernelBodies.Strips.{strip-settle, strip-in_innermost, strip-unw}
+use Rattle.kernel_processes.specs.NumberedSlots.Numbered.{with_value}
+use Rattle.kernel_processes.specs.Woken.{after_wake, joins, after_event, joins_by, at_only, joins_only}
+use Rattle.kernel_processes.proofs.OtherBody.{puts_body, puts_sound}
+use Rattle.kernel_processes.proofs.Sounding.{on_top}
+use Rattle.kernel_processes.proofs.Wakes.{set-here, change-here, change-other, wake_rouses, fire_rouses}
 use Rattle.process_state.specs.Bodies as bodies
 use Rattle.process_state.specs.Bodies.{left_in}
 use Rattle.process_state.specs.declared.body.Body.{Body}
-use Rattle.schedule.specs.Seen.{seen, shown_at, is_on, as_instance, deadline_of}
-use Rattle.schedule.specs.Seen.{body_at as kept_at}
-use Rattle.schedule.specs.Sound as schedules
-use Rattle.schedule.specs.Moves.{MovesOne, Rouses}
-use Rattle.schedule.specs.declared.parts.Process.{Process}
-use Rattle.schedule.specs.declared.parts.Schedule.{Schedule}
-use Rattle.schedule.specs.declared.parts.Trigger.{Trigger}
-use Rattle.process_moves.specs.Moved.{IsTop, same_stack, leaves_top, joins_top, Stays, Ends, Spawns, PutsBody, wait_as, waits_as}
-use Rattle.transaction_board.specs.Board.{StandsForTransactions, SameQuantum, IsWithin}
-use Rattle.transaction_board.specs.declared.TransactionBoard.{TransactionBoard}
+use Rattle.kernel_processes.specs.Seen.{seen, shown_at, is_on, as_instance, deadline_of}
+use Rattle.kernel_processes.specs.Seen.{body_at as kept_at}
+use Rattle.kernel_processes.specs.Sound as schedules
+use Rattle.kernel_processes.specs.Moves.{MovesOne, Rouses}
+use Rattle.kernel_processes.specs.declared.parts.Process.{Process}
+use Rattle.kernel_processes.specs.declared.parts.Schedule.{Schedule}
+use Rattle.kernel_processes.specs.declared.parts.Trigger.{Trigger}
+use Rattle.kernel_processes.specs.Moved.{IsTop, same_stack, leaves_top, joins_top, Stays, Ends, Spawns, PutsBody, wait_as, waits_as}
+use Rattle.kernel_transactions.specs.Board.{StandsForTransactions, SameQuantum, IsWithin}
+use Rattle.kernel_transactions.specs.declared.TransactionBoard.{TransactionBoard}
 use Rattle.kernel_state.specs.Processes.{Beside, beside, TellsBy, Tells, StandsForProcesses}
 use Rattle.kernel_state.specs.Kernel.{Shows, StandsFor, IsSound, whole_design, path_in}
 use Rattle.kernel_state.specs.Moves.{Moves, MovesAt, Steps, stepped, Lives, HasStatement, KeepsBodies}

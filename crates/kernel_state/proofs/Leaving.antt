@@ -2,18 +2,18 @@
 use Rattle.std.proofs.Common.{◌≡◌, ◌<◌, ◌+◌, ℕ, zero, suc, List, [], ◌∷◌, ◌++◌, take, length, slice_get, Option, Some, None, refl, sym, ap, ◌∙◌, subst, arith, true≢false}
 use Rattle.std.specs.Prelude.{is_some, unwrap_or}
 use Rattle.std.specs.FinMap as map
-use Rattle.instance_table.specs.declared.instances.Instance.{Instance as Entry}
-use Rattle.flat_design.specs.Code.{Arena, arena_of}
-use Rattle.body_model.proofs.Strips.{strip-left_by_unw}
-use Rattle.sim_model.specs.Unwinding.{left_by_unw}
-use Rattle.sim_model.specs.Configuration.{Config, Instance, instance_at}
-use Rattle.sim_model.specs.Calls.{with_left}
-use Rattle.sim_model.specs.declared.plain.Via.{Via}
+use Rattle.kernel_processes.specs.InstanceTable.declared.instances.Instance.{Instance as Entry}
+use Rattle.kernel_processes.specs.FlatDesign.Code.{Arena, arena_of}
+use Rattle.process_state.proofs.KernelBodies.Strips.{strip-left_by_unw}
+use Rattle.kernel_processes.specs.SimModel.Unwinding.{left_by_unw}
+use Rattle.kernel_processes.specs.SimModel.Configuration.{Config, Instance, instance_at}
+use Rattle.kernel_processes.specs.SimModel.Calls.{with_left}
+use Rattle.kernel_processes.specs.SimModel.declared.plain.Via.{Via}
 use Rattle.process_state.specs.Bodies.{left_of, left_in}
-use Rattle.schedule.specs.declared.parts.Process.{Process}
-use Rattle.transaction_board.specs.Board as board
-use Rattle.transaction_board.specs.Board.{StandsForTransactions, SameQuantum, left}
-use Rattle.transaction_board.specs.declared.TransactionBoard.{TransactionBoard}
+use Rattle.kernel_processes.specs.declared.parts.Process.{Process}
+use Rattle.kernel_transactions.specs.Board as board
+use Rattle.kernel_transactions.specs.Board.{StandsForTransactions, SameQuantum, left}
+use Rattle.kernel_transactions.specs.declared.TransactionBoard.{TransactionBoard}
 use Rattle.kernel_state.specs.Kernel.{StandsFor}
 use Rattle.kernel_state.specs.Moves.{MovesAt}
 use Rattle.kernel_state.specs.declared.kernel.Kept.{Kept}

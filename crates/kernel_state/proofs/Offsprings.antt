@@ -4,21 +4,21 @@ use Rattle.std.specs.Prelude.{is_some, if◌then◌else◌}
 use Rattle.std.proofs.lemmas.Bool.{cases_eq}
 use Rattle.std.specs.FinMap as map
 use Rattle.std.specs.FinSet as set
-use Rattle.instance_table.specs.declared.instances.Instance.{Instance as Entry}
-use Rattle.sim_model.specs.Residual.{skip}
-use Rattle.sim_model.specs.Configuration.{Config, Instance, Processes}
-use Rattle.sim_model.specs.Waits.{holds}
-use Rattle.sim_model.specs.Calls.{added, runnable_unless}
+use Rattle.kernel_processes.specs.InstanceTable.declared.instances.Instance.{Instance as Entry}
+use Rattle.kernel_processes.specs.SimModel.Residual.{skip}
+use Rattle.kernel_processes.specs.SimModel.Configuration.{Config, Instance, Processes}
+use Rattle.kernel_processes.specs.SimModel.Waits.{holds}
+use Rattle.kernel_processes.specs.SimModel.Calls.{added, runnable_unless}
 use Rattle.process_state.specs.Bodies as bodies
 use Rattle.process_state.specs.Bodies.{left_in}
 use Rattle.process_state.specs.declared.body.Body.{Body}
-use Rattle.schedule.specs.Seen.{seen, is_on, shown_at, as_instance}
-use Rattle.schedule.specs.Seen.{body_at as kept_at}
-use Rattle.schedule.specs.Sound as schedules
-use Rattle.schedule.specs.declared.parts.Process.{Process}
-use Rattle.schedule.specs.declared.parts.Schedule.{Schedule}
-use Rattle.schedule.proofs.Sounding.{on_last, on_top}
-use Rattle.process_moves.specs.Moved.{Spawns, spawned_as}
+use Rattle.kernel_processes.specs.Seen.{seen, is_on, shown_at, as_instance}
+use Rattle.kernel_processes.specs.Seen.{body_at as kept_at}
+use Rattle.kernel_processes.specs.Sound as schedules
+use Rattle.kernel_processes.specs.declared.parts.Process.{Process}
+use Rattle.kernel_processes.specs.declared.parts.Schedule.{Schedule}
+use Rattle.kernel_processes.proofs.Sounding.{on_last, on_top}
+use Rattle.kernel_processes.specs.Moved.{Spawns, spawned_as}
 use Rattle.kernel_state.specs.Processes.{beside, StandsForProcesses}
 use Rattle.kernel_state.specs.Kernel.{Shows, StandsFor, IsSound, whole_design, path_in}
 use Rattle.kernel_state.specs.Moves.{Moves}

@@ -7,16 +7,16 @@ use Rattle.std.proofs.lemmas.List.Folds.{list_any-append}
 use Rattle.std.proofs.lemmas.Option.{slice_get_past}
 use Rattle.std.specs.FinMap as map
 use Rattle.std.specs.FinSet as set
-use Rattle.sim_model.specs.Configuration.{Config, Instance, Processes, Wait, waits_for_nothing, waits_statically, waits_for_any, waits_for_all, no_deadline, change}
-use Rattle.event_core.specs.declared.event.Ev.{Ev}
-use Rattle.sim_model.specs.Waits.{holds, is_active, freed, is_among, struck}
-use Rattle.wake_laws.specs.Woken as woken
-use Rattle.wake_laws.specs.Woken.{if_there, is_deaf, roused, after_wake, joins, after_last, after_named, after_event, ends_wait, joins_by, at_only, joins_only}
-use Rattle.wake_laws.proofs.Wakes.{change-here, change-other, change-length}
-use Rattle.schedule.specs.Seen.{bare, shown_at, body_at, is_on}
-use Rattle.schedule.specs.Moves.{MovesOne, Rouses}
-use Rattle.schedule.specs.declared.parts.Schedule.{Schedule}
-use Rattle.process_moves.specs.Moved.{same_stack, leaves_top, joins_top, Stays, Ends, Spawns, PutsBody}
+use Rattle.kernel_processes.specs.SimModel.Configuration.{Config, Instance, Processes, Wait, waits_for_nothing, waits_statically, waits_for_any, waits_for_all, no_deadline, change}
+use Rattle.kernel_processes.specs.EventCore.declared.event.Ev.{Ev}
+use Rattle.kernel_processes.specs.SimModel.Waits.{holds, is_active, freed, is_among, struck}
+use Rattle.kernel_processes.specs.Woken as woken
+use Rattle.kernel_processes.specs.Woken.{if_there, is_deaf, roused, after_wake, joins, after_last, after_named, after_event, ends_wait, joins_by, at_only, joins_only}
+use Rattle.kernel_processes.proofs.Wakes.{change-here, change-other, change-length}
+use Rattle.kernel_processes.specs.Seen.{bare, shown_at, body_at, is_on}
+use Rattle.kernel_processes.specs.Moves.{MovesOne, Rouses}
+use Rattle.kernel_processes.specs.declared.parts.Schedule.{Schedule}
+use Rattle.kernel_processes.specs.Moved.{same_stack, leaves_top, joins_top, Stays, Ends, Spawns, PutsBody}
 use Rattle.kernel_state.specs.Processes.{Beside, beside, IsLive, TellsBy, Tells, StandsForProcesses}
 
 -- ---- the stack

@@ -1,13 +1,13 @@
 -- An instance gets on top of the stack.
 use Rattle.std.proofs.Common.{◌≡◌, ◌≢◌, ◌==◌, ◌||◌, not, cond, ℕ, Bool, true, false, List, [], ◌∷◌, None, refl, sym, ap, ◌∙◌, subst, eqb-true, ne_eqb}
-use Rattle.sim_model.specs.Configuration.{Config, Instance, Processes, change, change_instance}
-use Rattle.sim_model.specs.Waits.{holds, without, freed}
-use Rattle.sim_model.specs.Control.{pushed}
-use Rattle.schedule.specs.Seen.{is_on}
-use Rattle.schedule.specs.Sound as schedules
-use Rattle.schedule.specs.Moves.{MovesOne}
-use Rattle.schedule.specs.declared.parts.Schedule.{Schedule}
-use Rattle.process_moves.specs.Moved.{joins_top, pushed_as}
+use Rattle.kernel_processes.specs.SimModel.Configuration.{Config, Instance, Processes, change, change_instance}
+use Rattle.kernel_processes.specs.SimModel.Waits.{holds, without, freed}
+use Rattle.kernel_processes.specs.SimModel.Control.{pushed}
+use Rattle.kernel_processes.specs.Seen.{is_on}
+use Rattle.kernel_processes.specs.Sound as schedules
+use Rattle.kernel_processes.specs.Moves.{MovesOne}
+use Rattle.kernel_processes.specs.declared.parts.Schedule.{Schedule}
+use Rattle.kernel_processes.specs.Moved.{joins_top, pushed_as}
 use Rattle.kernel_state.specs.Kernel.{Shows, StandsFor, IsSound, whole_design}
 use Rattle.kernel_state.specs.Moves.{Moves, Lives}
 use Rattle.kernel_state.specs.declared.kernel.Kept.{Kept}

@@ -1,13 +1,13 @@
 -- The stack of a kernel, whose top is last, beside that of a configuration, whose top is first.
 use Rattle.std.proofs.Common.{◌≡◌, ◌≢◌, ◌==◌, ◌||◌, ℕ, Bool, true, false, List, [], ◌∷◌, ◌++◌, drop, reverse, refl, sym, ap, ◌∙◌, subst, true≢false, eq-eqb, ne_eqb}
 use Rattle.std.proofs.lemmas.List.{reverse-append}
-use Rattle.sim_model.specs.Configuration.{Config}
-use Rattle.sim_model.specs.Waits.{holds}
-use Rattle.sim_model.specs.Control.{top_of, is_top, is_below_top}
-use Rattle.schedule.specs.Seen.{is_on}
-use Rattle.schedule.specs.Sound.{IsOnce}
-use Rattle.schedule.proofs.Sounding.{on_last, once_below}
-use Rattle.process_moves.specs.Moved.{IsTop}
+use Rattle.kernel_processes.specs.SimModel.Configuration.{Config}
+use Rattle.kernel_processes.specs.SimModel.Waits.{holds}
+use Rattle.kernel_processes.specs.SimModel.Control.{top_of, is_top, is_below_top}
+use Rattle.kernel_processes.specs.Seen.{is_on}
+use Rattle.kernel_processes.specs.Sound.{IsOnce}
+use Rattle.kernel_processes.proofs.Sounding.{on_last, once_below}
+use Rattle.kernel_processes.specs.Moved.{IsTop}
 use Rattle.kernel_state.specs.Kernel.{StandsFor}
 use Rattle.kernel_state.specs.declared.kernel.Kernel.{Kernel}
 use Rattle.kernel_state.proofs.ProcessFrames.{on_reversed}

@@ -1,20 +1,20 @@
 -- Statements that use a payload.
 use Rattle.std.proofs.Common.{◌≡◌, ◌≤◌, ◌<◌, ◌+◌, ◌-◌, ◌^◌, ℕ, Bool, true, false, Some, refl, sym, ap, subst, arith, true≢false}
 use Rattle.std.specs.Prelude.{Result, Ok, Err}
-use Rattle.payload_pool.specs.declared.payload.Payload.{Payload}
-use Rattle.flat_design.specs.declared.faults.RunFault.{RunFault}
-use Rattle.sim_model.specs.Values.{on_ok}
-use Rattle.sim_model.specs.Residual.{Residual, settle}
-use Rattle.sim_model.specs.Payloads.{Payloads, payload_of, with_payload}
-use Rattle.sim_model.specs.Configuration.{Config, Instance, instance_at, arena}
-use Rattle.sim_model.specs.Reading.{live_payload}
-use Rattle.sim_model.specs.Statements.{settled_in}
-use Rattle.sim_model.specs.Storing.{passes, set_payload}
-use Rattle.sim_model.specs.Transport.{with_pool}
-use Rattle.transaction_board.specs.Board as board
-use Rattle.transaction_board.specs.Board.{StandsForTransactions, SameQuantum, IsWithin}
-use Rattle.transaction_board.specs.Answers.{use_of}
-use Rattle.transaction_board.specs.declared.TransactionBoard.{TransactionBoard}
+use Rattle.kernel_processes.specs.PayloadPool.declared.payload.Payload.{Payload}
+use Rattle.kernel_processes.specs.FlatDesign.declared.faults.RunFault.{RunFault}
+use Rattle.kernel_processes.specs.SimModel.Values.{on_ok}
+use Rattle.kernel_processes.specs.SimModel.Residual.{Residual, settle}
+use Rattle.kernel_processes.specs.SimModel.Payloads.{Payloads, payload_of, with_payload}
+use Rattle.kernel_processes.specs.SimModel.Configuration.{Config, Instance, instance_at, arena}
+use Rattle.kernel_processes.specs.SimModel.Reading.{live_payload}
+use Rattle.kernel_processes.specs.SimModel.Statements.{settled_in}
+use Rattle.kernel_processes.specs.SimModel.Storing.{passes, set_payload}
+use Rattle.kernel_processes.specs.SimModel.Transport.{with_pool}
+use Rattle.kernel_transactions.specs.Board as board
+use Rattle.kernel_transactions.specs.Board.{StandsForTransactions, SameQuantum, IsWithin}
+use Rattle.kernel_transactions.specs.Answers.{use_of}
+use Rattle.kernel_transactions.specs.declared.TransactionBoard.{TransactionBoard}
 use Rattle.kernel_state.specs.Kernel.{StandsFor, IsSound}
 use Rattle.kernel_state.specs.Moves.{Steps, Follows, Does}
 use Rattle.kernel_state.specs.declared.kernel.Kernel.{Kernel}

@@ -2,20 +2,20 @@
 use Rattle.std.specs.Prelude.{◌≡◌, ◌≤◌, ◌<◌, ◌+◌, ◌^◌, ℕ, Bool, true, false, List, [], ◌∷◌, ◌++◌, slice_get, option_map, Option, Some, None}
 use Rattle.std.specs.Fmt.{decimal}
 use Rattle.std.specs.FinMap as map
-use Rattle.flat_design.specs.Code.{Arena, arena_of, body_at}
-use Rattle.flat_design.specs.declared.design.Design.{Design}
-use Rattle.sim_model.specs.Configuration as model
-use Rattle.sim_model.specs.Configuration.{Config, path_of, below}
-use Rattle.sim_model.specs.Calls.{body_name, home_path}
-use Rattle.body_model.specs.Strip.{strip}
-use Rattle.body_code.specs.declared.program.Program.{Program}
+use Rattle.kernel_processes.specs.FlatDesign.Code.{Arena, arena_of, body_at}
+use Rattle.kernel_processes.specs.FlatDesign.declared.design.Design.{Design}
+use Rattle.kernel_processes.specs.SimModel.Configuration as model
+use Rattle.kernel_processes.specs.SimModel.Configuration.{Config, path_of, below}
+use Rattle.kernel_processes.specs.SimModel.Calls.{body_name, home_path}
+use Rattle.process_state.specs.KernelBodies.Strip.{strip}
+use Rattle.process_state.specs.KernelBodies.declared.program.Program.{Program}
 use Rattle.process_state.specs.Bodies.{left_in}
 use Rattle.process_state.specs.Bodies as bodies
-use Rattle.schedule.specs.Seen.{body_at as kept_at, deadline_of}
-use Rattle.schedule.specs.Sound as schedules
-use Rattle.schedule.specs.declared.parts.Trigger.{Trigger}
-use Rattle.process_moves.specs.Moved.{wait_as}
-use Rattle.transaction_board.specs.Board.{StandsForTransactions, StandsForQuantum, IsWithin}
+use Rattle.kernel_processes.specs.Seen.{body_at as kept_at, deadline_of}
+use Rattle.kernel_processes.specs.Sound as schedules
+use Rattle.kernel_processes.specs.declared.parts.Trigger.{Trigger}
+use Rattle.kernel_processes.specs.Moved.{wait_as}
+use Rattle.kernel_transactions.specs.Board.{StandsForTransactions, StandsForQuantum, IsWithin}
 use Rattle.kernel_state.specs.Processes.{Beside, StandsForProcesses}
 use Rattle.kernel_state.specs.declared.kernel.PathOf.{PathOf}
 use Rattle.kernel_state.specs.declared.kernel.PathOf.TheVariants as path_by

@@ -1,13 +1,13 @@
 -- What a move of a kernel is: it carries the configuration that the kernel stands for to another.
 use Rattle.std.specs.Prelude.{◌≡◌, ℕ, true, Option, Some, None, Result, Ok, Err, slice_get}
 use Rattle.std.specs.FinMap as map
-use Rattle.flat_design.specs.declared.faults.RunFault.{RunFault}
-use Rattle.sim_model.specs.Residual.{Residual, settle}
-use Rattle.sim_model.specs.Configuration.{Config, Instance, instance_at, arena}
-use Rattle.sim_model.specs.Statements.{settled_in}
+use Rattle.kernel_processes.specs.FlatDesign.declared.faults.RunFault.{RunFault}
+use Rattle.kernel_processes.specs.SimModel.Residual.{Residual, settle}
+use Rattle.kernel_processes.specs.SimModel.Configuration.{Config, Instance, instance_at, arena}
+use Rattle.kernel_processes.specs.SimModel.Statements.{settled_in}
 use Rattle.process_state.specs.Bodies as bodies
-use Rattle.schedule.specs.Seen.{body_at as kept_at}
-use Rattle.process_moves.specs.Moved.{IsTop}
+use Rattle.kernel_processes.specs.Seen.{body_at as kept_at}
+use Rattle.kernel_processes.specs.Moved.{IsTop}
 use Rattle.kernel_state.specs.Kernel.{StandsFor}
 use Rattle.kernel_state.specs.declared.kernel.Kept.{Kept}
 use Rattle.kernel_state.specs.declared.kernel.Kernel.{Kernel}

@@ -1,12 +1,12 @@
 -- What a schedule stands for: the processes of a configuration.
 use Rattle.std.specs.Prelude.{◌≡◌, ℕ, Bool, true, false, List, length, reverse, slice_get, Option, Some, None}
 use Rattle.std.specs.FinSet as set
-use Rattle.logic_values.specs.declared.kinds.Value.{Value}
-use Rattle.sim_model.specs.Residual.{Residual}
-use Rattle.sim_model.specs.Configuration.{Trigger, Instance, Processes, no_deadline}
-use Rattle.sim_model.specs.Waits.{holds}
-use Rattle.schedule.specs.Seen.{bare, shown_at, body_at}
-use Rattle.schedule.specs.declared.parts.Schedule.{Schedule}
+use Rattle.kernel_processes.specs.LogicValues.declared.kinds.Value.{Value}
+use Rattle.kernel_processes.specs.SimModel.Residual.{Residual}
+use Rattle.kernel_processes.specs.SimModel.Configuration.{Trigger, Instance, Processes, no_deadline}
+use Rattle.kernel_processes.specs.SimModel.Waits.{holds}
+use Rattle.kernel_processes.specs.Seen.{bare, shown_at, body_at}
+use Rattle.kernel_processes.specs.declared.parts.Schedule.{Schedule}
 
 -- what a schedule does not know of an instance: where it is, its path, its code and first arguments, what is left of its body, and
 -- its next trigger

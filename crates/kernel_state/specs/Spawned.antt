@@ -1,17 +1,17 @@
 -- A spawned instance.
 use Rattle.std.specs.Prelude.{◌≡◌, ℕ, Bool, true, false, List, ◌∷◌, ◌++◌, slice_get, Option, Some, None, Result, Ok, Err, if◌then◌else◌}
 use Rattle.std.specs.Fmt.{decimal}
-use Rattle.flat_design.specs.Code.{arena_of, body_at}
-use Rattle.flat_design.specs.declared.design.Design.{Design}
-use Rattle.flat_design.specs.declared.faults.RunFault.{RunFault}
-use Rattle.flat_design.specs.declared.faults.RunFault.TheVariants as fault
-use Rattle.instance_table.specs.declared.SpawnStop.{SpawnStop}
-use Rattle.instance_table.specs.declared.SpawnStop.TheVariants as spawn_stop
-use Rattle.sim_model.specs.Residual.{skip}
-use Rattle.sim_model.specs.Configuration as model
-use Rattle.sim_model.specs.Configuration.{Config, Instance, below}
-use Rattle.sim_model.specs.Calls.{body_name, home_path, added, runnable_unless}
-use Rattle.schedule.specs.Seen.{kind_of}
+use Rattle.kernel_processes.specs.FlatDesign.Code.{arena_of, body_at}
+use Rattle.kernel_processes.specs.FlatDesign.declared.design.Design.{Design}
+use Rattle.kernel_processes.specs.FlatDesign.declared.faults.RunFault.{RunFault}
+use Rattle.kernel_processes.specs.FlatDesign.declared.faults.RunFault.TheVariants as fault
+use Rattle.kernel_processes.specs.InstanceTable.declared.SpawnStop.{SpawnStop}
+use Rattle.kernel_processes.specs.InstanceTable.declared.SpawnStop.TheVariants as spawn_stop
+use Rattle.kernel_processes.specs.SimModel.Residual.{skip}
+use Rattle.kernel_processes.specs.SimModel.Configuration as model
+use Rattle.kernel_processes.specs.SimModel.Configuration.{Config, Instance, below}
+use Rattle.kernel_processes.specs.SimModel.Calls.{body_name, home_path, added, runnable_unless}
+use Rattle.kernel_processes.specs.Seen.{kind_of}
 use Rattle.kernel_state.specs.declared.kernel.Offspring.{Offspring}
 
 -- before its body begins, it waits for its static sensitivity or for nothing

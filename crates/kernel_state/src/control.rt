@@ -1,32 +1,31 @@
 //! Process control of one instance by another: a kill and a reset (IEEE 1666-2011, 5.6.6). None of it takes memory.
 ghost use Rattle.std.specs.Prelude.{◌≡◌, ◌+◌, ◌<◌, ◌&&◌, not, true, false, List, Ok, None};
 ghost use Rattle.std.specs.FinMap as map;
-ghost use Rattle.flat_design.specs.Code.{Arena};
-ghost use Rattle.model_tree.specs.declared.statements.Control.TheVariants as order;
-ghost use Rattle.sim_model.specs.Residual as residual;
-ghost use Rattle.sim_model.specs.Residual.{goal};
-ghost use Rattle.sim_model.specs.Unwinding.{unw, left_by_unw};
-ghost use Rattle.sim_model.specs.Configuration.{Config, Instance, instance_at, change_instance, with_residual};
-ghost use Rattle.sim_model.specs.Calls.{with_left};
-ghost use Rattle.sim_model.specs.Control as spec;
-ghost use Rattle.sim_model.specs.Control.{is_top, pushed, unwinds, unless_ended, ends_or_restarts, control_call};
-ghost use Rattle.sim_model.specs.Storing.{passes};
-ghost use Rattle.schedule.specs.Seen.{is_on};
-ghost use Rattle.process_moves.specs.Moved.{IsTop};
+ghost use Rattle.kernel_processes.specs.FlatDesign.Code.{Arena};
+ghost use Rattle.kernel_processes.specs.ModelTree.declared.statements.Control.TheVariants as order;
+ghost use Rattle.kernel_processes.specs.SimModel.Residual as residual;
+ghost use Rattle.kernel_processes.specs.SimModel.Residual.{goal};
+ghost use Rattle.kernel_processes.specs.SimModel.Unwinding.{unw, left_by_unw};
+ghost use Rattle.kernel_processes.specs.SimModel.Configuration.{Config, Instance, instance_at, change_instance, with_residual};
+ghost use Rattle.kernel_processes.specs.SimModel.Calls.{with_left};
+ghost use Rattle.kernel_processes.specs.SimModel.Control as spec;
+ghost use Rattle.kernel_processes.specs.SimModel.Control.{is_top, pushed, unwinds, unless_ended, ends_or_restarts, control_call};
+ghost use Rattle.kernel_processes.specs.SimModel.Storing.{passes};
+ghost use Rattle.kernel_processes.specs.Seen.{is_on};
+ghost use Rattle.kernel_processes.specs.Moved.{IsTop};
 ghost use Rattle.process_state.specs.Bodies.{left_of};
-ghost use Rattle.transaction_board.specs.Board as board;
-ghost use Rattle.transaction_board.specs.Board.{StaysWithin, SameQuantum, left};
+ghost use Rattle.kernel_transactions.specs.Board as board;
+ghost use Rattle.kernel_transactions.specs.Board.{StaysWithin, SameQuantum, left};
 ghost use Rattle.kernel_state.specs.Kernel.{StandsFor, IsSound};
 ghost use Rattle.kernel_state.specs.Moves.{Moves, MovesAt, Follows, Does, Lives, HasStatement};
 
 use crate::kernel::Kernel;
 use crate::moves::pass;
-use flat_design::RunFault;
-use process_moves::top;
+use kernel_processes::flat_design_api::RunFault;
+use kernel_processes::sim_model_api::Goal;
+use kernel_processes::{is_active, top};
+use kernel_transactions::{TransactionBoard, left_calls_end};
 use process_state::Body;
-use schedule::is_active;
-use sim_model::Goal;
-use transaction_board::{TransactionBoard, left_calls_end};
 
 /// The transport calls that an unwinding of a body leaves end their transactions on their hops.
 fn leave_calls(transactions: &mut TransactionBoard, body: &Body)
@@ -96,7 +95,7 @@ fn push(k: &mut Kernel, q: u32)
     ensures sound { IsSound k.new }
 {
     clear_trigger(k, q);
-    process_moves::push(&mut k.schedule, q);
+    kernel_processes::push(&mut k.schedule, q);
 }
 
 /// What is left of an instance is unwound before this goal, and it gets on top of the stack, if it is not there.

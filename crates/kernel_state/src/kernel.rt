@@ -1,17 +1,17 @@
 //! The kernel: the parts that keep a configuration.
-use body_code::Program;
-use channel_board::ChannelBoard;
-use event_board::EventBoard;
-use event_core::Ev;
-use flat_design::{CodeId, Design};
-use instance_table::ProcessKind;
-use logic_values::Value;
-use plain_lists::{Bytes, Items};
+use kernel_channels::ChannelBoard;
+use kernel_channels::kernel_events_api::EventBoard;
+use kernel_processes::event_core_api::Ev;
+use kernel_processes::flat_design_api::{CodeId, Design};
+use kernel_processes::instance_table_api::ProcessKind;
+use kernel_processes::logic_values_api::Value;
+use kernel_processes::plain_lists_api::{Bytes, Items};
+use kernel_processes::sim_model_api::Phase;
+use kernel_processes::sim_time_api::Time;
+use kernel_processes::{Schedule, Trigger};
+use kernel_transactions::TransactionBoard;
 use process_state::Body;
-use schedule::{Schedule, Trigger};
-use sim_model::Phase;
-use sim_time::Time;
-use transaction_board::TransactionBoard;
+use process_state::kernel_bodies_api::Program;
 
 /// What the path of an instance is made of.
 #[derive(Clone, Copy, Debug, PartialEq, Eq)]

@@ -1,17 +1,17 @@
 //! Moves of the processes: each carries the configuration that the kernel stands for as the definitions of a run do.
 ghost use Rattle.std.specs.Prelude.{◌≡◌, OnOk, OnErr};
-ghost use Rattle.sim_model.specs.Configuration.{with_residual};
-ghost use Rattle.sim_model.specs.Storing as storing;
-ghost use Rattle.sim_model.specs.Waits as waiting;
-ghost use Rattle.schedule.specs.Seen.{deadline_of};
-ghost use Rattle.process_moves.specs.Moved.{wait_as};
+ghost use Rattle.kernel_processes.specs.SimModel.Configuration.{with_residual};
+ghost use Rattle.kernel_processes.specs.SimModel.Storing as storing;
+ghost use Rattle.kernel_processes.specs.SimModel.Waits as waiting;
+ghost use Rattle.kernel_processes.specs.Seen.{deadline_of};
+ghost use Rattle.kernel_processes.specs.Moved.{wait_as};
 ghost use Rattle.kernel_state.specs.Kernel.{IsSound};
 ghost use Rattle.kernel_state.specs.Moves.{Moves, Steps, Lives, HasStatement, IsOnTop, KeepsBodies};
 
 use crate::kernel::Kernel;
-use event_core::{Ev, When};
-use logic_values::Value;
-use schedule::{Trigger, fire as fire_processes, wake as wake_process};
+use kernel_processes::event_core_api::{Ev, When};
+use kernel_processes::logic_values_api::Value;
+use kernel_processes::{Trigger, fire as fire_processes, wake as wake_process};
 use std::alloc::AllocError;
 
 /// The statement in place of an instance is past.
@@ -59,7 +59,7 @@ pub fn wait(k: &mut Kernel, p: u32, t: &Trigger) -> Result<(), AllocError>
     ensures kept { KeepsBodies k.old k.new }
     ensures sound { IsSound k.new }
 {
-    match process_moves::wait(&mut k.schedule, p, t) {
+    match kernel_processes::begin_wait(&mut k.schedule, p, t) {
         Ok(()) => Ok(()),
         Err(_) => Err(AllocError),
     }

@@ -1,20 +1,20 @@
 //! Statements on payloads (IEEE 1666-2011, 14.5).
 ghost use Rattle.std.specs.Prelude.{◌≡◌, ◌<◌, ◌+◌, ◌^◌, length, Ok, OnOk, OnErr};
-ghost use Rattle.logic_values.specs.declared.kinds.Value.{Value as Values};
-ghost use Rattle.sim_model.specs.Values.{on_ok, bits, index_within};
-ghost use Rattle.sim_model.specs.Configuration.{Config};
-ghost use Rattle.sim_model.specs.Payloads.{with_made, with_acquired, with_released};
-ghost use Rattle.sim_model.specs.Reading.{live_payload};
-ghost use Rattle.sim_model.specs.Storing.{passes, bytes_in, set_payload, with_field, with_byte};
-ghost use Rattle.sim_model.specs.Transport.{with_pool};
-ghost use Rattle.transaction_board.specs.Answers.{Makes, number_made};
+ghost use Rattle.kernel_processes.specs.LogicValues.declared.kinds.Value.{Value as Values};
+ghost use Rattle.kernel_processes.specs.SimModel.Values.{on_ok, bits, index_within};
+ghost use Rattle.kernel_processes.specs.SimModel.Configuration.{Config};
+ghost use Rattle.kernel_processes.specs.SimModel.Payloads.{with_made, with_acquired, with_released};
+ghost use Rattle.kernel_processes.specs.SimModel.Reading.{live_payload};
+ghost use Rattle.kernel_processes.specs.SimModel.Storing.{passes, bytes_in, set_payload, with_field, with_byte};
+ghost use Rattle.kernel_processes.specs.SimModel.Transport.{with_pool};
+ghost use Rattle.kernel_transactions.specs.Answers.{Makes, number_made};
 ghost use Rattle.kernel_state.specs.Kernel.{StandsFor, IsSound};
 ghost use Rattle.kernel_state.specs.Moves.{Moves, Steps, Does, Lives, HasStatement};
 
 use crate::kernel::Kernel;
 use crate::moves::pass;
-use flat_design::{PayloadBytes, PayloadField, RunFault};
-use transaction_board::{MakeStop, live_payloads_are_used};
+use kernel_processes::flat_design_api::{PayloadBytes, PayloadField, RunFault};
+use kernel_transactions::{MakeStop, live_payloads_are_used};
 
 /// A payload is held once more. It is a fault where it was freed, and then nothing changes.
 pub fn acquire(k: &mut Kernel, p: u32, t: u32) -> Result<(), RunFault>

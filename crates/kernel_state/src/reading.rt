@@ -1,14 +1,14 @@
 //! What is seen of a kernel from outside.
 ghost use Rattle.std.specs.Prelude.{◌≡◌, ◌<◌, Some, length, slice_get};
-ghost use Rattle.flat_design.specs.declared.design.Visible.{Visible};
-ghost use Rattle.sim_model.specs.Configuration.{Config};
-ghost use Rattle.sim_model.specs.Phases.{visible_value};
+ghost use Rattle.kernel_processes.specs.FlatDesign.declared.design.Visible.{Visible};
+ghost use Rattle.kernel_processes.specs.SimModel.Configuration.{Config};
+ghost use Rattle.kernel_processes.specs.SimModel.Phases.{visible_value};
 ghost use Rattle.kernel_state.specs.Kernel.{StandsFor};
 
 use crate::kernel::Kernel;
-use flat_design::VisibleId;
-use logic_values::Value;
-use sim_time::Time;
+use kernel_processes::flat_design_api::VisibleId;
+use kernel_processes::logic_values_api::Value;
+use kernel_processes::sim_time_api::Time;
 
 impl Kernel {
     /// The simulated time.

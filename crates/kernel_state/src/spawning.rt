@@ -1,15 +1,15 @@
 //! Spawned instances.
 ghost use Rattle.std.specs.Prelude.{◌≡◌, ◌<◌, ◌+◌, ◌^◌, ℕ, IfOk, OnErr, length};
-ghost use Rattle.sim_model.specs.Configuration.{Config};
-ghost use Rattle.sim_model.specs.Calls.{may_spawn};
-ghost use Rattle.schedule.specs.Seen.{body_at as kept_at};
+ghost use Rattle.kernel_processes.specs.SimModel.Configuration.{Config};
+ghost use Rattle.kernel_processes.specs.SimModel.Calls.{may_spawn};
+ghost use Rattle.kernel_processes.specs.Seen.{body_at as kept_at};
 ghost use Rattle.kernel_state.specs.Kernel.{StandsFor, IsSound};
 ghost use Rattle.kernel_state.specs.Moves.{Moves, Lives};
 ghost use Rattle.kernel_state.specs.Spawned.{AnswersMay, with_offspring};
 
 use crate::kernel::{Kept, Kernel, Offspring, PathOf};
-use instance_table::SpawnStop;
-use process_moves::spawn as spawn_process;
+use kernel_processes::instance_table_api::SpawnStop;
+use kernel_processes::spawn as spawn_process;
 use process_state::Body;
 use std::alloc::Global;
 

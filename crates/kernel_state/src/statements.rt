@@ -1,22 +1,22 @@
 //! Statements, one of each theme: what can be refused comes first, then the part that moves, then the statement is past.
 ghost use Rattle.std.specs.Prelude.{◌≡◌, ◌<◌, ◌-◌, ◌^◌, OnOk, OnErr, slice_get};
-ghost use Rattle.flat_design.specs.declared.design.ChannelId.TheVariants as channel;
-ghost use Rattle.sim_model.specs.Channels as channels;
-ghost use Rattle.sim_model.specs.Storing.{passes};
-ghost use Rattle.sim_model.specs.Storing as storing;
-ghost use Rattle.sim_model.specs.Waits.{waits};
-ghost use Rattle.schedule.specs.Seen.{deadline_of};
-ghost use Rattle.process_moves.specs.Moved.{wait_as};
+ghost use Rattle.kernel_processes.specs.FlatDesign.declared.design.ChannelId.TheVariants as channel;
+ghost use Rattle.kernel_processes.specs.SimModel.Channels as channels;
+ghost use Rattle.kernel_processes.specs.SimModel.Storing.{passes};
+ghost use Rattle.kernel_processes.specs.SimModel.Storing as storing;
+ghost use Rattle.kernel_processes.specs.SimModel.Waits.{waits};
+ghost use Rattle.kernel_processes.specs.Seen.{deadline_of};
+ghost use Rattle.kernel_processes.specs.Moved.{wait_as};
 ghost use Rattle.kernel_state.specs.Kernel.{IsSound};
 ghost use Rattle.kernel_state.specs.Moves.{Moves, Steps, Lives, HasStatement, IsOnTop};
 
 use crate::kernel::Kernel;
 use crate::moves::{pass, set_variable, settle, wait};
-use event_core::Ev;
-use instance_table::Deadline;
-use logic_values::Value;
-use plain_lists::Items;
-use schedule::{Trigger, Wait};
+use kernel_processes::event_core_api::Ev;
+use kernel_processes::instance_table_api::Deadline;
+use kernel_processes::logic_values_api::Value;
+use kernel_processes::plain_lists_api::Items;
+use kernel_processes::{Trigger, Wait};
 use std::alloc::{AllocError, Global};
 
 /// A value is stored in a variable of an instance of a module.

@@ -4,23 +4,23 @@ use Rattle.std.specs.Prelude.{IfOk, OnErr}
 use Rattle.flat_design.specs.Code.{arena_of, statement_at, statement_of}
 use Rattle.flat_design.specs.declared.code.Handler.{Handler}
 use Rattle.flat_design.specs.declared.code.Statement.TheVariants as kept
-use Rattle.body_code.specs.Depths.{handlers_if, handlers_of}
-use Rattle.sim_model.specs.Calls.{do_try}
+use Rattle.exec_channels.specs.KernelBodies.Depths.{handlers_if, handlers_of}
+use Rattle.exec_channels.specs.SimModel.Calls.{do_try}
 use Rattle.flat_design.specs.declared.code.Statement.{Statement as Kept}
 use Rattle.flat_design.specs.declared.faults.RunFault.{RunFault}
-use Rattle.sim_model.specs.Reading.{here}
-use Rattle.sim_model.specs.Residual.{Residual, settle}
-use Rattle.sim_model.specs.Configuration.{Config, Instance, arena}
-use Rattle.sim_model.specs.Statements.{settled_in, do_statement}
-use Rattle.kernel_state.specs.Moves.{Moves, Does, Follows}
-use Rattle.kernel_state.specs.declared.kernel.Kernel.{Kernel}
-use Rattle.await_statements.specs.Asked.{DoesOr}
-use Rattle.await_statements.specs.declared.stops.AwaitStop.{AwaitStop}
-use Rattle.await_statements.specs.declared.stops.AwaitStop.TheVariants as await_stop
-use Rattle.store_statements.specs.Stopping.{FollowsOrStops, DoesOrStops}
-use Rattle.store_statements.specs.declared.stops.StatementStop.{StatementStop}
-use Rattle.store_statements.specs.declared.stops.StatementStop.TheVariants as statement_stop
-use Rattle.transport_statements.specs.Calling.{FollowsOrLacks, CallsOver}
+use Rattle.exec_channels.specs.SimModel.Reading.{here}
+use Rattle.exec_channels.specs.SimModel.Residual.{Residual, settle}
+use Rattle.exec_channels.specs.SimModel.Configuration.{Config, Instance, arena}
+use Rattle.exec_channels.specs.SimModel.Statements.{settled_in, do_statement}
+use Rattle.exec_channels.specs.KernelState.Moves.{Moves, Does, Follows}
+use Rattle.exec_channels.specs.KernelState.declared.kernel.Kernel.{Kernel}
+use Rattle.exec_transactions.specs.ExecEvents.Asked.{DoesOr}
+use Rattle.exec_transactions.specs.ExecEvents.declared.stops.AwaitStop.{AwaitStop}
+use Rattle.exec_transactions.specs.ExecEvents.declared.stops.AwaitStop.TheVariants as await_stop
+use Rattle.exec_control.specs.ExecData.Stopping.{FollowsOrStops, DoesOrStops}
+use Rattle.exec_control.specs.ExecData.declared.stops.StatementStop.{StatementStop}
+use Rattle.exec_control.specs.ExecData.declared.stops.StatementStop.TheVariants as statement_stop
+use Rattle.exec_transactions.specs.Calling.{FollowsOrLacks, CallsOver}
 use Rattle.kernel_steps.specs.Kept.{QuietIfOk, is_print}
 use Rattle.kernel_steps.specs.Told.{Tells, TellsAll, Makes, Carries, CarriesAll, plain_answer, await_answer, store_answer, block_answer}
 use Rattle.kernel_steps.specs.declared.answers.StepAnswer.TheVariants as answer

@@ -3,12 +3,12 @@ use Rattle.std.proofs.Common.{◌≡◌, ℕ, true, false, Option, ap, subst}
 use Rattle.flat_design.specs.Code.{Statement, arena_of}
 use Rattle.flat_design.specs.declared.names.NameUse.{NameUse}
 use Rattle.flat_design.specs.declared.code.Store.{Store as Target}
-use Rattle.sim_model.specs.Residual as residual
-use Rattle.sim_model.specs.Residual.{Frame, Next}
-use Rattle.kernel_state.specs.declared.kernel.Kernel.{Kernel}
-use Rattle.call_moves.specs.Calling.{EndsNext}
-use Rattle.call_statements.specs.Leaving.{CalledBy, IsNoTransport, statement_if}
-use Rattle.transport_statements.specs.Ending.{IsBTransport, IsNbTransport}
+use Rattle.exec_channels.specs.SimModel.Residual as residual
+use Rattle.exec_channels.specs.SimModel.Residual.{Frame, Next}
+use Rattle.exec_channels.specs.KernelState.declared.kernel.Kernel.{Kernel}
+use Rattle.exec_transactions.specs.ExecCalls.Calling.{EndsNext}
+use Rattle.exec_transactions.specs.ExecCalls.Leaving.{CalledBy, IsNoTransport, statement_if}
+use Rattle.exec_transactions.specs.Ending.{IsBTransport, IsNbTransport}
 use Rattle.kernel_steps.specs.Ending.{IsEndOf, calls_over_if}
 use Rattle.kernel_steps.specs.declared.leaving.CallEnd.{CallEnd}
 use Rattle.kernel_steps.specs.declared.leaving.CallEnd.TheVariants as ends

@@ -1,25 +1,25 @@
 -- What a print answers.
 use Rattle.std.proofs.Common.{◌≡◌, ℕ, Bool, true, false, List, Option, Some, Result, Ok, Err, refl, sym, ap, ◌∙◌, subst, true≢false}
 use Rattle.std.specs.Prelude.{option_map, is_some, ◌++◌, ◌∷◌, []}
-use Rattle.logic_values.specs.declared.kinds.Value.{Value}
+use Rattle.exec_channels.specs.LogicValues.declared.kinds.Value.{Value}
 use Rattle.flat_design.specs.Code as code
 use Rattle.flat_design.specs.Code.{Term, statement_at, arena_of}
 use Rattle.flat_design.specs.declared.faults.RunFault.{RunFault}
-use Rattle.wake_laws.proofs.Wakes.{change-here}
-use Rattle.sim_model.specs.Values.{on_ok}
-use Rattle.sim_model.specs.Residual.{Residual, settle, put, skip}
-use Rattle.sim_model.specs.Reading.{Here, val_if}
-use Rattle.sim_model.specs.Configuration.{Config, Instance, arena, line, instance_at, with_residual, with_told}
-use Rattle.sim_model.specs.Statements.{settled_in}
-use Rattle.sim_model.specs.Storing.{passes, print_line, do_print}
-use Rattle.schedule.specs.Seen.{shown_at}
-use Rattle.schedule.specs.Seen.{body_at as kept_at}
-use Rattle.kernel_state.specs.Processes.{TellsBy, Tells}
-use Rattle.kernel_state.specs.Kernel.{Shows, StandsFor, whole_design}
-use Rattle.kernel_state.specs.Moves.{Lives}
-use Rattle.kernel_state.specs.declared.kernel.Kernel.{Kernel}
-use Rattle.kernel_state.proofs.Frames.{shown_where_lives}
-use Rattle.data_statements.specs.Told.{FollowsPrint}
+use Rattle.exec_channels.proofs.KernelProcesses.Wakes.{change-here}
+use Rattle.exec_channels.specs.SimModel.Values.{on_ok}
+use Rattle.exec_channels.specs.SimModel.Residual.{Residual, settle, put, skip}
+use Rattle.exec_channels.specs.SimModel.Reading.{Here, val_if}
+use Rattle.exec_channels.specs.SimModel.Configuration.{Config, Instance, arena, line, instance_at, with_residual, with_told}
+use Rattle.exec_channels.specs.SimModel.Statements.{settled_in}
+use Rattle.exec_channels.specs.SimModel.Storing.{passes, print_line, do_print}
+use Rattle.exec_channels.specs.KernelProcesses.Seen.{shown_at}
+use Rattle.exec_channels.specs.KernelProcesses.Seen.{body_at as kept_at}
+use Rattle.exec_channels.specs.KernelState.Processes.{TellsBy, Tells}
+use Rattle.exec_channels.specs.KernelState.Kernel.{Shows, StandsFor, whole_design}
+use Rattle.exec_channels.specs.KernelState.Moves.{Lives}
+use Rattle.exec_channels.specs.KernelState.declared.kernel.Kernel.{Kernel}
+use Rattle.exec_channels.proofs.KernelState.Frames.{shown_where_lives}
+use Rattle.exec_control.specs.ExecData.Told.{FollowsPrint}
 use Rattle.kernel_steps.specs.Told.{TellsAll}
 use Rattle.kernel_steps.proofs.Silent.{KeepsIfOk}
 use Rattle.kernel_steps.specs.declared.answers.StepAnswer.TheVariants as answer

@@ -1,22 +1,22 @@
 -- The end of a call keeps the design and the script's rest, and tells nothing.
 use Rattle.std.proofs.Common.{ℕ, suc, false, List, [], ◌∷◌, Option, Some, None, Result, Ok, refl}
-use Rattle.logic_values.specs.declared.kinds.Value.TheVariants as value
-use Rattle.transport_phases.specs.History.{Entry, BReturn, Return, broken}
-use Rattle.transport_phases.specs.declared.phases.Rule.{Rule}
+use Rattle.exec_channels.specs.LogicValues.declared.kinds.Value.TheVariants as value
+use Rattle.exec_channels.specs.TransportPhases.History.{Entry, BReturn, Return, broken}
+use Rattle.exec_channels.specs.TransportPhases.declared.phases.Rule.{Rule}
 use Rattle.flat_design.specs.Code as code
 use Rattle.flat_design.specs.Code.{Statement, ArgumentTerm}
 use Rattle.flat_design.specs.declared.code.Store.{Store as Target}
 use Rattle.flat_design.specs.declared.names.NameUse.{NameUse}
 use Rattle.flat_design.specs.declared.faults.RunFault.{RunFault}
-use Rattle.sim_model.specs.Values.{on_ok}
-use Rattle.sim_model.specs.Residual.{Residual, Frame, put, skip}
-use Rattle.sim_model.specs.Configuration.{Config, Instance, arena}
-use Rattle.sim_model.specs.Reading.{Here, here}
-use Rattle.sim_model.specs.Storing.{passes, set_name, stored_if}
-use Rattle.sim_model.specs.Calls.{final_value, given_back, answer_of, with_entry}
-use Rattle.sim_model.specs.Transport.{history, int_of, judged_by, for_freed, judged_return, complete_now, b_transport_ends, nb_transport_ends}
-use Rattle.sim_model.specs.Statements.{via_ends, hands_back, handed_back, calling_statement, leaves_call}
-use Rattle.sim_model.specs.declared.plain.Via.{Via}
+use Rattle.exec_channels.specs.SimModel.Values.{on_ok}
+use Rattle.exec_channels.specs.SimModel.Residual.{Residual, Frame, put, skip}
+use Rattle.exec_channels.specs.SimModel.Configuration.{Config, Instance, arena}
+use Rattle.exec_channels.specs.SimModel.Reading.{Here, here}
+use Rattle.exec_channels.specs.SimModel.Storing.{passes, set_name, stored_if}
+use Rattle.exec_channels.specs.SimModel.Calls.{final_value, given_back, answer_of, with_entry}
+use Rattle.exec_channels.specs.SimModel.Transport.{history, int_of, judged_by, for_freed, judged_return, complete_now, b_transport_ends, nb_transport_ends}
+use Rattle.exec_channels.specs.SimModel.Statements.{via_ends, hands_back, handed_back, calling_statement, leaves_call}
+use Rattle.exec_channels.specs.SimModel.declared.plain.Via.{Via}
 use Rattle.kernel_steps.specs.Kept.{Quiet, QuietIfOk}
 use Rattle.kernel_steps.proofs.Silent.{name_quiet, stored_if_quiet}
 

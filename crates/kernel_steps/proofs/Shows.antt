@@ -2,23 +2,23 @@
 use Rattle.std.proofs.Common.{◌≡◌, ℕ, Some, option_map, refl, sym, ap, ◌∙◌, subst}
 use Rattle.std.specs.Prelude.{unwrap_or}
 use Rattle.std.specs.FinMap as map
-use Rattle.instance_table.specs.declared.instances.Instance.{Instance as Entry}
+use Rattle.exec_channels.specs.InstanceTable.declared.instances.Instance.{Instance as Entry}
 use Rattle.flat_design.specs.Code.{arena_of, statement_at}
-use Rattle.body_layers.specs.Layers.{shown}
-use Rattle.body_layers.specs.declared.layers.Next.TheVariants as next
-use Rattle.body_model.proofs.Strips.{strip-next}
-use Rattle.process_state.specs.Bodies as bodies
-use Rattle.schedule.specs.declared.parts.Process.{Process}
-use Rattle.schedule.specs.Seen.{body_at as kept_at}
-use Rattle.sim_model.specs.Residual as residual
-use Rattle.sim_model.specs.Residual.{Frame, Next, next_of, settle}
-use Rattle.sim_model.specs.Configuration.{Config, Instance, instance_at, arena}
-use Rattle.sim_model.specs.Statements.{settled_in, on_statement, do_next, step_by, statement_step}
-use Rattle.kernel_state.specs.Moves.{KeptAt, HasStatement}
-use Rattle.kernel_state.specs.declared.kernel.Kept.{Kept}
-use Rattle.kernel_state.specs.declared.kernel.Kernel.{Kernel}
-use Rattle.kernel_state.proofs.Frames.{settled_before}
-use Rattle.data_statements.specs.Entered.{Shows}
+use Rattle.exec_channels.specs.KernelBodies.Layers.{shown}
+use Rattle.exec_channels.specs.KernelBodies.declared.layers.Next.TheVariants as next
+use Rattle.exec_channels.proofs.KernelBodies.Strips.{strip-next}
+use Rattle.exec_channels.specs.ProcessState.Bodies as bodies
+use Rattle.exec_channels.specs.KernelProcesses.declared.parts.Process.{Process}
+use Rattle.exec_channels.specs.KernelProcesses.Seen.{body_at as kept_at}
+use Rattle.exec_channels.specs.SimModel.Residual as residual
+use Rattle.exec_channels.specs.SimModel.Residual.{Frame, Next, next_of, settle}
+use Rattle.exec_channels.specs.SimModel.Configuration.{Config, Instance, instance_at, arena}
+use Rattle.exec_channels.specs.SimModel.Statements.{settled_in, on_statement, do_next, step_by, statement_step}
+use Rattle.exec_channels.specs.KernelState.Moves.{KeptAt, HasStatement}
+use Rattle.exec_channels.specs.KernelState.declared.kernel.Kept.{Kept}
+use Rattle.exec_channels.specs.KernelState.declared.kernel.Kernel.{Kernel}
+use Rattle.exec_channels.proofs.KernelState.Frames.{settled_before}
+use Rattle.exec_control.specs.ExecData.Entered.{Shows}
 use Rattle.kernel_steps.specs.Shown.{ComesNext}
 use Rattle.kernel_steps.specs.Told.{TellsAll, MakesAll, MakesStep}
 use Rattle.kernel_steps.specs.declared.answers.StepAnswer.{StepAnswer}

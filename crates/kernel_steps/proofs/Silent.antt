@@ -1,27 +1,27 @@
 -- A step by any form keeps the design and the script's rest, and tells nothing, but for a print.
 use Rattle.std.proofs.Common.{◌≡◌, ◌||◌, ◌&&◌, ◌+◌, ◌++◌, not, ℕ, suc, Bool, true, false, List, [], ◌∷◌, Option, Some, None, Result, Ok, Err, refl, true≢false}
 use Rattle.std.specs.Prelude.{◌==◌, if◌then◌else◌, slice_get, slice_set, length, is_some}
-use Rattle.event_core.specs.declared.event.Ev.{Ev}
-use Rattle.event_core.specs.declared.event.Ev.TheVariants as ev
-use Rattle.event_core.specs.declared.notifications.When.TheVariants as when
-use Rattle.logic_values.specs.Integers.{bits_of}
-use Rattle.logic_values.specs.declared.kinds.Value.{Value}
-use Rattle.logic_values.specs.declared.kinds.Value.TheVariants as value
-use Rattle.fifo_sync.specs.Fifos.{Queued, free, readable, after_read, after_write}
-use Rattle.fifo_sync.specs.Locks.{answer, is_unlocked, is_owner, locked_by, unlocked_by, is_used_up}
-use Rattle.transport_phases.specs.History.{Entry, Call, BCall, Left, broken}
-use Rattle.transport_phases.specs.declared.phases.Rule.{Rule}
-use Rattle.payload_pool.specs.Transfer.{carried, memory_after}
-use Rattle.payload_pool.specs.declared.payload.Payload.{Payload}
-use Rattle.quantum_keeper.specs.Keepers.{after_reset, after_inc, with_local}
-use Rattle.quantum_keeper.specs.declared.keeper.Keeper.{Keeper}
-use Rattle.model_tree.specs.declared.statements.Control.{Control}
-use Rattle.model_tree.specs.declared.statements.Control.TheVariants as control
-use Rattle.signal_channel.specs.Signals.{conflict_of}
-use Rattle.signal_channel.specs.declared.signal.Signal.{Signal}
-use Rattle.signal_channel.specs.declared.signal.WriterConflict.{WriterConflict}
-use Rattle.model_tree.specs.declared.items.ProcessKind.{ProcessKind}
-use Rattle.model_tree.specs.declared.items.ProcessKind.TheVariants as process
+use Rattle.exec_channels.specs.EventCore.declared.event.Ev.{Ev}
+use Rattle.exec_channels.specs.EventCore.declared.event.Ev.TheVariants as ev
+use Rattle.exec_channels.specs.EventCore.declared.notifications.When.TheVariants as when
+use Rattle.exec_channels.specs.LogicValues.Integers.{bits_of}
+use Rattle.exec_channels.specs.LogicValues.declared.kinds.Value.{Value}
+use Rattle.exec_channels.specs.LogicValues.declared.kinds.Value.TheVariants as value
+use Rattle.exec_channels.specs.FifoSync.Fifos.{Queued, free, readable, after_read, after_write}
+use Rattle.exec_channels.specs.FifoSync.Locks.{answer, is_unlocked, is_owner, locked_by, unlocked_by, is_used_up}
+use Rattle.exec_channels.specs.TransportPhases.History.{Entry, Call, BCall, Left, broken}
+use Rattle.exec_channels.specs.TransportPhases.declared.phases.Rule.{Rule}
+use Rattle.exec_channels.specs.PayloadPool.Transfer.{carried, memory_after}
+use Rattle.exec_channels.specs.PayloadPool.declared.payload.Payload.{Payload}
+use Rattle.exec_channels.specs.QuantumKeeper.Keepers.{after_reset, after_inc, with_local}
+use Rattle.exec_channels.specs.QuantumKeeper.declared.keeper.Keeper.{Keeper}
+use Rattle.exec_channels.specs.ModelTree.declared.statements.Control.{Control}
+use Rattle.exec_channels.specs.ModelTree.declared.statements.Control.TheVariants as control
+use Rattle.exec_channels.specs.SignalChannel.Signals.{conflict_of}
+use Rattle.exec_channels.specs.SignalChannel.declared.signal.Signal.{Signal}
+use Rattle.exec_channels.specs.SignalChannel.declared.signal.WriterConflict.{WriterConflict}
+use Rattle.exec_channels.specs.ModelTree.declared.items.ProcessKind.{ProcessKind}
+use Rattle.exec_channels.specs.ModelTree.declared.items.ProcessKind.TheVariants as process
 use Rattle.flat_design.specs.Code as code
 use Rattle.flat_design.specs.Code.{Term, Statement, DestinationTerm, ChannelTerm, ArgumentTerm, SpawnTerm, body_at}
 use Rattle.flat_design.specs.declared.code.Controlled.{Controlled}
@@ -35,23 +35,23 @@ use Rattle.flat_design.specs.declared.design.Denoted.{Denoted}
 use Rattle.flat_design.specs.declared.design.Denoted.TheVariants as denoted
 use Rattle.flat_design.specs.declared.design.ChannelId.{ChannelId}
 use Rattle.flat_design.specs.declared.design.ChannelId.TheVariants as channel
-use Rattle.sim_model.specs.Values.{on_ok, bits, cut_to, index_within, moment, signed, truth}
-use Rattle.sim_model.specs.Residual.{Residual, put, skip, innermost, goal, has_goal}
-use Rattle.sim_model.specs.Unwinding.{returned, return_marks, unw, catches, left_by_unw, left_by_raise, raise}
-use Rattle.sim_model.specs.Configuration.{Config, Instance, Wait, waits_for_nothing, waits_statically, waits_for_any, waits_for_all, line, change_instance, with_residual, with_runnable, with_marks, with_told, instance_at, arena}
-use Rattle.sim_model.specs.Reading.{Here, denotes, val, val_if, place_in, payload_number, live_payload, memory_here, memory_number, keeper_at}
-use Rattle.sim_model.specs.Storing.{passes, bytes_in, set_local, set_name, set_denoted, set_memory, set_payload, with_field, with_byte, low_byte, first_value, stored, stored_if, chosen, looped, print_line, do_assign, do_print}
-use Rattle.sim_model.specs.Waits.{is_active, is_among, holds, without, freed, joined, woken, struck, wake, wake_instance, left_of_all, reaches, reach_instance, fire_each, fire, leaves_stack, waits, notify}
-use Rattle.sim_model.specs.Waiting.{awaited, channel_event, event_number, on_event, notified_now, cancelled, when_after}
-use Rattle.sim_model.specs.Channels.{channel_in, blocks, set_fifo, set_mutex, set_semaphore, with_fifo, taken_from, written_unless, write_signal, write_fifo, write_channel, read_value, read_fifo, fifo_here, fifo_of, mutex_of, semaphore_of, nb_read_value, nb_read_fifo, nb_write_fifo, answered, lock_mutex, lock_at, trylock_mutex, trylock_at, unlock_mutex, unlock_at, sem_wait_value, sem_wait_at, sem_trywait_value, sem_trywait_at, post_value, post_at}
-use Rattle.sim_model.specs.Calls.{locals_in, argument_values, may_enter, enters, with_entry, with_left, thrown, cut_answer, answer_type, first_arguments, may_spawn, new_instance, added, runnable_unless, handle_stored, spawns, do_call, do_spawn}
-use Rattle.sim_model.specs.Payloads.{Payloads, with_made, with_acquired, with_released}
-use Rattle.sim_model.specs.Transport.{with_pool, size_within, size_or, may_make, do_make, do_carry, socket_of, history, is_complete, judged_by, judged, blocking_handler, nonblocking_handler, path_of_call, may_enter_handler, enters_handler, int_of, value_named, b_transport_on, nb_transport_on, with_global, with_keeper, kept, on_keeper, keeper_named}
-use Rattle.sim_model.specs.Control.{is_top, is_below_top, is_thread, with_kept, yields, suspends, resumes, pushed, pushed_unless_top, unwinds, ends_or_restarts, injected, throws_at, controlled_by, unless_ended, control_call, throw_call, target_of, do_control, do_throw_it, ended_instance, ends, begins, stays_kept, restarts, reaches_goal, done_by}
-use Rattle.sim_model.specs.Statements.{do_statement}
-use Rattle.sim_model.specs.declared.plain.Goal.{Goal}
-use Rattle.sim_model.specs.declared.plain.Goal.TheVariants as goal_of
-use Rattle.sim_model.specs.declared.plain.Via.{Via}
+use Rattle.exec_channels.specs.SimModel.Values.{on_ok, bits, cut_to, index_within, moment, signed, truth}
+use Rattle.exec_channels.specs.SimModel.Residual.{Residual, put, skip, innermost, goal, has_goal}
+use Rattle.exec_channels.specs.SimModel.Unwinding.{returned, return_marks, unw, catches, left_by_unw, left_by_raise, raise}
+use Rattle.exec_channels.specs.SimModel.Configuration.{Config, Instance, Wait, waits_for_nothing, waits_statically, waits_for_any, waits_for_all, line, change_instance, with_residual, with_runnable, with_marks, with_told, instance_at, arena}
+use Rattle.exec_channels.specs.SimModel.Reading.{Here, denotes, val, val_if, place_in, payload_number, live_payload, memory_here, memory_number, keeper_at}
+use Rattle.exec_channels.specs.SimModel.Storing.{passes, bytes_in, set_local, set_name, set_denoted, set_memory, set_payload, with_field, with_byte, low_byte, first_value, stored, stored_if, chosen, looped, print_line, do_assign, do_print}
+use Rattle.exec_channels.specs.SimModel.Waits.{is_active, is_among, holds, without, freed, joined, woken, struck, wake, wake_instance, left_of_all, reaches, reach_instance, fire_each, fire, leaves_stack, waits, notify}
+use Rattle.exec_channels.specs.SimModel.Waiting.{awaited, channel_event, event_number, on_event, notified_now, cancelled, when_after}
+use Rattle.exec_channels.specs.SimModel.Channels.{channel_in, blocks, set_fifo, set_mutex, set_semaphore, with_fifo, taken_from, written_unless, write_signal, write_fifo, write_channel, read_value, read_fifo, fifo_here, fifo_of, mutex_of, semaphore_of, nb_read_value, nb_read_fifo, nb_write_fifo, answered, lock_mutex, lock_at, trylock_mutex, trylock_at, unlock_mutex, unlock_at, sem_wait_value, sem_wait_at, sem_trywait_value, sem_trywait_at, post_value, post_at}
+use Rattle.exec_channels.specs.SimModel.Calls.{locals_in, argument_values, may_enter, enters, with_entry, with_left, thrown, cut_answer, answer_type, first_arguments, may_spawn, new_instance, added, runnable_unless, handle_stored, spawns, do_call, do_spawn}
+use Rattle.exec_channels.specs.SimModel.Payloads.{Payloads, with_made, with_acquired, with_released}
+use Rattle.exec_channels.specs.SimModel.Transport.{with_pool, size_within, size_or, may_make, do_make, do_carry, socket_of, history, is_complete, judged_by, judged, blocking_handler, nonblocking_handler, path_of_call, may_enter_handler, enters_handler, int_of, value_named, b_transport_on, nb_transport_on, with_global, with_keeper, kept, on_keeper, keeper_named}
+use Rattle.exec_channels.specs.SimModel.Control.{is_top, is_below_top, is_thread, with_kept, yields, suspends, resumes, pushed, pushed_unless_top, unwinds, ends_or_restarts, injected, throws_at, controlled_by, unless_ended, control_call, throw_call, target_of, do_control, do_throw_it, ended_instance, ends, begins, stays_kept, restarts, reaches_goal, done_by}
+use Rattle.exec_channels.specs.SimModel.Statements.{do_statement}
+use Rattle.exec_channels.specs.SimModel.declared.plain.Goal.{Goal}
+use Rattle.exec_channels.specs.SimModel.declared.plain.Goal.TheVariants as goal_of
+use Rattle.exec_channels.specs.SimModel.declared.plain.Via.{Via}
 use Rattle.kernel_steps.specs.Kept.{Quiet, QuietIfOk, Keeps, is_print}
 
 -- ---- parts

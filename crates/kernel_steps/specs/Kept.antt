@@ -4,8 +4,8 @@ use Rattle.flat_design.specs.declared.design.Design.{Design}
 use Rattle.flat_design.specs.Code as code
 use Rattle.flat_design.specs.Code.{Statement}
 use Rattle.flat_design.specs.declared.faults.RunFault.{RunFault}
-use Rattle.sim_model.specs.Configuration.{Config, Told}
-use Rattle.sim_model.specs.declared.plain.Command.{Command}
+use Rattle.exec_channels.specs.SimModel.Configuration.{Config, Told}
+use Rattle.exec_channels.specs.SimModel.declared.plain.Command.{Command}
 
 -- of a configuration the design and the script's rest, and what was told
 pub record Standing : Type 0 where

@@ -1,9 +1,9 @@
 -- What comes next in the body of an instance.
 use Rattle.std.specs.Prelude.{◌≡◌, ℕ, Some}
-use Rattle.sim_model.specs.Residual.{Next, next_of, settle}
-use Rattle.sim_model.specs.Configuration.{Config, Instance, instance_at, arena}
-use Rattle.kernel_state.specs.Kernel.{StandsFor}
-use Rattle.kernel_state.specs.declared.kernel.Kernel.{Kernel}
+use Rattle.exec_channels.specs.SimModel.Residual.{Next, next_of, settle}
+use Rattle.exec_channels.specs.SimModel.Configuration.{Config, Instance, instance_at, arena}
+use Rattle.exec_channels.specs.KernelState.Kernel.{StandsFor}
+use Rattle.exec_channels.specs.KernelState.declared.kernel.Kernel.{Kernel}
 
 -- this comes next in the body of instance p, whatever the kernel stands for
 abbrev pub ComesNext : Kernel → ℕ → Next → Type 0

@@ -1,21 +1,21 @@
 -- What a step of an instance answers.
 use Rattle.std.specs.Prelude.{◌≡◌, ℕ, false, List, ◌∷◌, [], ◌++◌, Option, Some, Result, Ok, Err}
-use Rattle.logic_values.specs.declared.kinds.Value.{Value}
+use Rattle.exec_channels.specs.LogicValues.declared.kinds.Value.{Value}
 use Rattle.flat_design.specs.Code as code
 use Rattle.flat_design.specs.Code.{Term, Statement, statement_at}
 use Rattle.flat_design.specs.declared.faults.RunFault.{RunFault}
-use Rattle.sim_model.specs.Configuration.{Config, Instance, line, instance_at, arena}
-use Rattle.sim_model.specs.Residual.{Residual, settle}
-use Rattle.sim_model.specs.Reading.{here}
-use Rattle.sim_model.specs.Statements.{settled_in, do_statement, statement_step}
-use Rattle.sim_model.specs.Storing.{print_line}
-use Rattle.kernel_state.specs.Kernel.{StandsFor}
-use Rattle.kernel_state.specs.Moves.{Follows}
-use Rattle.kernel_state.specs.declared.kernel.Kernel.{Kernel}
-use Rattle.await_statements.specs.declared.stops.AwaitStop.{AwaitStop}
-use Rattle.await_statements.specs.declared.stops.AwaitStop.TheVariants as await_stop
-use Rattle.store_statements.specs.declared.stops.StatementStop.{StatementStop}
-use Rattle.store_statements.specs.declared.stops.StatementStop.TheVariants as statement_stop
+use Rattle.exec_channels.specs.SimModel.Configuration.{Config, Instance, line, instance_at, arena}
+use Rattle.exec_channels.specs.SimModel.Residual.{Residual, settle}
+use Rattle.exec_channels.specs.SimModel.Reading.{here}
+use Rattle.exec_channels.specs.SimModel.Statements.{settled_in, do_statement, statement_step}
+use Rattle.exec_channels.specs.SimModel.Storing.{print_line}
+use Rattle.exec_channels.specs.KernelState.Kernel.{StandsFor}
+use Rattle.exec_channels.specs.KernelState.Moves.{Follows}
+use Rattle.exec_channels.specs.KernelState.declared.kernel.Kernel.{Kernel}
+use Rattle.exec_transactions.specs.ExecEvents.declared.stops.AwaitStop.{AwaitStop}
+use Rattle.exec_transactions.specs.ExecEvents.declared.stops.AwaitStop.TheVariants as await_stop
+use Rattle.exec_control.specs.ExecData.declared.stops.StatementStop.{StatementStop}
+use Rattle.exec_control.specs.ExecData.declared.stops.StatementStop.TheVariants as statement_stop
 use Rattle.kernel_steps.specs.declared.answers.StepAnswer.{StepAnswer}
 use Rattle.kernel_steps.specs.declared.answers.StepAnswer.TheVariants as answer
 use Rattle.kernel_steps.specs.Kept.{Quiet, Keeps}

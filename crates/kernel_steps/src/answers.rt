@@ -2,11 +2,11 @@
 ghost use Rattle.std.specs.Prelude.{◌≡◌};
 ghost use Rattle.kernel_steps.specs.Told.{await_answer, block_answer, plain_answer, store_answer};
 
-use await_statements::AwaitStop;
+use exec_channels::logic_values_api::Value;
+use exec_control::exec_data_api::StatementStop;
+use exec_transactions::exec_events_api::AwaitStop;
 use flat_design::{RunFault, StmtId};
-use logic_values::Value;
 use std::alloc::AllocError;
-use store_statements::StatementStop;
 
 /// What a step of an instance answers.
 #[derive(Clone, Copy)]

@@ -1,33 +1,30 @@
 //! A statement of any form, carried out.
 ghost use Rattle.std.specs.Prelude.{◌≡◌, ◌<◌, ◌+◌, ◌^◌, Some};
 ghost use Rattle.flat_design.specs.Code.{arena_of, statement_at, statement_of};
-ghost use Rattle.kernel_state.specs.Kernel.{IsSound, whole_design};
-ghost use Rattle.kernel_state.specs.Moves.{HasStatement, IsOnTop};
-ghost use Rattle.data_statements.specs.Entered.{Shows};
-ghost use Rattle.store_statements.specs.Written.{NamesFit};
-ghost use Rattle.await_statements.specs.Numbers.{NumbersEvents};
-ghost use Rattle.control_statements.specs.Thrown.{OthersHaveNoGoal};
-ghost use Rattle.guard_statements.specs.Unwound.{ThrowsFree};
+ghost use Rattle.exec_channels.specs.KernelState.Kernel.{IsSound, whole_design};
+ghost use Rattle.exec_channels.specs.KernelState.Moves.{HasStatement, IsOnTop};
+ghost use Rattle.exec_control.specs.ExecData.Entered.{Shows};
+ghost use Rattle.exec_control.specs.ExecData.Written.{NamesFit};
+ghost use Rattle.exec_transactions.specs.ExecEvents.Numbers.{NumbersEvents};
+ghost use Rattle.exec_control.specs.Thrown.{OthersHaveNoGoal};
+ghost use Rattle.exec_control.specs.Unwound.{ThrowsFree};
 ghost use Rattle.kernel_steps.specs.Told.{CarriesAll};
 
 use crate::answers::{StepAnswer, awaiting, blocking, plain, storing};
 use crate::data::{if_step, print_step, var_step, while_step};
-use await_statements::{trigger_statement, wait_statement};
-use call_statements::call;
-use channel_statements::{
-    lock, nb_read, nb_write, post, read, sem_trywait, sem_wait, trylock, unlock,
+use exec_channels::kernel_state_api::{Kernel, top_lives};
+use exec_channels::{lock, nb_read, nb_write, post, read, sem_trywait, sem_wait, trylock, unlock};
+use exec_control::exec_data_api::{assign, return_value, write};
+use exec_control::{begin_guard, begin_try, control, throw, throw_it};
+use exec_transactions::exec_calls_api::{call, spawn};
+use exec_transactions::exec_events_api::{
+    cancel_named, notify_after, notify_delta, notify_named, stop, trigger_statement, wait_statement,
 };
-use control_statements::{control, throw_it};
-use event_statements::stop;
+use exec_transactions::{
+    acquire, b_transport, carry, make, nb_transport, qk_global, qk_inc, qk_reset, qk_set, release,
+};
 use flat_design::{Statement, StmtId};
-use guard_statements::{begin_guard, begin_try, throw};
-use kernel_state::{Kernel, top_lives};
-use payload_statements::{acquire, carry, make, qk_global, qk_inc, qk_reset, qk_set, release};
-use spawn_statements::spawn;
 use std::alloc::Global;
-use store_statements::{assign, return_value, write};
-use transport_statements::{b_transport, nb_transport};
-use wait_statements::{cancel_named, notify_after, notify_delta, notify_named};
 
 /// A statement comes next.
 fn has_statement(k: &Kernel, p: u32, s: StmtId)

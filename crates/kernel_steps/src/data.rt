@@ -2,17 +2,17 @@
 ghost use Rattle.std.specs.Prelude.{◌≡◌, Some, option_map};
 ghost use Rattle.flat_design.specs.Code as code;
 ghost use Rattle.flat_design.specs.Code.{arena_of, statement_at, term_of};
-ghost use Rattle.kernel_state.specs.Kernel.{IsSound};
-ghost use Rattle.kernel_state.specs.Moves.{HasStatement, IsOnTop};
-ghost use Rattle.data_statements.specs.Entered.{Shows};
+ghost use Rattle.exec_channels.specs.KernelState.Kernel.{IsSound};
+ghost use Rattle.exec_channels.specs.KernelState.Moves.{HasStatement, IsOnTop};
+ghost use Rattle.exec_control.specs.ExecData.Entered.{Shows};
 ghost use Rattle.kernel_steps.specs.Told.{Carries, CarriesAll};
 
 use crate::answers::{StepAnswer, plain};
-use data_statements::{if_then, var, while_do};
+use exec_channels::kernel_state_api::{Kernel, top_lives};
+use exec_channels::kernel_view_api::{eval_at, eval_if_at};
+use exec_channels::model_tree_api::PrintText;
+use exec_control::exec_data_api::{if_then, var, while_do};
 use flat_design::{BlockId, Expr, StmtId, ValueType};
-use kernel_state::{Kernel, top_lives};
-use kernel_view::{eval_at, eval_if_at};
-use model_tree::PrintText;
 
 /// `var`.
 pub(crate) fn var_step(
@@ -52,7 +52,7 @@ pub(crate) fn print_step(
     let _ = text;
     top_lives(k, p);
     let value = eval_if_at(k, p, e);
-    match data_statements::print(k, p, value) {
+    match exec_control::exec_data_api::print(k, p, value) {
         Ok(shown) => StepAnswer::Printed(p, s, shown),
         Err(fault) => StepAnswer::Fault(fault),
     }

@@ -1,18 +1,17 @@
 //! The end of a call.
 ghost use Rattle.std.specs.Prelude.{◌≡◌, Some};
 ghost use Rattle.flat_design.specs.Code.{arena_of, statement_of};
-ghost use Rattle.kernel_state.specs.Kernel.{IsSound};
-ghost use Rattle.kernel_state.specs.Moves.{Lives};
-ghost use Rattle.call_moves.specs.Calling.{Leaves};
-ghost use Rattle.call_statements.specs.Leaving.{CalledBy, LeavesBy};
+ghost use Rattle.exec_channels.specs.KernelState.Kernel.{IsSound};
+ghost use Rattle.exec_channels.specs.KernelState.Moves.{Lives};
+ghost use Rattle.exec_transactions.specs.ExecCalls.Calling.{Leaves};
+ghost use Rattle.exec_transactions.specs.ExecCalls.Leaving.{CalledBy, LeavesBy};
 ghost use Rattle.kernel_steps.specs.Ending.{IsEndOf};
 
-use body_code::Program;
-use call_moves::ending_call;
-use call_statements::{calling_statement, leave_plain_call};
+use exec_channels::kernel_bodies_api::Program;
+use exec_channels::kernel_state_api::Kernel;
+use exec_transactions::exec_calls_api::{calling_statement, ending_call, leave_plain_call};
+use exec_transactions::{b_transport_returns, nb_transport_returns};
 use flat_design::{NameUse, RunFault, Statement, Store};
-use kernel_state::Kernel;
-use transport_statements::{b_transport_returns, nb_transport_returns};
 
 /// How a call ends.
 #[derive(Clone, Copy)]

@@ -1,17 +1,17 @@
 //! The step of an instance.
 ghost use Rattle.std.specs.Prelude.{◌≡◌, ◌<◌, ◌+◌, ◌^◌, ℕ, Ok};
 ghost use Rattle.flat_design.specs.Code.{arena_of, statement_at};
-ghost use Rattle.sim_model.specs.Residual as residual;
-ghost use Rattle.sim_model.specs.Residual.{Frame};
-ghost use Rattle.sim_model.specs.Control as control;
-ghost use Rattle.sim_model.specs.Statements as statements;
-ghost use Rattle.sim_model.specs.declared.plain.Goal.{Goal as Aim};
-ghost use Rattle.kernel_state.specs.Kernel.{IsSound};
-ghost use Rattle.kernel_state.specs.Moves.{IsOnTop, Lives};
-ghost use Rattle.data_statements.specs.Entered.{Shows};
-ghost use Rattle.guard_statements.specs.Unwound.{Reaches, ThrowsFreeIf, ThrowsFreeNext};
-ghost use Rattle.call_moves.specs.Calling.{Leaves};
-ghost use Rattle.control_statements.specs.Thrown.{OthersHaveNoGoal};
+ghost use Rattle.exec_channels.specs.SimModel.Residual as residual;
+ghost use Rattle.exec_channels.specs.SimModel.Residual.{Frame};
+ghost use Rattle.exec_channels.specs.SimModel.Control as control;
+ghost use Rattle.exec_channels.specs.SimModel.Statements as statements;
+ghost use Rattle.exec_channels.specs.SimModel.declared.plain.Goal.{Goal as Aim};
+ghost use Rattle.exec_channels.specs.KernelState.Kernel.{IsSound};
+ghost use Rattle.exec_channels.specs.KernelState.Moves.{IsOnTop, Lives};
+ghost use Rattle.exec_control.specs.ExecData.Entered.{Shows};
+ghost use Rattle.exec_control.specs.Unwound.{Reaches, ThrowsFreeIf, ThrowsFreeNext};
+ghost use Rattle.exec_transactions.specs.ExecCalls.Calling.{Leaves};
+ghost use Rattle.exec_control.specs.Thrown.{OthersHaveNoGoal};
 ghost use Rattle.kernel_steps.specs.Ready.{Ready};
 ghost use Rattle.kernel_steps.specs.Shown.{ComesNext};
 ghost use Rattle.kernel_steps.specs.Told.{MakesAll, MakesStep};
@@ -19,12 +19,11 @@ ghost use Rattle.kernel_steps.specs.Told.{MakesAll, MakesStep};
 use crate::answers::{StepAnswer, plain};
 use crate::carrying::carry_out;
 use crate::leaving::leave;
-use body_code::Program;
-use body_layers::Next;
+use exec_channels::kernel_bodies_api::{Next, Program};
+use exec_channels::kernel_state_api::{Kernel, pass, top_lives};
+use exec_channels::sim_model_api::Goal;
+use exec_control::{body_ends, reach_goal};
 use flat_design::StmtId;
-use guard_statements::{body_ends, reach_goal};
-use kernel_state::{Kernel, pass, top_lives};
-use sim_model::Goal;
 use std::alloc::Global;
 
 /// What comes next in the body of an instance, once finished parts have fallen away.

@@ -4,16 +4,16 @@ use Rattle.std.specs.Prelude.{is_some, nat_lt}
 use Rattle.std.proofs.lemmas.Bool.{cases_eq}
 use Rattle.std.proofs.lemmas.Bool.Decides.{nat_tests}
 use Rattle.std.specs.FinMap as map
-use Rattle.instance_table.specs.declared.instances.Instance.{Instance as Entry}
-use Rattle.sim_model.specs.Residual.{Residual, settle, innermost, within}
-use Rattle.sim_model.specs.Configuration.{Config, Instance, instance_at, change, arena}
-use Rattle.sim_model.specs.Reading.{has_ended, home_of_via, locals_of}
-use Rattle.body_model.proofs.Strips.{strip-innermost, strip-within}
-use Rattle.wake_laws.proofs.Wakes.{change-here, change-other}
-use Rattle.process_state.specs.Bodies as bodies
-use Rattle.schedule.specs.Seen.{seen, shown_at, as_instance}
-use Rattle.schedule.specs.Seen.{body_at as kept_at}
-use Rattle.schedule.specs.declared.parts.Process.{Process}
+use Rattle.kernel_state.specs.InstanceTable.declared.instances.Instance.{Instance as Entry}
+use Rattle.expr_eval.specs.SimModel.Residual.{Residual, settle, innermost, within}
+use Rattle.expr_eval.specs.SimModel.Configuration.{Config, Instance, instance_at, change, arena}
+use Rattle.expr_eval.specs.SimModel.Reading.{has_ended, home_of_via, locals_of}
+use Rattle.kernel_state.proofs.KernelBodies.Strips.{strip-innermost, strip-within}
+use Rattle.kernel_state.proofs.KernelProcesses.Wakes.{change-here, change-other}
+use Rattle.kernel_state.specs.ProcessState.Bodies as bodies
+use Rattle.kernel_state.specs.KernelProcesses.Seen.{seen, shown_at, as_instance}
+use Rattle.kernel_state.specs.KernelProcesses.Seen.{body_at as kept_at}
+use Rattle.kernel_state.specs.KernelProcesses.declared.parts.Process.{Process}
 use Rattle.kernel_state.specs.Processes.{beside, TellsBy, Tells}
 use Rattle.kernel_state.specs.Kernel.{Shows, StandsFor, whole_design}
 use Rattle.kernel_state.specs.declared.kernel.Kept.{Kept}

@@ -1,17 +1,17 @@
 -- Where an expression stands in a kernel, and what it reads there.
 use Rattle.std.specs.Prelude.{◌≡◌, ◌&&◌, ℕ, Bool, false, not, nat_lt, Option, Some, None, Result}
-use Rattle.sim_time.specs.declared.moments.Time.{Time}
-use Rattle.logic_values.specs.declared.kinds.Value.{Value}
-use Rattle.logic_values.specs.declared.kinds.Value.TheVariants as value
+use Rattle.expr_eval.specs.SimTime.declared.moments.Time.{Time}
+use Rattle.expr_eval.specs.LogicValues.declared.kinds.Value.{Value}
+use Rattle.expr_eval.specs.LogicValues.declared.kinds.Value.TheVariants as value
 use Rattle.std.specs.FinMap as map
-use Rattle.sim_model.specs.Residual.{innermost, settle}
-use Rattle.sim_model.specs.Configuration.{Config, Instance, instance_at, arena}
-use Rattle.sim_model.specs.Reading.{Here, here, has_ended, locals_of, val, val_if, place_in}
-use Rattle.sim_model.specs.Statements.{settled_in}
+use Rattle.expr_eval.specs.SimModel.Residual.{innermost, settle}
+use Rattle.expr_eval.specs.SimModel.Configuration.{Config, Instance, instance_at, arena}
+use Rattle.expr_eval.specs.SimModel.Reading.{Here, here, has_ended, locals_of, val, val_if, place_in}
+use Rattle.expr_eval.specs.SimModel.Statements.{settled_in}
 use Rattle.flat_design.specs.Code.{Term}
 use Rattle.flat_design.specs.declared.faults.RunFault.{RunFault}
-use Rattle.process_state.specs.Bodies as bodies
-use Rattle.transaction_board.specs.Board.{StandsForTransactions, StandsForQuantum}
+use Rattle.kernel_state.specs.ProcessState.Bodies as bodies
+use Rattle.kernel_state.specs.KernelTransactions.Board.{StandsForTransactions, StandsForQuantum}
 use Rattle.kernel_state.specs.Kernel.{StandsFor, whole_design}
 use Rattle.kernel_state.specs.declared.kernel.Kernel.{Kernel}
 use Rattle.kernel_view.specs.declared.standings.Standing.{Standing}

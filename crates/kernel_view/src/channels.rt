@@ -1,14 +1,14 @@
 //! What names stand for, and what channels show.
 ghost use Rattle.std.specs.Prelude.{◌≡◌, slice_get, unwrap_or};
 ghost use Rattle.flat_design.specs.Denotes.{denoted_at};
-ghost use Rattle.fifo_sync.specs.Fifos as fifos;
-ghost use Rattle.sim_model.specs.Configuration.{Config};
-ghost use Rattle.sim_model.specs.Reading as reading;
-ghost use Rattle.sim_model.specs.Values as values;
+ghost use Rattle.expr_eval.specs.FifoSync.Fifos as fifos;
+ghost use Rattle.expr_eval.specs.SimModel.Configuration.{Config};
+ghost use Rattle.expr_eval.specs.SimModel.Reading as reading;
+ghost use Rattle.expr_eval.specs.SimModel.Values as values;
 
-use channel_board::ChannelBoard;
+use expr_eval::logic_values_api::Value;
 use flat_design::{ChannelId, Denoted, Design, Member, RunFault};
-use logic_values::Value;
+use kernel_state::kernel_channels_api::ChannelBoard;
 
 /// What the name at a place of its module stands for in the instance of this number.
 pub fn denoted_in(design: &Design, home: u32, n: u32) -> Denoted

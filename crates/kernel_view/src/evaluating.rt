@@ -1,16 +1,16 @@
 //! The value of an expression where the next statement of an instance stands, and what names are there.
 ghost use Rattle.std.specs.Prelude.{◌≡◌, option_map};
 ghost use Rattle.flat_design.specs.Code.{term_of};
-ghost use Rattle.sim_model.specs.Reading.{denotes, channel_here, payload_number, read_name};
+ghost use Rattle.expr_eval.specs.SimModel.Reading.{denotes, channel_here, payload_number, read_name};
 ghost use Rattle.kernel_state.specs.Moves.{Lives};
 ghost use Rattle.kernel_view.specs.Standings.{ShowsHere, Everywhere, Gives, GivesIf, GivesPlace};
 
 use crate::standings::{Standing, standing_at};
+use expr_eval::logic_values_api::Value;
+use expr_eval::sim_time_api::Time;
 use expr_eval::{Reading, View, eval, eval_if, eval_place};
 use flat_design::{ChannelId, Denoted, Expr, NameUse, RunFault};
 use kernel_state::Kernel;
-use logic_values::Value;
-use sim_time::Time;
 
 impl<'a> View for Standing<'a> {
     ghost Shows = { ShowsHere };

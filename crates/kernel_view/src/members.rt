@@ -1,21 +1,21 @@
 //! Members of objects.
 ghost use Rattle.std.specs.Prelude.{◌≡◌, ℕ, Ok, length};
 ghost use Rattle.flat_design.specs.declared.names.Member.TheVariants as member;
-ghost use Rattle.sim_model.specs.Configuration.{Config};
-ghost use Rattle.sim_model.specs.Reading as reading;
-ghost use Rattle.sim_model.specs.Reading.{Here};
-ghost use Rattle.sim_model.specs.Values as values;
-ghost use Rattle.sim_model.specs.Values.{on_ok};
-ghost use Rattle.transaction_board.specs.Board.{StandsForQuantum};
+ghost use Rattle.expr_eval.specs.SimModel.Configuration.{Config};
+ghost use Rattle.expr_eval.specs.SimModel.Reading as reading;
+ghost use Rattle.expr_eval.specs.SimModel.Reading.{Here};
+ghost use Rattle.expr_eval.specs.SimModel.Values as values;
+ghost use Rattle.expr_eval.specs.SimModel.Values.{on_ok};
+ghost use Rattle.kernel_state.specs.KernelTransactions.Board.{StandsForQuantum};
 ghost use Rattle.kernel_view.specs.Standings.{ShowsHere, moment_if};
 
 use crate::channels::{channel_member, unsigned};
 use crate::names::keeper_number;
 use crate::standings::{Standing, has_ended};
+use expr_eval::logic_values_api::Value;
+use expr_eval::sim_time_api::Time;
 use flat_design::{Member, NameUse, PayloadBytes, PayloadField, RunFault};
-use logic_values::Value;
-use sim_time::Time;
-use transaction_board::TransactionBoard;
+use kernel_state::kernel_transactions_api::TransactionBoard;
 
 /// A time as a value, where there is one.
 fn moment_or_false(time: Option<Time>) -> Value

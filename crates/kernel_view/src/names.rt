@@ -1,17 +1,17 @@
 //! What names are as values, and the handles that they hold.
 ghost use Rattle.std.specs.Prelude.{◌≡◌, None, Ok};
-ghost use Rattle.sim_model.specs.Reading as reading;
-ghost use Rattle.sim_model.specs.Reading.{Here};
+ghost use Rattle.expr_eval.specs.SimModel.Reading as reading;
+ghost use Rattle.expr_eval.specs.SimModel.Reading.{Here};
 ghost use Rattle.flat_design.specs.declared.design.Denoted.TheVariants as denoted;
-ghost use Rattle.sim_model.specs.Values as values;
-ghost use Rattle.sim_model.specs.Values.{on_ok};
+ghost use Rattle.expr_eval.specs.SimModel.Values as values;
+ghost use Rattle.expr_eval.specs.SimModel.Values.{on_ok};
 ghost use Rattle.kernel_view.specs.Standings.{ShowsHere};
 
 use crate::channels::{channel_of, channel_value, denoted_in, unsigned};
 use crate::standings::Standing;
+use expr_eval::logic_values_api::Value;
 use expr_eval::{payload_handle, process_handle};
 use flat_design::{ChannelId, Denoted, NameUse, PayloadBytes, RunFault};
-use logic_values::Value;
 
 /// The byte of an index as a number.
 fn byte_in(bytes: &[u8], i: u64) -> Result<Value, RunFault>

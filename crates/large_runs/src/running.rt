@@ -1,7 +1,7 @@
 //! One run over files and sinks in memory, and what is told of it.
 
-use sim_io::{MemoryShelf, MemorySink};
 use std::alloc::{AllocError, Global};
+use tlmsim::sim_io_api::{MemoryShelf, MemorySink};
 use tlmsim::{Words, sim_main};
 
 /// The most bytes of a report's end that are told.

@@ -9,8 +9,6 @@ mod kinds;
 mod laws;
 mod planes;
 mod tables;
-#[cfg(test)]
-mod tests;
 mod texts;
 mod vectors;
 
@@ -19,6 +17,7 @@ pub use equality::is_same;
 pub use integers::{add, cut, div, lt, mul, rem, shl, shr, sub};
 pub use kinds::{Digit, Sign, Value};
 pub use laws::same_values_are_equal;
+pub use plain_lists as plain_lists_api;
 pub use planes::Lv;
 pub use tables::resolve;
 pub use texts::value_text;

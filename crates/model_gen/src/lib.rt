@@ -5,3 +5,4 @@ mod generated;
 mod modules;
 
 pub use generated::generate;
+pub use logic_values as logic_values_api;

@@ -2,8 +2,8 @@
 use Rattle.std.specs.Prelude.{◌≡◌, ℕ, suc, ◌+◌, ◌≤◌, Bool, false, ◌||◌, if◌then◌else◌, List, [], ◌∷◌, length, Option, Some, None, is_some, codes}
 use Rattle.std.specs.Str.{bytes_eq}
 use denote.Enum.Bare.{sameb}
-use Rattle.sim_time.specs.declared.moments.Unit.{Unit as TimeUnit}
-use Rattle.sim_time.specs.declared.moments.Unit.TheVariants as unit
+use Rattle.model_tree.specs.SimTime.declared.moments.Unit.{Unit as TimeUnit}
+use Rattle.model_tree.specs.SimTime.declared.moments.Unit.TheVariants as unit
 use Rattle.model_tree.specs.contracts.vocabulary.Symbol.{the_type as the_symbol}
 use Rattle.model_tree.specs.declared.vocabulary.Word.TheVariants as w
 use Rattle.model_tree.specs.declared.vocabulary.Symbol.{Symbol}

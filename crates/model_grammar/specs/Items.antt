@@ -1,6 +1,6 @@
 -- The items of modules and a whole text: which tokens derive each.
 use Rattle.std.specs.Prelude.{ℕ, Bool, true, false, List, [], ◌∷◌}
-use Rattle.logic_values.specs.Digits.{digits}
+use Rattle.model_tree.specs.LogicValues.Digits.{digits}
 use Rattle.model_tree.specs.Spelling.{signal_word, plain_word, process_word}
 use Rattle.model_tree.specs.Tree as tree
 use Rattle.model_tree.specs.declared.vocabulary.Word.{Word}

@@ -1,7 +1,7 @@
 -- The tokens of a text: what each means, and their limits.
 use Rattle.std.specs.Prelude.{ℕ, Bool, true, ◌&&◌, if◌then◌else◌, List, [], ◌∷◌, length, nat_lt, nat_le, Option, Some, None, find}
 use Rattle.std.specs.Str.{bytes_eq}
-use Rattle.logic_values.specs.declared.kinds.Digit.{Digit}
+use Rattle.model_tree.specs.LogicValues.declared.kinds.Digit.{Digit}
 use Rattle.model_tree.specs.declared.vocabulary.Word.{Word}
 use Rattle.model_tree.specs.declared.vocabulary.Symbol.{Symbol}
 use Rattle.model_tree.specs.declared.vocabulary.TheConstants.{SYMBOLS}

@@ -8,6 +8,12 @@ ghost use Rattle.model_grammar.specs.Tokens.{Tokens, are_limited};
 ghost use Rattle.model_grammar.specs.Items.{DerivesModel};
 ghost use Rattle.model_grammar.specs.Brackets.{brackets};
 
+pub use model_tree as model_tree_api;
+pub use model_tree::{
+    logic_values_api as logic_values_api, plain_lists_api as plain_lists_api,
+    sim_time_api as sim_time_api,
+};
+
 /// A tree that tokens within their limits derive, with no more brackets open than may be, keeps the limits and
 /// the levels of the language.
 pub fn sound_tree()

@@ -3,12 +3,12 @@ use Rattle.std.proofs.Common.{◌≡◌, ℕ, ◌+◌, ◌<◌, ◌≤◌, Bool,
 use Rattle.std.specs.Prelude.{IfSome, option_map, nat_lt, nat_le, map}
 use Rattle.std.proofs.lemmas.Bool.{and_from, cases_lt}
 use Rattle.std.proofs.lemmas.List.{length-reverse, length-map}
-use Rattle.logic_values.specs.declared.kinds.Digit.{Digit}
-use Rattle.model_tree.specs.declared.vocabulary.Word.{Word}
-use Rattle.model_tree.specs.declared.vocabulary.Symbol.{Symbol}
-use Rattle.model_tree.specs.Vocabulary.{word_of}
-use Rattle.model_tree.specs.Leaves.{is_name, is_print_text}
-use Rattle.model_tree.specs.Limits.{is_number}
+use Rattle.model_grammar.specs.LogicValues.declared.kinds.Digit.{Digit}
+use Rattle.model_grammar.specs.ModelTree.declared.vocabulary.Word.{Word}
+use Rattle.model_grammar.specs.ModelTree.declared.vocabulary.Symbol.{Symbol}
+use Rattle.model_grammar.specs.ModelTree.Vocabulary.{word_of}
+use Rattle.model_grammar.specs.ModelTree.Leaves.{is_name, is_print_text}
+use Rattle.model_grammar.specs.ModelTree.Limits.{is_number}
 use Rattle.model_grammar.specs.Tokens.{Token, name, number, logic, quoted, symbol, symbol_of, is_limited, are_limited, word_or_name}
 use Rattle.std.specs.Str.Parse.{digits_value}
 use Rattle.model_lexer.specs.declared.forms.Form.{Form}

@@ -1,7 +1,7 @@
 -- That a text reads as a tree.
 use Rattle.std.specs.Prelude.{ℕ, ◌≤◌, List, []}
-use Rattle.model_tree.specs.Tree as tree
-use Rattle.model_tree.specs.Limits.{bracket_limit}
+use Rattle.model_grammar.specs.ModelTree.Tree as tree
+use Rattle.model_grammar.specs.ModelTree.Limits.{bracket_limit}
 use Rattle.model_grammar.specs.Items.{DerivesModel}
 use Rattle.model_grammar.specs.Brackets.{brackets}
 use Rattle.model_lexer.specs.Cut.{Lexeme, Cut}

@@ -1,6 +1,6 @@
 -- What contracts see of a text's tokens.
 use Rattle.std.specs.Prelude.{◌≡◌, ℕ, List, map, take, Some}
-use Rattle.logic_values.specs.Digits.{digits}
+use Rattle.model_grammar.specs.LogicValues.Digits.{digits}
 use Rattle.model_grammar.specs.Tokens as t
 use Rattle.model_lexer.specs.declared.forms.Form.{Form}
 use Rattle.model_lexer.specs.declared.token.TokenKind.{TokenKind}

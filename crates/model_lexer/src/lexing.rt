@@ -6,8 +6,8 @@ use super::forms::is_passed;
 use super::fronts::{front, past, piece_at};
 use super::meanings::meaning;
 use super::token::{Token, TokenKind, Tokens};
-use model_tree::ParseStop;
-use plain_lists::Items;
+use model_grammar::model_tree_api::ParseStop;
+use model_grammar::plain_lists_api::Items;
 use std::alloc::Global;
 
 /// What stands at the front of bytes.

@@ -1,6 +1,6 @@
-use logic_values::Lv;
-use model_tree::{Symbol, Word};
-use plain_lists::Items;
+use model_grammar::logic_values_api::Lv;
+use model_grammar::model_tree_api::{Symbol, Word};
+use model_grammar::plain_lists_api::Items;
 
 /// Which token it is, with what it means. A name is the bytes of the text that spell it, and a text is those between its quotes.
 #[derive(Clone, Copy)]

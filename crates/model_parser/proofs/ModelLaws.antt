@@ -6,22 +6,22 @@ use Rattle.model_tree.specs.declared.vocabulary.Symbol.TheVariants as s
 use Rattle.model_tree.specs.declared.items.Top.{Top}
 use Rattle.model_tree.specs.Limits.{is_sound}
 use Rattle.model_tree.specs.Tree as tree
-use Rattle.model_grammar.specs.Tokens.{Tokens}
-use Rattle.model_grammar.specs.Rules.{Each}
-use Rattle.model_grammar.specs.Items.{DerivesModule, DerivesTop, DerivesModel}
-use Rattle.model_grammar.specs.Brackets.{in_items, in_modules}
-use Rattle.model_grammar.proofs.Shrinks.{module_shortens}
-use Rattle.model_grammar.proofs.SoundItems.{model_sound}
-use Rattle.model_lexer.specs.Laws.{with_lines}
-use Rattle.model_lexer.proofs.CutLaws.{cut_limited}
-use Rattle.model_lexer.proofs.Cuts.{one_cut_from}
-use Rattle.expression_parser.specs.Parse.{word, symbol, name}
-use Rattle.expression_parser.proofs.Parsers.{and_then_ok, made}
-use Rattle.expression_parser.proofs.OneToken.{symbol_ok, symbol_reads, symbol_sees, name_ok, name_reads, this_word_at, word_reads}
-use Rattle.expression_parser.proofs.Many.{Every, many_ok, many_reads}
-use Rattle.item_parser.specs.Bodies.{items}
-use Rattle.item_parser.proofs.ItemLaws.{items_ok, items_reads}
-use Rattle.model_lexer.specs.Reads.{Reads}
+use Rattle.parse_statements.specs.ModelGrammar.Tokens.{Tokens}
+use Rattle.parse_statements.specs.ModelGrammar.Rules.{Each}
+use Rattle.parse_statements.specs.ModelGrammar.Items.{DerivesModule, DerivesTop, DerivesModel}
+use Rattle.parse_statements.specs.ModelGrammar.Brackets.{in_items, in_modules}
+use Rattle.parse_statements.proofs.ModelGrammar.Shrinks.{module_shortens}
+use Rattle.parse_statements.proofs.ModelGrammar.SoundItems.{model_sound}
+use Rattle.parse_statements.specs.ModelLexer.Laws.{with_lines}
+use Rattle.parse_statements.proofs.ModelLexer.CutLaws.{cut_limited}
+use Rattle.parse_statements.proofs.ModelLexer.Cuts.{one_cut_from}
+use Rattle.parse_statements.specs.ParseExpressions.Parse.{word, symbol, name}
+use Rattle.parse_statements.proofs.ParseExpressions.Parsers.{and_then_ok, made}
+use Rattle.parse_statements.proofs.ParseExpressions.OneToken.{symbol_ok, symbol_reads, symbol_sees, name_ok, name_reads, this_word_at, word_reads}
+use Rattle.parse_statements.proofs.ParseExpressions.Many.{Every, many_ok, many_reads}
+use Rattle.model_parser.specs.Bodies.{items}
+use Rattle.model_parser.proofs.ItemLaws.{items_ok, items_reads}
+use Rattle.parse_statements.specs.ModelLexer.Reads.{Reads}
 use Rattle.model_parser.specs.Parse.{module_text, at_no_module, modules, top, model, whole, from_tokens, IsFound}
 
 -- a module, in which at most so many brackets are open between its braces

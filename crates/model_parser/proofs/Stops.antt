@@ -4,8 +4,8 @@ use Rattle.std.specs.Prelude.{◌≢◌}
 use Rattle.model_tree.specs.declared.faults.ParseStop.{ParseStop}
 use Rattle.model_tree.specs.declared.faults.ParseStop.TheVariants as stop
 use Rattle.model_tree.specs.Tree as tree
-use Rattle.model_lexer.specs.Laws.{with_lines}
-use Rattle.model_lexer.specs.Reads.{Reads}
+use Rattle.parse_statements.specs.ModelLexer.Laws.{with_lines}
+use Rattle.parse_statements.specs.ModelLexer.Reads.{Reads}
 use Rattle.model_parser.specs.Parse.{from_tokens, IsStopped}
 use Rattle.model_parser.proofs.ModelLaws.{derived_found}
 

@@ -1,1 +1,4 @@
+pub mod Starts
+pub mod ItemParse
+pub mod Bodies
 pub mod Parse

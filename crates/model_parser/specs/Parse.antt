@@ -10,12 +10,12 @@ use Rattle.model_tree.specs.declared.faults.ParseStop.{ParseStop}
 use Rattle.model_tree.specs.declared.faults.ParseStop.TheVariants as stop
 use Rattle.model_tree.specs.Tree as tree
 use Rattle.model_tree.specs.Views.{modules_of}
-use Rattle.model_grammar.specs.Tokens as t
-use Rattle.model_grammar.specs.Expressions.{sees}
-use Rattle.model_lexer.specs.Cut.{Lexeme, Cut}
-use Rattle.model_lexer.specs.Laws.{with_lines}
-use Rattle.expression_parser.specs.Parse.{Parser, ◌>>=◌, pure, many, word, is_the_word, symbol, name}
-use Rattle.item_parser.specs.Bodies.{items}
+use Rattle.parse_statements.specs.ModelGrammar.Tokens as t
+use Rattle.parse_statements.specs.ModelGrammar.Expressions.{sees}
+use Rattle.parse_statements.specs.ModelLexer.Cut.{Lexeme, Cut}
+use Rattle.parse_statements.specs.ModelLexer.Laws.{with_lines}
+use Rattle.parse_statements.specs.ParseExpressions.Parse.{Parser, ◌>>=◌, pure, many, word, is_the_word, symbol, name}
+use Rattle.model_parser.specs.Bodies.{items}
 
 -- a module, in which so many brackets may be opened between its braces
 unfoldable pub module_text : ℕ → Parser tree.Module

@@ -1,10 +1,18 @@
+//! The items of modules, from the tokens of a text.
+//!
 //! The tree that a model's text reads as.
 #![tactic(auto)]
 
+mod bodies;
+mod module_items;
 mod modules;
 mod parsing;
+mod plain;
+mod ports;
+mod sockets;
+mod starts;
+mod values;
 
+pub use module_items::items;
+pub use parse_statements::model_lexer_api as model_lexer_api;
 pub use parsing::{one_tree, parse};
-
-#[cfg(test)]
-mod tests;

@@ -1,11 +1,11 @@
 ghost use Rattle.std.specs.Prelude.{◌≡◌, map};
 ghost use Rattle.model_tree.specs.Views.{module_of};
-ghost use Rattle.expression_parser.specs.Parse.{Parses};
+ghost use Rattle.parse_statements.specs.ParseExpressions.Parse.{Parses};
 ghost use Rattle.model_parser.specs.Parse as spec;
 
-use expression_parser::{Cursor, push};
-use item_parser::items;
+use crate::items;
 use model_tree::{Module, ParseStop, Symbol, Top, Word};
+use parse_statements::parse_expressions_api::{Cursor, push};
 use std::alloc::Global;
 
 /// How many brackets may be open at once. A module's braces are one of them.

@@ -1,13 +1,13 @@
 ghost use Rattle.std.specs.Prelude.{◌≡◌, ℕ, ◌^◌, ◌<◌, List, length, IfOk, IfErr, MatchResult};
 ghost use Rattle.model_tree.specs.Tree as tree;
 ghost use Rattle.model_tree.specs.Seen.{model_of};
-ghost use Rattle.model_lexer.specs.Reads.{Reads};
+ghost use Rattle.parse_statements.specs.ModelLexer.Reads.{Reads};
 ghost use Rattle.model_parser.specs.Parse as spec;
 
 use super::modules::model;
-use expression_parser::Cursor;
-use model_lexer::tokens;
 use model_tree::{Module, ParseStop, Top, Tree};
+use parse_statements::model_lexer_api::tokens;
+use parse_statements::parse_expressions_api::Cursor;
 use std::alloc::Global;
 
 /// The line as a fault tells it: one past the greatest number is told as the greatest.

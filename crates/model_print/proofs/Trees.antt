@@ -3,8 +3,8 @@ use Rattle.std.proofs.Common.{◌≡◌, ℕ, List, ◌∷◌, ◌++◌, refl}
 use Rattle.std.proofs.lemmas.List.Sums.{fold-append}
 use Rattle.model_tree.specs.Tree as tree
 use Rattle.model_tree.specs.declared.vocabulary.Word.TheVariants as w
-use Rattle.page_layout.specs.Layout.{Page, Piece, put, put_all}
-use Rattle.page_layout.specs.Pieces.{word, name, braced}
+use Rattle.model_print.specs.Layout.{Page, Piece, put, put_all}
+use Rattle.model_print.specs.Pieces.{word, name, braced}
 use Rattle.model_print.specs.Printed.{expression, statement, statements, else_, handlers}
 
 pub put_both : (page : Page) (xs ys : List Piece) → put_all page (xs ++ ys) ≡ put_all (put_all page xs) ys

@@ -1,7 +1,7 @@
 -- The printed tokens of the leaves of a tree. A type is one token, with no blank inside.
 use Rattle.std.specs.Prelude.{ℕ, Bool, List, [], ◌∷◌, ◌++◌, Option}
-use Rattle.logic_values.specs.Digits.{digits}
-use Rattle.sim_time.specs.declared.moments.Unit.{Unit as TimeUnit}
+use Rattle.model_tree.specs.LogicValues.Digits.{digits}
+use Rattle.model_tree.specs.SimTime.declared.moments.Unit.{Unit as TimeUnit}
 use Rattle.model_tree.specs.declared.vocabulary.Word.TheVariants as w
 use Rattle.model_tree.specs.declared.vocabulary.Symbol.TheVariants as s
 use Rattle.model_tree.specs.declared.types.TypeForm.{TypeForm}
@@ -22,8 +22,8 @@ use Rattle.model_tree.specs.declared.types.End.{End}
 use Rattle.model_tree.specs.declared.statements.Who.{Who}
 use Rattle.model_tree.specs.declared.statements.Who.TheVariants as called
 use Rattle.model_tree.specs.Spelling.{truth_word, unit_name}
-use Rattle.page_layout.specs.Layout.{Piece}
-use Rattle.page_layout.specs.Pieces.{word, name, number, logic, type_word, wide, operator, prefix, joint, opening, closing, flag, maybe}
+use Rattle.model_print.specs.Layout.{Piece}
+use Rattle.model_print.specs.Pieces.{word, name, number, logic, type_word, wide, operator, prefix, joint, opening, closing, flag, maybe}
 
 -- a type of signals
 abbrev pub type_form : TypeForm → Piece

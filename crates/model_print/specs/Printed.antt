@@ -15,8 +15,8 @@ use Rattle.model_tree.specs.declared.items.SignalItem.{SignalItem}
 use Rattle.model_tree.specs.declared.items.ClockItem.{ClockItem}
 use Rattle.model_tree.specs.declared.items.Top.{Top}
 use Rattle.model_tree.specs.Spelling.{unary_symbol, binary_symbol, conversion_word, constant_word, control_word, signal_word, plain_word, process_word}
-use Rattle.page_layout.specs.Layout.{Piece, layout}
-use Rattle.page_layout.specs.Pieces.{word, name, number, logic, quoted, type_word, wide, operator, prefix, joint, opening, closing, comma, semicolon, flag, maybe, each, separated, braced, bracketed}
+use Rattle.model_print.specs.Layout.{Piece, layout}
+use Rattle.model_print.specs.Pieces.{word, name, number, logic, quoted, type_word, wide, operator, prefix, joint, opening, closing, comma, semicolon, flag, maybe, each, separated, braced, bracketed}
 use Rattle.model_print.specs.Leaves.{type_form, var_type, time, span, truth, constant_form, first_value, who, member, interface, port_size, parameter, binding_end}
 
 abbrev pub expression : tree.Expression → List Piece

@@ -1,14 +1,14 @@
 ghost use Rattle.std.specs.Prelude.{◌≡◌, OnOk, map};
 ghost use Rattle.model_tree.specs.Views.{expression_of, expressions_of};
-ghost use Rattle.page_layout.specs.Layout.{put_all};
-ghost use Rattle.page_layout.specs.Pieces as piece;
+ghost use Rattle.model_print.specs.Layout.{put_all};
+ghost use Rattle.model_print.specs.Pieces as piece;
 ghost use Rattle.model_print.specs.Printed as spec;
 
 use super::leaves::{time, truth};
+use crate::Page;
 use model_tree::{
     Expression, Symbol, Word, binary_symbol, constant_word, conversion_word, unary_symbol,
 };
-use page_layout::Page;
 use std::alloc::AllocError;
 
 /// Writes an expression.

@@ -1,7 +1,7 @@
 ghost use Rattle.std.specs.Prelude.{◌≡◌, OnOk, map};
 ghost use Rattle.model_tree.specs.Views.{function_of, item_of, module_of, modules_of, process_of};
-ghost use Rattle.page_layout.specs.Layout.{put_all};
-ghost use Rattle.page_layout.specs.Pieces as piece;
+ghost use Rattle.model_print.specs.Layout.{put_all};
+ghost use Rattle.model_print.specs.Pieces as piece;
 ghost use Rattle.model_print.specs.Leaves as leaf;
 ghost use Rattle.model_print.specs.Printed as spec;
 
@@ -10,12 +10,12 @@ use super::leaves::{
     type_form, var_type,
 };
 use super::statements::{block, sensitive, with_name};
+use crate::Page;
 use model_tree::{
     ClockItem, FunctionItem, InitiatorRole, Item, Module, Name, Parameter, PlainKind, ProcessItem,
     ProcessKind, SignalItem, SignalKind, Symbol, TargetRole, Top, VarType, Word, plain_word,
     process_word, signal_word,
 };
-use page_layout::Page;
 use std::alloc::AllocError;
 
 /// Writes a signal or a buffer, without its `;`.

@@ -1,14 +1,14 @@
 ghost use Rattle.std.specs.Prelude.{◌≡◌, OnOk, codes};
-ghost use Rattle.page_layout.specs.Layout.{put, put_all};
-ghost use Rattle.page_layout.specs.Pieces as piece;
+ghost use Rattle.model_print.specs.Layout.{put, put_all};
+ghost use Rattle.model_print.specs.Pieces as piece;
 ghost use Rattle.model_print.specs.Leaves as leaf;
 
+use crate::Page;
+use model_tree::sim_time_api::Unit;
 use model_tree::{
     BoundRule, Constant, ConstantForm, End, Interface, Name, Parameter, PortSize, Symbol, TypeForm,
     VarType, Who, Word, unit_name,
 };
-use page_layout::Page;
-use sim_time::Unit;
 use std::alloc::AllocError;
 
 /// Writes a word where it is written.

@@ -1,12 +1,17 @@
+//! A page of text on which tokens are laid out: line ends, indentation by open braces, and blanks between neighbours.
+//!
 //! The text of a model: its tree's tokens, laid out.
 #![tactic(auto)]
 
 mod expressions;
 mod items;
 mod leaves;
+mod page;
 mod printing;
+mod shapes;
 mod statements;
-#[cfg(test)]
-mod tests;
 
+pub use model_tree as model_tree_api;
+pub use model_tree::logic_values_api as logic_values_api;
+pub use page::Page;
 pub use printing::print;

@@ -4,9 +4,9 @@ ghost use Rattle.model_tree.specs.Views.{modules_of};
 ghost use Rattle.model_print.specs.Printed.{printed_text};
 
 use super::items::{modules, top};
-use logic_values::Text;
+use crate::Page;
+use model_tree::logic_values_api::Text;
 use model_tree::{Module, Top, Tree};
-use page_layout::Page;
 use std::alloc::{AllocError, Global};
 
 /// The text of these modules with this instance at the top.

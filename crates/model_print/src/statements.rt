@@ -1,16 +1,16 @@
 ghost use Rattle.std.specs.Prelude.{◌≡◌, OnOk, option_map};
 ghost use Rattle.model_tree.specs.Views.{action_of, body_of, channel_of, event_of, events_of, expression_of, notification_of, operation_of, place_of, spawn_of, statement_of, target_of, waiting_of};
-ghost use Rattle.page_layout.specs.Layout.{put_all};
-ghost use Rattle.page_layout.specs.Pieces as piece;
+ghost use Rattle.model_print.specs.Layout.{put_all};
+ghost use Rattle.model_print.specs.Pieces as piece;
 ghost use Rattle.model_print.specs.Printed as spec;
 
 use super::expressions::{arguments, expression};
 use super::leaves::{flag, member, var_type, who};
+use crate::Page;
 use model_tree::{
     Action, Channel, Event, Expression, Name, Notification, Operation, Place, Spawn, Statement,
     Symbol, Target, VarType, Waiting, Word, control_word,
 };
-use page_layout::Page;
 use std::alloc::AllocError;
 
 /// Writes the place of a channel where one is written.

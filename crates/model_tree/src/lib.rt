@@ -25,6 +25,9 @@ pub use leaves::{
     is_word, is_word_byte,
 };
 pub use lines::{first_line, item_line};
+pub use logic_values as logic_values_api;
+pub use logic_values::plain_lists_api as plain_lists_api;
+pub use sim_time as sim_time_api;
 pub use spelling::{
     binary_symbol, constant_word, control_word, conversion_word, plain_word, process_word,
     signal_word, unary_symbol, unit_name,

@@ -10,8 +10,6 @@ ghost use Rattle.std.specs.Option.{unwrap_or};
 
 mod flags;
 mod laws;
-#[cfg(test)]
-mod tests;
 
 use flags::{Flag, flag_of, free_listed, is_marked_at, move_marked};
 pub use laws::{marked_places_are_those_of_the_marks, only_marked_places_rise};

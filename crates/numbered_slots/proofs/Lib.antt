@@ -1,1 +1,2 @@
 pub mod SlotLemmas
+pub use Rattle.lemmas.proofs as Lemmas

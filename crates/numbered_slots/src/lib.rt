@@ -6,9 +6,6 @@ ghost use Rattle.std.specs.Option.{option_copied_mut};
 ghost use Rattle.std.specs.Borrow.{sem};
 ghost use Rattle.std.specs.FinMap as map;
 
-#[cfg(test)]
-mod tests;
-
 use slab::Slab;
 use std::alloc::{AllocFailed, Global};
 use std::collections::BTreeMap;

@@ -4,8 +4,6 @@
 mod laws;
 mod payload;
 mod pool;
-#[cfg(test)]
-mod tests;
 mod transfer;
 
 pub use laws::{
@@ -15,6 +13,7 @@ pub use laws::{
 pub use payload::{
     ADDRESS, BURST, BYTE_ENABLE, COMMAND, IGNORE, INCOMPLETE, OK, Payload, READ, WRITE,
 };
+pub use plain_lists as plain_lists_api;
 pub use plain_lists::Bytes;
 pub use pool::{Freed, MAX_BYTES, MAX_LIVE, MakeStop, Pool};
 pub use transfer::carry;

@@ -1,16 +1,16 @@
 -- Goals of unwindings that are taken away.
 use Rattle.std.proofs.Common.{◌≡◌, ℕ, ◌+◌, ◌<◌, ◌≤◌, zero, suc, Bool, true, false, List, [], ◌∷◌, ◌++◌, Option, Some, None, length, take, drop, refl, sym, ap, ◌∙◌, arith}
 use Rattle.std.specs.List.{remove}
-use Rattle.flat_design.specs.Code.{Arena}
-use Rattle.sim_model.specs.Residual.{Residual}
-use Rattle.sim_model.specs.Unwinding.{unw}
-use Rattle.body_layers.specs.declared.layers.Layer.{Layer}
-use Rattle.body_layers.specs.declared.layers.Layer.TheVariants as layer
-use Rattle.body_layers.specs.Layers.{around, inside}
-use Rattle.body_layers.specs.Sought.{is_goal, LastIs}
-use Rattle.body_layers.specs.Unwound.{unwound}
-use Rattle.body_layers.specs.Room.{FitsStatement, FitsLayer, FitsAll, Fits, kept_inside, kept_along, own_or, own_room}
-use Rattle.body_layers.proofs.Rooms.{kept_small, leaf_at}
+use Rattle.kernel_bodies.specs.FlatDesign.Code.{Arena}
+use Rattle.kernel_bodies.specs.SimModel.Residual.{Residual}
+use Rattle.kernel_bodies.specs.SimModel.Unwinding.{unw}
+use Rattle.kernel_bodies.specs.declared.layers.Layer.{Layer}
+use Rattle.kernel_bodies.specs.declared.layers.Layer.TheVariants as layer
+use Rattle.kernel_bodies.specs.Layers.{around, inside}
+use Rattle.kernel_bodies.specs.Sought.{is_goal, LastIs}
+use Rattle.kernel_bodies.specs.Unwound.{unwound}
+use Rattle.kernel_bodies.specs.Room.{FitsStatement, FitsLayer, FitsAll, Fits, kept_inside, kept_along, own_or, own_room}
+use Rattle.kernel_bodies.proofs.Rooms.{kept_small, leaf_at}
 use Rattle.process_state.specs.Forgotten.{Forgets}
 use Rattle.process_state.proofs.Unwinds.{unw_around}
 

@@ -3,20 +3,20 @@ use Rattle.std.proofs.Common.{◌≡◌, ℕ, ◌+◌, ◌≤◌, zero, suc, Lis
 use Rattle.std.proofs.Math.ListN.{length-set}
 use Rattle.std.proofs.lemmas.List.{take-append-drop}
 use Rattle.std.specs.Vec.{vec_capacity}
-use Rattle.logic_values.specs.declared.kinds.Value.{Value}
-use Rattle.flat_design.specs.Code.{Arena}
-use Rattle.sim_model.specs.Residual.{Frame}
-use Rattle.body_layers.specs.declared.layers.Frame.{Frame as Kept}
-use Rattle.body_layers.specs.declared.layers.Layer.{Layer}
-use Rattle.body_layers.specs.declared.layers.Layer.TheVariants as layer
-use Rattle.body_layers.specs.declared.layers.Comes.{Comes}
-use Rattle.body_layers.specs.declared.layers.Comes.TheVariants as comes
-use Rattle.body_code.specs.declared.around.Around.{Around}
-use Rattle.body_code.specs.declared.around.Around.TheVariants as enclosing
-use Rattle.body_layers.specs.Layers.{layers_of, layers_around}
-use Rattle.body_layers.specs.Room.{FitsStatement, FitsLayer, FitsAll, Fits, kept_inside, kept_along, own_or, own_room, room_of_own}
-use Rattle.body_layers.specs.Changed.{IsSet, IsFrameSet, IsFrameOf, IsShellOf, IsAnswered}
-use Rattle.body_layers.proofs.Rooms.{all_split, nothing_fits, kept_small}
+use Rattle.kernel_bodies.specs.LogicValues.declared.kinds.Value.{Value}
+use Rattle.kernel_bodies.specs.FlatDesign.Code.{Arena}
+use Rattle.kernel_bodies.specs.SimModel.Residual.{Frame}
+use Rattle.kernel_bodies.specs.declared.layers.Frame.{Frame as Kept}
+use Rattle.kernel_bodies.specs.declared.layers.Layer.{Layer}
+use Rattle.kernel_bodies.specs.declared.layers.Layer.TheVariants as layer
+use Rattle.kernel_bodies.specs.declared.layers.Comes.{Comes}
+use Rattle.kernel_bodies.specs.declared.layers.Comes.TheVariants as comes
+use Rattle.kernel_bodies.specs.declared.around.Around.{Around}
+use Rattle.kernel_bodies.specs.declared.around.Around.TheVariants as enclosing
+use Rattle.kernel_bodies.specs.Layers.{layers_of, layers_around}
+use Rattle.kernel_bodies.specs.Room.{FitsStatement, FitsLayer, FitsAll, Fits, kept_inside, kept_along, own_or, own_room, room_of_own}
+use Rattle.kernel_bodies.specs.Changed.{IsSet, IsFrameSet, IsFrameOf, IsShellOf, IsAnswered}
+use Rattle.kernel_bodies.proofs.Rooms.{all_split, nothing_fits, kept_small}
 
 -- more room is enough room
 module _ (a : Arena) (depths : List ℕ) (most more : ℕ) (le : most ≤ more) where

@@ -1,11 +1,11 @@
 -- What layers stand for has no numbers of guards.
 use Rattle.std.proofs.Common.{◌≡◌, ℕ, List, [], ◌∷◌, Option, Some, None, refl, ap, ◌∙◌}
-use Rattle.flat_design.specs.Code.{Arena}
-use Rattle.sim_model.specs.Residual.{Residual, followed}
-use Rattle.body_model.specs.Strip.{strip}
-use Rattle.body_layers.specs.declared.layers.Layer.{Layer}
-use Rattle.body_layers.specs.declared.layers.Layer.TheVariants as layer
-use Rattle.body_layers.specs.Layers.{around, inside, standing, rest_at}
+use Rattle.kernel_bodies.specs.FlatDesign.Code.{Arena}
+use Rattle.kernel_bodies.specs.SimModel.Residual.{Residual, followed}
+use Rattle.kernel_bodies.specs.Strip.{strip}
+use Rattle.kernel_bodies.specs.declared.layers.Layer.{Layer}
+use Rattle.kernel_bodies.specs.declared.layers.Layer.TheVariants as layer
+use Rattle.kernel_bodies.specs.Layers.{around, inside, standing, rest_at}
 
 strip_followed : (r : Residual) (ss : List ℕ) → strip (followed r ss) ≡ followed (strip r) ss
 strip_followed r [] = refl

@@ -1,19 +1,19 @@
 -- Another residual in place of what comes next, a local variable set, and a return, inside layers.
 use Rattle.std.proofs.Common.{◌≡◌, ℕ, zero, suc, Bool, true, false, List, [], ◌∷◌, Option, Some, None, take, get_or, set, refl, sym, ap, ◌∙◌}
 use Rattle.std.specs.Prelude.{is_some, if◌then◌else◌}
-use Rattle.logic_values.specs.declared.kinds.Value.{Value}
-use Rattle.flat_design.specs.Code.{Arena}
-use Rattle.sim_model.specs.Residual.{Residual, Frame, skip, frame, shell, goal, followed, put, frame_or, goal_or, innermost, in_innermost, changed_if}
-use Rattle.sim_model.specs.Unwinding.{has_exit, returned}
-use Rattle.sim_model.specs.Storing.{with_local}
-use Rattle.body_layers.specs.declared.layers.Layer.{Layer}
-use Rattle.body_layers.specs.declared.layers.Layer.TheVariants as layer
-use Rattle.body_layers.specs.declared.layers.Sought.TheVariants as sought
-use Rattle.body_layers.specs.Layers.{call_of, around, inside, rest_at}
-use Rattle.body_layers.specs.Sought.{frame_in, is_exit, is_sought, NoneIs, LastIs}
-use Rattle.body_layers.specs.Changed.{IsSet, IsFrameSet, IsFrameOf, IsShellOf, IsAnswered}
-use Rattle.body_layers.proofs.Settling.{IsLeft, around_left}
-use Rattle.body_layers.proofs.Seeking.{innermost_last, innermost_none, exit_tests, test_last, test_none}
+use Rattle.kernel_bodies.specs.LogicValues.declared.kinds.Value.{Value}
+use Rattle.kernel_bodies.specs.FlatDesign.Code.{Arena}
+use Rattle.kernel_bodies.specs.SimModel.Residual.{Residual, Frame, skip, frame, shell, goal, followed, put, frame_or, goal_or, innermost, in_innermost, changed_if}
+use Rattle.kernel_bodies.specs.SimModel.Unwinding.{has_exit, returned}
+use Rattle.kernel_bodies.specs.SimModel.Storing.{with_local}
+use Rattle.kernel_bodies.specs.declared.layers.Layer.{Layer}
+use Rattle.kernel_bodies.specs.declared.layers.Layer.TheVariants as layer
+use Rattle.kernel_bodies.specs.declared.layers.Sought.TheVariants as sought
+use Rattle.kernel_bodies.specs.Layers.{call_of, around, inside, rest_at}
+use Rattle.kernel_bodies.specs.Sought.{frame_in, is_exit, is_sought, NoneIs, LastIs}
+use Rattle.kernel_bodies.specs.Changed.{IsSet, IsFrameSet, IsFrameOf, IsShellOf, IsAnswered}
+use Rattle.kernel_bodies.proofs.Settling.{IsLeft, around_left}
+use Rattle.kernel_bodies.proofs.Seeking.{innermost_last, innermost_none, exit_tests, test_last, test_none}
 
 -- in place of what comes next
 

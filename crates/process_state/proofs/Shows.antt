@@ -1,16 +1,16 @@
 -- What layers show of what is left, with a statement or what has begun inside them.
 use Rattle.std.proofs.Common.{◌≡◌, ℕ, ◌+◌, ◌<◌, zero, suc, Bool, false, List, [], ◌∷◌, Option, Some, None, length, drop, get_or, refl, sym, ◌∙◌, arith}
 use Rattle.std.specs.Prelude.{is_some}
-use Rattle.flat_design.specs.Code.{Arena}
-use Rattle.sim_model.specs.Residual.{Residual, one, followed, innermost, within, in_nb, has_goal, open_frames}
-use Rattle.sim_model.specs.Unwinding.{catches}
-use Rattle.body_layers.specs.declared.layers.Layer.{Layer}
-use Rattle.body_layers.specs.declared.layers.Layer.TheVariants as layer
-use Rattle.body_layers.specs.declared.layers.Comes.{Comes}
-use Rattle.body_layers.specs.declared.layers.Comes.TheVariants as comes
-use Rattle.body_layers.specs.Layers.{around, inside, standing, landed, rest_at}
-use Rattle.body_layers.specs.Sought.{calls_in, is_handling, IsLast}
-use Rattle.body_layers.proofs.Seeking.{Tests, test_none, test_last, catches_none, catches_last}
+use Rattle.kernel_bodies.specs.FlatDesign.Code.{Arena}
+use Rattle.kernel_bodies.specs.SimModel.Residual.{Residual, one, followed, innermost, within, in_nb, has_goal, open_frames}
+use Rattle.kernel_bodies.specs.SimModel.Unwinding.{catches}
+use Rattle.kernel_bodies.specs.declared.layers.Layer.{Layer}
+use Rattle.kernel_bodies.specs.declared.layers.Layer.TheVariants as layer
+use Rattle.kernel_bodies.specs.declared.layers.Comes.{Comes}
+use Rattle.kernel_bodies.specs.declared.layers.Comes.TheVariants as comes
+use Rattle.kernel_bodies.specs.Layers.{around, inside, standing, landed, rest_at}
+use Rattle.kernel_bodies.specs.Sought.{calls_in, is_handling, IsLast}
+use Rattle.kernel_bodies.proofs.Seeking.{Tests, test_none, test_last, catches_none, catches_last}
 
 innermost_followed : (s : ℕ) (ss : List ℕ) → innermost (followed (one s) ss) ≡ None
 innermost_followed s [] = refl

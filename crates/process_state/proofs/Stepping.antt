@@ -1,29 +1,29 @@
 -- One step of a body: what comes, and what is put in its place.
 use Rattle.std.proofs.Common.{◌≡◌, ℕ, ◌+◌, ◌-◌, ◌≤◌, false, List, [], ◌∷◌, ◌++◌, Option, Some, None, length, take, refl, sym, ap, ◌∙◌, subst, arith, length-append}
 use Rattle.std.specs.Prelude.{Contains}
-use Rattle.flat_design.specs.Code as code
-use Rattle.flat_design.specs.Code.{Arena, Statement, statement_at}
-use Rattle.flat_design.specs.Reach.{inner_blocks}
-use Rattle.sim_model.specs.Residual as residual
-use Rattle.sim_model.specs.Residual.{Residual, Frame, skip, one, frame, goal, followed, put, next_of, frame_end, innermost, in_innermost, within, in_nb, has_goal}
-use Rattle.sim_model.specs.Unwinding.{has_exit, returned}
-use Rattle.sim_model.specs.declared.plain.Goal.{Goal}
-use Rattle.body_code.specs.Depths.{blocks_of, blocks_in, depth_of}
-use Rattle.body_code.specs.Around.{around_at, around_if, around_of}
-use Rattle.body_code.specs.declared.around.Around.{Around}
-use Rattle.body_code.specs.declared.around.Around.TheVariants as enclosing
-use Rattle.body_layers.specs.declared.layers.Frame.{Frame as Kept}
-use Rattle.body_layers.specs.declared.layers.Layer.{Layer}
-use Rattle.body_layers.specs.declared.layers.Layer.TheVariants as layer
-use Rattle.body_layers.specs.declared.layers.Next.TheVariants as next
-use Rattle.body_layers.specs.declared.layers.Comes.{Comes}
-use Rattle.body_layers.specs.declared.layers.Comes.TheVariants as comes
-use Rattle.body_layers.specs.Layers.{call_of, around, inside, standing, shown, shown_by, statement_of, layers_of, layers_around, frame_ends, end_shown, EndsWith}
-use Rattle.body_layers.specs.Room.{FitsStatement, FitsAll, Fits, kept_along, own_or, room_of_own}
+use Rattle.kernel_bodies.specs.FlatDesign.Code as code
+use Rattle.kernel_bodies.specs.FlatDesign.Code.{Arena, Statement, statement_at}
+use Rattle.kernel_bodies.specs.FlatDesign.Reach.{inner_blocks}
+use Rattle.kernel_bodies.specs.SimModel.Residual as residual
+use Rattle.kernel_bodies.specs.SimModel.Residual.{Residual, Frame, skip, one, frame, goal, followed, put, next_of, frame_end, innermost, in_innermost, within, in_nb, has_goal}
+use Rattle.kernel_bodies.specs.SimModel.Unwinding.{has_exit, returned}
+use Rattle.kernel_bodies.specs.SimModel.declared.plain.Goal.{Goal}
+use Rattle.kernel_bodies.specs.Depths.{blocks_of, blocks_in, depth_of}
+use Rattle.kernel_bodies.specs.Around.{around_at, around_if, around_of}
+use Rattle.kernel_bodies.specs.declared.around.Around.{Around}
+use Rattle.kernel_bodies.specs.declared.around.Around.TheVariants as enclosing
+use Rattle.kernel_bodies.specs.declared.layers.Frame.{Frame as Kept}
+use Rattle.kernel_bodies.specs.declared.layers.Layer.{Layer}
+use Rattle.kernel_bodies.specs.declared.layers.Layer.TheVariants as layer
+use Rattle.kernel_bodies.specs.declared.layers.Next.TheVariants as next
+use Rattle.kernel_bodies.specs.declared.layers.Comes.{Comes}
+use Rattle.kernel_bodies.specs.declared.layers.Comes.TheVariants as comes
+use Rattle.kernel_bodies.specs.Layers.{call_of, around, inside, standing, shown, shown_by, statement_of, layers_of, layers_around, frame_ends, end_shown, EndsWith}
+use Rattle.kernel_bodies.specs.Room.{FitsStatement, FitsAll, Fits, kept_along, own_or, room_of_own}
 use Rattle.process_state.specs.Bodies.{IsStatement, IsGoal, enclosed}
-use Rattle.body_layers.proofs.Settling.{IsComing, next_inside, inside_append}
+use Rattle.kernel_bodies.proofs.Settling.{IsComing, next_inside, inside_append}
 use Rattle.process_state.proofs.Putting.{put_inside}
-use Rattle.body_layers.proofs.Rooms.{kept_append, leaf_at, fits_more}
+use Rattle.kernel_bodies.proofs.Rooms.{kept_append, leaf_at, fits_more}
 
 pub le_to : (n x y : ℕ) → x ≡ y → n ≤ y → n ≤ x
 le_to n x y e h = let P : ℕ → Type 0 = λ m. n ≤ m in subst P (sym e) h

@@ -2,23 +2,23 @@
 use Rattle.std.proofs.Common.{◌≡◌, ℕ, ◌+◌, ◌<◌, ◌≤◌, zero, suc, Bool, true, false, List, [], ◌∷◌, ◌++◌, Option, Some, None, length, map, take, drop, get_or, set, inl, inr, ⊎_elim, refl, sym, ap, ◌∙◌, subst, arith, length-append}
 use Rattle.std.specs.Prelude.{◌⊎◌, ◌||◌, ◌==◌, cond, option_map, find, if◌then◌else◌, Contains}
 use Rattle.std.proofs.lemmas.List.{length-map}
-use Rattle.flat_design.specs.Code as code
-use Rattle.flat_design.specs.Code.{Arena, Statement, block_at, statement_at}
-use Rattle.flat_design.specs.Reach.{inner_blocks}
-use Rattle.flat_design.specs.declared.code.Handler.{Handler}
-use Rattle.sim_model.specs.Residual.{Residual, skip, goal, followed, has_goal}
-use Rattle.sim_model.specs.declared.plain.Goal.{Goal}
-use Rattle.sim_model.specs.Unwinding.{unw, catches, handles, handler_of, handler_block, raise, left_by_unw, left_by_raise}
-use Rattle.body_code.specs.Depths.{handlers_of, handlers_if, handlers_in, blocks_in, depth_of}
-use Rattle.body_layers.specs.declared.layers.Layer.{Layer}
-use Rattle.body_layers.specs.declared.layers.Layer.TheVariants as layer
-use Rattle.body_layers.specs.declared.layers.Sought.TheVariants as sought
-use Rattle.body_layers.specs.Layers.{around, inside, standing, rest_at}
-use Rattle.body_layers.specs.Sought.{is_handling, is_sought, is_goal, NoneIs, LastIs}
-use Rattle.body_layers.specs.Unwound.{unwound, handler_in}
-use Rattle.body_layers.specs.Room.{FitsLayer, FitsAll, Fits, kept_inside, kept_along, own_or, own_room}
-use Rattle.body_layers.proofs.Seeking.{goal_tests, catches_none, catches_last}
-use Rattle.body_layers.proofs.Rooms.{all_split, kept_small, nothing_fits, fits_more}
+use Rattle.kernel_bodies.specs.FlatDesign.Code as code
+use Rattle.kernel_bodies.specs.FlatDesign.Code.{Arena, Statement, block_at, statement_at}
+use Rattle.kernel_bodies.specs.FlatDesign.Reach.{inner_blocks}
+use Rattle.kernel_bodies.specs.FlatDesign.declared.code.Handler.{Handler}
+use Rattle.kernel_bodies.specs.SimModel.Residual.{Residual, skip, goal, followed, has_goal}
+use Rattle.kernel_bodies.specs.SimModel.declared.plain.Goal.{Goal}
+use Rattle.kernel_bodies.specs.SimModel.Unwinding.{unw, catches, handles, handler_of, handler_block, raise, left_by_unw, left_by_raise}
+use Rattle.kernel_bodies.specs.Depths.{handlers_of, handlers_if, handlers_in, blocks_in, depth_of}
+use Rattle.kernel_bodies.specs.declared.layers.Layer.{Layer}
+use Rattle.kernel_bodies.specs.declared.layers.Layer.TheVariants as layer
+use Rattle.kernel_bodies.specs.declared.layers.Sought.TheVariants as sought
+use Rattle.kernel_bodies.specs.Layers.{around, inside, standing, rest_at}
+use Rattle.kernel_bodies.specs.Sought.{is_handling, is_sought, is_goal, NoneIs, LastIs}
+use Rattle.kernel_bodies.specs.Unwound.{unwound, handler_in}
+use Rattle.kernel_bodies.specs.Room.{FitsLayer, FitsAll, Fits, kept_inside, kept_along, own_or, own_room}
+use Rattle.kernel_bodies.proofs.Seeking.{goal_tests, catches_none, catches_last}
+use Rattle.kernel_bodies.proofs.Rooms.{all_split, kept_small, nothing_fits, fits_more}
 
 -- all is unwound
 

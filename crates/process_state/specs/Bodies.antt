@@ -1,19 +1,19 @@
 -- What a body stands for, and what is true of each body.
 use Rattle.std.specs.Prelude.{◌≡◌, ℕ, ◌+◌, ◌≤◌, ◌∷◌, [], length, Option, Some, None}
 use Rattle.std.specs.Vec.{vec_capacity}
-use Rattle.logic_values.specs.declared.kinds.Value.{Value}
-use Rattle.sim_model.specs.declared.plain.Via.{Via}
-use Rattle.flat_design.specs.Code.{Arena, arena_of, body_at}
-use Rattle.sim_model.specs.Residual.{Residual, Frame, followed, guard, try_, settle, next_of}
-use Rattle.body_code.specs.Depths.{handlers_of}
-use Rattle.body_code.specs.declared.program.Program.{Program}
-use Rattle.body_code.specs.declared.around.Around.{Around}
-use Rattle.body_code.specs.declared.around.Around.TheVariants as around
+use Rattle.kernel_bodies.specs.LogicValues.declared.kinds.Value.{Value}
+use Rattle.kernel_bodies.specs.SimModel.declared.plain.Via.{Via}
+use Rattle.kernel_bodies.specs.FlatDesign.Code.{Arena, arena_of, body_at}
+use Rattle.kernel_bodies.specs.SimModel.Residual.{Residual, Frame, followed, guard, try_, settle, next_of}
+use Rattle.kernel_bodies.specs.Depths.{handlers_of}
+use Rattle.kernel_bodies.specs.declared.program.Program.{Program}
+use Rattle.kernel_bodies.specs.declared.around.Around.{Around}
+use Rattle.kernel_bodies.specs.declared.around.Around.TheVariants as around
 use Rattle.process_state.specs.declared.body.Body.{Body}
-use Rattle.body_layers.specs.declared.layers.Next.{Next}
-use Rattle.body_layers.specs.declared.layers.Next.TheVariants as next
-use Rattle.body_layers.specs.Layers.{inside, standing, shown}
-use Rattle.body_layers.specs.Room.{Fits, own_room, locals_with, body_depth}
+use Rattle.kernel_bodies.specs.declared.layers.Next.{Next}
+use Rattle.kernel_bodies.specs.declared.layers.Next.TheVariants as next
+use Rattle.kernel_bodies.specs.Layers.{inside, standing, shown}
+use Rattle.kernel_bodies.specs.Room.{Fits, own_room, locals_with, body_depth}
 
 -- the residual that a body stands for, over the code that it is used with; and what it settles to
 abbrev pub left_of : Arena → Body → Residual

@@ -1,11 +1,11 @@
 -- Layers without the goals of unwindings.
 use Rattle.std.specs.Prelude.{◌≡◌, ℕ, List, Option}
-use Rattle.flat_design.specs.Code.{Arena}
-use Rattle.sim_model.specs.Residual.{Residual}
-use Rattle.sim_model.specs.Unwinding.{unw}
-use Rattle.body_layers.specs.declared.layers.Layer.{Layer}
-use Rattle.body_layers.specs.Layers.{inside}
-use Rattle.body_layers.specs.Room.{Fits, own_room}
+use Rattle.kernel_bodies.specs.FlatDesign.Code.{Arena}
+use Rattle.kernel_bodies.specs.SimModel.Residual.{Residual}
+use Rattle.kernel_bodies.specs.SimModel.Unwinding.{unw}
+use Rattle.kernel_bodies.specs.declared.layers.Layer.{Layer}
+use Rattle.kernel_bodies.specs.Layers.{inside}
+use Rattle.kernel_bodies.specs.Room.{Fits, own_room}
 
 -- the new layers are unwound to what the old ones are, have room where those had, and leave the body's own call as much
 pub record Forgets (old new : List Layer) : Type 0 where

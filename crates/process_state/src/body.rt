@@ -1,24 +1,23 @@
 //! Bodies.
 ghost use Rattle.std.specs.Prelude.{◌≡◌, ℕ, ◌+◌, ◌≤◌, length, Contains, vec_capacity};
-ghost use Rattle.flat_design.specs.Code.{Arena, arena_of};
-ghost use Rattle.sim_model.specs.Residual as residual;
-ghost use Rattle.sim_model.specs.Residual.{next_of, put, skip, in_innermost};
-ghost use Rattle.sim_model.specs.Unwinding.{returned};
-ghost use Rattle.sim_model.specs.Storing.{with_local};
-ghost use Rattle.body_code.specs.Depths.{blocks_of};
-ghost use Rattle.body_code.specs.Around.{around_at};
-ghost use Rattle.sim_model.specs.declared.plain.Goal.{Goal as Aim};
-ghost use Rattle.body_code.specs.declared.program.Program.{Program as Whole};
-ghost use Rattle.body_layers.specs.Layers.{call_of, shown_by, statement_of, EndsIn};
+ghost use Rattle.kernel_bodies.specs.FlatDesign.Code.{Arena, arena_of};
+ghost use Rattle.kernel_bodies.specs.SimModel.Residual as residual;
+ghost use Rattle.kernel_bodies.specs.SimModel.Residual.{next_of, put, skip, in_innermost};
+ghost use Rattle.kernel_bodies.specs.SimModel.Unwinding.{returned};
+ghost use Rattle.kernel_bodies.specs.SimModel.Storing.{with_local};
+ghost use Rattle.kernel_bodies.specs.Depths.{blocks_of};
+ghost use Rattle.kernel_bodies.specs.Around.{around_at};
+ghost use Rattle.kernel_bodies.specs.SimModel.declared.plain.Goal.{Goal as Aim};
+ghost use Rattle.kernel_bodies.specs.declared.program.Program.{Program as Whole};
+ghost use Rattle.kernel_bodies.specs.Layers.{call_of, shown_by, statement_of, EndsIn};
 ghost use Rattle.process_state.specs.Bodies.{left_of, left_in, settled_in, next_in, IsSound, Keeps, IsStatement, IsGoal, enclosed};
 
-use body_code::Program;
-use body_layers::{
-    Comes, Frame, Layer, Next, Sought, add_around, add_layers, block_begins, drop_layer,
+use kernel_bodies::flat_design_api::{BlockId, CodeId, StmtId};
+use kernel_bodies::logic_values_api::Value;
+use kernel_bodies::{
+    Comes, Frame, Layer, Next, Program, Sought, add_around, add_layers, block_begins, drop_layer,
     keep_layers, land, last, next_shown, set_answer, set_local_in, take_frame,
 };
-use flat_design::{BlockId, CodeId, StmtId};
-use logic_values::Value;
 
 /// What is left of a body, with the number of its code and its first arguments, which a restart begins it with. It is used
 /// with the code that it was started with.

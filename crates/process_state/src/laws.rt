@@ -1,6 +1,6 @@
 ghost use Rattle.std.specs.Prelude.{◌≡◌};
-ghost use Rattle.flat_design.specs.Code.{Arena};
-ghost use Rattle.body_model.specs.Strip.{strip};
+ghost use Rattle.kernel_bodies.specs.FlatDesign.Code.{Arena};
+ghost use Rattle.kernel_bodies.specs.Strip.{strip};
 ghost use Rattle.process_state.specs.declared.body.Body.{Body as Kept};
 ghost use Rattle.process_state.specs.Bodies.{left_of};
 

@@ -9,9 +9,7 @@ mod starting;
 mod unwind;
 
 pub use body::Body;
-pub use body_layers::{Frame, Next};
+pub use kernel_bodies as kernel_bodies_api;
+pub use kernel_bodies::{Frame, Next};
 pub use laws::stands_without_numbers;
 pub use starting::EnterStop;
-
-#[cfg(test)]
-mod tests;

@@ -1,20 +1,19 @@
 //! What a body shows.
 ghost use Rattle.std.specs.Prelude.{◌≡◌, ℕ, ◌+◌, ◌≤◌, None, slice_get, option_map};
-ghost use Rattle.flat_design.specs.Code.{Arena, arena_of};
-ghost use Rattle.sim_model.specs.Residual as residual;
-ghost use Rattle.sim_model.specs.Residual.{Residual};
-ghost use Rattle.sim_model.specs.Unwinding as unwinding;
-ghost use Rattle.sim_model.specs.Reading.{locals_of};
-ghost use Rattle.body_layers.specs.Layers.{call_of, inside, IsStandingOf};
-ghost use Rattle.body_layers.specs.Sought.{calls_in};
+ghost use Rattle.kernel_bodies.specs.FlatDesign.Code.{Arena, arena_of};
+ghost use Rattle.kernel_bodies.specs.SimModel.Residual as residual;
+ghost use Rattle.kernel_bodies.specs.SimModel.Residual.{Residual};
+ghost use Rattle.kernel_bodies.specs.SimModel.Unwinding as unwinding;
+ghost use Rattle.kernel_bodies.specs.SimModel.Reading.{locals_of};
+ghost use Rattle.kernel_bodies.specs.Layers.{call_of, inside, IsStandingOf};
+ghost use Rattle.kernel_bodies.specs.Sought.{calls_in};
 ghost use Rattle.process_state.specs.Bodies.{left_of, left_in, settled_in, via_of, answer_of, body_of};
 
 use crate::body::Body;
-use body_code::Program;
-use body_layers::{Frame, Layer, Sought, frame_in, land, last, last_try, via_in};
-use flat_design::{CodeId, NameId};
-use logic_values::Value;
-use sim_model::Via;
+use kernel_bodies::flat_design_api::{CodeId, NameId};
+use kernel_bodies::logic_values_api::Value;
+use kernel_bodies::sim_model_api::Via;
+use kernel_bodies::{Frame, Layer, Program, Sought, frame_in, land, last, last_try, via_in};
 
 /// The innermost call of layers, also one that is being unwound.
 fn innermost_of(layers: &[Layer]) -> Option<&Frame>

@@ -1,25 +1,24 @@
 //! Bodies that start, begin again and become idle, and calls that are entered.
 ghost use Rattle.std.specs.Prelude.{◌≡◌, ℕ, ◌+◌, ◌<◌, ◌≤◌, ◌++◌, ◌∷◌, [], List, length, Some, OnOk, OnErr, IfOk, IsOk, Err, vec_len, vec_capacity, alloc_error};
-ghost use Rattle.logic_values.specs.declared.kinds.Value.{Value as Kept};
-ghost use Rattle.flat_design.specs.Code.{Arena, arena_of, body_at};
-ghost use Rattle.sim_model.specs.Residual as residual;
-ghost use Rattle.sim_model.specs.Residual.{next_of, put, skip, begun, entered, open_frames, first_locals};
-ghost use Rattle.sim_model.specs.Calls.{frame_limit};
-ghost use Rattle.body_code.specs.Depths.{locals_at};
-ghost use Rattle.body_code.specs.declared.program.Program.{Program as Whole};
-ghost use Rattle.body_layers.specs.Layers.{call_of, inside, standing, layers_of, statement_of};
-ghost use Rattle.body_layers.specs.Room.{Fits, FitsAll, kept_along, own_room, locals_with, body_depth, begun_in};
+ghost use Rattle.kernel_bodies.specs.LogicValues.declared.kinds.Value.{Value as Kept};
+ghost use Rattle.kernel_bodies.specs.FlatDesign.Code.{Arena, arena_of, body_at};
+ghost use Rattle.kernel_bodies.specs.SimModel.Residual as residual;
+ghost use Rattle.kernel_bodies.specs.SimModel.Residual.{next_of, put, skip, begun, entered, open_frames, first_locals};
+ghost use Rattle.kernel_bodies.specs.SimModel.Calls.{frame_limit};
+ghost use Rattle.kernel_bodies.specs.Depths.{locals_at};
+ghost use Rattle.kernel_bodies.specs.declared.program.Program.{Program as Whole};
+ghost use Rattle.kernel_bodies.specs.Layers.{call_of, inside, standing, layers_of, statement_of};
+ghost use Rattle.kernel_bodies.specs.Room.{Fits, FitsAll, kept_along, own_room, locals_with, body_depth, begun_in};
 ghost use Rattle.process_state.specs.Bodies.{left_of, left_in, settled_in, next_in, IsSound, Keeps, IsStatement, HasRoomFor};
 
 use crate::body::Body;
-use body_code::Program;
-use body_layers::{
-    Frame, Layer, add_layers, add_locals, body_begins, depth_in, keep_layers, locals_in,
+use kernel_bodies::flat_design_api::{CodeId, Local, StmtId};
+use kernel_bodies::logic_values_api::Value;
+use kernel_bodies::sim_model_api::Via;
+use kernel_bodies::{
+    Frame, Layer, Program, add_layers, add_locals, body_begins, depth_in, keep_layers, locals_in,
     many_locals, place,
 };
-use flat_design::{CodeId, Local, StmtId};
-use logic_values::Value;
-use sim_model::Via;
 use std::alloc::{AllocError, Global};
 use std::mem;
 

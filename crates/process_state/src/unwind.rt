@@ -2,19 +2,20 @@
 ghost use Rattle.std.specs.Prelude.{◌≡◌, ◌≤◌, true, false, slice_get, ◌+◌, ◌<◌, ◌^◌, IfSome};
 ghost use Rattle.std.specs.Vec.{vec_capacity, vec_len};
 ghost use Rattle.std.specs.List.{remove};
-ghost use Rattle.flat_design.specs.Code.{Arena, arena_of};
-ghost use Rattle.sim_model.specs.Residual.{goal, has_goal};
-ghost use Rattle.sim_model.specs.Unwinding as spec;
-ghost use Rattle.body_code.specs.declared.program.Program.{Program as Whole};
-ghost use Rattle.body_layers.specs.Sought.{is_goal, NoneIs};
+ghost use Rattle.kernel_bodies.specs.FlatDesign.Code.{Arena, arena_of};
+ghost use Rattle.kernel_bodies.specs.SimModel.Residual.{goal, has_goal};
+ghost use Rattle.kernel_bodies.specs.SimModel.Unwinding as spec;
+ghost use Rattle.kernel_bodies.specs.declared.program.Program.{Program as Whole};
+ghost use Rattle.kernel_bodies.specs.Sought.{is_goal, NoneIs};
 ghost use Rattle.process_state.specs.Bodies.{left_of, left_in, IsSound, Keeps};
 ghost use Rattle.process_state.specs.Forgotten.{Forgets};
 
 use crate::body::Body;
-use body_code::{Cursor, Program};
-use body_layers::{Layer, Sought, begin_unwinding, handler_in, last, last_try, left_by};
-use flat_design::NameId;
-use sim_model::{Goal, Via};
+use kernel_bodies::flat_design_api::NameId;
+use kernel_bodies::sim_model_api::{Goal, Via};
+use kernel_bodies::{
+    Cursor, Layer, Program, Sought, begin_unwinding, handler_in, last, last_try, left_by,
+};
 
 /// Takes a layer away.
 fn take_away(layers: &mut Vec<Layer>, place: usize)

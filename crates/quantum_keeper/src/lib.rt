@@ -4,7 +4,6 @@
 #![tactic(auto)]
 
 mod keeper;
-#[cfg(test)]
-mod tests;
 
 pub use keeper::{Keeper, local_quantum};
+pub use sim_time as sim_time_api;

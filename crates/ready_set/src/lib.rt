@@ -5,10 +5,9 @@ ghost use Rattle.std.specs.Prelude.{◌≡◌, ◌⊎◌, ◌-◌, ◌^◌, ◌<
 ghost use Rattle.std.specs.FinSet as set;
 
 mod laws;
-#[cfg(test)]
-mod tests;
 
 pub use laws::least_of_a_set;
+pub use room_map as room_map_api;
 use room_map::RoomMap;
 use std::alloc::{AllocError, Global};
 use std::marker::Model;

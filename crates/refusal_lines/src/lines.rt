@@ -3,7 +3,7 @@ ghost use Rattle.refusal_lines.specs.ErrLines as spec;
 
 use super::kinds::kind_word;
 use super::refusals::{ModelFault, Refusal, ScriptFault};
-use logic_values::Text;
+use model_tree::logic_values_api::Text;
 use std::alloc::{AllocError, Global};
 
 /// A line on a text that does not read.

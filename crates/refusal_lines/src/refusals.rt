@@ -1,6 +1,6 @@
 //! What is wrong with input that is refused, to be said of it.
-use logic_values::Text;
 use model_tree::Fault;
+use model_tree::logic_values_api::Text;
 
 /// What is wrong with a model.
 #[derive(Drop)]

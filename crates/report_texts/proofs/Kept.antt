@@ -1,14 +1,14 @@
 -- The path of an instance, by what is kept of it.
 use Rattle.std.proofs.Common.{◌≡◌, ℕ, false, List, Option, Some, sym, ap, ◌∙◌, subst}
-use Rattle.logic_values.specs.declared.kinds.Value.{Value}
+use Rattle.kernel_state.specs.LogicValues.declared.kinds.Value.{Value}
 use Rattle.flat_design.specs.Code as code
 use Rattle.flat_design.specs.Code.{Term, arena_of, statement_at}
 use Rattle.flat_design.specs.declared.design.Design.{Design}
-use Rattle.sim_model.specs.Configuration.{Config, Instance, Cycle, instance_at}
-use Rattle.sim_model.specs.Steps.{turn_line}
-use Rattle.sim_model.specs.Storing.{print_line}
-use Rattle.schedule.specs.Seen.{shown_at}
-use Rattle.schedule.specs.Seen.{body_at as kept_at}
+use Rattle.kernel_state.specs.SimModel.Configuration.{Config, Instance, Cycle, instance_at}
+use Rattle.kernel_state.specs.SimModel.Steps.{turn_line}
+use Rattle.kernel_state.specs.SimModel.Storing.{print_line}
+use Rattle.kernel_state.specs.KernelProcesses.Seen.{shown_at}
+use Rattle.kernel_state.specs.KernelProcesses.Seen.{body_at as kept_at}
 use Rattle.kernel_state.specs.Processes.{TellsBy, Tells}
 use Rattle.kernel_state.specs.Kernel.{Shows, StandsFor, whole_design}
 use Rattle.kernel_state.specs.declared.kernel.Kernel.{Kernel}

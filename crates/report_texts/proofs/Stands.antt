@@ -2,13 +2,13 @@
 use Rattle.std.proofs.Common.{◌≡◌, ◌++◌, ℕ, List, [], ◌∷◌, Option, Some, None, refl, ap, ◌∙◌}
 use Rattle.std.specs.Prelude.{slice_get, codes}
 use Rattle.std.specs.List.{flat_map}
-use Rattle.logic_values.specs.ValueText.{text_of}
+use Rattle.kernel_state.specs.LogicValues.ValueText.{text_of}
 use Rattle.flat_design.specs.declared.design.Design.{Design}
 use Rattle.flat_design.specs.declared.design.Visible.{Visible}
-use Rattle.sim_model.specs.Configuration.{Config, Channels, Cycle, path_of}
-use Rattle.sim_model.specs.Steps.{shows, show_line}
-use Rattle.sim_model.specs.Texts.{closing, end_line}
-use Rattle.sim_model.specs.declared.plain.Stop.{Stop}
+use Rattle.kernel_state.specs.SimModel.Configuration.{Config, Channels, Cycle, path_of}
+use Rattle.kernel_state.specs.SimModel.Steps.{shows, show_line}
+use Rattle.kernel_state.specs.SimModel.Texts.{closing, end_line}
+use Rattle.kernel_state.specs.SimModel.declared.plain.Stop.{Stop}
 use Rattle.kernel_state.specs.Kernel.{StandsFor, whole_design}
 use Rattle.kernel_state.specs.declared.kernel.Kernel.{Kernel}
 use Rattle.report_texts.specs.Seen.{with_line, value_in, line_for, closing_of}

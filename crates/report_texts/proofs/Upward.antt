@@ -2,7 +2,7 @@
 use Rattle.std.proofs.Common.{◌≡◌, ◌-◌, ◌<◌, ◌⊎◌, inl, inr, ◌++◌, ℕ, zero, suc, true, false, List, [], ◌∷◌, refl, ap, ◌∙◌, arith}
 use Rattle.std.specs.Prelude.{slice_get}
 use Rattle.flat_design.specs.declared.objects.Object.{Object}
-use Rattle.sim_model.specs.Configuration.{below, path_up, name_of, is_own_parent, parent_of}
+use Rattle.kernel_state.specs.SimModel.Configuration.{below, path_up, name_of, is_own_parent, parent_of}
 use Rattle.report_texts.specs.Climbs.{path_through}
 
 own_name : (n : ℕ) (objects : List Object) (i : ℕ) → is_own_parent i (slice_get objects i) ≡ true → path_up n objects i ≡ name_of (slice_get objects i)

@@ -1,7 +1,7 @@
 -- A path, put together from the names of objects.
 use Rattle.std.specs.Prelude.{ℕ, List, [], ◌∷◌, slice_get}
 use Rattle.flat_design.specs.declared.objects.Object.{Object}
-use Rattle.sim_model.specs.Configuration.{below, name_of}
+use Rattle.kernel_state.specs.SimModel.Configuration.{below, name_of}
 
 -- behind a path, the names of these objects, of which the first stands lowest
 abbrev pub path_through : List Object → List ℕ → List ℕ → List ℕ

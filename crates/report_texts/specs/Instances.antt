@@ -1,14 +1,14 @@
 -- What is told of an instance.
 use Rattle.std.specs.Prelude.{◌≡◌, ℕ, false, List, [], ◌++◌, ◌∷◌, codes, Option, Some, None}
-use Rattle.logic_values.specs.declared.kinds.Value.{Value}
-use Rattle.logic_values.specs.ValueText.{text_of}
+use Rattle.kernel_state.specs.LogicValues.declared.kinds.Value.{Value}
+use Rattle.kernel_state.specs.LogicValues.ValueText.{text_of}
 use Rattle.flat_design.specs.Code as code
 use Rattle.flat_design.specs.Code.{Term, statement_at}
 use Rattle.flat_design.specs.declared.design.Design.{Design}
-use Rattle.sim_model.specs.Configuration.{Config, Instance, instance_at, arena}
-use Rattle.sim_model.specs.Steps.{turn_line}
-use Rattle.sim_model.specs.Storing.{print_line}
-use Rattle.schedule.specs.Seen.{body_at as kept_at}
+use Rattle.kernel_state.specs.SimModel.Configuration.{Config, Instance, instance_at, arena}
+use Rattle.kernel_state.specs.SimModel.Steps.{turn_line}
+use Rattle.kernel_state.specs.SimModel.Storing.{print_line}
+use Rattle.kernel_state.specs.KernelProcesses.Seen.{body_at as kept_at}
 use Rattle.kernel_state.specs.Kernel.{StandsFor, path_in, whole_design}
 use Rattle.kernel_state.specs.declared.kernel.Kept.{Kept}
 use Rattle.kernel_state.specs.declared.kernel.Kernel.{Kernel}

@@ -1,16 +1,16 @@
 -- What a show and the end of a session tell, in terms of a kernel.
 use Rattle.std.specs.Prelude.{ℕ, List, [], ◌∷◌, ◌++◌, codes, slice_get, Option, Some, None}
 use Rattle.std.specs.List.{flat_map}
-use Rattle.logic_values.specs.declared.kinds.Value.{Value}
-use Rattle.logic_values.specs.ValueText.{text_of}
+use Rattle.kernel_state.specs.LogicValues.declared.kinds.Value.{Value}
+use Rattle.kernel_state.specs.LogicValues.ValueText.{text_of}
 use Rattle.flat_design.specs.declared.design.Visible.{Visible}
 use Rattle.flat_design.specs.declared.design.VisibleId.{VisibleId}
 use Rattle.flat_design.specs.declared.design.VisibleId.TheVariants as visible_id
-use Rattle.sim_model.specs.Configuration.{Config, Channels, line, path_of, with_told}
-use Rattle.sim_model.specs.Reading.{signal_value, resolved_value}
-use Rattle.sim_model.specs.Steps.{show_line}
-use Rattle.sim_model.specs.Texts.{end_line}
-use Rattle.sim_model.specs.declared.plain.Stop.{Stop}
+use Rattle.kernel_state.specs.SimModel.Configuration.{Config, Channels, line, path_of, with_told}
+use Rattle.kernel_state.specs.SimModel.Reading.{signal_value, resolved_value}
+use Rattle.kernel_state.specs.SimModel.Steps.{show_line}
+use Rattle.kernel_state.specs.SimModel.Texts.{end_line}
+use Rattle.kernel_state.specs.SimModel.declared.plain.Stop.{Stop}
 use Rattle.kernel_state.specs.declared.kernel.Kernel.{Kernel}
 
 -- a line is told, where there is one

@@ -1,7 +1,7 @@
 //! What follows the lines of a run once the session has ended.
 ghost use Rattle.std.specs.Prelude.{◌≡◌, ◌++◌, OnOk, IfOk};
-ghost use Rattle.sim_model.specs.Configuration.{Config};
-ghost use Rattle.sim_model.specs.Texts as spec;
+ghost use Rattle.kernel_state.specs.SimModel.Configuration.{Config};
+ghost use Rattle.kernel_state.specs.SimModel.Texts as spec;
 ghost use Rattle.kernel_state.specs.Kernel.{StandsFor};
 ghost use Rattle.report_texts.specs.Seen.{final_of, finals_of, closing_of};
 
@@ -10,7 +10,7 @@ use crate::pieces::{push_number, push_value, push_word_and_number};
 use crate::shows::{push_object, value_of};
 use flat_design::{Design, Visible};
 use kernel_state::Kernel;
-use sim_model::Stop;
+use kernel_state::sim_model_api::Stop;
 use std::alloc::{AllocError, Global};
 
 fn push_final(

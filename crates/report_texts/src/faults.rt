@@ -1,7 +1,7 @@
 //! The text of a run fault.
 ghost use Rattle.std.specs.Prelude.{◌≡◌, ◌++◌, OnOk, codes};
-ghost use Rattle.sim_model.specs.Configuration.{path_of};
-ghost use Rattle.sim_model.specs.Texts as spec;
+ghost use Rattle.kernel_state.specs.SimModel.Configuration.{path_of};
+ghost use Rattle.kernel_state.specs.SimModel.Texts as spec;
 
 use crate::paths::push_path;
 use crate::pieces::{push_bytes, push_number, push_word_and_number, push_word_and_numbers};

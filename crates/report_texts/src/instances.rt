@@ -1,15 +1,15 @@
 //! Paths of instances.
 ghost use Rattle.std.specs.Prelude.{◌≡◌, ◌++◌, OnOk, slice_get};
 ghost use Rattle.flat_design.specs.Code.{arena_of, body_at};
-ghost use Rattle.sim_model.specs.Calls.{body_name, home_path};
+ghost use Rattle.kernel_state.specs.SimModel.Calls.{body_name, home_path};
 ghost use Rattle.kernel_state.specs.Kernel.{path_in, whole_design};
 ghost use Rattle.report_texts.specs.Instances.{path_at};
 
 use crate::paths::push_path;
 use crate::pieces::{push_bytes, push_number};
 use crate::shows::push_object;
-use body_code::Program;
 use flat_design::{CodeId, Design};
+use kernel_state::kernel_bodies_api::Program;
 use kernel_state::{Kept, Kernel, PathOf};
 use std::alloc::{AllocError, Global};
 

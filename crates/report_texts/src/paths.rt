@@ -1,6 +1,6 @@
 //! Paths of objects: the names from the top instance down, joined by dots.
 ghost use Rattle.std.specs.Prelude.{◌≡◌, ◌<◌, ◌⊎◌, ◌++◌, true, false, OnOk, IsTrue, slice_get};
-ghost use Rattle.sim_model.specs.Configuration.{name_of, is_own_parent, parent_of, path_up};
+ghost use Rattle.kernel_state.specs.SimModel.Configuration.{name_of, is_own_parent, parent_of, path_up};
 ghost use Rattle.report_texts.specs.Climbs.{path_through};
 
 use crate::pieces::push_bytes;

@@ -1,10 +1,10 @@
 //! Pieces of a text.
 ghost use Rattle.std.specs.Prelude.{◌≡◌, ◌++◌, OnOk};
 ghost use Rattle.std.specs.Fmt.{decimal};
-ghost use Rattle.logic_values.specs.ValueText.{text_of};
-ghost use Rattle.sim_model.specs.Texts.{with_number};
+ghost use Rattle.kernel_state.specs.LogicValues.ValueText.{text_of};
+ghost use Rattle.kernel_state.specs.SimModel.Texts.{with_number};
 
-use logic_values::{Value, value_text};
+use kernel_state::logic_values_api::{Value, value_text};
 use std::alloc::{AllocError, Global};
 
 /// Adds bytes.

@@ -2,15 +2,15 @@
 ghost use Rattle.std.specs.Prelude.{◌≡◌, ◌++◌, ℕ, List, Option, Some, OnOk, IfOk};
 ghost use Rattle.flat_design.specs.Code as code;
 ghost use Rattle.flat_design.specs.Code.{Term, arena_of, statement_at, statement_of};
-ghost use Rattle.sim_model.specs.Steps as step;
-ghost use Rattle.sim_model.specs.Storing.{print_line};
+ghost use Rattle.kernel_state.specs.SimModel.Steps as step;
+ghost use Rattle.kernel_state.specs.SimModel.Storing.{print_line};
 ghost use Rattle.report_texts.specs.Instances.{path_at, end_of_print, IsPrintLine, IsTurnLine};
 
 use crate::instances::push_path_at;
 use crate::pieces::{push_number, push_value};
 use flat_design::{Line, Statement, StmtId};
 use kernel_state::Kernel;
-use logic_values::Value;
+use kernel_state::logic_values_api::Value;
 use std::alloc::{AllocError, Global};
 
 /// The text of a statement that is a print.

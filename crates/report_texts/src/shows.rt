@@ -1,7 +1,7 @@
 //! The line of a show.
 ghost use Rattle.std.specs.Prelude.{◌≡◌, ◌++◌, OnOk, IfOk, slice_get};
-ghost use Rattle.sim_model.specs.Configuration.{Config, path_of};
-ghost use Rattle.sim_model.specs.Steps as step;
+ghost use Rattle.kernel_state.specs.SimModel.Configuration.{Config, path_of};
+ghost use Rattle.kernel_state.specs.SimModel.Steps as step;
 ghost use Rattle.kernel_state.specs.Kernel.{StandsFor};
 ghost use Rattle.report_texts.specs.Seen.{with_line, value_in, line_for};
 
@@ -9,7 +9,7 @@ use crate::paths::push_path;
 use crate::pieces::{push_number, push_value};
 use flat_design::{Line, Visible, VisibleId};
 use kernel_state::Kernel;
-use logic_values::Value;
+use kernel_state::logic_values_api::Value;
 use std::alloc::{AllocError, Global};
 
 /// The value of an object that has values to be seen.

@@ -11,8 +11,6 @@ mod balance;
 mod changing;
 mod finding;
 mod spares;
-#[cfg(test)]
-mod tests;
 mod tree;
 
 use spares::Spares;

@@ -14,19 +14,19 @@ use Rattle.flat_design.specs.declared.design.SignalPart.{SignalPart}
 use Rattle.flat_design.specs.declared.design.Visible.{Visible}
 use Rattle.flat_design.specs.declared.design.VisibleId.{VisibleId}
 use Rattle.flat_design.specs.declared.design.VisibleId.TheVariants as visible_id
-use Rattle.object_rules.specs.Listing.{objects_of}
-use Rattle.object_rules.specs.Faults.{cycle_fault, instances_fault, limit_fault}
-use Rattle.binding_rules.specs.Faults as binding
-use Rattle.design_rules.specs.Designs.{IsDesignOf}
-use Rattle.design_rules.specs.Parts.{signals_of, visible_of}
-use Rattle.model_elaborate.specs.Elaborated.{elaboration_fault}
-use Rattle.accepted_design.specs.Sound.{IsSound}
-use Rattle.sim_model.specs.Configuration.{path_of, path_up}
-use Rattle.script_commands.specs.NamedScript.{is_declared_set, signal_type, type_if, set_type, is_shown_at, is_set_at, value_at, show_named, set_valued, set_named, named_form, in_front, name_script}
-use Rattle.script_commands.specs.ValueTexts.{value_read}
-use Rattle.script_commands.specs.declared.forms.CommandForm.{CommandForm}
-use Rattle.script_commands.specs.declared.forms.CommandForm.TheVariants as form
-use Rattle.script_commands.specs.declared.forms.TextCommand.{TextCommand}
+use Rattle.elaborate.specs.DesignRules.Listing.{objects_of}
+use Rattle.elaborate.specs.DesignRules.ObjectFaults.{cycle_fault, instances_fault, limit_fault}
+use Rattle.elaborate.specs.DesignRules.BindingFaults as binding
+use Rattle.elaborate.specs.DesignRules.Designs.{IsDesignOf}
+use Rattle.elaborate.specs.DesignRules.Parts.{signals_of, visible_of}
+use Rattle.elaborate.specs.Elaborated.{elaboration_fault}
+use Rattle.elaborate.specs.Sound.{IsSound}
+use Rattle.script_text.specs.SimModel.Configuration.{path_of, path_up}
+use Rattle.script_text.specs.NamedScript.{is_declared_set, signal_type, type_if, set_type, is_shown_at, is_set_at, value_at, show_named, set_valued, set_named, named_form, in_front, name_script}
+use Rattle.script_text.specs.ValueTexts.{value_read}
+use Rattle.script_text.specs.declared.forms.CommandForm.{CommandForm}
+use Rattle.script_text.specs.declared.forms.CommandForm.TheVariants as form
+use Rattle.script_text.specs.declared.forms.TextCommand.{TextCommand}
 use Rattle.whole_language.specs.Whole.{nothing_missing}
 use Rattle.run_input.specs.Judged.{CanRun}
 

@@ -4,12 +4,12 @@ use Rattle.model_tree.specs.Tree as tree
 use Rattle.model_tree.specs.declared.faults.Fault.{Fault}
 use Rattle.model_tree.specs.declared.faults.CheckStop.{CheckStop}
 use Rattle.model_tree.specs.declared.faults.CheckStop.TheVariants.{Refused}
-use Rattle.model_lexer.specs.Reads.{Reads}
-use Rattle.model_faults.specs.Passes.{first_fault}
+use Rattle.script_text.specs.ModelLexer.Reads.{Reads}
+use Rattle.elaborate.specs.ModelRules.Passes.{first_fault}
 use Rattle.model_tree.specs.Stops.{IfRefused}
 use Rattle.flat_design.specs.declared.design.Design.{Design}
-use Rattle.design_rules.specs.Designs.{IsDesignOf}
-use Rattle.model_elaborate.specs.Elaborated.{elaboration_fault}
+use Rattle.elaborate.specs.DesignRules.Designs.{IsDesignOf}
+use Rattle.elaborate.specs.Elaborated.{elaboration_fault}
 use Rattle.run_input.specs.Judged.{BreaksRule, BreaksWhole, IsBrokenModel, HasModelFault, AcceptsModel, IsDesignOfText, BreaksScript, HasScriptFault, HasReplayFault, IsBrokenReplay}
 use Rattle.run_input.specs.Refused.{HasTextFault, IfModelFault}
 use Rattle.run_input.specs.declared.judging.ModelStop.{ModelStop}

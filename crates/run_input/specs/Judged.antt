@@ -2,19 +2,19 @@
 use Rattle.std.specs.Prelude.{◌≡◌, ◌≤◌, ◌<◌, ◌-◌, ◌^◌, ◌⊎◌, ℕ, List, length, Option, Some, None, IsSome, Ok, Err}
 use Rattle.model_tree.specs.Tree as tree
 use Rattle.model_tree.specs.declared.faults.Fault.{Fault}
-use Rattle.model_lexer.specs.Reads.{Reads}
-use Rattle.model_faults.specs.Passes.{first_fault}
-use Rattle.design_rules.specs.Designs.{IsDesignOf}
-use Rattle.model_elaborate.specs.Elaborated.{elaboration_fault}
+use Rattle.script_text.specs.ModelLexer.Reads.{Reads}
+use Rattle.elaborate.specs.ModelRules.Passes.{first_fault}
+use Rattle.elaborate.specs.DesignRules.Designs.{IsDesignOf}
+use Rattle.elaborate.specs.Elaborated.{elaboration_fault}
 use Rattle.flat_design.specs.Sound.{SoundDesign}
 use Rattle.flat_design.specs.declared.design.Design.{Design}
 use Rattle.instance_table.specs.declared.TheConstants.{MAX_LIVE}
 use Rattle.whole_language.specs.Whole.{nothing_missing}
-use Rattle.sim_model.specs.declared.plain.Command.{Command}
-use Rattle.script_commands.specs.ScriptText.{read_script}
-use Rattle.script_commands.specs.NamedScript.{name_script}
-use Rattle.script_commands.specs.declared.forms.TextCommand.{TextCommand}
-use Rattle.script_commands.specs.ChoiceList.{read_choices}
+use Rattle.script_text.specs.SimModel.declared.plain.Command.{Command}
+use Rattle.script_text.specs.ScriptText.{read_script}
+use Rattle.script_text.specs.NamedScript.{name_script}
+use Rattle.script_text.specs.declared.forms.TextCommand.{TextCommand}
+use Rattle.script_text.specs.ChoiceList.{read_choices}
 use Rattle.model_print.specs.Printed.{printed_text}
 use Rattle.run_input.specs.Together.{Together}
 use Rattle.refusal_lines.specs.declared.refusals.ModelFault.{ModelFault}

@@ -2,9 +2,9 @@
 use Rattle.std.specs.Prelude.{ℕ, List, Option, ⊤}
 use Rattle.model_tree.specs.Tree as tree
 use Rattle.flat_design.specs.declared.design.Design.{Design}
-use Rattle.design_rules.specs.Designs.{IsDesignOf}
+use Rattle.elaborate.specs.DesignRules.Designs.{IsDesignOf}
 use Rattle.run_input.specs.Judged.{Accepts, AcceptsModel, HasModelFault, HasReplayFault, HasScriptFault}
-use Rattle.sim_model.specs.declared.plain.Command.{Command}
+use Rattle.script_text.specs.SimModel.declared.plain.Command.{Command}
 use Rattle.refusal_lines.specs.declared.refusals.ModelFault.{ModelFault}
 use Rattle.refusal_lines.specs.declared.refusals.ScriptFault.{ScriptFault}
 use Rattle.run_input.specs.declared.judging.ModelStop.{ModelStop}

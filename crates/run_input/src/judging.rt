@@ -2,21 +2,21 @@ ghost use Rattle.std.specs.Prelude.{◌≡◌, ◌<◌, ◌^◌, ℕ, List, None
 ghost use Rattle.model_tree.specs.Tree as tree;
 ghost use Rattle.model_tree.specs.Seen.{model_of};
 ghost use Rattle.model_tree.specs.Stops.{IfSyntax};
-ghost use Rattle.model_lexer.specs.Reads.{Reads};
-ghost use Rattle.design_rules.specs.Designs.{IsDesignOf};
+ghost use Rattle.script_text.specs.ModelLexer.Reads.{Reads};
+ghost use Rattle.elaborate.specs.DesignRules.Designs.{IsDesignOf};
 ghost use Rattle.run_input.specs.Judged.{Accepts, AcceptsModel, CanRun, HasModelFault, HasReplayFault, HasScriptFault, IsDesignOfText, NamesScript, ReadsReplay};
 ghost use Rattle.run_input.specs.Refused.{IfModelFault, IfScriptFault, HasTextFault};
 
 use super::loading::Texts;
-use accepted_design::sound_design;
+use elaborate::laws_design_api::designs_are_few;
+use elaborate::model_check_api::check;
+use elaborate::sound_design;
 use flat_design::{Choices, Design};
-use limit_laws::designs_are_few;
 use model_parser::parse;
 use model_tree::{CheckStop, ParseStop, Tree};
 use refusal_lines::{ModelFault, ScriptFault};
-use script_commands::{Script, choice_list, commands, name_all};
+use script_text::{Script, choice_list, commands, name_all};
 use std::alloc::Global;
-use tree_check::check;
 
 /// Why texts were not accepted.
 #[derive(Drop)]

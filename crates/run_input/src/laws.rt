@@ -1,6 +1,6 @@
 ghost use Rattle.std.specs.Prelude.{◌≡◌, ◌⊎◌, ℕ, List};
 ghost use Rattle.model_tree.specs.Tree.{Model};
-ghost use Rattle.model_lexer.specs.Reads.{Reads};
+ghost use Rattle.script_text.specs.ModelLexer.Reads.{Reads};
 ghost use Rattle.run_input.specs.Judged.{AcceptsModel, BreaksRule, BreaksWhole, HasNoTree, IsBrokenModel};
 
 use model_parser::one_tree;

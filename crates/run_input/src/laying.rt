@@ -3,7 +3,7 @@ ghost use Rattle.run_input.specs.Judged.{HasModelFault, IsLayoutOf};
 ghost use Rattle.run_input.specs.Refused.{IfModelFault};
 
 use super::judging::{ModelStop, judge_tree, read_model};
-use logic_values::Text;
+use model_print::logic_values_api::Text;
 use model_print::print;
 use std::alloc::Global;
 

@@ -10,3 +10,6 @@ pub use judging::{JudgeStop, Judged, ModelStop, judge, judge_text};
 pub use laws::one_cause;
 pub use laying::laid_out;
 pub use loading::{LoadStop, MODEL_LIMIT, REPLAY_LIMIT, SCRIPT_LIMIT, Texts, load, load_model};
+pub use model_parser as model_parser_api;
+pub use refusal_lines as refusal_lines_api;
+pub use script_text as script_text_api;

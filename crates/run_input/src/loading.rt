@@ -5,7 +5,7 @@ ghost use Rattle.run_input.specs.Limits.{model_limit, replay_limit};
 ghost use Rattle.run_input.specs.Together.{Together};
 ghost use Rattle.run_input.specs.Loaded.{AreTexts, FileCause, LoadCause, ReplayCause, TextCause};
 
-use logic_values::Text;
+use model_print::logic_values_api::Text;
 use sim_io::{Bytes, ReadStop, Shelf, read_all};
 use std::alloc::{AllocError, Global};
 

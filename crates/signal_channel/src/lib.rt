@@ -4,10 +4,9 @@
 mod laws;
 mod resolved;
 mod signal;
-#[cfg(test)]
-mod tests;
 mod values;
 
 pub use laws::what_differs_is_not_equal;
+pub use logic_values as logic_values_api;
 pub use resolved::Resolved;
 pub use signal::{Changed, Policy, Signal, WriterConflict};

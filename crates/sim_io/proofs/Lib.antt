@@ -1,3 +1,4 @@
 pub mod Chains
 pub mod Entries
 pub mod Steps
+mod Places

@@ -4,3 +4,4 @@ pub mod Keeps
 pub mod Taken
 pub mod Memory
 pub mod Host
+pub mod Sound

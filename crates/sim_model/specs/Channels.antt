@@ -1,9 +1,9 @@
 -- Statements on channels (IEEE 1666-2011, clause 6).
 use Rattle.std.specs.Prelude.{ℕ, ◌+◌, ◌-◌, ◌==◌, Bool, true, false, List, [], ◌∷◌, slice_get, slice_set, Option, Some, None, Result, Ok, Err, if◌then◌else◌}
-use Rattle.logic_values.specs.declared.kinds.Value.{Value}
-use Rattle.logic_values.specs.declared.kinds.Value.TheVariants as value
-use Rattle.logic_values.specs.Integers.{bits_of}
-use Rattle.event_core.specs.declared.event.Ev.{Ev}
+use Rattle.signal_channel.specs.LogicValues.declared.kinds.Value.{Value}
+use Rattle.signal_channel.specs.LogicValues.declared.kinds.Value.TheVariants as value
+use Rattle.signal_channel.specs.LogicValues.Integers.{bits_of}
+use Rattle.flat_design.specs.EventCore.declared.event.Ev.{Ev}
 use Rattle.signal_channel.specs.Signals.{written, conflict_of}
 use Rattle.signal_channel.specs.Drivers.{driven_by}
 use Rattle.signal_channel.specs.declared.signal.Signal.{Signal}

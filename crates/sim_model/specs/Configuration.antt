@@ -1,12 +1,12 @@
 -- The configuration of a run: all that its next step and its texts depend on.
 use Rattle.std.specs.Prelude.{ℕ, zero, suc, ◌==◌, Bool, true, false, List, [], ◌∷◌, ◌++◌, map, replicate, length, slice_get, slice_set, Option, Some, None, if◌then◌else◌}
-use Rattle.logic_values.specs.declared.kinds.Value.{Value}
-use Rattle.model_tree.specs.declared.items.ProcessKind.{ProcessKind}
-use Rattle.model_tree.specs.declared.items.SignalKind.{SignalKind}
-use Rattle.model_tree.specs.declared.items.SignalKind.TheVariants as signal_kind
-use Rattle.event_core.specs.declared.event.Ev.{Ev}
-use Rattle.event_core.specs.declared.notifications.Pending.{Pending}
-use Rattle.event_core.specs.declared.notifications.Pending.TheVariants as pending
+use Rattle.signal_channel.specs.LogicValues.declared.kinds.Value.{Value}
+use Rattle.flat_design.specs.ModelTree.declared.items.ProcessKind.{ProcessKind}
+use Rattle.flat_design.specs.ModelTree.declared.items.SignalKind.{SignalKind}
+use Rattle.flat_design.specs.ModelTree.declared.items.SignalKind.TheVariants as signal_kind
+use Rattle.flat_design.specs.EventCore.declared.event.Ev.{Ev}
+use Rattle.flat_design.specs.EventCore.declared.notifications.Pending.{Pending}
+use Rattle.flat_design.specs.EventCore.declared.notifications.Pending.TheVariants as pending
 use Rattle.signal_channel.specs.Signals as signals
 use Rattle.signal_channel.specs.Drivers.{Driven, undriven}
 use Rattle.signal_channel.specs.declared.signal.Policy.{Policy}

@@ -1,10 +1,10 @@
 -- Process control (IEEE 1666-2011, 5.6.6): what a control call does, by its target, and what an unwinding ends in.
 use Rattle.std.specs.Prelude.{ℕ, Bool, true, false, not, ◌&&◌, ◌||◌, List, [], ◌∷◌, ◌++◌, drop, Option, Some, None, Result, Ok, Err, if◌then◌else◌}
-use Rattle.model_tree.specs.declared.items.ProcessKind.{ProcessKind}
-use Rattle.model_tree.specs.declared.items.ProcessKind.TheVariants as process
-use Rattle.model_tree.specs.declared.statements.Control.{Control}
-use Rattle.model_tree.specs.declared.statements.Control.TheVariants as control
-use Rattle.event_core.specs.declared.event.Ev.TheVariants as ev
+use Rattle.flat_design.specs.ModelTree.declared.items.ProcessKind.{ProcessKind}
+use Rattle.flat_design.specs.ModelTree.declared.items.ProcessKind.TheVariants as process
+use Rattle.flat_design.specs.ModelTree.declared.statements.Control.{Control}
+use Rattle.flat_design.specs.ModelTree.declared.statements.Control.TheVariants as control
+use Rattle.flat_design.specs.EventCore.declared.event.Ev.TheVariants as ev
 use Rattle.flat_design.specs.declared.code.Controlled.{Controlled}
 use Rattle.flat_design.specs.declared.code.Controlled.TheVariants as controlled
 use Rattle.flat_design.specs.declared.faults.RunFault.{RunFault}

@@ -1,11 +1,11 @@
 -- The phases of the scheduler (IEEE 1666-2011, 4.2.1): initialization, update, delta and timed notification.
 use Rattle.std.specs.Prelude.{ℕ, suc, ◌+◌, ◌==◌, Bool, true, false, nat_lt, List, [], ◌∷◌, ◌++◌, map, slice_get, unwrap_or, Option, Some, None, if◌then◌else◌}
-use Rattle.logic_values.specs.declared.kinds.Value.{Value}
-use Rattle.event_core.specs.declared.event.Ev.{Ev}
-use Rattle.event_core.specs.declared.event.Ev.TheVariants as ev
-use Rattle.event_core.specs.declared.notifications.Pending.{Pending}
-use Rattle.event_core.specs.declared.notifications.Pending.TheVariants as pending
-use Rattle.event_core.specs.declared.notifications.When.TheVariants as when
+use Rattle.signal_channel.specs.LogicValues.declared.kinds.Value.{Value}
+use Rattle.flat_design.specs.EventCore.declared.event.Ev.{Ev}
+use Rattle.flat_design.specs.EventCore.declared.event.Ev.TheVariants as ev
+use Rattle.flat_design.specs.EventCore.declared.notifications.Pending.{Pending}
+use Rattle.flat_design.specs.EventCore.declared.notifications.Pending.TheVariants as pending
+use Rattle.flat_design.specs.EventCore.declared.notifications.When.TheVariants as when
 use Rattle.signal_channel.specs.Signals.{settled, change_of}
 use Rattle.signal_channel.specs.Drivers.{Driven, resettled, edges}
 use Rattle.signal_channel.specs.declared.signal.Signal.{Signal}

@@ -1,8 +1,8 @@
 -- The value of an expression, or its first fault.
 use Rattle.std.specs.Prelude.{ℕ, Bool, true, false, List, [], ◌∷◌, length, slice_get, option_map, unwrap_or, Option, Some, None, is_some, Result, Ok, Err, if◌then◌else◌}
-use Rattle.logic_values.specs.declared.kinds.Value.{Value}
-use Rattle.logic_values.specs.declared.kinds.Value.TheVariants as value
-use Rattle.logic_values.specs.Integers.{bits_of}
+use Rattle.signal_channel.specs.LogicValues.declared.kinds.Value.{Value}
+use Rattle.signal_channel.specs.LogicValues.declared.kinds.Value.TheVariants as value
+use Rattle.signal_channel.specs.LogicValues.Integers.{bits_of}
 use Rattle.signal_channel.specs.Drivers.{Driven}
 use Rattle.signal_channel.specs.declared.signal.Signal.{Signal}
 use Rattle.fifo_sync.specs.Fifos.{Queued, available, free}

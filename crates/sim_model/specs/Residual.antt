@@ -1,6 +1,6 @@
 -- What is left of a started body, as a piece of the code, and what of it comes next.
 use Rattle.std.specs.Prelude.{ℕ, Bool, true, false, ◌||◌, List, [], ◌∷◌, ◌++◌, Option, Some, None, map, drop, length, not, ◌+◌}
-use Rattle.logic_values.specs.declared.kinds.Value.{Value}
+use Rattle.signal_channel.specs.LogicValues.declared.kinds.Value.{Value}
 use Rattle.flat_design.specs.Code.{Arena, block_at, body_at}
 use Rattle.flat_design.specs.ValueTypes.{default_value}
 use Rattle.flat_design.specs.declared.code.Local.{Local}

@@ -1,9 +1,9 @@
 -- One step of a run: the next command in Idle, the step of the phase, or the taking of a process (IEEE 1666-2011, 4.2.1).
 use Rattle.std.specs.Prelude.{ℕ, ◌+◌, Bool, true, false, List, [], ◌∷◌, ◌++◌, slice_get, Option, Some, None, Result, Ok, Err, codes, if◌then◌else◌}
 use Rattle.std.specs.Fmt.{decimal}
-use Rattle.logic_values.specs.declared.kinds.Value.{Value}
-use Rattle.logic_values.specs.ValueText.{text_of}
-use Rattle.sim_time.specs.declared.moments.Time.{Time}
+use Rattle.signal_channel.specs.LogicValues.declared.kinds.Value.{Value}
+use Rattle.signal_channel.specs.LogicValues.ValueText.{text_of}
+use Rattle.quantum_keeper.specs.SimTime.declared.moments.Time.{Time}
 use Rattle.signal_channel.specs.Signals.{written}
 use Rattle.flat_design.specs.declared.design.Visible.{Visible}
 use Rattle.flat_design.specs.declared.design.VisibleId.{VisibleId}

@@ -1,10 +1,10 @@
 -- Statements of data: variables, assignments, prints, choices and loops; and how a value is stored.
 use Rattle.std.specs.Prelude.{ℕ, ◌%◌, ◌∷◌, Bool, true, false, List, [], ◌++◌, length, slice_set, Option, Some, None, Result, Ok, codes}
 use Rattle.std.specs.Fmt.{decimal}
-use Rattle.logic_values.specs.declared.kinds.Sign.TheVariants as sign
-use Rattle.logic_values.specs.declared.kinds.Value.{Value}
-use Rattle.logic_values.specs.Integers.{cut_of, number_of}
-use Rattle.logic_values.specs.ValueText.{text_of}
+use Rattle.signal_channel.specs.LogicValues.declared.kinds.Sign.TheVariants as sign
+use Rattle.signal_channel.specs.LogicValues.declared.kinds.Value.{Value}
+use Rattle.signal_channel.specs.LogicValues.Integers.{cut_of, number_of}
+use Rattle.signal_channel.specs.LogicValues.ValueText.{text_of}
 use Rattle.payload_pool.specs.declared.payload.Payload.{Payload}
 use Rattle.flat_design.specs.Code as code
 use Rattle.flat_design.specs.Code.{Term, DestinationTerm}

@@ -3,7 +3,7 @@
 use Rattle.std.specs.Prelude.{ℕ, ◌∷◌, List, [], ◌++◌, codes, slice_get, option_map, unwrap_or}
 use Rattle.std.specs.List.{flat_map}
 use Rattle.std.specs.Fmt.{decimal}
-use Rattle.logic_values.specs.ValueText.{text_of}
+use Rattle.signal_channel.specs.LogicValues.ValueText.{text_of}
 use Rattle.flat_design.specs.declared.design.Design.{Design}
 use Rattle.flat_design.specs.declared.design.Hop.{Hop}
 use Rattle.flat_design.specs.declared.design.Visible.{Visible}

@@ -2,12 +2,12 @@
 use Rattle.std.specs.Prelude.{ℕ, zero, suc, ◌+◌, ◌-◌, ◌/◌, ◌%◌, ◌^◌, ◌==◌, Bool, true, false, not, ◌&&◌, nat_lt, List, [], ◌∷◌, ◌++◌, map, reverse, length, slice_get, codes, Option, Some, None, if◌then◌else◌}
 use Rattle.std.specs.List.{flat_map}
 use Rattle.std.specs.Fmt.{decimal}
-use Rattle.logic_values.specs.declared.kinds.Digit.{Digit}
-use Rattle.logic_values.specs.declared.kinds.Digit.TheVariants as digit
-use Rattle.logic_values.specs.declared.kinds.Value.{Value}
-use Rattle.logic_values.specs.declared.kinds.Value.TheVariants as value
-use Rattle.logic_values.specs.Digits.{digits}
-use Rattle.logic_values.specs.SameValue.{is_same}
+use Rattle.signal_channel.specs.LogicValues.declared.kinds.Digit.{Digit}
+use Rattle.signal_channel.specs.LogicValues.declared.kinds.Digit.TheVariants as digit
+use Rattle.signal_channel.specs.LogicValues.declared.kinds.Value.{Value}
+use Rattle.signal_channel.specs.LogicValues.declared.kinds.Value.TheVariants as value
+use Rattle.signal_channel.specs.LogicValues.Digits.{digits}
+use Rattle.signal_channel.specs.LogicValues.SameValue.{is_same}
 use Rattle.flat_design.specs.declared.design.Design.{Design}
 use Rattle.flat_design.specs.declared.design.SignalPart.{SignalPart}
 use Rattle.flat_design.specs.declared.design.Visible.{Visible}

@@ -1,10 +1,10 @@
 -- Statements of payloads, transport calls and quantum keepers (IEEE 1666-2011, clauses 11, 14, 15 and 16).
 use Rattle.std.specs.Prelude.{ℕ, ◌==◌, Bool, true, false, not, ◌&&◌, nat_lt, nat_le, List, [], ◌∷◌, length, slice_get, slice_set, unwrap_or, Option, Some, None, is_some, Result, Ok, Err, ℤ, pos, if◌then◌else◌}
 use Rattle.std.specs.Ordering.{int_eq}
-use Rattle.logic_values.specs.declared.kinds.Sign.TheVariants as sign
-use Rattle.logic_values.specs.declared.kinds.Value.{Value}
-use Rattle.logic_values.specs.declared.kinds.Value.TheVariants as value
-use Rattle.logic_values.specs.Integers.{number_of}
+use Rattle.signal_channel.specs.LogicValues.declared.kinds.Sign.TheVariants as sign
+use Rattle.signal_channel.specs.LogicValues.declared.kinds.Value.{Value}
+use Rattle.signal_channel.specs.LogicValues.declared.kinds.Value.TheVariants as value
+use Rattle.signal_channel.specs.LogicValues.Integers.{number_of}
 use Rattle.payload_pool.specs.Transfer.{carried, memory_after}
 use Rattle.payload_pool.specs.declared.payload.Payload.{Payload}
 use Rattle.transport_phases.specs.History.{Entry, Call, Return, BCall, BReturn, broken}

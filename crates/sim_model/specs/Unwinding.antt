@@ -1,6 +1,6 @@
 -- Unwinding: what a kill, a reset or an exception makes of a residual (IEEE 1666-2011, 5.6.6).
 use Rattle.std.specs.Prelude.{ℕ, Bool, true, false, ◌||◌, ◌==◌, List, [], ◌∷◌, ◌++◌, Option, Some, None, find, is_some, if◌then◌else◌}
-use Rattle.logic_values.specs.declared.kinds.Value.{Value}
+use Rattle.signal_channel.specs.LogicValues.declared.kinds.Value.{Value}
 use Rattle.flat_design.specs.Code.{Arena, block_at}
 use Rattle.flat_design.specs.declared.code.Handler.{Handler}
 use Rattle.sim_model.specs.Residual as residual

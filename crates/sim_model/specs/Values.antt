@@ -1,22 +1,22 @@
 -- What operators make of values. Where an operand has another type than the operation says, it counts as 0, false, no
 -- digits or time 0: accepted code never meets that.
 use Rattle.std.specs.Prelude.{ℕ, ◌+◌, ◌-◌, ◌*◌, ◌/◌, ◌%◌, ◌^◌, ◌==◌, Bool, true, false, not, ◌&&◌, ◌||◌, nat_lt, List, [], ◌∷◌, ◌++◌, map, drop, take, slice_get, Option, Some, None, Result, Ok, Err, if◌then◌else◌, bit_and, bit_or, bit_xor}
-use Rattle.logic_values.specs.declared.kinds.Digit.{Digit}
-use Rattle.logic_values.specs.declared.kinds.Digit.TheVariants as digit
-use Rattle.logic_values.specs.declared.kinds.Sign.{Sign}
-use Rattle.logic_values.specs.declared.kinds.Sign.TheVariants as sign
-use Rattle.logic_values.specs.declared.kinds.Value.{Value}
-use Rattle.logic_values.specs.declared.kinds.Value.TheVariants as value
-use Rattle.logic_values.specs.Digits.{digits}
-use Rattle.logic_values.specs.Planes.{lv_of}
-use Rattle.logic_values.specs.Integers.{sum_of, difference_of, product_of, quotient_of, remainder_of, shifted_up, shifted_down, is_less, cut_of}
-use Rattle.logic_values.specs.LogicTables.{and_of, or_of, xor_of, not_of}
-use Rattle.logic_values.specs.Vectors.{digit_by_digit, binary_digits, value_of, resized}
-use Rattle.logic_values.specs.SameValue.{is_same}
-use Rattle.model_tree.specs.declared.expressions.UnaryOp.{UnaryOp}
-use Rattle.model_tree.specs.declared.expressions.UnaryOp.TheVariants as unary_op
-use Rattle.model_tree.specs.declared.expressions.BinaryOp.{BinaryOp}
-use Rattle.model_tree.specs.declared.expressions.BinaryOp.TheVariants as op
+use Rattle.signal_channel.specs.LogicValues.declared.kinds.Digit.{Digit}
+use Rattle.signal_channel.specs.LogicValues.declared.kinds.Digit.TheVariants as digit
+use Rattle.signal_channel.specs.LogicValues.declared.kinds.Sign.{Sign}
+use Rattle.signal_channel.specs.LogicValues.declared.kinds.Sign.TheVariants as sign
+use Rattle.signal_channel.specs.LogicValues.declared.kinds.Value.{Value}
+use Rattle.signal_channel.specs.LogicValues.declared.kinds.Value.TheVariants as value
+use Rattle.signal_channel.specs.LogicValues.Digits.{digits}
+use Rattle.signal_channel.specs.LogicValues.Planes.{lv_of}
+use Rattle.signal_channel.specs.LogicValues.Integers.{sum_of, difference_of, product_of, quotient_of, remainder_of, shifted_up, shifted_down, is_less, cut_of}
+use Rattle.signal_channel.specs.LogicValues.LogicTables.{and_of, or_of, xor_of, not_of}
+use Rattle.signal_channel.specs.LogicValues.Vectors.{digit_by_digit, binary_digits, value_of, resized}
+use Rattle.signal_channel.specs.LogicValues.SameValue.{is_same}
+use Rattle.flat_design.specs.ModelTree.declared.expressions.UnaryOp.{UnaryOp}
+use Rattle.flat_design.specs.ModelTree.declared.expressions.UnaryOp.TheVariants as unary_op
+use Rattle.flat_design.specs.ModelTree.declared.expressions.BinaryOp.{BinaryOp}
+use Rattle.flat_design.specs.ModelTree.declared.expressions.BinaryOp.TheVariants as op
 use Rattle.flat_design.specs.declared.value_types.ValueType.{ValueType}
 use Rattle.flat_design.specs.declared.value_types.ValueType.TheVariants as type
 use Rattle.flat_design.specs.declared.faults.RunFault.{RunFault}

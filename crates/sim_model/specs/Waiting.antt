@@ -1,10 +1,10 @@
 -- Statements of waits and events (IEEE 1666-2011, 5.2.17, 5.2.18 and 5.10).
 use Rattle.std.specs.Prelude.{ℕ, ◌+◌, ◌==◌, true, List, [], ◌∷◌, Option, Some, None, Result, Ok, Err, if◌then◌else◌}
-use Rattle.event_core.specs.declared.event.Ev.{Ev}
-use Rattle.event_core.specs.declared.event.Ev.TheVariants as ev
-use Rattle.event_core.specs.declared.notifications.When.{When}
-use Rattle.event_core.specs.declared.notifications.When.TheVariants as when
-use Rattle.event_core.specs.declared.notifications.Pending.TheVariants as pending
+use Rattle.flat_design.specs.EventCore.declared.event.Ev.{Ev}
+use Rattle.flat_design.specs.EventCore.declared.event.Ev.TheVariants as ev
+use Rattle.flat_design.specs.EventCore.declared.notifications.When.{When}
+use Rattle.flat_design.specs.EventCore.declared.notifications.When.TheVariants as when
+use Rattle.flat_design.specs.EventCore.declared.notifications.Pending.TheVariants as pending
 use Rattle.flat_design.specs.Code as code
 use Rattle.flat_design.specs.Code.{Term, EventTerm, AwaitTerm}
 use Rattle.flat_design.specs.declared.names.NameUse.{NameUse}

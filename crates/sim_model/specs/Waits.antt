@@ -1,10 +1,10 @@
 -- Who waits for what, and what an event or the end of a time wakes (IEEE 1666-2011, 4.2.1 and 5.10).
 use Rattle.std.specs.Prelude.{ℕ, suc, ◌==◌, ◌+◌, Bool, true, not, ◌||◌, List, [], ◌∷◌, ◌++◌, filter, drop, Option, Some, None, Result, Ok, if◌then◌else◌}
 use Rattle.std.specs.List.{list_any}
-use Rattle.event_core.specs.Ev.{same_event}
-use Rattle.event_core.specs.declared.event.Ev.{Ev}
-use Rattle.event_core.specs.declared.notifications.When.{When}
-use Rattle.event_core.specs.Notifications.{notified}
+use Rattle.flat_design.specs.EventCore.Ev.{same_event}
+use Rattle.flat_design.specs.EventCore.declared.event.Ev.{Ev}
+use Rattle.flat_design.specs.EventCore.declared.notifications.When.{When}
+use Rattle.flat_design.specs.EventCore.Notifications.{notified}
 use Rattle.flat_design.specs.declared.faults.RunFault.{RunFault}
 use Rattle.sim_model.specs.Configuration.{Config, Instance, Wait, waits_for_nothing, waits_statically, waits_for_any, waits_for_all, Deadline, no_deadline, next_delta, at_time, change, change_instance, instance_at, with_runnable, with_stack}
 use Rattle.sim_model.specs.Values.{on_ok, time_within}

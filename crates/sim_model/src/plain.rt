@@ -1,6 +1,6 @@
 use flat_design::{Choices, RunFault};
-use logic_values::Value;
-use sim_time::Time;
+use quantum_keeper::sim_time_api::Time;
+use signal_channel::logic_values_api::Value;
 
 /// Where a run stands in the scheduler's cycle (IEEE 1666-2011, 4.2.1).
 #[derive(Clone, Copy, Debug, PartialEq, Eq)]

@@ -5,8 +5,6 @@
 
 mod moments;
 mod sums;
-#[cfg(test)]
-mod tests;
 
 pub use moments::{Time, Unit};
 pub use sums::{add, of_unit, sub, times};

@@ -5,11 +5,10 @@ ghost use Rattle.std.specs.Prelude.{◌≡◌, ℕ, ◌⊎◌, ◌↔◌, ◌+�
 ghost use Rattle.std.specs.FinMap as map;
 
 mod laws;
-#[cfg(test)]
-mod tests;
 
 pub use laws::due_names_are_held;
 use room_map::RoomMap;
+pub use sim_time as sim_time_api;
 use sim_time::Time;
 use std::alloc::{AllocError, Global};
 use std::marker::Model;

@@ -3,22 +3,22 @@ use Rattle.std.proofs.Common.{◌≡◌, ◌≤◌, inl, inr, ⊎_elim, ℕ, Boo
 use Rattle.std.proofs.lemmas.Bool.{false≢true}
 use Rattle.std.proofs.lemmas.Bool.Decides.{nat_tests}
 use Rattle.flat_design.specs.declared.faults.RunFault.{RunFault}
-use Rattle.sim_model.specs.Configuration.{Config}
-use Rattle.sim_model.specs.Steps.{Outcome, went, faulted, takes, ended, step}
-use Rattle.sim_model.specs.Runs.{missing, stop_within}
-use Rattle.sim_model.specs.declared.plain.Rule.{Rule}
-use Rattle.sim_model.specs.declared.plain.Rule.TheVariants as rule
-use Rattle.sim_model.specs.declared.plain.Stop.{Stop}
-use Rattle.sim_model.specs.declared.plain.Stop.TheVariants as stop
+use Rattle.command_line.specs.SimModel.Configuration.{Config}
+use Rattle.command_line.specs.SimModel.Steps.{Outcome, went, faulted, takes, ended, step}
+use Rattle.command_line.specs.SimModel.Runs.{missing, stop_within}
+use Rattle.command_line.specs.SimModel.declared.plain.Rule.{Rule}
+use Rattle.command_line.specs.SimModel.declared.plain.Rule.TheVariants as rule
+use Rattle.command_line.specs.SimModel.declared.plain.Stop.{Stop}
+use Rattle.command_line.specs.SimModel.declared.plain.Stop.TheVariants as stop
 use Rattle.command_line.specs.Line.{Mode, Simulate, Format, Generate, line_of}
-use Rattle.sessions.specs.Course.{IsEnd}
-use Rattle.sessions.specs.Fronts.{WroteFront}
-use Rattle.sessions.specs.declared.plans.Plan.{Plan}
-use Rattle.sessions.specs.declared.plans.Outcome.{Outcome as SessionOutcome}
-use Rattle.refusal_lines.specs.ErrLines.{usage_line, read_line, model_line, large_line, err_line, memory_line}
-use Rattle.refusal_lines.specs.declared.refusals.ModelFault.{ModelFault}
-use Rattle.refusal_lines.specs.declared.refusals.Refusal.{Refusal}
-use Rattle.refusal_lines.specs.declared.refusals.Refusal.TheVariants as refusal
+use Rattle.session.specs.Course.{IsEnd}
+use Rattle.session.specs.Fronts.{WroteFront}
+use Rattle.session.specs.declared.plans.Plan.{Plan}
+use Rattle.session.specs.declared.plans.Outcome.{Outcome as SessionOutcome}
+use Rattle.run_input.specs.RefusalLines.ErrLines.{usage_line, read_line, model_line, large_line, err_line, memory_line}
+use Rattle.run_input.specs.RefusalLines.declared.refusals.ModelFault.{ModelFault}
+use Rattle.run_input.specs.RefusalLines.declared.refusals.Refusal.{Refusal}
+use Rattle.run_input.specs.RefusalLines.declared.refusals.Refusal.TheVariants as refusal
 use Rattle.run_input.proofs.Apart.{OneTree}
 use Rattle.tlmsim.specs.Asked.{IsPlan, budget_of}
 use Rattle.tlmsim.specs.Call.{Call, Keeps}

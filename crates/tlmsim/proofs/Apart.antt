@@ -1,8 +1,8 @@
 -- What a call was given, against what was read in it and what came of that.
 use Rattle.std.proofs.Common.{◌≡◌, ◌<◌, ◌≤◌, ◌⊎◌, ⊎_elim, ℕ, List, length, Option, Some, None, subst, ap, refl, arith}
 use Rattle.std.specs.Prelude.{IfSome}
-use Rattle.sim_io.specs.Told.{Files, Lacks, IsText, IsLarge}
-use Rattle.sim_io.specs.Cause.{Rose}
+use Rattle.session.specs.SimIo.Told.{Files, Lacks, IsText, IsLarge}
+use Rattle.session.specs.SimIo.Cause.{Rose}
 use Rattle.command_line.specs.Line.{Mode, Simulation, Simulate, Format, Generate, line_of}
 use Rattle.run_input.specs.Limits.{model_limit, script_limit, replay_limit}
 use Rattle.run_input.specs.Loaded.{AreTexts}

@@ -1,19 +1,19 @@
 -- Which status comes of what a call is given, by what came of it.
 use Rattle.std.proofs.Common.{◌≡◌, ◌<◌, ◌≤◌, ◌⊎◌, inl, inr, ⊎_elim, ℕ, List, length, codes, Option, Some, None, subst, sym, refl}
-use Rattle.sim_io.specs.Told.{Files}
-use Rattle.sim_io.specs.Cause.{Rose}
+use Rattle.session.specs.SimIo.Told.{Files}
+use Rattle.session.specs.SimIo.Cause.{Rose}
 use Rattle.model_tree.specs.Tree as tree
 use Rattle.flat_design.specs.declared.design.Design.{Design}
-use Rattle.sim_model.specs.declared.plain.Command.{Command}
-use Rattle.sim_model.specs.declared.plain.Stop.{Stop}
-use Rattle.sim_model.specs.declared.plain.Stop.TheVariants as stop
+use Rattle.command_line.specs.SimModel.declared.plain.Command.{Command}
+use Rattle.command_line.specs.SimModel.declared.plain.Stop.{Stop}
+use Rattle.command_line.specs.SimModel.declared.plain.Stop.TheVariants as stop
 use Rattle.command_line.specs.Line.{Mode, Simulate, Format, Generate, line_of}
 use Rattle.command_line.specs.declared.modes.Generated.{Generated}
 use Rattle.model_gen.specs.Generated.{generated}
-use Rattle.refusal_lines.specs.declared.refusals.ModelFault.{ModelFault}
-use Rattle.refusal_lines.specs.declared.refusals.ScriptFault.{ScriptFault}
-use Rattle.refusal_lines.specs.declared.refusals.Refusal.{Refusal}
-use Rattle.refusal_lines.specs.declared.refusals.Refusal.TheVariants as refusal
+use Rattle.run_input.specs.RefusalLines.declared.refusals.ModelFault.{ModelFault}
+use Rattle.run_input.specs.RefusalLines.declared.refusals.ScriptFault.{ScriptFault}
+use Rattle.run_input.specs.RefusalLines.declared.refusals.Refusal.{Refusal}
+use Rattle.run_input.specs.RefusalLines.declared.refusals.Refusal.TheVariants as refusal
 use Rattle.run_input.specs.Limits.{model_limit}
 use Rattle.run_input.specs.Judged.{IsBrokenModel, AcceptsModel, IsBrokenScript, Accepts, ReadsReplay, HasReplayFault, IsBrokenReplay}
 use Rattle.run_input.proofs.Refusals.{model_broken_by, script_broken_by, replay_broken_by}

@@ -1,16 +1,16 @@
 -- Runs, by what was taken of their texts.
 use Rattle.std.proofs.Common.{◌≡◌, ℕ, List, ◌++◌, Option, Some, None, sym, ◌∙◌, subst}
 use Rattle.std.specs.Prelude.{IfSome}
-use Rattle.sim_io.specs.Told.{Files, AfterTold, Grew, Same, WereTold}
-use Rattle.sim_io.proofs.Chains.{grew_on}
-use Rattle.sim_model.specs.Configuration.{Config}
-use Rattle.sim_model.specs.declared.plain.Stop.{Stop}
-use Rattle.sim_model.specs.declared.plain.Stop.TheVariants as stop
-use Rattle.sessions.specs.Course.{Ran, Wrote}
-use Rattle.sessions.specs.Outputs.{FilesGot, Names, Outer, Texts, Took}
-use Rattle.sessions.specs.declared.plans.Plan.{Plan}
-use Rattle.session_files.specs.Held.{FilesHold, FilesMade}
-use Rattle.session_files.proofs.Holding.{held_by}
+use Rattle.session.specs.SimIo.Told.{Files, AfterTold, Grew, Same, WereTold}
+use Rattle.session.proofs.SimIo.Chains.{grew_on}
+use Rattle.command_line.specs.SimModel.Configuration.{Config}
+use Rattle.command_line.specs.SimModel.declared.plain.Stop.{Stop}
+use Rattle.command_line.specs.SimModel.declared.plain.Stop.TheVariants as stop
+use Rattle.session.specs.Course.{Ran, Wrote}
+use Rattle.session.specs.Outputs.{FilesGot, Names, Outer, Texts, Took}
+use Rattle.session.specs.declared.plans.Plan.{Plan}
+use Rattle.tlmsim.specs.Held.{FilesHold, FilesMade}
+use Rattle.tlmsim.proofs.Holding.{held_by}
 use Rattle.tlmsim.specs.Call.{Call, no_names}
 use Rattle.tlmsim.specs.Taken.{Holds}
 

@@ -4,29 +4,29 @@ use Rattle.std.specs.Prelude.{IfSome, codes, option_copied, ⊤}
 use Rattle.std.specs.Borrow.{Bor}
 use Rattle.std.proofs.lemmas.Bool.{false≢true}
 use Rattle.std.proofs.lemmas.Slice.Eq.{bytes_eq-Decides}
-use Rattle.sim_io.specs.Cause.{Rose}
-use Rattle.sim_io.specs.Told.{Files, AfterTold, Grew, IsText, Same, WereTold}
-use Rattle.sim_io.specs.Taken.{TookOf}
-use Rattle.sim_io.proofs.Chains.{grew_none, grew_on, rose_on}
-use Rattle.sim_io.specs.declared.outside.Trouble.{Trouble}
-use Rattle.sim_io.specs.declared.outside.Trouble.TheVariants as trouble
+use Rattle.session.specs.SimIo.Cause.{Rose}
+use Rattle.session.specs.SimIo.Told.{Files, AfterTold, Grew, IsText, Same, WereTold}
+use Rattle.session.specs.SimIo.Taken.{TookOf}
+use Rattle.session.proofs.SimIo.Chains.{grew_none, grew_on, rose_on}
+use Rattle.session.specs.SimIo.declared.outside.Trouble.{Trouble}
+use Rattle.session.specs.SimIo.declared.outside.Trouble.TheVariants as trouble
 use Rattle.flat_design.specs.Sound.{SoundDesign}
 use Rattle.flat_design.specs.declared.design.Design.{Design}
-use Rattle.whole_language.specs.Whole.{nothing_missing}
+use Rattle.session.specs.WholeLanguage.Whole.{nothing_missing}
 use Rattle.model_tree.specs.Tree as tree
-use Rattle.sim_model.specs.Configuration.{start}
-use Rattle.sim_model.specs.declared.plain.Command.{Command}
-use Rattle.sim_model.specs.declared.plain.Stop.{Stop}
-use Rattle.sim_model.specs.declared.plain.Stop.TheVariants as stop
+use Rattle.command_line.specs.SimModel.Configuration.{start}
+use Rattle.command_line.specs.SimModel.declared.plain.Command.{Command}
+use Rattle.command_line.specs.SimModel.declared.plain.Stop.{Stop}
+use Rattle.command_line.specs.SimModel.declared.plain.Stop.TheVariants as stop
 use Rattle.command_line.specs.Line.{Simulation, Mode, Simulate, Format, Generate, are_apart, line_of}
 use Rattle.command_line.specs.Seen.{text_of}
 use Rattle.command_line.specs.declared.modes.Generated.{Generated}
-use Rattle.sessions.specs.Course.{Ran, IsEnd}
-use Rattle.sessions.specs.Cut.{cut_by}
-use Rattle.sessions.specs.Outputs.{AreApart, AreNames, FilesGot, IsFront, Names, Outer, Texts, Took}
-use Rattle.sessions.specs.declared.plans.Plan.{Plan}
-use Rattle.sessions.specs.declared.plans.Outcome.{Outcome}
-use Rattle.session_files.specs.Held.{FilesHold, FilesMade, FilesSpared, IsAsBefore, IsSpared}
+use Rattle.session.specs.Course.{Ran, IsEnd}
+use Rattle.session.specs.Cut.{cut_by}
+use Rattle.session.specs.Outputs.{AreApart, AreNames, FilesGot, IsFront, Names, Outer, Texts, Took}
+use Rattle.session.specs.declared.plans.Plan.{Plan}
+use Rattle.session.specs.declared.plans.Outcome.{Outcome}
+use Rattle.tlmsim.specs.Held.{FilesHold, FilesMade, FilesSpared, IsAsBefore, IsSpared}
 use Rattle.model_gen.specs.Generated.{generated}
 use Rattle.run_input.specs.Limits.{model_limit}
 use Rattle.run_input.specs.Loaded.{AreTexts, FileCause, LoadCause}

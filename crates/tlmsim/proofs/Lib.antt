@@ -1,3 +1,4 @@
+pub mod Holding
 pub mod Courses
 pub mod Ends
 pub mod Lines

@@ -2,21 +2,21 @@
 use Rattle.std.proofs.Common.{◌≡◌, ◌<◌, ⊎_elim, ℕ, Bool, true, false, ◌||◌, nat_eq, List, length, take, Option, Result, Ok, Err, subst, sym, ap, ◌∙◌, refl, arith}
 use Rattle.std.proofs.lemmas.Bool.{false≢true}
 use Rattle.std.proofs.Math.Seq.{take-length}
-use Rattle.sim_io.specs.Told.{Grew}
-use Rattle.sim_io.specs.Taken.{TookOf}
-use Rattle.sim_io.specs.declared.outside.Trouble.{Trouble}
-use Rattle.sim_io.proofs.Chains.{grew_on}
-use Rattle.sessions.specs.Course.{IsEnd}
-use Rattle.sessions.specs.Fronts.{WroteFront}
-use Rattle.sim_model.specs.declared.plain.Stop.{Stop}
-use Rattle.sim_model.specs.declared.plain.Stop.TheVariants as stop
-use Rattle.refusal_lines.specs.ErrLines.{err_line, model_line, script_line}
-use Rattle.refusal_lines.specs.declared.refusals.ModelFault.{ModelFault}
-use Rattle.refusal_lines.specs.declared.refusals.ModelFault.TheVariants as model_fault
-use Rattle.refusal_lines.specs.declared.refusals.ScriptFault.{ScriptFault}
-use Rattle.refusal_lines.specs.declared.refusals.ScriptFault.TheVariants as script_fault
-use Rattle.refusal_lines.specs.declared.refusals.Refusal.{Refusal}
-use Rattle.refusal_lines.specs.declared.refusals.Refusal.TheVariants as refusal
+use Rattle.session.specs.SimIo.Told.{Grew}
+use Rattle.session.specs.SimIo.Taken.{TookOf}
+use Rattle.session.specs.SimIo.declared.outside.Trouble.{Trouble}
+use Rattle.session.proofs.SimIo.Chains.{grew_on}
+use Rattle.session.specs.Course.{IsEnd}
+use Rattle.session.specs.Fronts.{WroteFront}
+use Rattle.command_line.specs.SimModel.declared.plain.Stop.{Stop}
+use Rattle.command_line.specs.SimModel.declared.plain.Stop.TheVariants as stop
+use Rattle.run_input.specs.RefusalLines.ErrLines.{err_line, model_line, script_line}
+use Rattle.run_input.specs.RefusalLines.declared.refusals.ModelFault.{ModelFault}
+use Rattle.run_input.specs.RefusalLines.declared.refusals.ModelFault.TheVariants as model_fault
+use Rattle.run_input.specs.RefusalLines.declared.refusals.ScriptFault.{ScriptFault}
+use Rattle.run_input.specs.RefusalLines.declared.refusals.ScriptFault.TheVariants as script_fault
+use Rattle.run_input.specs.RefusalLines.declared.refusals.Refusal.{Refusal}
+use Rattle.run_input.specs.RefusalLines.declared.refusals.Refusal.TheVariants as refusal
 use Rattle.tlmsim.specs.Telling.{Tells, WroteCut, refusal_status}
 use Rattle.tlmsim.specs.Headline.{IsRunStatus, stop_status}
 

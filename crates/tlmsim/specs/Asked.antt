@@ -1,9 +1,9 @@
 -- What the words ask for: of which texts a run is made, and how it goes.
 use Rattle.std.specs.Prelude.{◌≡◌, ◌≤◌, ℕ, List, length, codes, Option, Some, None, ⊤}
-use Rattle.sim_io.specs.Told.{IsText}
-use Rattle.sim_model.specs.declared.plain.Log.TheVariants as log
-use Rattle.sim_model.specs.declared.plain.Rule.{Rule}
-use Rattle.sim_model.specs.declared.plain.Rule.TheVariants as rule
+use Rattle.session.specs.SimIo.Told.{IsText}
+use Rattle.command_line.specs.SimModel.declared.plain.Log.TheVariants as log
+use Rattle.command_line.specs.SimModel.declared.plain.Rule.{Rule}
+use Rattle.command_line.specs.SimModel.declared.plain.Rule.TheVariants as rule
 use Rattle.command_line.specs.Line.{ChoiceRule, Simulation, Mode, Ordered, Replayed, Simulate, Format, Generate}
 use Rattle.command_line.specs.declared.modes.Order.{Order}
 use Rattle.command_line.specs.declared.modes.Order.TheVariants as order
@@ -11,7 +11,7 @@ use Rattle.model_gen.specs.Generated.{generated}
 use Rattle.run_input.specs.Limits.{model_limit}
 use Rattle.run_input.specs.Loaded.{AreTexts}
 use Rattle.run_input.specs.Together.{Together}
-use Rattle.sessions.specs.declared.plans.Plan.{Plan}
+use Rattle.session.specs.declared.plans.Plan.{Plan}
 use Rattle.tlmsim.specs.Call.{Call}
 
 -- the replay file that is named, if there is one

@@ -1,8 +1,8 @@
 -- What a call of the top speaks of: the words, and the outside before and after it.
 use Rattle.std.specs.Prelude.{◌≡◌, ◌≤◌, ℕ, List, Option, Some, None}
-use Rattle.sim_io.specs.Told.{Files, AfterTold}
+use Rattle.session.specs.SimIo.Told.{Files, AfterTold}
 use Rattle.command_line.specs.Line.{Mode, Simulate, Format, Generate, line_of}
-use Rattle.sessions.specs.Outputs.{Names, IsOther}
+use Rattle.session.specs.Outputs.{Names, IsOther}
 
 -- the outside at a moment: the files where they are told, what `out` and `err` hold where they tell that, and the
 -- counts of faults

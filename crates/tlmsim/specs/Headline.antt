@@ -1,24 +1,24 @@
 -- The answers of the top call, the cause of each, and what `err` gets with it.
 use Rattle.std.specs.Prelude.{◌≡◌, ◌≤◌, ◌⊎◌, ◌<◌, ℕ, List, [], Option, Some, None, length, codes}
-use Rattle.sim_io.specs.Told.{Files, AfterTold, Grew, Lacks, IsLarge, Same}
-use Rattle.sim_io.specs.Cause.{Rose}
+use Rattle.session.specs.SimIo.Told.{Files, AfterTold, Grew, Lacks, IsLarge, Same}
+use Rattle.session.specs.SimIo.Cause.{Rose}
 use Rattle.flat_design.specs.declared.faults.RunFault.{RunFault}
 use Rattle.model_tree.specs.Tree as tree
 use Rattle.flat_design.specs.declared.design.Design.{Design}
 use Rattle.flat_design.specs.Sound.{SoundDesign}
-use Rattle.whole_language.specs.Whole.{nothing_missing}
-use Rattle.design_rules.specs.Designs.{IsDesignOf}
-use Rattle.sim_model.specs.Configuration.{start}
-use Rattle.sim_model.specs.declared.plain.Command.{Command}
-use Rattle.sim_model.specs.declared.plain.Stop.{Stop}
-use Rattle.sim_model.specs.declared.plain.Stop.TheVariants as stop
+use Rattle.session.specs.WholeLanguage.Whole.{nothing_missing}
+use Rattle.run_input.specs.DesignRules.Designs.{IsDesignOf}
+use Rattle.command_line.specs.SimModel.Configuration.{start}
+use Rattle.command_line.specs.SimModel.declared.plain.Command.{Command}
+use Rattle.command_line.specs.SimModel.declared.plain.Stop.{Stop}
+use Rattle.command_line.specs.SimModel.declared.plain.Stop.TheVariants as stop
 use Rattle.command_line.specs.Line.{Mode, Simulation, Simulate, Format, Generate, line_of}
 use Rattle.command_line.specs.declared.modes.Generated.{Generated}
 use Rattle.model_gen.specs.Generated.{generated}
-use Rattle.sessions.specs.Course.{Ran, IsEnd}
-use Rattle.sessions.specs.Fronts.{WroteFront}
-use Rattle.sessions.specs.Outputs.{Texts, IsFront}
-use Rattle.sessions.specs.declared.plans.Plan.{Plan}
+use Rattle.session.specs.Course.{Ran, IsEnd}
+use Rattle.session.specs.Fronts.{WroteFront}
+use Rattle.session.specs.Outputs.{Texts, IsFront}
+use Rattle.session.specs.declared.plans.Plan.{Plan}
 use Rattle.run_input.specs.Limits.{model_limit, script_limit, replay_limit}
 use Rattle.run_input.specs.Loaded.{IsUnread, IsTooLarge}
 use Rattle.run_input.specs.Judged.{IsBrokenModel, HasModelFault, AcceptsModel, IsBrokenScript, HasScriptFault, Accepts, ReadsReplay, HasReplayFault, IsBrokenReplay, IsLayoutOf}
@@ -28,11 +28,11 @@ use Rattle.tlmsim.specs.Call.{Call, Keeps, names_in}
 use Rattle.tlmsim.specs.Orderly.{Orderly}
 use Rattle.tlmsim.specs.Taken.{Holds, TakesAll, TakesShort, Spared}
 use Rattle.tlmsim.specs.Telling.{WroteCut}
-use Rattle.refusal_lines.specs.ErrLines.{usage_line, read_line, model_line, script_line, replay_line, large_line, err_line, write_line, memory_line}
-use Rattle.refusal_lines.specs.declared.refusals.ModelFault.{ModelFault}
-use Rattle.refusal_lines.specs.declared.refusals.ScriptFault.{ScriptFault}
-use Rattle.refusal_lines.specs.declared.refusals.Refusal.{Refusal}
-use Rattle.refusal_lines.specs.declared.refusals.Refusal.TheVariants as refusal
+use Rattle.run_input.specs.RefusalLines.ErrLines.{usage_line, read_line, model_line, script_line, replay_line, large_line, err_line, write_line, memory_line}
+use Rattle.run_input.specs.RefusalLines.declared.refusals.ModelFault.{ModelFault}
+use Rattle.run_input.specs.RefusalLines.declared.refusals.ScriptFault.{ScriptFault}
+use Rattle.run_input.specs.RefusalLines.declared.refusals.Refusal.{Refusal}
+use Rattle.run_input.specs.RefusalLines.declared.refusals.Refusal.TheVariants as refusal
 
 -- ---- refusals of the input
 

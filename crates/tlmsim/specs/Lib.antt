@@ -1,3 +1,4 @@
+pub mod Held
 pub mod Call
 pub mod Asked
 pub mod Orderly

@@ -1,17 +1,17 @@
 -- What holds of a run whatever is chosen in it, and however control calls are nested.
 use Rattle.std.specs.Prelude.{◌≡◌, ℕ, List, ◌∷◌, Some}
 use Rattle.flat_design.specs.declared.design.Design.{Design}
-use Rattle.transport_phases.specs.History.{Entry}
-use Rattle.transport_laws.specs.Lawful.{Lawful}
-use Rattle.sim_model.specs.Clean.{Clean}
-use Rattle.sim_model.specs.Configuration.{Config, start}
-use Rattle.sim_model.specs.Runs.{after}
-use Rattle.sim_model.specs.Steps.{step}
-use Rattle.sim_model.specs.Transport.{history}
-use Rattle.sim_model.specs.declared.plain.Command.{Command}
-use Rattle.once_laws.specs.Once.{Begins, HasNoGoal, IsFirst, IsOnTop, ends_of, innermost_first, once_each}
-use Rattle.protocol_laws.specs.Added.{WouldAdd, IsJudged, WouldAddFreed, IsJudgedFreed}
-use Rattle.ended_laws.specs.Nowhere.{HasEnded, IsNamedNowhere}
+use Rattle.command_line.specs.TransportPhases.History.{Entry}
+use Rattle.command_line.specs.TransportPhases.Lawful.{Lawful}
+use Rattle.command_line.specs.SimModel.Clean.{Clean}
+use Rattle.command_line.specs.SimModel.Configuration.{Config, start}
+use Rattle.command_line.specs.SimModel.Runs.{after}
+use Rattle.command_line.specs.SimModel.Steps.{step}
+use Rattle.command_line.specs.SimModel.Transport.{history}
+use Rattle.command_line.specs.SimModel.declared.plain.Command.{Command}
+use Rattle.laws_guards.specs.Once.{Begins, HasNoGoal, IsFirst, IsOnTop, ends_of, innermost_first, once_each}
+use Rattle.laws_protocol.specs.Added.{WouldAdd, IsJudged, WouldAddFreed, IsJudgedFreed}
+use Rattle.laws_guards.specs.Nowhere.{HasEnded, IsNamedNowhere}
 
 -- the configuration after so many steps with these choices
 abbrev pub IsAfter : Design → List Command → ℕ → List ℕ → Config → Type 0

@@ -1,10 +1,10 @@
 -- What a call leaves of the texts that it writes.
 use Rattle.std.specs.Prelude.{◌≡◌, ◌<◌, ℕ, List, [], ◌∷◌, ◌++◌, length, codes}
 use Rattle.std.specs.Fmt.{decimal}
-use Rattle.sim_io.specs.Told.{AfterTold, Grew}
+use Rattle.session.specs.SimIo.Told.{AfterTold, Grew}
 use Rattle.command_line.specs.Line.{Mode, Simulate, Format, Generate}
-use Rattle.sessions.specs.Outputs.{Texts, Names, IsFront}
-use Rattle.session_files.specs.Held.{FilesHold, FilesSpared}
+use Rattle.session.specs.Outputs.{Texts, Names, IsFront}
+use Rattle.tlmsim.specs.Held.{FilesHold, FilesSpared}
 use Rattle.tlmsim.specs.Call.{Call, names_in, no_names}
 
 -- `out` took this text, and each file that these names name holds its own

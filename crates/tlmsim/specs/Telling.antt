@@ -1,13 +1,13 @@
 -- What the telling of a refusal leaves on `err`, and the status that it gives.
 use Rattle.std.specs.Prelude.{◌≡◌, ◌≤◌, ◌<◌, ◌⊎◌, ◌++◌, ℕ, List, Option, length, take}
-use Rattle.sim_io.specs.Told.{Grew}
-use Rattle.sim_io.specs.Cause.{Rose}
-use Rattle.sessions.specs.Fronts.{WroteFront}
-use Rattle.sim_model.specs.declared.plain.Stop.{Stop}
-use Rattle.sim_model.specs.declared.plain.Stop.TheVariants as stop
-use Rattle.refusal_lines.specs.ErrLines.{err_line, write_line, memory_line}
-use Rattle.refusal_lines.specs.declared.refusals.Refusal.{Refusal}
-use Rattle.refusal_lines.specs.declared.refusals.Refusal.TheVariants as refusal
+use Rattle.session.specs.SimIo.Told.{Grew}
+use Rattle.session.specs.SimIo.Cause.{Rose}
+use Rattle.session.specs.Fronts.{WroteFront}
+use Rattle.command_line.specs.SimModel.declared.plain.Stop.{Stop}
+use Rattle.command_line.specs.SimModel.declared.plain.Stop.TheVariants as stop
+use Rattle.run_input.specs.RefusalLines.ErrLines.{err_line, write_line, memory_line}
+use Rattle.run_input.specs.RefusalLines.declared.refusals.Refusal.{Refusal}
+use Rattle.run_input.specs.RefusalLines.declared.refusals.Refusal.TheVariants as refusal
 
 -- the status of a refusal
 abbrev pub refusal_status : Refusal → ℕ

@@ -1,12 +1,12 @@
 -- What the work below the statuses comes to.
 use Rattle.std.specs.Prelude.{◌≡◌, ◌<◌, ◌⊎◌, ℕ, Bool, true, false, List, length, Option, Result, Ok, Err}
-use Rattle.sim_io.specs.Told.{AfterTold, Grew, Same}
-use Rattle.sim_model.specs.declared.plain.Stop.{Stop}
-use Rattle.sim_model.specs.declared.plain.Stop.TheVariants as stop
-use Rattle.sessions.specs.Course.{IsEnd}
-use Rattle.sessions.specs.Outputs.{IsFront}
-use Rattle.sessions.specs.declared.plans.Outcome.{Outcome}
-use Rattle.refusal_lines.specs.declared.refusals.Refusal.TheVariants as refusal
+use Rattle.session.specs.SimIo.Told.{AfterTold, Grew, Same}
+use Rattle.command_line.specs.SimModel.declared.plain.Stop.{Stop}
+use Rattle.command_line.specs.SimModel.declared.plain.Stop.TheVariants as stop
+use Rattle.session.specs.Course.{IsEnd}
+use Rattle.session.specs.Outputs.{IsFront}
+use Rattle.session.specs.declared.plans.Outcome.{Outcome}
+use Rattle.run_input.specs.RefusalLines.declared.refusals.Refusal.TheVariants as refusal
 use Rattle.run_input.specs.declared.loading.LoadStop.{LoadStop}
 use Rattle.run_input.specs.declared.loading.LoadStop.TheVariants as load_stop
 use Rattle.run_input.specs.declared.judging.JudgeStop.{JudgeStop}

@@ -1,6 +1,6 @@
 //! The laid-out text of a model.
 ghost use Rattle.std.specs.Prelude.{◌≡◌, ◌≤◌, ℕ, List, Option, Some};
-ghost use Rattle.sim_io.specs.Told.{AfterTold, Same};
+ghost use Rattle.session.specs.SimIo.Told.{AfterTold, Same};
 ghost use Rattle.command_line.specs.Line as line;
 ghost use Rattle.tlmsim.specs.Call.{outside_of};
 ghost use Rattle.tlmsim.specs.Worked as spec;
@@ -8,12 +8,12 @@ ghost use Rattle.tlmsim.specs.Worked.{Works};
 
 use super::simulating::unread;
 use super::working::WorkStop;
+use command_line::sim_model_api::Stop;
 use flat_design::Choices;
-use refusal_lines::Refusal;
+use run_input::refusal_lines_api::Refusal;
 use run_input::{ModelStop, laid_out, load_model};
-use sessions::Outcome;
-use sim_io::{Shelf, Sink, write_all};
-use sim_model::Stop;
+use session::Outcome;
+use session::sim_io_api::{Shelf, Sink, write_all};
 use std::alloc::Global;
 
 /// Why nothing was begun where a model was not accepted.

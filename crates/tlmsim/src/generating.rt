@@ -1,7 +1,7 @@
 //! The run of a generated model.
 ghost use Rattle.std.specs.Prelude.{◌≡◌, ◌≤◌, ℕ, List, Option, IfOk, None, Some, length};
-ghost use Rattle.sim_io.specs.Told.{AfterTold, Same};
-ghost use Rattle.sim_io.specs.Cause.{RoseIf};
+ghost use Rattle.session.specs.SimIo.Told.{AfterTold, Same};
+ghost use Rattle.session.specs.SimIo.Cause.{RoseIf};
 ghost use Rattle.command_line.specs.Line as line;
 ghost use Rattle.model_gen.specs.Generated as spec;
 ghost use Rattle.tlmsim.specs.Asked.{IsPlan};
@@ -13,11 +13,11 @@ use super::running::{rule_of, run};
 use super::simulating::unfit;
 use super::working::WorkStop;
 use command_line::Generated;
-use logic_values::Text;
+use command_line::sim_model_api::{Log, Stop};
+use model_gen::logic_values_api::Text;
 use run_input::{Judged, judge_text};
-use sessions::{Outcome, Plan};
-use sim_io::{Shelf, Sink, Trouble, write_all};
-use sim_model::{Log, Stop};
+use session::sim_io_api::{Shelf, Sink, Trouble, write_all};
+use session::{Outcome, Plan};
 use std::alloc::{AllocError, Global};
 
 /// The most bytes that a text may have.

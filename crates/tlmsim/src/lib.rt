@@ -1,6 +1,9 @@
+//! The files of a session: created before it, and what they hold behind it.
+//!
 //! The simulator: the words of a command line, and the one call that runs a model under a script.
 #![tactic(auto)]
 
+mod creating;
 mod formatting;
 mod generating;
 mod main_call;
@@ -11,6 +14,8 @@ mod telling;
 mod working;
 
 pub use command_line::Words;
+pub use creating::{Created, create_files};
 pub use flat_design::Choices;
 pub use main_call::{Ended, sim_main};
 pub use run_input::{MODEL_LIMIT, SCRIPT_LIMIT, one_cause};
+pub use session::sim_io_api as sim_io_api;

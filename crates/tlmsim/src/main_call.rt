@@ -7,9 +7,9 @@ use super::telling::{tell_refusal, tell_stop, try_line};
 use super::working::{WorkStop, work};
 use command_line::Words;
 use flat_design::Choices;
-use model_parser::one_tree;
-use refusal_lines::memory_line;
-use sim_io::{Shelf, Sink};
+use run_input::model_parser_api::one_tree;
+use run_input::refusal_lines_api::memory_line;
+use session::sim_io_api::{Shelf, Sink};
 use std::alloc::Global;
 
 /// The status of a call that was refused memory.

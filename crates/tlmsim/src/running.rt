@@ -1,24 +1,26 @@
 //! The run of accepted texts.
 ghost use Rattle.std.specs.Prelude.{◌≡◌, IfSome};
-ghost use Rattle.sim_io.specs.Keeps.{WriteKeeps};
-ghost use Rattle.sim_model.specs.Configuration.{start};
-ghost use Rattle.sim_model.specs.declared.plain.Stop.{Stop};
-ghost use Rattle.sessions.specs.Course.{Ran};
-ghost use Rattle.sessions.specs.Outputs.{AreNames, OneRose, Took, outer_of};
+ghost use Rattle.session.specs.SimIo.Keeps.{WriteKeeps};
+ghost use Rattle.command_line.specs.SimModel.Configuration.{start};
+ghost use Rattle.command_line.specs.SimModel.declared.plain.Stop.{Stop};
+ghost use Rattle.session.specs.Course.{Ran};
+ghost use Rattle.session.specs.Outputs.{AreNames, OneRose, Took, outer_of};
 ghost use Rattle.run_input.specs.Judged.{CanRun};
 ghost use Rattle.tlmsim.specs.Asked as spec;
 ghost use Rattle.tlmsim.specs.Orderly.{Orderly};
 
 use command_line::Order;
-use ended_laws::{nothing_names_what_has_ended, what_has_ended_never_runs_again};
+use command_line::sim_model_api::Rule;
 use flat_design::Design;
-use mark_laws::runs_are_clean;
-use once_laws::{unwind_blocks_run_once, unwinding_ends_before_the_caller_goes_on};
-use protocol_laws::{faults_of_the_protocol_are_exact, histories_are_lawful};
-use script_commands::Script;
-use sessions::{Outcome, Plan, run_session};
-use sim_io::{Shelf, Sink};
-use sim_model::Rule;
+use laws_guards::laws_unwinding_api::runs_are_clean;
+use laws_guards::{
+    nothing_names_what_has_ended, unwind_blocks_run_once, unwinding_ends_before_the_caller_goes_on,
+    what_has_ended_never_runs_again,
+};
+use laws_protocol::{faults_of_the_protocol_are_exact, histories_are_lawful};
+use run_input::script_text_api::Script;
+use session::sim_io_api::{Shelf, Sink};
+use session::{Outcome, Plan, run_session};
 use std::alloc::Global;
 
 /// The rule of choices that is an order.

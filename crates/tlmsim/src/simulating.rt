@@ -1,11 +1,11 @@
 //! The simulation of a model under a script.
 ghost use Rattle.std.specs.Prelude.{◌≡◌, ◌≤◌, ℕ, List, Option, Some, ⊤, option_copied};
-ghost use Rattle.sim_io.specs.Told.{AfterTold};
+ghost use Rattle.session.specs.SimIo.Told.{AfterTold};
 ghost use Rattle.command_line.specs.Line as line;
 ghost use Rattle.command_line.specs.Seen.{rule_of as seen_rule, simulation_of};
-ghost use Rattle.sessions.specs.Outputs.{AreApart};
+ghost use Rattle.session.specs.Outputs.{AreApart};
 ghost use Rattle.run_input.specs.Together.{Together};
-ghost use Rattle.session_files.specs.Held.{ForEach};
+ghost use Rattle.tlmsim.specs.Held.{ForEach};
 ghost use Rattle.tlmsim.specs.Asked.{IsRule, PlansRun, replay_of};
 ghost use Rattle.tlmsim.specs.Call.{OnlyThese, names_in, outside_of};
 ghost use Rattle.tlmsim.specs.Worked as spec;
@@ -13,14 +13,14 @@ ghost use Rattle.tlmsim.specs.Worked.{Works};
 
 use super::running::{rule_of, run};
 use super::working::WorkStop;
+use crate::{Created, create_files};
+use command_line::sim_model_api::Rule;
 use command_line::{ChoiceRule, Simulation};
 use flat_design::Choices;
-use refusal_lines::Refusal;
+use run_input::refusal_lines_api::Refusal;
 use run_input::{JudgeStop, Judged, LoadStop, judge, load};
-use session_files::{Created, create_files};
-use sessions::{Outcome, Plan};
-use sim_io::{Shelf, Sink};
-use sim_model::Rule;
+use session::sim_io_api::{Shelf, Sink};
+use session::{Outcome, Plan};
 use std::alloc::Global;
 
 /// The replay file that is named, if there is one.

@@ -2,8 +2,8 @@ ghost use Rattle.std.specs.Prelude.{◌≡◌};
 ghost use Rattle.tlmsim.specs.Headline as headline;
 ghost use Rattle.tlmsim.specs.Telling as telling;
 
-use refusal_lines::Refusal;
-use sim_model::Stop;
+use command_line::sim_model_api::Stop;
+use run_input::refusal_lines_api::Refusal;
 
 /// The status of a session that ended so.
 pub fn stop_status(stop: Stop) -> u8

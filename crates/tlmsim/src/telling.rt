@@ -1,13 +1,13 @@
 //! What is told on `err` of a refusal, and of a session that was cut.
 ghost use Rattle.std.specs.Prelude.{◌≡◌, ◌≤◌};
-ghost use Rattle.sessions.specs.Course.{IsEnd};
-ghost use Rattle.sessions.specs.Fronts.{WroteFront};
+ghost use Rattle.session.specs.Course.{IsEnd};
+ghost use Rattle.session.specs.Fronts.{WroteFront};
 ghost use Rattle.tlmsim.specs.Telling.{Tells, TellsStop};
 
 use super::statuses::refusal_status;
-use refusal_lines::{Refusal, memory_line, refusal_line, write_line};
-use sim_io::{Sink, Trouble, write_all};
-use sim_model::Stop;
+use command_line::sim_model_api::Stop;
+use run_input::refusal_lines_api::{Refusal, memory_line, refusal_line, write_line};
+use session::sim_io_api::{Sink, Trouble, write_all};
 use std::alloc::Global;
 
 /// The status of a write that failed.

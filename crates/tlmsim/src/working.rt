@@ -1,6 +1,6 @@
 //! The work that the words ask for.
 ghost use Rattle.std.specs.Prelude.{◌≡◌, ◌≤◌, ℕ, List, Option};
-ghost use Rattle.sim_io.specs.Told.{AfterTold};
+ghost use Rattle.session.specs.SimIo.Told.{AfterTold};
 ghost use Rattle.command_line.specs.Line as line;
 ghost use Rattle.tlmsim.specs.Call.{OnlyThese, names_if, outside_of};
 ghost use Rattle.tlmsim.specs.Worked.{Works};
@@ -9,9 +9,9 @@ use super::formatting::format;
 use super::generating::generate;
 use super::simulating::simulate;
 use command_line::{Mode, Words, WordsStop, read_line, simulations_write_apart};
-use refusal_lines::Refusal;
-use sessions::Outcome;
-use sim_io::{Shelf, Sink};
+use run_input::refusal_lines_api::Refusal;
+use session::Outcome;
+use session::sim_io_api::{Shelf, Sink};
 use std::alloc::Global;
 
 /// Why nothing was begun.

@@ -6,11 +6,11 @@ ghost use Rattle.std.specs.Prelude.{◌≡◌, ◌≤◌, ◌⊎◌, IfErr};
 ghost use Rattle.std.specs.IoError.{error_kind};
 ghost use Rattle.std.specs.Process.{exit_status};
 
-use sim_io::{HostShelf, HostSink};
 use std::io::ErrorKind;
 use std::process::ExitCode;
 use std::rt::Env;
 use std::{env, io};
+use tlmsim::sim_io_api::{HostShelf, HostSink};
 use tlmsim::{Words, sim_main};
 
 /// The status of words that cannot be read as text.

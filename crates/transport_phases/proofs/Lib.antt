@@ -3,3 +3,13 @@ pub mod MapLemmas
 pub mod SeatLemmas
 pub mod ExclusionLemmas
 pub mod EnterLemmas
+pub mod Places
+pub mod WordRoutes
+pub mod RouteWords
+pub mod KeptPlaces
+pub mod Overlaps
+pub mod RulePlaces
+pub mod Entries
+pub mod Moments
+pub mod LawfulLemmas
+pub mod OpenLemmas

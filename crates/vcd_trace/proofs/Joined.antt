@@ -2,8 +2,8 @@
 use Rattle.std.proofs.Common.{◌≡◌, ◌++◌, ℕ, List, [], ◌∷◌, Some, None, refl, ap, ◌∙◌}
 use Rattle.std.specs.List.{concat}
 use Rattle.flat_design.specs.declared.design.Design.{Design}
-use Rattle.sim_model.specs.Configuration.{Snapshot}
-use Rattle.sim_model.specs.Trace.{header, vcd, all_values, each_later, first_values, later_values}
+use Rattle.laws_runs.specs.SimModel.Configuration.{Snapshot}
+use Rattle.laws_runs.specs.SimModel.Trace.{header, vcd, all_values, each_later, first_values, later_values}
 use Rattle.vcd_trace.specs.Points.{ArePoints}
 
 later_joined : (before : Snapshot) (snapshots : List Snapshot) (points : List (List ℕ)) → ArePoints (Some before.values) snapshots points → concat points ≡ each_later before snapshots

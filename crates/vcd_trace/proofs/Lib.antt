@@ -2,3 +2,6 @@ mod Texts
 mod Rows
 mod Tasks
 mod Joined
+mod Coded
+mod PointTexts
+mod Steps

@@ -5,7 +5,7 @@ use Rattle.std.proofs.lemmas.List.{length-set, drop_all, drop_more}
 use Rattle.std.proofs.lemmas.Bool.{eqb-true, eqb-false}
 use Rattle.flat_design.specs.declared.design.Visible.{Visible}
 use Rattle.flat_design.specs.declared.objects.Object.{Object}
-use Rattle.sim_model.specs.Trace.{items_from}
+use Rattle.laws_runs.specs.SimModel.Trace.{items_from}
 use Rattle.vcd_trace.specs.Tables.{row_of, with_item, variable_at, variable_of}
 
 pub row_empty : (count n : ℕ) → row_of (replicate count []) n ≡ []

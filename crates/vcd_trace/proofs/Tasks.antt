@@ -7,7 +7,7 @@ use Rattle.std.proofs.lemmas.List.Sums.{sum_by-cons}
 use Rattle.flat_design.specs.declared.design.Design.{Design}
 use Rattle.flat_design.specs.declared.design.Visible.{Visible}
 use Rattle.flat_design.specs.declared.objects.Object.{Object}
-use Rattle.sim_model.specs.Trace.{header, walk_from, object_walk, items_of, var_of, var_line, visible_width, upscope_line}
+use Rattle.laws_runs.specs.SimModel.Trace.{header, walk_from, object_walk, items_of, var_of, var_line, visible_width, upscope_line}
 use Rattle.vcd_trace.specs.declared.walks.Task.{Task}
 use Rattle.vcd_trace.specs.declared.walks.Task.TheVariants as task
 use Rattle.vcd_trace.specs.Tables.{variable_of}

@@ -4,12 +4,12 @@ use Rattle.std.specs.Prelude.{codes, nat_lt, slice_get, if◌then◌else◌}
 use Rattle.std.proofs.Math.Nat.{div-eq_of_lt, pow-le-pow_right}
 use Rattle.std.proofs.lemmas.List.{drop-drop, drop_all, map-append, reverse-append}
 use Rattle.std.proofs.lemmas.Bool.Decides.{nat_tests}
-use Rattle.logic_values.specs.declared.kinds.Digit.{Digit}
-use Rattle.logic_values.specs.declared.kinds.Value.{Value}
-use Rattle.logic_values.specs.declared.planes.Lv.{Lv}
-use Rattle.logic_values.specs.Digits.{digits}
-use Rattle.logic_values.proofs.VectorLaws.{length-digits}
-use Rattle.sim_model.specs.Trace.{id_from, id_of, bit_letters, digit_letter, changed_lines, scope_line}
+use Rattle.laws_runs.specs.LogicValues.declared.kinds.Digit.{Digit}
+use Rattle.laws_runs.specs.LogicValues.declared.kinds.Value.{Value}
+use Rattle.laws_runs.specs.LogicValues.declared.planes.Lv.{Lv}
+use Rattle.laws_runs.specs.LogicValues.Digits.{digits}
+use Rattle.laws_runs.proofs.LogicValues.VectorLaws.{length-digits}
+use Rattle.laws_runs.specs.SimModel.Trace.{id_from, id_of, bit_letters, digit_letter, changed_lines, scope_line}
 use Rattle.vcd_trace.specs.Points.{change_line}
 
 -- a byte is put behind a text

@@ -1,9 +1,9 @@
 -- The points of a trace: the texts of its snapshots.
 use Rattle.std.specs.Prelude.{◌≡◌, ℕ, if◌then◌else◌, List, [], ◌∷◌, Option, Some, None, ⊤}
-use Rattle.logic_values.specs.declared.kinds.Value.{Value}
-use Rattle.logic_values.specs.SameValue.{is_same}
-use Rattle.sim_model.specs.Configuration.{Snapshot}
-use Rattle.sim_model.specs.Trace.{first_values, later_values, value_line}
+use Rattle.laws_runs.specs.LogicValues.declared.kinds.Value.{Value}
+use Rattle.laws_runs.specs.LogicValues.SameValue.{is_same}
+use Rattle.laws_runs.specs.SimModel.Configuration.{Snapshot}
+use Rattle.laws_runs.specs.SimModel.Trace.{first_values, later_values, value_line}
 
 abbrev pub snapshot_of : ℕ → List Value → Snapshot
 snapshot_of t vs = record { time = t; values = vs }

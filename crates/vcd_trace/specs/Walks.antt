@@ -2,7 +2,7 @@
 use Rattle.std.specs.Prelude.{◌≡◌, ℕ, zero, suc, ◌+◌, ◌<◌, List, [], ◌∷◌, ◌++◌, map, length, sum, slice_get, Option, Some, None}
 use Rattle.flat_design.specs.declared.design.Design.{Design}
 use Rattle.flat_design.specs.declared.design.Visible.{Visible}
-use Rattle.sim_model.specs.Trace.{walk_from, items_of, upscope_line, var_line, visible_width}
+use Rattle.laws_runs.specs.SimModel.Trace.{walk_from, items_of, upscope_line, var_line, visible_width}
 use Rattle.vcd_trace.specs.declared.walks.Tables.{Tables}
 use Rattle.vcd_trace.specs.declared.walks.Task.{Task}
 use Rattle.vcd_trace.specs.declared.walks.Task.TheVariants as task

@@ -1,10 +1,10 @@
 //! The header of a trace.
 ghost use Rattle.std.specs.Prelude.{◌≡◌, IfOk};
-ghost use Rattle.sim_model.specs.Trace as spec;
+ghost use Rattle.laws_runs.specs.SimModel.Trace as spec;
 
 use crate::walks::{Task, Walk, tables_of, write_all};
 use flat_design::Design;
-use logic_values::Text;
+use laws_runs::logic_values_api::Text;
 use std::alloc::{AllocError, Global};
 
 /// The header of the trace of a design: the time scale, which is one picosecond, and the scopes of its instances in text order,

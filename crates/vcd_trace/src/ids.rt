@@ -1,6 +1,6 @@
 //! The ids of variables.
 ghost use Rattle.std.specs.Prelude.{◌≡◌, ◌++◌, OnOk};
-ghost use Rattle.sim_model.specs.Trace.{id_of};
+ghost use Rattle.laws_runs.specs.SimModel.Trace.{id_of};
 
 use std::alloc::AllocError;
 

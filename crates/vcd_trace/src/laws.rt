@@ -2,8 +2,8 @@
 ghost use Rattle.std.specs.Prelude.{◌≡◌, ◌++◌, ℕ, List};
 ghost use Rattle.std.specs.List.{concat};
 ghost use Rattle.flat_design.specs.declared.design.Design.{Design};
-ghost use Rattle.sim_model.specs.Configuration.{Snapshot};
-ghost use Rattle.sim_model.specs.Trace as spec;
+ghost use Rattle.laws_runs.specs.SimModel.Configuration.{Snapshot};
+ghost use Rattle.laws_runs.specs.SimModel.Trace as spec;
 ghost use Rattle.vcd_trace.specs.Points.{ArePoints};
 
 /// The header of a design and the points of snapshots, each behind the one before it, are together the trace of the design with

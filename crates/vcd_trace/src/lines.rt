@@ -1,6 +1,6 @@
 //! The lines of a header.
 ghost use Rattle.std.specs.Prelude.{◌≡◌, ◌++◌, OnOk};
-ghost use Rattle.sim_model.specs.Trace as spec;
+ghost use Rattle.laws_runs.specs.SimModel.Trace as spec;
 ghost use Rattle.vcd_trace.specs.Walks.{var_at};
 
 use crate::ids::push_id;

@@ -1,11 +1,11 @@
 //! The points of a trace.
 ghost use Rattle.std.specs.Prelude.{◌≡◌, ◌++◌, OnOk, IfOk, slice_get, option_map};
-ghost use Rattle.sim_model.specs.Trace as spec;
+ghost use Rattle.laws_runs.specs.SimModel.Trace as spec;
 ghost use Rattle.vcd_trace.specs.Points.{IsPoint, change_line, snapshot_of};
 
 use crate::values::push_line;
-use logic_values::{Text, Value, is_same};
-use sim_time::Time;
+use laws_runs::logic_values_api::{Text, Value, is_same};
+use laws_runs::sim_time_api::Time;
 use std::alloc::{AllocError, Global};
 
 /// Adds the line of a time.

@@ -1,10 +1,10 @@
 //! What stands in each instance, and which objects have values to be seen.
 ghost use Rattle.std.specs.Prelude.{◌≡◌, ◌<◌, ℕ, [], length, replicate, slice_set, IfOk, OnOk};
-ghost use Rattle.sim_model.specs.Trace.{items_from};
+ghost use Rattle.laws_runs.specs.SimModel.Trace.{items_from};
 ghost use Rattle.vcd_trace.specs.Tables.{row_of, with_item, variable_at, variable_of};
 
 use flat_design::{Object, Visible};
-use plain_lists::Items;
+use laws_runs::plain_lists_api::Items;
 use std::alloc::{AllocError, Global};
 
 /// So many rows without numbers.

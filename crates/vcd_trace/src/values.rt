@@ -1,10 +1,10 @@
 //! The lines of values.
 ghost use Rattle.std.specs.Prelude.{◌≡◌, ◌++◌, ◌∷◌, [], ◌/◌, ◌%◌, ◌^◌, OnOk, map, reverse};
-ghost use Rattle.logic_values.specs.Digits.{digits};
-ghost use Rattle.sim_model.specs.Trace as spec;
+ghost use Rattle.laws_runs.specs.LogicValues.Digits.{digits};
+ghost use Rattle.laws_runs.specs.SimModel.Trace as spec;
 
 use crate::ids::push_id;
-use logic_values::{Digit, Lv, Value, digit};
+use laws_runs::logic_values_api::{Digit, Lv, Value, digit};
 use std::alloc::AllocError;
 
 /// The character of a logic digit.

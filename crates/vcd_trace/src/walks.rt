@@ -2,14 +2,14 @@
 ghost use Rattle.std.specs.Prelude.{◌≡◌, ◌++◌, ◌<◌, ◌+◌, OnOk, IfOk, length, map, reverse, slice_get, sum};
 ghost use Rattle.std.specs.List.{flat_map};
 ghost use Rattle.flat_design.specs.declared.design.Design.{Design};
-ghost use Rattle.sim_model.specs.Trace as spec;
+ghost use Rattle.laws_runs.specs.SimModel.Trace as spec;
 ghost use Rattle.vcd_trace.specs.Tables as table;
 ghost use Rattle.vcd_trace.specs.Walks.{AreTables, visits, task_text, task_cost, tasks_text, tasks_cost, whole_of, walk_cost};
 
 use crate::lines::{close_scope, open_scope, push_variable};
 use crate::tables::{items_of_each, variables_of_each};
 use flat_design::{Design, Object, ObjectForm};
-use plain_lists::Items;
+use laws_runs::plain_lists_api::Items;
 use std::alloc::{AllocError, Global};
 
 /// What is still to be written.

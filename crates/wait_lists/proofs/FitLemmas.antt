@@ -16,7 +16,7 @@ use Rattle.wait_lists.specs.Shown.{Shown, idle, events_of, shown_at, told}
 use Rattle.wait_lists.specs.Links.{link_cmp, has_code, is_linked}
 use Rattle.wait_lists.specs.Kept.{Fit, serial_of}
 use Rattle.wait_lists.proofs.Places.{slice_get-set_same, slice_get-set_other, slice_get-push_last, slice_get-push_other}
-use Rattle.map_lemmas.proofs.MapLemmas.{ties_itself, ties_no_other}
+use Rattle.lemmas.proofs.MapLemmas.{ties_itself, ties_no_other}
 
 abbrev pub Placed : List (ℕ × ℕ) → List Shown → Type 0
 Placed es ss = (p at : ℕ) → maps.find nat_cmp p es ≡ Some at → (serial_of (slice_get ss at) ≡ Some p) × (p < 2 ^ 32)

@@ -7,7 +7,7 @@ use Rattle.std.proofs.lemmas.Bool.{cases_eq, cases_lt}
 use Rattle.event_core.specs.declared.event.Ev.{Ev}
 use Rattle.wait_lists.specs.Waits.{Waits, after, named_by, waits_for, wait_after, is_met_by, with_wait}
 use Rattle.wait_lists.specs.Kept.{IsNext}
-use Rattle.map_lemmas.proofs.MapLemmas.{get-updated_same, get-updated_other}
+use Rattle.lemmas.proofs.MapLemmas.{get-updated_same, get-updated_other}
 use Rattle.wait_lists.proofs.MetLemmas.{wait_after-unnamed}
 
 -- below this serial the event has struck, and from there on it has not

@@ -16,7 +16,7 @@ use Rattle.wait_lists.specs.Waits.{without_instance}
 use Rattle.wait_lists.specs.Shown.{Shown, events_of, shown_at, told, waits_of}
 use Rattle.wait_lists.specs.Links.{has_code}
 use Rattle.wait_lists.specs.Kept.{Fit, serial_of, relocated}
-use Rattle.map_lemmas.proofs.MapLemmas.{ties_itself, ties_no_other}
+use Rattle.lemmas.proofs.MapLemmas.{ties_itself, ties_no_other}
 use Rattle.wait_lists.proofs.Told.{without-told}
 use Rattle.wait_lists.proofs.LinkLemmas.{find-without}
 use Rattle.wait_lists.proofs.Places.{slice_get-moved, slice_get-stayed, slice_get-from}

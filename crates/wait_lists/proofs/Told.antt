@@ -5,10 +5,10 @@ use Rattle.std.specs.Prelude.{slice_get}
 use Rattle.std.specs.Ordering.{nat_cmp, eq_by_cmp}
 use Rattle.std.specs.FinMap as maps
 use Rattle.std.specs.FinSet as sets
-use Rattle.map_lemmas.specs.Updated.{updated}
+use Rattle.lemmas.specs.Updated.{updated}
 use Rattle.wait_lists.specs.Waits.{Wait, marked, with_wait, with_mark, with_room, without_instance}
 use Rattle.wait_lists.specs.Shown.{Shown, wait_of, mark_of, room_of, shown_at, told, indexed, marks, waits_of}
-use Rattle.map_lemmas.proofs.MapLemmas.{get-updated, is_updated, same_gets}
+use Rattle.lemmas.proofs.MapLemmas.{get-updated, is_updated, same_gets}
 use Rattle.wait_lists.proofs.SetLemmas.{contains-marked, is_marked, same_members}
 
 by_place : {Y : Type 0} (f : Option Shown → Y) (ss : List Shown) (b : Bool) (at : ℕ) (o : Option ℕ)

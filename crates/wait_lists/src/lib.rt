@@ -12,10 +12,9 @@ ghost use Rattle.std.specs.FinSet as set;
 mod kept;
 mod laws;
 mod links;
-#[cfg(test)]
-mod tests;
 mod waiter;
 
+pub use event_core as event_core_api;
 pub use event_core::Ev;
 use kept::{Kept, make_room, nothing_kept, put_out, set_mark, set_wait, strike_all};
 pub use laws::{

@@ -1,1 +1,3 @@
 pub mod Whole
+pub use Rattle.model_tree.specs.LogicValues as LogicValues
+pub use Rattle.model_tree.specs as ModelTree

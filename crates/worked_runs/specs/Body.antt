@@ -3,24 +3,24 @@ use Rattle.std.specs.Prelude.{ℕ, List, [], ◌∷◌, ◌++◌, ◌^◌, ltb, 
 use Rattle.std.specs.Global.{Vec, Box}
 use Rattle.std.proofs.Common.{le_refl, lit<}
 use denote.RawPtr.{null_ptr}
-use Rattle.logic_values.specs.declared.kinds.Value.TheVariants as value
-use Rattle.model_tree.specs.declared.statements.Control.{Control}
-use Rattle.model_tree.specs.declared.expressions.UnaryOp.{UnaryOp}
-use Rattle.model_tree.specs.declared.expressions.BinaryOp.{BinaryOp}
-use Rattle.flat_design.specs.declared.value_types.ValueType.{ValueType}
-use Rattle.flat_design.specs.declared.names.NameUse.{NameUse}
-use Rattle.flat_design.specs.declared.names.NameUse.TheVariants as name_use
-use Rattle.flat_design.specs.declared.names.EventMember.TheVariants as event
-use Rattle.flat_design.specs.declared.terms.Expr.{Expr, Unary', Binary'}
-use Rattle.flat_design.specs.declared.terms.Expr.TheVariants as expr
-use Rattle.flat_design.specs.declared.code.Await.TheVariants as await
-use Rattle.flat_design.specs.declared.code.ChannelUse.{ChannelUse}
-use Rattle.flat_design.specs.declared.code.EventUse.{EventUse}
-use Rattle.flat_design.specs.declared.code.Store.{Store}
-use Rattle.flat_design.specs.declared.code.Controlled.TheVariants as controlled
-use Rattle.flat_design.specs.declared.code.Destination.TheVariants as destination
-use Rattle.flat_design.specs.declared.code.Statement.{Statement}
-use Rattle.flat_design.specs.declared.code.Statement.TheVariants as kept
+use Rattle.sim_model.specs.LogicValues.declared.kinds.Value.TheVariants as value
+use Rattle.sim_model.specs.ModelTree.declared.statements.Control.{Control}
+use Rattle.sim_model.specs.ModelTree.declared.expressions.UnaryOp.{UnaryOp}
+use Rattle.sim_model.specs.ModelTree.declared.expressions.BinaryOp.{BinaryOp}
+use Rattle.sim_model.specs.FlatDesign.declared.value_types.ValueType.{ValueType}
+use Rattle.sim_model.specs.FlatDesign.declared.names.NameUse.{NameUse}
+use Rattle.sim_model.specs.FlatDesign.declared.names.NameUse.TheVariants as name_use
+use Rattle.sim_model.specs.FlatDesign.declared.names.EventMember.TheVariants as event
+use Rattle.sim_model.specs.FlatDesign.declared.terms.Expr.{Expr, Unary', Binary'}
+use Rattle.sim_model.specs.FlatDesign.declared.terms.Expr.TheVariants as expr
+use Rattle.sim_model.specs.FlatDesign.declared.code.Await.TheVariants as await
+use Rattle.sim_model.specs.FlatDesign.declared.code.ChannelUse.{ChannelUse}
+use Rattle.sim_model.specs.FlatDesign.declared.code.EventUse.{EventUse}
+use Rattle.sim_model.specs.FlatDesign.declared.code.Store.{Store}
+use Rattle.sim_model.specs.FlatDesign.declared.code.Controlled.TheVariants as controlled
+use Rattle.sim_model.specs.FlatDesign.declared.code.Destination.TheVariants as destination
+use Rattle.sim_model.specs.FlatDesign.declared.code.Statement.{Statement}
+use Rattle.sim_model.specs.FlatDesign.declared.code.Statement.TheVariants as kept
 
 -- what the text does not say of lists and boxes in memory
 

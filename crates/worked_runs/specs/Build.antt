@@ -1,28 +1,28 @@
 -- Designs written by hand: the items of instances of modules in text order. An item stands in the instance that was begun last.
 use Rattle.std.specs.Prelude.{ℕ, ◌+◌, ◌-◌, Bool, true, false, List, [], ◌∷◌, ◌++◌, codes, length, slice_get, Option, Some, None}
-use Rattle.model_tree.specs.declared.items.ProcessKind.{ProcessKind}
-use Rattle.model_tree.specs.declared.items.ProcessKind.TheVariants as process
-use Rattle.model_tree.specs.declared.items.SignalKind.TheVariants as signal_kind
-use Rattle.event_core.specs.declared.event.Ev.{Ev}
-use Rattle.flat_design.specs.ValueTypes.{default_value}
-use Rattle.flat_design.specs.declared.value_types.ValueType.{ValueType}
-use Rattle.flat_design.specs.declared.value_types.ValueType.TheVariants as type
-use Rattle.flat_design.specs.declared.objects.LeadsTo.{LeadsTo}
-use Rattle.flat_design.specs.declared.design.ChannelId.{ChannelId}
-use Rattle.model_tree.specs.declared.types.BoundRule.TheVariants as bound
-use Rattle.flat_design.specs.declared.objects.ObjectForm.{ObjectForm}
-use Rattle.flat_design.specs.declared.objects.ObjectForm.TheVariants as form
-use Rattle.flat_design.specs.declared.design.ChannelId.TheVariants as channel
-use Rattle.flat_design.specs.declared.design.Denoted.{Denoted}
-use Rattle.flat_design.specs.declared.design.Denoted.TheVariants as denoted
-use Rattle.flat_design.specs.declared.design.VisibleId.{VisibleId}
-use Rattle.flat_design.specs.declared.design.VisibleId.TheVariants as visible_id
-use Rattle.flat_design.specs.declared.design.InstancePart.{InstancePart}
-use Rattle.flat_design.specs.declared.design.Hop.{Hop}
-use Rattle.flat_design.specs.declared.design.Design.{Design}
-use Rattle.flat_design.specs.declared.code.BodyKind.{BodyKind}
-use Rattle.flat_design.specs.declared.code.BodyKind.TheVariants as body_kind
-use Rattle.flat_design.specs.declared.code.Local.{Local}
+use Rattle.sim_model.specs.ModelTree.declared.items.ProcessKind.{ProcessKind}
+use Rattle.sim_model.specs.ModelTree.declared.items.ProcessKind.TheVariants as process
+use Rattle.sim_model.specs.ModelTree.declared.items.SignalKind.TheVariants as signal_kind
+use Rattle.sim_model.specs.EventCore.declared.event.Ev.{Ev}
+use Rattle.sim_model.specs.FlatDesign.ValueTypes.{default_value}
+use Rattle.sim_model.specs.FlatDesign.declared.value_types.ValueType.{ValueType}
+use Rattle.sim_model.specs.FlatDesign.declared.value_types.ValueType.TheVariants as type
+use Rattle.sim_model.specs.FlatDesign.declared.objects.LeadsTo.{LeadsTo}
+use Rattle.sim_model.specs.FlatDesign.declared.design.ChannelId.{ChannelId}
+use Rattle.sim_model.specs.ModelTree.declared.types.BoundRule.TheVariants as bound
+use Rattle.sim_model.specs.FlatDesign.declared.objects.ObjectForm.{ObjectForm}
+use Rattle.sim_model.specs.FlatDesign.declared.objects.ObjectForm.TheVariants as form
+use Rattle.sim_model.specs.FlatDesign.declared.design.ChannelId.TheVariants as channel
+use Rattle.sim_model.specs.FlatDesign.declared.design.Denoted.{Denoted}
+use Rattle.sim_model.specs.FlatDesign.declared.design.Denoted.TheVariants as denoted
+use Rattle.sim_model.specs.FlatDesign.declared.design.VisibleId.{VisibleId}
+use Rattle.sim_model.specs.FlatDesign.declared.design.VisibleId.TheVariants as visible_id
+use Rattle.sim_model.specs.FlatDesign.declared.design.InstancePart.{InstancePart}
+use Rattle.sim_model.specs.FlatDesign.declared.design.Hop.{Hop}
+use Rattle.sim_model.specs.FlatDesign.declared.design.Design.{Design}
+use Rattle.sim_model.specs.FlatDesign.declared.code.BodyKind.{BodyKind}
+use Rattle.sim_model.specs.FlatDesign.declared.code.BodyKind.TheVariants as body_kind
+use Rattle.sim_model.specs.FlatDesign.declared.code.Local.{Local}
 use Rattle.sim_model.specs.Configuration.{change}
 use Rattle.worked_runs.specs.Body.{Body, Laid, lay, with_block, block_of}
 

@@ -3,3 +3,11 @@ pub mod Build
 pub mod Run
 pub mod Rows
 pub mod Transports
+pub mod Printed
+pub mod Members
+pub mod Notifications
+pub mod Waiting
+pub mod Targets
+pub mod Selves
+pub mod Links
+pub mod Words

@@ -1,27 +1,27 @@
 -- The models of the worked runs. Items are numbered by their places in the text, events of the design as they come, and
 -- processes by their serials.
 use Rattle.std.specs.Prelude.{ℕ, Bool, false, List, [], ◌∷◌, ◌^◌, ◌-◌, Option, Some, None, true, codes}
-use Rattle.logic_values.specs.declared.kinds.Digit.{Digit}
-use Rattle.logic_values.specs.declared.kinds.Digit.TheVariants as digit
-use Rattle.logic_values.specs.declared.kinds.Value.TheVariants as value
-use Rattle.model_tree.specs.declared.items.ProcessKind.TheVariants as process
-use Rattle.model_tree.specs.declared.expressions.BinaryOp.TheVariants as op
-use Rattle.model_tree.specs.declared.statements.Control.TheVariants as control_of
-use Rattle.event_core.specs.declared.event.Ev.TheVariants as ev
-use Rattle.flat_design.specs.declared.value_types.ValueType.{ValueType}
-use Rattle.flat_design.specs.declared.value_types.ValueType.TheVariants as type
-use Rattle.flat_design.specs.declared.names.Member.TheVariants as member
-use Rattle.flat_design.specs.declared.code.Await.TheVariants as await
-use Rattle.flat_design.specs.declared.code.Controlled.TheVariants as controlled
-use Rattle.flat_design.specs.declared.code.Statement.{Statement}
-use Rattle.flat_design.specs.declared.code.Store.{Store}
-use Rattle.flat_design.specs.declared.code.Statement.TheVariants as kept
-use Rattle.flat_design.specs.declared.terms.Expr.{Expr, Placed'}
-use Rattle.flat_design.specs.declared.terms.Expr.TheVariants as expr
-use Rattle.flat_design.specs.declared.objects.LeadsTo.TheVariants as leads_to
-use Rattle.flat_design.specs.declared.design.ChannelId.{ChannelId}
-use Rattle.flat_design.specs.declared.design.ChannelId.TheVariants as channel_id
-use Rattle.flat_design.specs.declared.design.Design.{Design}
+use Rattle.sim_model.specs.LogicValues.declared.kinds.Digit.{Digit}
+use Rattle.sim_model.specs.LogicValues.declared.kinds.Digit.TheVariants as digit
+use Rattle.sim_model.specs.LogicValues.declared.kinds.Value.TheVariants as value
+use Rattle.sim_model.specs.ModelTree.declared.items.ProcessKind.TheVariants as process
+use Rattle.sim_model.specs.ModelTree.declared.expressions.BinaryOp.TheVariants as op
+use Rattle.sim_model.specs.ModelTree.declared.statements.Control.TheVariants as control_of
+use Rattle.sim_model.specs.EventCore.declared.event.Ev.TheVariants as ev
+use Rattle.sim_model.specs.FlatDesign.declared.value_types.ValueType.{ValueType}
+use Rattle.sim_model.specs.FlatDesign.declared.value_types.ValueType.TheVariants as type
+use Rattle.sim_model.specs.FlatDesign.declared.names.Member.TheVariants as member
+use Rattle.sim_model.specs.FlatDesign.declared.code.Await.TheVariants as await
+use Rattle.sim_model.specs.FlatDesign.declared.code.Controlled.TheVariants as controlled
+use Rattle.sim_model.specs.FlatDesign.declared.code.Statement.{Statement}
+use Rattle.sim_model.specs.FlatDesign.declared.code.Store.{Store}
+use Rattle.sim_model.specs.FlatDesign.declared.code.Statement.TheVariants as kept
+use Rattle.sim_model.specs.FlatDesign.declared.terms.Expr.{Expr, Placed'}
+use Rattle.sim_model.specs.FlatDesign.declared.terms.Expr.TheVariants as expr
+use Rattle.sim_model.specs.FlatDesign.declared.objects.LeadsTo.TheVariants as leads_to
+use Rattle.sim_model.specs.FlatDesign.declared.design.ChannelId.{ChannelId}
+use Rattle.sim_model.specs.FlatDesign.declared.design.ChannelId.TheVariants as channel_id
+use Rattle.sim_model.specs.FlatDesign.declared.design.Design.{Design}
 use Rattle.worked_runs.specs.Body.{Body, end, then, does, choice, loop, guarded, tried, vec_of, boxed, own_event, item, local, named, number, moment, binary, store, channel, assign, say, say_value, write, wait_for, wait_delta, wait_on, control, throw_at, call}
 use Rattle.worked_runs.specs.Build.{design_of, signal, many_signal, resolved, fifo, event, variable, exception, function, local_of, thread, thread_with, method, process_of, instance, port, clock, mutex, buffer, semaphore}
 

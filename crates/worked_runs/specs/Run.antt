@@ -3,9 +3,9 @@ use Rattle.std.specs.Prelude.{ℕ, List, length, slice_get, option_map, option_a
 use Rattle.std.specs.Fmt.{digits}
 use Rattle.rand_core.specs.Pcg32Seed.{pcg32_seed}
 use Rattle.rand_core.specs.Steps.{word_bytes, u32_at}
-use Rattle.logic_values.specs.declared.kinds.Value.{Value}
-use Rattle.transport_phases.specs.History.{Entry}
-use Rattle.flat_design.specs.declared.design.Design.{Design}
+use Rattle.sim_model.specs.LogicValues.declared.kinds.Value.{Value}
+use Rattle.sim_model.specs.TransportPhases.History.{Entry}
+use Rattle.sim_model.specs.FlatDesign.declared.design.Design.{Design}
 use Rattle.sim_model.specs.Residual.{Mark}
 use Rattle.sim_model.specs.Configuration.{start, path_up}
 use Rattle.sim_model.specs.Runs.{after, Ruled, stop_of}

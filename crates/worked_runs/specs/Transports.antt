@@ -1,24 +1,24 @@
 -- The models of the worked runs of spawned instances, payloads, transport calls and quantum keepers.
 use Rattle.std.specs.Prelude.{ℕ, List, [], ◌∷◌, ◌++◌, Some, None, codes, true, false}
-use Rattle.model_tree.specs.declared.items.ProcessKind.TheVariants as process
-use Rattle.model_tree.specs.declared.expressions.BinaryOp.TheVariants as op
-use Rattle.model_tree.specs.declared.statements.Control.TheVariants as control_of
-use Rattle.flat_design.specs.declared.value_types.ValueType.TheVariants as type
-use Rattle.flat_design.specs.declared.names.Member.TheVariants as member
-use Rattle.flat_design.specs.declared.names.PayloadField.{PayloadField}
-use Rattle.flat_design.specs.declared.names.PayloadField.TheVariants as field
-use Rattle.flat_design.specs.declared.names.PayloadBytes.TheVariants as bytes_of
-use Rattle.flat_design.specs.declared.names.EventMember.TheVariants as event_member
-use Rattle.flat_design.specs.declared.code.Argument.TheVariants as argument
-use Rattle.flat_design.specs.declared.code.Await.TheVariants as await
-use Rattle.flat_design.specs.declared.code.Destination.TheVariants as destination
-use Rattle.flat_design.specs.declared.code.Local.{Local}
-use Rattle.flat_design.specs.declared.code.Statement.{Statement}
-use Rattle.flat_design.specs.declared.code.Statement.TheVariants as kept
-use Rattle.flat_design.specs.declared.terms.Expr.{Expr, Element'}
-use Rattle.flat_design.specs.declared.terms.Expr.TheVariants as expr
-use Rattle.flat_design.specs.declared.design.Hop.{Hop}
-use Rattle.flat_design.specs.declared.design.Design.{Design}
+use Rattle.sim_model.specs.ModelTree.declared.items.ProcessKind.TheVariants as process
+use Rattle.sim_model.specs.ModelTree.declared.expressions.BinaryOp.TheVariants as op
+use Rattle.sim_model.specs.ModelTree.declared.statements.Control.TheVariants as control_of
+use Rattle.sim_model.specs.FlatDesign.declared.value_types.ValueType.TheVariants as type
+use Rattle.sim_model.specs.FlatDesign.declared.names.Member.TheVariants as member
+use Rattle.sim_model.specs.FlatDesign.declared.names.PayloadField.{PayloadField}
+use Rattle.sim_model.specs.FlatDesign.declared.names.PayloadField.TheVariants as field
+use Rattle.sim_model.specs.FlatDesign.declared.names.PayloadBytes.TheVariants as bytes_of
+use Rattle.sim_model.specs.FlatDesign.declared.names.EventMember.TheVariants as event_member
+use Rattle.sim_model.specs.FlatDesign.declared.code.Argument.TheVariants as argument
+use Rattle.sim_model.specs.FlatDesign.declared.code.Await.TheVariants as await
+use Rattle.sim_model.specs.FlatDesign.declared.code.Destination.TheVariants as destination
+use Rattle.sim_model.specs.FlatDesign.declared.code.Local.{Local}
+use Rattle.sim_model.specs.FlatDesign.declared.code.Statement.{Statement}
+use Rattle.sim_model.specs.FlatDesign.declared.code.Statement.TheVariants as kept
+use Rattle.sim_model.specs.FlatDesign.declared.terms.Expr.{Expr, Element'}
+use Rattle.sim_model.specs.FlatDesign.declared.terms.Expr.TheVariants as expr
+use Rattle.sim_model.specs.FlatDesign.declared.design.Hop.{Hop}
+use Rattle.sim_model.specs.FlatDesign.declared.design.Design.{Design}
 use Rattle.worked_runs.specs.Body.{Body, end, then, does, branch, loop, guarded, tried, vec_of, boxed, item, local, named, number, moment, binary, store, assign, say, say_value, wait_for, wait_on, control, notify}
 use Rattle.worked_runs.specs.Build.{design_of, event, variable, function, function_with, local_of, inout, thread, thread_with, instance, initiator, target, hop, keeper, memory, exception, procedure}
 use Rattle.worked_runs.specs.Rows.{byte, integer}

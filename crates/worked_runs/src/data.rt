@@ -1,6 +1,6 @@
 //! Runs of signals, values and the script's commands.
 ghost use Rattle.std.specs.Prelude.{◌≡◌, [], ◌∷◌, codes, Some, true};
-ghost use Rattle.logic_values.specs.declared.kinds.Value.TheVariants as value;
+ghost use Rattle.sim_model.specs.LogicValues.declared.kinds.Value.TheVariants as value;
 ghost use Rattle.sim_model.specs.declared.plain.Log.TheVariants as log_of;
 ghost use Rattle.sim_model.specs.declared.plain.Rule.TheVariants as rule;
 ghost use Rattle.worked_runs.specs.Build.{empty, signal, many_signal};

@@ -1,5 +1,5 @@
 use Rattle.std.proofs.Common.{◌≡◌, ◌++◌, drop}
-use Rattle.binding_rules.specs.Bound.{hops_from}
+use Rattle.design_rules.specs.Bound.{hops_from}
 use Rattle.binding.proofs.binds.hops.Given as goal
 
 abbrev pub invariant-loop-i : goal.invariant-loop-i

@@ -1,5 +1,5 @@
 use Rattle.std.proofs.Common.{[], ◌∷◌, ◌++◌, sym, ap, ◌∙◌}
-use Rattle.binding_rules.specs.declared.bindings.BoundPort.{BoundPort}
+use Rattle.design_rules.specs.declared.bindings.BoundPort.{BoundPort}
 use Rattle.binding.proofs.Whole.{with_port, without_port}
 use Rattle.binding.proofs.binds.ports.Goals.{then-is_port+in_ok-bound_port+in_ok-push, else-is_port}
 use Rattle.binding.proofs.binds.ports.Goals as goal

@@ -1,7 +1,7 @@
 use Rattle.std.proofs.Common.{length, take, ap, ◌∙◌, arith}
 use Rattle.std.specs.List.{flat_map}
 use Rattle.std.proofs.lemmas.List.{length-take, take_all}
-use Rattle.flat_design.specs.declared.objects.Binding.{Binding}
+use Rattle.design_rules.specs.FlatDesign.declared.objects.Binding.{Binding}
 use Rattle.binding.specs.Rows.{row_at}
 use Rattle.binding.specs.Ends.{leads}
 use Rattle.binding.proofs.Lists.{front_more}

@@ -1,6 +1,6 @@
 use Rattle.std.proofs.Common.{◌≡◌, take}
 use Rattle.std.specs.List.{flat_map}
-use Rattle.flat_design.specs.declared.objects.Binding.{Binding}
+use Rattle.design_rules.specs.FlatDesign.declared.objects.Binding.{Binding}
 use Rattle.binding.specs.Rows.{row_at}
 use Rattle.binding.specs.Ends.{leads}
 use Rattle.binding.proofs.ends.through.Given as goal

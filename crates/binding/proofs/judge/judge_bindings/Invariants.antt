@@ -1,5 +1,5 @@
 use Rattle.std.proofs.Common.{◌≡◌, drop}
-use Rattle.binding_rules.specs.Faults.{bindings_fault}
+use Rattle.design_rules.specs.BindingFaults.{bindings_fault}
 use Rattle.binding.proofs.judge.judge_bindings.Given as goal
 
 abbrev pub invariant-loop-b : goal.invariant-loop-b

@@ -1,5 +1,5 @@
 use Rattle.std.proofs.Common.{◌≡◌, drop}
-use Rattle.binding_rules.specs.Faults.{objects_fault}
+use Rattle.design_rules.specs.BindingFaults.{objects_fault}
 use Rattle.binding.proofs.judge.judge_objects.Given as goal
 
 abbrev pub invariant-loop-i : goal.invariant-loop-i

@@ -1,6 +1,6 @@
 use Rattle.std.proofs.Common.{ap, ◌∙◌}
-use Rattle.binding_rules.specs.Paths.{ends_of}
-use Rattle.binding_rules.specs.Faults.{has_twice}
+use Rattle.design_rules.specs.Paths.{ends_of}
+use Rattle.design_rules.specs.BindingFaults.{has_twice}
 use Rattle.binding.proofs.Lists.{short_all}
 use Rattle.binding.proofs.kinds.is_bound_twice.Goals as goal
 

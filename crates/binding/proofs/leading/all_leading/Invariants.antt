@@ -1,6 +1,6 @@
 use Rattle.std.proofs.Common.{◌≡◌, ◌≤◌, ℕ, length, Some}
 use Rattle.std.specs.Prelude.{slice_get}
-use Rattle.binding_rules.specs.Paths.{leaders_of}
+use Rattle.design_rules.specs.Paths.{leaders_of}
 use Rattle.binding.specs.Leaders.{leading_at, leading_of}
 use Rattle.binding.proofs.leading.all_leading.Given as goal
 

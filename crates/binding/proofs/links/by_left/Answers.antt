@@ -1,4 +1,4 @@
-use Rattle.flat_design.specs.declared.objects.Binding.{Binding}
+use Rattle.design_rules.specs.FlatDesign.declared.objects.Binding.{Binding}
 use Rattle.binding.proofs.Linked.{left_within, link_added}
 use Rattle.binding.proofs.links.by_left.Goals as goal
 

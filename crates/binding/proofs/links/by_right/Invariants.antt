@@ -1,6 +1,6 @@
 use Rattle.std.proofs.Common.{◌≡◌, ◌==◌, length, take}
 use Rattle.std.specs.Prelude.{filter}
-use Rattle.flat_design.specs.declared.objects.Binding.{Binding}
+use Rattle.design_rules.specs.FlatDesign.declared.objects.Binding.{Binding}
 use Rattle.binding.specs.Rows.{AreRows}
 use Rattle.binding.proofs.links.by_right.Given as goal
 

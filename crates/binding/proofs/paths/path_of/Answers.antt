@@ -1,6 +1,6 @@
 use Rattle.std.proofs.Common.{◌≡◌, sym, ap, ◌∙◌}
 use Rattle.std.proofs.lemmas.Result.{IfOk-weaker}
-use Rattle.binding_rules.specs.Objects.{object_at, name_of, parent_at, path_of}
+use Rattle.design_rules.specs.Objects.{object_at, name_of, parent_at, path_of}
 use Rattle.binding.specs.Names.{path_through}
 use Rattle.binding.proofs.Upward.{path_below, path_own, through-push}
 use Rattle.binding.proofs.paths.path_of.Goals as goal

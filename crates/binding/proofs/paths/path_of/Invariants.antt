@@ -1,5 +1,5 @@
 use Rattle.std.proofs.Common.{◌≡◌}
-use Rattle.binding_rules.specs.Objects.{path_of}
+use Rattle.design_rules.specs.Objects.{path_of}
 use Rattle.binding.specs.Names.{path_through}
 use Rattle.binding.proofs.paths.path_of.Given as goal
 

@@ -1,5 +1,5 @@
 use Rattle.std.proofs.Common.{◌≡◌, drop}
-use Rattle.binding_rules.specs.Objects.{object_at, name_of}
+use Rattle.design_rules.specs.Objects.{object_at, name_of}
 use Rattle.binding.specs.Names.{path_through}
 use Rattle.binding.proofs.paths.written.Given as goal
 

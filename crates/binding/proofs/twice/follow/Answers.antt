@@ -1,8 +1,8 @@
 use Rattle.std.proofs.Common.{List, length, set, false, Some, sym, ap, subst, ◌∙◌}
 use Rattle.std.proofs.lemmas.List.{length-set}
 use Rattle.std.proofs.lemmas.Option.{slice_get-get_or}
-use Rattle.flat_design.specs.declared.objects.Binding.{Binding}
-use Rattle.binding_rules.specs.Objects.{bindings_of}
+use Rattle.design_rules.specs.FlatDesign.declared.objects.Binding.{Binding}
+use Rattle.design_rules.specs.Objects.{bindings_of}
 use Rattle.binding.specs.Twice.{AreWithin}
 use Rattle.binding.proofs.Followed.{links_within, followed}
 use Rattle.binding.proofs.twice.follow.Goals as goal

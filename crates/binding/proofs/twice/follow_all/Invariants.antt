@@ -1,7 +1,7 @@
 use Rattle.std.proofs.Common.{◌≡◌, ◌<◌, ℕ, true, false, Some}
 use Rattle.std.specs.Prelude.{slice_get}
-use Rattle.binding_rules.specs.Objects.{form_at}
-use Rattle.binding_rules.specs.Paths.{is_end}
+use Rattle.design_rules.specs.Objects.{form_at}
+use Rattle.design_rules.specs.Paths.{is_end}
 use Rattle.binding.specs.Twice.{reached}
 use Rattle.binding.proofs.twice.follow_all.Given as goal
 

@@ -1,5 +1,5 @@
 use Rattle.std.proofs.Common.{◌≡◌, drop}
-use Rattle.binding_rules.specs.Faults.{has_twice}
+use Rattle.design_rules.specs.BindingFaults.{has_twice}
 use Rattle.binding.proofs.twice.has_twice.Given as goal
 
 abbrev pub invariant-loop-i : goal.invariant-loop-i

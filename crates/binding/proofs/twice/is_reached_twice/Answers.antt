@@ -1,6 +1,6 @@
 use Rattle.std.proofs.Common.{◌<◌, List, Bool, length, sym, subst, ◌∙◌}
 use Rattle.std.specs.Bool.{MatchBool}
-use Rattle.flat_design.specs.declared.objects.Object.{Object}
+use Rattle.design_rules.specs.FlatDesign.declared.objects.Object.{Object}
 use Rattle.binding.specs.Twice.{ReachesTwice, ReachesOnce}
 use Rattle.binding.proofs.Followed.{answered}
 use Rattle.binding.proofs.twice.is_reached_twice.Goals as goal

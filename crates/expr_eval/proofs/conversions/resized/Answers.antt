@@ -1,4 +1,4 @@
-use Rattle.logic_values.specs.Digits.{digits}
+use Rattle.sim_model.specs.LogicValues.Digits.{digits}
 use Rattle.expr_eval.proofs.DigitLaws.{resized_vector, zeros_vector}
 use Rattle.expr_eval.proofs.conversions.resized.Goals as goal
 

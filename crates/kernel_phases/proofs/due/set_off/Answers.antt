@@ -1,6 +1,6 @@
 use Rattle.std.proofs.Common.{subst}
-use Rattle.event_board.specs.Numbered.{fixed}
-use Rattle.sim_model.specs.Waits.{fire_all}
+use Rattle.kernel_state.specs.KernelEvents.Numbered.{fixed}
+use Rattle.kernel_state.specs.SimModel.Waits.{fire_all}
 use Rattle.kernel_state.specs.Moves.{Moves}
 use Rattle.kernel_phases.proofs.Setting.{sets_off, sound_schedule}
 use Rattle.kernel_phases.proofs.due.set_off.Goals as goal

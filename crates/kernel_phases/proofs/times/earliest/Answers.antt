@@ -1,5 +1,5 @@
 use Rattle.std.proofs.Common.{sym, ap, ◌∙◌}
-use Rattle.sim_model.specs.Phases as phases
+use Rattle.kernel_state.specs.SimModel.Phases as phases
 use Rattle.kernel_phases.proofs.EarliestTime.{event_alone, with_deadline}
 use Rattle.kernel_phases.proofs.times.earliest.Goals as goal
 

@@ -1,6 +1,6 @@
 use Rattle.std.proofs.Common.{refl, ap, ◌∙◌, ◌++◌}
-use Rattle.event_board.specs.Numbered.{fixed}
-use Rattle.sim_model.specs.Phases.{is_at, is_due_at, due_events, now_becomes}
+use Rattle.kernel_state.specs.KernelEvents.Numbered.{fixed}
+use Rattle.kernel_state.specs.SimModel.Phases.{is_at, is_due_at, due_events, now_becomes}
 use Rattle.kernel_phases.proofs.Setting.{all_set_off, taken_between}
 use Rattle.kernel_phases.proofs.times.notify_at.Goals as goal
 

@@ -1,5 +1,5 @@
 use Rattle.std.proofs.Common.{sym, subst}
-use Rattle.sim_model.specs.Steps.{evaluate}
+use Rattle.kernel_phases.specs.SimModel.Steps.{evaluate}
 use Rattle.kernel_runs.specs.Made.{Makes, Rules}
 use Rattle.kernel_runs.proofs.Evaluated.{top_made, top_rules}
 use Rattle.kernel_runs.proofs.evaluation.step_of_top.Goals as goal

@@ -1,5 +1,5 @@
 use Rattle.kernel_runs.proofs.Quiet.{quiet_goes, timed_quiet}
-use Rattle.sim_model.specs.Phases.{timed_step}
+use Rattle.kernel_phases.specs.SimModel.Phases.{timed_step}
 use Rattle.kernel_runs.proofs.stepping.go_to_next_time.Goals as goal
 
 pub returns-in-Ok-clause-makes : goal.returns-in-Ok-clause-makes

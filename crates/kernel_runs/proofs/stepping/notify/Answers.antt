@@ -1,5 +1,5 @@
 use Rattle.kernel_runs.proofs.Quiet.{quiet_goes, delta_quiet}
-use Rattle.sim_model.specs.Phases.{delta_step}
+use Rattle.kernel_phases.specs.SimModel.Phases.{delta_step}
 use Rattle.kernel_runs.proofs.stepping.notify.Goals as goal
 
 pub returns-in-Ok-clause-makes : goal.returns-in-Ok-clause-makes

@@ -1,5 +1,5 @@
 use Rattle.kernel_runs.proofs.Quiet.{quiet_goes, initialization_quiet}
-use Rattle.sim_model.specs.Phases.{initialization}
+use Rattle.kernel_phases.specs.SimModel.Phases.{initialization}
 use Rattle.kernel_runs.proofs.stepping.start.Goals as goal
 
 pub returns-in-Ok-clause-makes : goal.returns-in-Ok-clause-makes

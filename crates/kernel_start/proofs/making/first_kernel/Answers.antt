@@ -1,12 +1,12 @@
 use Rattle.std.proofs.Common.{◌≡◌, ◌≤◌, List, length, refl, sym, ap, ◌∙◌, subst}
-use Rattle.instance_table.specs.declared.TheConstants.{MAX_LIVE}
-use Rattle.flat_design.specs.Code.{arena_of}
-use Rattle.flat_design.specs.Reach.{IsIn}
-use Rattle.flat_design.specs.declared.design.Design.{Design}
-use Rattle.flat_design.specs.declared.design.ProcessPart.{ProcessPart}
-use Rattle.flat_design.specs.declared.design.VariablePart.{VariablePart}
-use Rattle.flat_design.specs.declared.design.MemoryPart.{MemoryPart}
-use Rattle.sim_model.specs.Configuration.{start}
+use Rattle.kernel_state.specs.InstanceTable.declared.TheConstants.{MAX_LIVE}
+use Rattle.kernel_state.specs.FlatDesign.Code.{arena_of}
+use Rattle.kernel_state.specs.FlatDesign.Reach.{IsIn}
+use Rattle.kernel_state.specs.FlatDesign.declared.design.Design.{Design}
+use Rattle.kernel_state.specs.FlatDesign.declared.design.ProcessPart.{ProcessPart}
+use Rattle.kernel_state.specs.FlatDesign.declared.design.VariablePart.{VariablePart}
+use Rattle.kernel_state.specs.FlatDesign.declared.design.MemoryPart.{MemoryPart}
+use Rattle.kernel_state.specs.SimModel.Configuration.{start}
 use Rattle.kernel_state.specs.Kernel.{StandsFor, IsSound}
 use Rattle.kernel_start.proofs.Together.{first_stands, first_sound}
 use Rattle.kernel_start.proofs.making.first_kernel.Goals as goal

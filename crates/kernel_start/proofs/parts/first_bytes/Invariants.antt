@@ -1,5 +1,5 @@
 use Rattle.std.proofs.Common.{◌≡◌, map, take, replicate}
-use Rattle.flat_design.specs.declared.design.MemoryPart.{MemoryPart}
+use Rattle.kernel_state.specs.FlatDesign.declared.design.MemoryPart.{MemoryPart}
 use Rattle.kernel_start.proofs.parts.first_bytes.Given as goal
 
 abbrev pub invariant-loop-part : goal.invariant-loop-part

@@ -1,5 +1,5 @@
 use Rattle.std.proofs.Common.{◌≡◌, map, take}
-use Rattle.flat_design.specs.declared.design.VariablePart.{VariablePart}
+use Rattle.kernel_state.specs.FlatDesign.declared.design.VariablePart.{VariablePart}
 use Rattle.kernel_start.proofs.parts.first_values.Given as goal
 
 abbrev pub invariant-loop-part : goal.invariant-loop-part

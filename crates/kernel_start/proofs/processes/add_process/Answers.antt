@@ -1,5 +1,5 @@
 use Rattle.std.proofs.Common.{sym, ap, ◌∙◌}
-use Rattle.flat_design.specs.Code.{arena_of}
+use Rattle.kernel_state.specs.FlatDesign.Code.{arena_of}
 use Rattle.kernel_start.proofs.FirstOnes.{adds, adds_made}
 use Rattle.kernel_start.proofs.processes.add_process.Goals as goal
 

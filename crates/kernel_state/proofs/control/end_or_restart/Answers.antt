@@ -1,7 +1,7 @@
 use Rattle.std.proofs.Common.{◌≡◌, true, false, refl, sym, ap, ◌∙◌, subst}
 use Rattle.std.specs.Prelude.{Ok}
-use Rattle.sim_model.specs.Configuration.{instance_at}
-use Rattle.sim_model.specs.Control.{unwinds, unless_ended, ends_or_restarts}
+use Rattle.kernel_processes.specs.SimModel.Configuration.{instance_at}
+use Rattle.kernel_processes.specs.SimModel.Control.{unwinds, unless_ended, ends_or_restarts}
 use Rattle.kernel_state.proofs.Stacks.{not_below}
 use Rattle.kernel_state.proofs.Ending.{alive_in, over_in, is_spared, is_unwound, follows_as}
 use Rattle.kernel_state.proofs.control.end_or_restart.Goals as goal

@@ -1,8 +1,8 @@
 use Rattle.std.proofs.Common.{sym, ap, ◌∙◌}
 use Rattle.std.specs.Option.{option_copied}
-use Rattle.flat_design.specs.Code.{arena_of}
-use Rattle.sim_model.specs.Residual.{has_goal}
-use Rattle.body_model.proofs.Strips.{strip-has_goal}
+use Rattle.kernel_processes.specs.FlatDesign.Code.{arena_of}
+use Rattle.kernel_processes.specs.SimModel.Residual.{has_goal}
+use Rattle.process_state.proofs.KernelBodies.Strips.{strip-has_goal}
 use Rattle.kernel_state.proofs.Frames.{left_before}
 use Rattle.kernel_state.proofs.control.has_goal.Goals as goal
 

@@ -1,9 +1,9 @@
 use Rattle.std.proofs.Common.{[], ◌<◌, ◌-◌, length, take, refl, sym, ap, ◌∙◌, subst, arith}
-use Rattle.flat_design.specs.Code.{Arena}
-use Rattle.sim_model.specs.Unwinding.{left_by_unw}
+use Rattle.kernel_processes.specs.FlatDesign.Code.{Arena}
+use Rattle.kernel_processes.specs.SimModel.Unwinding.{left_by_unw}
 use Rattle.process_state.specs.Bodies.{left_of}
-use Rattle.transaction_board.specs.Board.{StandsForTransactions, left}
-use Rattle.transaction_board.proofs.Histories.{left-more}
+use Rattle.kernel_transactions.specs.Board.{StandsForTransactions, left}
+use Rattle.kernel_transactions.proofs.Histories.{left-more}
 use Rattle.kernel_state.proofs.Leaving.{here_below, one_more_taken, all_taken}
 use Rattle.kernel_state.proofs.control.leave_calls.Goals as goal
 

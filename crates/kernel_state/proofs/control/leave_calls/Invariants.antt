@@ -1,8 +1,8 @@
 use Rattle.std.proofs.Common.{[], ◌-◌, length, take}
-use Rattle.flat_design.specs.Code.{Arena}
-use Rattle.sim_model.specs.Unwinding.{left_by_unw}
+use Rattle.kernel_processes.specs.FlatDesign.Code.{Arena}
+use Rattle.kernel_processes.specs.SimModel.Unwinding.{left_by_unw}
 use Rattle.process_state.specs.Bodies.{left_of}
-use Rattle.transaction_board.specs.Board.{Moves, StaysWithin, SameQuantum, left}
+use Rattle.kernel_transactions.specs.Board.{Moves, StaysWithin, SameQuantum, left}
 use Rattle.kernel_state.proofs.control.leave_calls.Given as goal
 
 -- the first of the calls are left

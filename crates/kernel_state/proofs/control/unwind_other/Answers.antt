@@ -1,13 +1,13 @@
 use Rattle.std.proofs.Common.{◌≡◌, true, refl, sym, ap, ◌∙◌, subst}
 use Rattle.std.specs.Prelude.{Ok, Err}
-use Rattle.flat_design.specs.declared.faults.RunFault.TheVariants as fault
-use Rattle.sim_model.specs.Residual.{settle, put, skip}
-use Rattle.sim_model.specs.Configuration.{change, instance_at, arena}
-use Rattle.sim_model.specs.Control.{unless_ended, ends_or_restarts}
-use Rattle.sim_model.specs.Statements.{settled_in}
-use Rattle.sim_model.specs.Storing.{passes}
-use Rattle.schedule.specs.Seen.{is_on}
-use Rattle.process_moves.specs.Moved.{IsTop}
+use Rattle.kernel_processes.specs.FlatDesign.declared.faults.RunFault.TheVariants as fault
+use Rattle.kernel_processes.specs.SimModel.Residual.{settle, put, skip}
+use Rattle.kernel_processes.specs.SimModel.Configuration.{change, instance_at, arena}
+use Rattle.kernel_processes.specs.SimModel.Control.{unless_ended, ends_or_restarts}
+use Rattle.kernel_processes.specs.SimModel.Statements.{settled_in}
+use Rattle.kernel_processes.specs.SimModel.Storing.{passes}
+use Rattle.kernel_processes.specs.Seen.{is_on}
+use Rattle.kernel_processes.specs.Moved.{IsTop}
 use Rattle.kernel_state.proofs.Ending.{alive_in, still_alive, is_refused, follows_any, follows_as}
 use Rattle.kernel_state.proofs.control.unwind_other.Goals as goal
 

@@ -1,7 +1,7 @@
 use Rattle.std.proofs.Common.{sym, ap, ◌∙◌}
 use Rattle.std.specs.Option.{option_copied_mut}
-use Rattle.sim_model.specs.Residual.{settle}
-use Rattle.sim_model.specs.Configuration.{arena}
+use Rattle.kernel_processes.specs.SimModel.Residual.{settle}
+use Rattle.kernel_processes.specs.SimModel.Configuration.{arena}
 use Rattle.kernel_state.proofs.Frames.{one_body_sound, old_body_sound, steps_to, settled_before}
 use Rattle.kernel_state.proofs.moves.settle.Goals as goal
 

@@ -1,8 +1,8 @@
 use Rattle.std.proofs.Common.{◌+◌, sym, ◌∙◌, arith}
 use Rattle.std.specs.Prelude.{Ok}
-use Rattle.sim_model.specs.Payloads.{with_acquired}
-use Rattle.sim_model.specs.Storing.{passes}
-use Rattle.sim_model.specs.Transport.{with_pool}
+use Rattle.kernel_processes.specs.SimModel.Payloads.{with_acquired}
+use Rattle.kernel_processes.specs.SimModel.Storing.{passes}
+use Rattle.kernel_processes.specs.SimModel.Transport.{with_pool}
 use Rattle.kernel_state.proofs.Uses.{within_room, pool_sound, pool_does, refused_sound, refused_does}
 use Rattle.kernel_state.proofs.payloads.acquire.Goals as goal
 

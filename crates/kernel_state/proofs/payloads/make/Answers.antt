@@ -1,6 +1,6 @@
 use Rattle.std.proofs.Common.{◌+◌, sym, subst, arith}
 use Rattle.std.specs.Prelude.{Ok}
-use Rattle.sim_model.specs.Payloads.{with_made}
+use Rattle.kernel_processes.specs.SimModel.Payloads.{with_made}
 use Rattle.kernel_state.specs.Kernel.{StandsFor}
 use Rattle.kernel_state.proofs.Uses.{within_room, pool_sound, pool_then, refused_sound}
 use Rattle.kernel_state.proofs.payloads.make.Goals as goal

@@ -1,6 +1,6 @@
 use Rattle.std.proofs.Common.{sym, ◌∙◌, arith}
 use Rattle.std.specs.Prelude.{Ok}
-use Rattle.sim_model.specs.Storing.{passes, set_payload, with_field}
+use Rattle.kernel_processes.specs.SimModel.Storing.{passes, set_payload, with_field}
 use Rattle.kernel_state.proofs.Uses.{pool_sound, write_does, refused_sound, refused_does}
 use Rattle.kernel_state.proofs.payloads.set_field.Goals as goal
 

@@ -1,6 +1,6 @@
 use Rattle.std.proofs.Common.{Err, not, sym, ap, ◌∙◌, subst, None}
-use Rattle.flat_design.specs.Code.{arena_of}
-use Rattle.process_moves.specs.Moved.{Spawns, spawned_as}
+use Rattle.kernel_processes.specs.FlatDesign.Code.{arena_of}
+use Rattle.kernel_processes.specs.Moved.{Spawns, spawned_as}
 use Rattle.kernel_state.specs.declared.kernel.PathOf.TheVariants as path_by
 use Rattle.kernel_state.proofs.Frames.{schedule_sound}
 use Rattle.kernel_state.proofs.Offsprings.{made_moves, spawned_moves, spawned_sound}

@@ -1,8 +1,8 @@
 use Rattle.std.proofs.Common.{◌++◌, ◌∷◌, [], ap, ◌∙◌, subst}
-use Rattle.sim_model.specs.Residual.{settle}
-use Rattle.sim_model.specs.Configuration.{waits_for_any, no_deadline, with_residual, arena}
-use Rattle.sim_model.specs.Waits.{waits}
-use Rattle.sim_model.specs.Statements.{settled_in}
+use Rattle.kernel_processes.specs.SimModel.Residual.{settle}
+use Rattle.kernel_processes.specs.SimModel.Configuration.{waits_for_any, no_deadline, with_residual, arena}
+use Rattle.kernel_processes.specs.SimModel.Waits.{waits}
+use Rattle.kernel_processes.specs.SimModel.Statements.{settled_in}
 use Rattle.kernel_state.specs.Kernel.{StandsFor}
 use Rattle.kernel_state.proofs.Frames.{lives_on_top, lives_still, steps_after}
 use Rattle.kernel_state.proofs.statements.block.Goals as goal

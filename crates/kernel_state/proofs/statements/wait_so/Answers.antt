@@ -1,4 +1,4 @@
-use Rattle.sim_model.specs.Residual.{put, skip}
+use Rattle.kernel_processes.specs.SimModel.Residual.{put, skip}
 use Rattle.kernel_state.proofs.Frames.{lives_on_top, lives_still, statement_still, steps_after}
 use Rattle.kernel_state.proofs.statements.wait_so.Goals as goal
 

@@ -1,5 +1,5 @@
 use Rattle.std.proofs.Common.{◌==◌, not, true, false, refl, sym, ap, ◌∙◌}
-use Rattle.fifo_sync.specs.Fifos.{free}
+use Rattle.kernel_processes.specs.FifoSync.Fifos.{free}
 use Rattle.std.specs.Prelude.{slice_get}
 use Rattle.kernel_state.proofs.Fifos.{tested, untested, negated, written_steps, blocked_steps, refused_moves, no_fifo_steps}
 use Rattle.kernel_state.proofs.statements.write_fifo.Goals as goal

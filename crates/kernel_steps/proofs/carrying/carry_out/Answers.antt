@@ -1,11 +1,11 @@
 use Rattle.std.proofs.Common.{map, ◌∷◌, [], Some, refl, sym, ap, ◌∙◌, subst}
 use Rattle.std.specs.Prelude.{Contains, IfOk}
 use Rattle.flat_design.specs.Code.{statement_of, argument_term}
-use Rattle.sim_model.specs.Reading.{here}
-use Rattle.sim_model.specs.Calls.{do_call}
-use Rattle.kernel_state.specs.Moves.{Does}
-use Rattle.body_code.specs.Around.{around_if}
-use Rattle.body_code.specs.Depths.{blocks_in}
+use Rattle.exec_channels.specs.SimModel.Reading.{here}
+use Rattle.exec_channels.specs.SimModel.Calls.{do_call}
+use Rattle.exec_channels.specs.KernelState.Moves.{Does}
+use Rattle.exec_channels.specs.KernelBodies.Around.{around_if}
+use Rattle.exec_channels.specs.KernelBodies.Depths.{blocks_in}
 use Rattle.kernel_steps.specs.Told.{CarriesAll}
 use Rattle.kernel_steps.specs.declared.answers.StepAnswer.TheVariants as answer
 use Rattle.kernel_steps.proofs.Blocks.{is_first}

@@ -1,10 +1,10 @@
 use Rattle.std.proofs.Common.{ap, sym, subst}
 use Rattle.std.specs.Prelude.{Contains, IfSome}
 use Rattle.flat_design.specs.Code.{term_of}
-use Rattle.body_code.specs.Around.{around_if}
-use Rattle.body_code.specs.Depths.{blocks_in}
-use Rattle.sim_model.specs.Reading.{here}
-use Rattle.sim_model.specs.Storing.{do_if}
+use Rattle.exec_channels.specs.KernelBodies.Around.{around_if}
+use Rattle.exec_channels.specs.KernelBodies.Depths.{blocks_in}
+use Rattle.exec_channels.specs.SimModel.Reading.{here}
+use Rattle.exec_channels.specs.SimModel.Storing.{do_if}
 use Rattle.kernel_steps.proofs.Answered.{plain_made}
 use Rattle.kernel_steps.proofs.Blocks.{is_first, is_other}
 use Rattle.kernel_steps.proofs.data.if_step.Goals as goal

@@ -1,12 +1,12 @@
 use Rattle.std.proofs.Common.{Some, option_map, sym, subst}
 use Rattle.flat_design.specs.Code as code
 use Rattle.flat_design.specs.Code.{term_of, arena_of, statement_at}
-use Rattle.sim_model.specs.Residual.{settle}
-use Rattle.sim_model.specs.Configuration.{arena}
-use Rattle.sim_model.specs.Statements.{settled_in}
-use Rattle.sim_model.specs.Storing.{do_print}
-use Rattle.kernel_view.specs.Standings.{next_here}
-use Rattle.data_statements.specs.Told.{FollowsPrint}
+use Rattle.exec_channels.specs.SimModel.Residual.{settle}
+use Rattle.exec_channels.specs.SimModel.Configuration.{arena}
+use Rattle.exec_channels.specs.SimModel.Statements.{settled_in}
+use Rattle.exec_channels.specs.SimModel.Storing.{do_print}
+use Rattle.exec_channels.specs.KernelView.Standings.{next_here}
+use Rattle.exec_control.specs.ExecData.Told.{FollowsPrint}
 use Rattle.kernel_steps.proofs.Silent.{print_keeps}
 use Rattle.kernel_steps.proofs.Prints.{lives_still, print_stays, printed_tells, fault_tells}
 use Rattle.kernel_steps.proofs.data.print_step.Goals as goal

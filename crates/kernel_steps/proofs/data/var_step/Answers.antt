@@ -1,7 +1,7 @@
 use Rattle.std.proofs.Common.{option_map}
 use Rattle.flat_design.specs.Code.{term_of}
-use Rattle.sim_model.specs.Reading.{here}
-use Rattle.sim_model.specs.Storing.{do_var}
+use Rattle.exec_channels.specs.SimModel.Reading.{here}
+use Rattle.exec_channels.specs.SimModel.Storing.{do_var}
 use Rattle.kernel_steps.proofs.Answered.{plain_made}
 use Rattle.kernel_steps.proofs.data.var_step.Goals as goal
 

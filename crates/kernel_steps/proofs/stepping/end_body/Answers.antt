@@ -1,6 +1,6 @@
-use Rattle.sim_model.specs.Residual.{settle}
-use Rattle.sim_model.specs.Configuration.{arena}
-use Rattle.sim_model.specs.Statements.{settled_in}
+use Rattle.exec_channels.specs.SimModel.Residual.{settle}
+use Rattle.exec_channels.specs.SimModel.Configuration.{arena}
+use Rattle.exec_channels.specs.SimModel.Statements.{settled_in}
 use Rattle.kernel_steps.proofs.Silent.{done_quiet}
 use Rattle.kernel_steps.proofs.stepping.end_body.Goals as goal
 

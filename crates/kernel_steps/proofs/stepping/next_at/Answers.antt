@@ -1,9 +1,9 @@
 use Rattle.std.proofs.Common.{◌≡◌, sym, ap, ◌∙◌}
 use Rattle.std.specs.Option.{option_copied}
-use Rattle.body_layers.specs.declared.layers.Next.TheVariants as next
-use Rattle.process_state.specs.Bodies.{settled_in, next_in}
-use Rattle.sim_model.specs.Residual as residual
-use Rattle.sim_model.specs.Residual.{next_of}
+use Rattle.exec_channels.specs.KernelBodies.declared.layers.Next.TheVariants as next
+use Rattle.exec_channels.specs.ProcessState.Bodies.{settled_in, next_in}
+use Rattle.exec_channels.specs.SimModel.Residual as residual
+use Rattle.exec_channels.specs.SimModel.Residual.{next_of}
 use Rattle.kernel_steps.proofs.Shows.{kept_is, comes_next, leave_next}
 use Rattle.kernel_steps.proofs.stepping.next_at.Goals as goal
 

@@ -1,6 +1,6 @@
 use Rattle.std.proofs.Common.{option_map, refl, sym, ap, ◌∙◌, subst}
 use Rattle.flat_design.specs.Code.{statement_of, statement_at}
-use Rattle.sim_model.specs.Statements.{on_statement}
+use Rattle.exec_channels.specs.SimModel.Statements.{on_statement}
 use Rattle.kernel_steps.specs.Told.{MakesAll}
 use Rattle.kernel_steps.specs.declared.answers.StepAnswer.TheVariants as answer
 use Rattle.kernel_steps.proofs.Shows.{has_statement}

@@ -1,7 +1,7 @@
-use Rattle.sim_model.specs.Residual as residual
-use Rattle.sim_model.specs.Residual.{settle}
-use Rattle.sim_model.specs.Configuration.{arena}
-use Rattle.sim_model.specs.Statements.{settled_in, leaves_call}
+use Rattle.exec_channels.specs.SimModel.Residual as residual
+use Rattle.exec_channels.specs.SimModel.Residual.{settle}
+use Rattle.exec_channels.specs.SimModel.Configuration.{arena}
+use Rattle.exec_channels.specs.SimModel.Statements.{settled_in, leaves_call}
 use Rattle.kernel_steps.specs.declared.answers.StepAnswer.TheVariants as answer
 use Rattle.kernel_steps.proofs.Silent.{goal_quiet}
 use Rattle.kernel_steps.proofs.Returned.{leaves_quiet}

@@ -2,7 +2,7 @@ use Rattle.std.proofs.Common.{◌+◌, map, sym, ◌∙◌, ap}
 use Rattle.std.proofs.lemmas.List.{map-append}
 use Rattle.std.proofs.lemmas.Result.{err_from_is_err_and}
 use Rattle.model_tree.specs.Views.{module_of}
-use Rattle.expression_parser.proofs.Many.{many_stops, many_goes, many_fails, many_ends}
+use Rattle.parse_statements.proofs.ParseExpressions.Many.{many_stops, many_goes, many_fails, many_ends}
 use Rattle.model_parser.specs.Parse.{module_text, at_no_module, modules}
 use Rattle.model_parser.proofs.modules.modules.Goals as goal
 

@@ -1,6 +1,6 @@
 use Rattle.std.proofs.Common.{◌≡◌, ◌-◌, map}
 use Rattle.model_tree.specs.Views.{module_of}
-use Rattle.expression_parser.specs.Parse.{repeat, one_more}
+use Rattle.parse_statements.specs.ParseExpressions.Parse.{repeat, one_more}
 use Rattle.model_parser.specs.Parse.{module_text, at_no_module, modules}
 use Rattle.model_parser.proofs.modules.modules.Given as goal
 

@@ -1,5 +1,5 @@
-use Rattle.model_lexer.specs.Seen.{lexemes}
-use Rattle.model_lexer.proofs.CutLaws.{cut_limited}
+use Rattle.parse_statements.specs.ModelLexer.Seen.{lexemes}
+use Rattle.parse_statements.proofs.ModelLexer.CutLaws.{cut_limited}
 use Rattle.model_parser.proofs.parsing.read.Goals as goal
 
 -- the tokens of a text keep their limits

@@ -1,6 +1,6 @@
 use Rattle.std.proofs.Common.{◌≡◌, drop}
 use Rattle.model_tree.specs.Views.{expressions_of}
-use Rattle.page_layout.specs.Layout.{put_all}
+use Rattle.model_print.specs.Layout.{put_all}
 use Rattle.model_print.specs.Printed.{more_expressions}
 use Rattle.model_print.proofs.expressions.more_expressions.Given as goal
 

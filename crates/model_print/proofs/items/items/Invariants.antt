@@ -1,7 +1,7 @@
 use Rattle.std.proofs.Common.{◌≡◌, drop, map}
 use Rattle.model_tree.specs.Views.{item_of}
-use Rattle.page_layout.specs.Layout.{put_all}
-use Rattle.page_layout.specs.Pieces.{each}
+use Rattle.model_print.specs.Layout.{put_all}
+use Rattle.model_print.specs.Pieces.{each}
 use Rattle.model_print.specs.Printed.{item}
 use Rattle.model_print.proofs.items.items.Given as goal
 

@@ -1,7 +1,7 @@
 use Rattle.std.proofs.Common.{◌≡◌, drop}
 use Rattle.model_tree.specs.Views.{modules_of}
-use Rattle.page_layout.specs.Layout.{put_all}
-use Rattle.page_layout.specs.Pieces.{each}
+use Rattle.model_print.specs.Layout.{put_all}
+use Rattle.model_print.specs.Pieces.{each}
 use Rattle.model_print.specs.Printed.{module_}
 use Rattle.model_print.proofs.items.modules.Given as goal
 

@@ -1,5 +1,5 @@
 use Rattle.std.proofs.Common.{◌≡◌, drop}
-use Rattle.page_layout.specs.Layout.{put_all}
+use Rattle.model_print.specs.Layout.{put_all}
 use Rattle.model_print.specs.Printed.{more_parameters}
 use Rattle.model_print.proofs.items.more_parameters.Given as goal
 

@@ -4,7 +4,7 @@ use Rattle.std.specs.Global.{Vec}
 use Rattle.model_tree.specs.Tree as tree
 use Rattle.model_tree.specs.declared.statements.Statement.{Statement, If}
 use Rattle.model_tree.specs.Views.{statement_of, body_of, expression_of}
-use Rattle.page_layout.specs.Layout.{put_all}
+use Rattle.model_print.specs.Layout.{put_all}
 use Rattle.model_print.specs.Printed.{handlers}
 use Rattle.model_tree.proofs.Trees.{handlers_list, sees_if, sees_while, sees_guard, sees_try, next_handler}
 use Rattle.model_print.proofs.Trees.{if_printed, else_printed, while_printed, guard_printed, try_printed, handler_printed, shown}

@@ -1,6 +1,6 @@
 use Rattle.std.proofs.Common.{◌≡◌, drop}
 use Rattle.model_tree.specs.Views.{body_of, statement_of}
-use Rattle.page_layout.specs.Layout.{put_all}
+use Rattle.model_print.specs.Layout.{put_all}
 use Rattle.model_print.specs.Printed.{statement, statements, handlers}
 use Rattle.model_tree.proofs.Trees.{handlers_list}
 use Rattle.model_print.proofs.statements.+statements.Given as goal

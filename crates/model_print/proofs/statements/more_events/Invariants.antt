@@ -1,6 +1,6 @@
 use Rattle.std.proofs.Common.{◌≡◌, drop}
 use Rattle.model_tree.specs.Views.{events_of}
-use Rattle.page_layout.specs.Layout.{put_all}
+use Rattle.model_print.specs.Layout.{put_all}
 use Rattle.model_print.specs.Printed.{more_events}
 use Rattle.model_print.proofs.statements.more_events.Given as goal
 

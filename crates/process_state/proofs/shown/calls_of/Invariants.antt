@@ -1,7 +1,7 @@
 use Rattle.std.proofs.Common.{◌≡◌, ◌+◌, ◌≤◌, drop}
-use Rattle.flat_design.specs.Code.{Arena}
-use Rattle.sim_model.specs.Residual.{Residual, open_frames}
-use Rattle.body_layers.specs.Layers.{inside}
+use Rattle.kernel_bodies.specs.FlatDesign.Code.{Arena}
+use Rattle.kernel_bodies.specs.SimModel.Residual.{Residual, open_frames}
+use Rattle.kernel_bodies.specs.Layers.{inside}
 use Rattle.process_state.proofs.shown.calls_of.Given as goal
 
 abbrev pub invariant-loop-layer : goal.invariant-loop-layer

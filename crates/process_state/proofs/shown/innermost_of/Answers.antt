@@ -1,6 +1,6 @@
 use Rattle.std.proofs.Common.{sym, ap, ◌∙◌}
-use Rattle.body_layers.specs.Sought.{frame_in}
-use Rattle.body_layers.proofs.Seeking.{innermost_last, innermost_none}
+use Rattle.kernel_bodies.specs.Sought.{frame_in}
+use Rattle.kernel_bodies.proofs.Seeking.{innermost_last, innermost_none}
 use Rattle.process_state.proofs.shown.innermost_of.Goals as goal
 
 pub returns-in-Some : goal.returns-in-Some

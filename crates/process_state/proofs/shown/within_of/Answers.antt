@@ -1,6 +1,6 @@
 use Rattle.std.proofs.Common.{sym, ap, ◌∙◌}
-use Rattle.body_layers.specs.Sought.{via_in}
-use Rattle.body_layers.proofs.Seeking.{within_last, within_none}
+use Rattle.kernel_bodies.specs.Sought.{via_in}
+use Rattle.kernel_bodies.proofs.Seeking.{within_last, within_none}
 use Rattle.process_state.proofs.shown.within_of.Goals as goal
 
 pub returns-in-Some : goal.returns-in-Some

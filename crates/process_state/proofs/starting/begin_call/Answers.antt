@@ -1,11 +1,11 @@
 use Rattle.std.proofs.Common.{◌≡◌, ◌+◌, [], ◌∷◌, ◌++◌, length, ap, ◌∙◌, arith, length-append}
-use Rattle.flat_design.specs.Code.{arena_of}
-use Rattle.sim_model.specs.Residual as residual
-use Rattle.body_layers.specs.declared.layers.Layer.TheVariants as layer
-use Rattle.body_layers.specs.Layers.{call_of, inside, standing, layers_of, statement_of}
-use Rattle.body_layers.specs.Room.{kept_along, own_room, FitsAll}
-use Rattle.body_layers.proofs.Settling.{inside_append}
-use Rattle.body_layers.proofs.Rooms.{all_join, fits_more, kept_small}
+use Rattle.kernel_bodies.specs.FlatDesign.Code.{arena_of}
+use Rattle.kernel_bodies.specs.SimModel.Residual as residual
+use Rattle.kernel_bodies.specs.declared.layers.Layer.TheVariants as layer
+use Rattle.kernel_bodies.specs.Layers.{call_of, inside, standing, layers_of, statement_of}
+use Rattle.kernel_bodies.specs.Room.{kept_along, own_room, FitsAll}
+use Rattle.kernel_bodies.proofs.Settling.{inside_append}
+use Rattle.kernel_bodies.proofs.Rooms.{all_join, fits_more, kept_small}
 use Rattle.process_state.proofs.Keeping.{fits_at_cap, own_comes}
 use Rattle.process_state.proofs.starting.begin_call.Goals as goal
 

@@ -1,6 +1,6 @@
 use Rattle.std.proofs.Common.{List, length, refl, sym, ap, ◌∙◌, subst, arith}
-use Rattle.body_layers.specs.declared.layers.Layer.{Layer}
-use Rattle.body_layers.specs.Sought.{is_goal, LastIs}
+use Rattle.kernel_bodies.specs.declared.layers.Layer.{Layer}
+use Rattle.kernel_bodies.specs.Sought.{is_goal, LastIs}
 use Rattle.process_state.specs.Forgotten.{Forgets}
 use Rattle.process_state.proofs.Forgetting.{forgets_none, forgets_more}
 use Rattle.process_state.proofs.unwind.forget_goals.Goals as goal

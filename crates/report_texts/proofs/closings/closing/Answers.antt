@@ -1,7 +1,7 @@
 use Rattle.std.proofs.lemmas.Result.{IfOk-weaker}
 use Rattle.std.proofs.Common.{◌≡◌, sym, ◌∙◌}
-use Rattle.sim_model.specs.Configuration.{Config}
-use Rattle.sim_model.specs.Texts.{closing}
+use Rattle.kernel_state.specs.SimModel.Configuration.{Config}
+use Rattle.kernel_state.specs.SimModel.Texts.{closing}
 use Rattle.kernel_state.specs.Kernel.{StandsFor}
 use Rattle.report_texts.specs.Seen.{closing_of}
 use Rattle.report_texts.proofs.Stands.{closing_is}

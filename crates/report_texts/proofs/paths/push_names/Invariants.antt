@@ -1,6 +1,6 @@
 use Rattle.std.proofs.Common.{◌≡◌, ◌++◌, drop}
 use Rattle.std.specs.Prelude.{slice_get}
-use Rattle.sim_model.specs.Configuration.{name_of}
+use Rattle.kernel_state.specs.SimModel.Configuration.{name_of}
 use Rattle.report_texts.specs.Climbs.{path_through}
 use Rattle.report_texts.proofs.paths.push_names.Given as goal
 

@@ -1,6 +1,6 @@
 use Rattle.std.proofs.Common.{◌-◌, ℕ, List, refl, sym, ap, ◌∙◌}
 use Rattle.std.specs.Prelude.{slice_get}
-use Rattle.sim_model.specs.Configuration.{path_up, name_of, parent_of}
+use Rattle.kernel_state.specs.SimModel.Configuration.{path_up, name_of, parent_of}
 use Rattle.report_texts.specs.Climbs.{path_through}
 use Rattle.report_texts.proofs.Upward.{path_at_top, path_above, through-push}
 use Rattle.report_texts.proofs.paths.push_path.Goals as goal

@@ -1,5 +1,5 @@
 use Rattle.std.proofs.Common.{◌≡◌}
-use Rattle.sim_model.specs.Configuration.{path_up}
+use Rattle.kernel_state.specs.SimModel.Configuration.{path_up}
 use Rattle.report_texts.specs.Climbs.{path_through}
 use Rattle.report_texts.proofs.paths.push_path.Given as goal
 

@@ -1,6 +1,6 @@
 use Rattle.std.proofs.lemmas.Result.{IfOk-weaker}
 use Rattle.std.proofs.Common.{◌≡◌}
-use Rattle.sim_model.specs.Storing.{print_line}
+use Rattle.kernel_state.specs.SimModel.Storing.{print_line}
 use Rattle.report_texts.specs.Instances.{path_at, IsPrintLine}
 use Rattle.report_texts.proofs.Kept.{is_print}
 use Rattle.report_texts.proofs.prints.printed_line.Goals as goal

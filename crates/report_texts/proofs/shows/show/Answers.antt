@@ -1,8 +1,8 @@
 use Rattle.std.proofs.lemmas.Result.{IfOk-weaker}
 use Rattle.std.proofs.Common.{◌≡◌, sym, ap, ◌∙◌}
 use Rattle.std.specs.Prelude.{slice_get}
-use Rattle.sim_model.specs.Configuration.{Config}
-use Rattle.sim_model.specs.Steps.{shows}
+use Rattle.kernel_state.specs.SimModel.Configuration.{Config}
+use Rattle.kernel_state.specs.SimModel.Steps.{shows}
 use Rattle.kernel_state.specs.Kernel.{StandsFor}
 use Rattle.report_texts.specs.Seen.{with_line, line_for}
 use Rattle.report_texts.proofs.Stands.{shown_line}

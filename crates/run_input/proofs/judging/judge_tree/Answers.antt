@@ -1,9 +1,9 @@
 use Rattle.std.proofs.Common.{◌≡◌, Some, None, inl, inr, subst}
 use Rattle.model_tree.specs.Seen.{model_of}
 use Rattle.model_tree.specs.declared.whole.Tree.{Tree}
-use Rattle.model_faults.specs.Passes.{first_fault}
-use Rattle.model_elaborate.specs.Elaborated.{elaboration_fault}
-use Rattle.design_rules.specs.Designs.{IsDesignOf}
+use Rattle.elaborate.specs.ModelRules.Passes.{first_fault}
+use Rattle.elaborate.specs.Elaborated.{elaboration_fault}
+use Rattle.elaborate.specs.DesignRules.Designs.{IsDesignOf}
 use Rattle.run_input.proofs.Refusals.{refused_fault}
 use Rattle.run_input.proofs.Designs.{can_run}
 use Rattle.run_input.proofs.judging.judge_tree.Goals as goal

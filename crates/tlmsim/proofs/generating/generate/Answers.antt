@@ -1,4 +1,4 @@
-use Rattle.sim_io.specs.Told.{Grew}
+use Rattle.session.specs.SimIo.Told.{Grew}
 use Rattle.tlmsim.proofs.Courses.{ran_with}
 use Rattle.tlmsim.proofs.Ends.{end_rose, files_stay, generated_so, steps_rose}
 use Rattle.tlmsim.proofs.generating.generate.Goals as goal

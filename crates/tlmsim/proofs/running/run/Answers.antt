@@ -1,4 +1,4 @@
-use Rattle.whole_language.specs.Whole.{nothing_missing}
+use Rattle.session.specs.WholeLanguage.Whole.{nothing_missing}
 use Rattle.tlmsim.proofs.running.run.Goals as goal
 
 pub returns-clause-orderly : goal.returns-clause-orderly

@@ -1,12 +1,12 @@
 use Rattle.std.proofs.Common.{Err, ap, arith, inl, inr, refl, ⊎_elim}
-use Rattle.sim_io.proofs.Chains.{rose_on, were_told_on}
+use Rattle.session.proofs.SimIo.Chains.{rose_on, were_told_on}
 use Rattle.command_line.specs.Line.{Simulate}
 use Rattle.command_line.specs.Seen.{simulation_of}
-use Rattle.sessions.specs.Outputs.{AreNames}
+use Rattle.session.specs.Outputs.{AreNames}
 use Rattle.tlmsim.specs.Call.{names_in}
 use Rattle.tlmsim.proofs.Courses.{holds_by, ran_with}
 use Rattle.tlmsim.proofs.Ends.{copied_text, made_on, named_by, not_begun, only_held, simulated, spared_on, texts_later, unfit_works}
-use Rattle.session_files.proofs.Holding.{held_by}
+use Rattle.tlmsim.proofs.Holding.{held_by}
 use Rattle.tlmsim.proofs.simulating.simulate.Goals as goal
 
 pub returns-in-Err-judge-clause-works : goal.returns-in-Err-judge-clause-works

@@ -1,5 +1,5 @@
 use Rattle.std.proofs.Common.{◌≡◌, ◌++◌}
-use Rattle.sim_model.specs.Trace.{id_of}
+use Rattle.laws_runs.specs.SimModel.Trace.{id_of}
 use Rattle.vcd_trace.proofs.ids.push_id.Given as goal
 
 abbrev pub invariant-loop-left : goal.invariant-loop-left

@@ -1,5 +1,5 @@
 use Rattle.std.proofs.Common.{◌≡◌, ◌++◌, drop}
-use Rattle.sim_model.specs.Trace.{value_lines}
+use Rattle.laws_runs.specs.SimModel.Trace.{value_lines}
 use Rattle.vcd_trace.proofs.points.push_values.Given as goal
 
 abbrev pub invariant-loop-number : goal.invariant-loop-number

@@ -1,5 +1,5 @@
 use Rattle.std.proofs.Common.{◌++◌, ◌+◌, ℕ, List, length, drop, ap, ◌∙◌, arith}
-use Rattle.sim_model.specs.Trace.{items_from}
+use Rattle.laws_runs.specs.SimModel.Trace.{items_from}
 use Rattle.vcd_trace.specs.Tables.{row_of}
 use Rattle.vcd_trace.proofs.Rows.{as_many, item_added}
 use Rattle.vcd_trace.proofs.tables.items_of_each.Goals as goal

@@ -1,5 +1,5 @@
 use Rattle.std.proofs.Common.{◌++◌, ◌∷◌, ◌+◌, ◌-◌, List, ℕ, sym, ap, ◌∙◌, arith}
-use Rattle.sim_model.specs.Trace.{bit_letters}
+use Rattle.laws_runs.specs.SimModel.Trace.{bit_letters}
 use Rattle.vcd_trace.proofs.Texts.{pushed, bits_down}
 use Rattle.vcd_trace.proofs.values.push_bits.Goals as goal
 

@@ -1,5 +1,5 @@
 use Rattle.std.proofs.Common.{◌≡◌, ◌++◌}
-use Rattle.sim_model.specs.Trace.{bit_letters}
+use Rattle.laws_runs.specs.SimModel.Trace.{bit_letters}
 use Rattle.vcd_trace.proofs.values.push_bits.Given as goal
 
 abbrev pub invariant-loop-place : goal.invariant-loop-place

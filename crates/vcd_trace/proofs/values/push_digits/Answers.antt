@@ -1,8 +1,8 @@
 use Rattle.std.proofs.Common.{◌++◌, ◌∷◌, [], List, ℕ, map, reverse, drop, sym, ap, ◌∙◌, append_assoc, arith}
 use Rattle.std.proofs.lemmas.List.{append-nil}
-use Rattle.logic_values.specs.Digits.{digits}
-use Rattle.logic_values.specs.declared.kinds.Digit.{Digit}
-use Rattle.sim_model.specs.Trace.{digit_letter}
+use Rattle.laws_runs.specs.LogicValues.Digits.{digits}
+use Rattle.laws_runs.specs.LogicValues.declared.kinds.Digit.{Digit}
+use Rattle.laws_runs.specs.SimModel.Trace.{digit_letter}
 use Rattle.vcd_trace.proofs.Texts.{no_digits, letters_more}
 use Rattle.vcd_trace.proofs.values.push_digits.Goals as goal
 

@@ -1,6 +1,6 @@
 use Rattle.std.proofs.Common.{◌≡◌, ◌++◌, drop, map, reverse}
-use Rattle.logic_values.specs.Digits.{digits}
-use Rattle.sim_model.specs.Trace.{digit_letter}
+use Rattle.laws_runs.specs.LogicValues.Digits.{digits}
+use Rattle.laws_runs.specs.SimModel.Trace.{digit_letter}
 use Rattle.vcd_trace.proofs.values.push_digits.Given as goal
 
 abbrev pub invariant-loop-place : goal.invariant-loop-place

@@ -1,5 +1,5 @@
 use Rattle.std.proofs.Common.{◌++◌, ℕ, List, reverse, ap, ◌∙◌}
-use Rattle.sim_model.specs.Trace.{scope_line}
+use Rattle.laws_runs.specs.SimModel.Trace.{scope_line}
 use Rattle.vcd_trace.specs.declared.walks.Task.{Task}
 use Rattle.vcd_trace.specs.Walks.{visits, tasks_text, tasks_cost}
 use Rattle.vcd_trace.proofs.Tasks.{entered, entered_cost}

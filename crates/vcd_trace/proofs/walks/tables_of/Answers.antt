@@ -1,7 +1,7 @@
 use Rattle.std.proofs.Common.{◌∙◌, ◌<◌, List, length, ap, sym, subst}
 use Rattle.flat_design.specs.declared.objects.Object.{Object}
 use Rattle.flat_design.specs.declared.design.Visible.{Visible}
-use Rattle.sim_model.specs.Trace.{items_from}
+use Rattle.laws_runs.specs.SimModel.Trace.{items_from}
 use Rattle.vcd_trace.specs.Tables.{variable_of}
 use Rattle.vcd_trace.proofs.walks.tables_of.Goals as goal
 

@@ -1,14 +1,14 @@
 use Rattle.std.proofs.Common.{◌≡◌, ◌+◌, ◌≤◌, suc, List, None, take, get_or, set, refl, subst, sym, ap, ◌∙◌, arith}
 use Rattle.std.specs.Vec.{vec_capacity}
-use Rattle.flat_design.specs.Code.{arena_of}
-use Rattle.sim_model.specs.Residual.{skip}
-use Rattle.sim_model.specs.Unwinding.{returned}
-use Rattle.body_layers.specs.declared.layers.Layer.{Layer}
-use Rattle.body_layers.specs.declared.layers.Sought.TheVariants as sought
-use Rattle.body_layers.specs.Layers.{inside, standing}
-use Rattle.body_layers.specs.Sought.{is_sought, LastIs, NoneIs}
-use Rattle.body_layers.specs.Room.{Fits, own_room}
-use Rattle.body_layers.specs.Changed.{IsAnswered}
+use Rattle.kernel_bodies.specs.FlatDesign.Code.{arena_of}
+use Rattle.kernel_bodies.specs.SimModel.Residual.{skip}
+use Rattle.kernel_bodies.specs.SimModel.Unwinding.{returned}
+use Rattle.kernel_bodies.specs.declared.layers.Layer.{Layer}
+use Rattle.kernel_bodies.specs.declared.layers.Sought.TheVariants as sought
+use Rattle.kernel_bodies.specs.Layers.{inside, standing}
+use Rattle.kernel_bodies.specs.Sought.{is_sought, LastIs, NoneIs}
+use Rattle.kernel_bodies.specs.Room.{Fits, own_room}
+use Rattle.kernel_bodies.specs.Changed.{IsAnswered}
 use Rattle.process_state.proofs.Putting.{returned_last, returned_none}
 use Rattle.process_state.proofs.Keeping.{fits_at_cap, fits_set, fits_taken, own_set, answered_room, taken_at}
 use Rattle.process_state.proofs.Stepping.{le_to, exit_standing, returned_standing}

@@ -1,13 +1,13 @@
 use Rattle.std.proofs.Common.{◌≡◌, ℕ, ◌≤◌, ◌++◌, Option, length, subst, sym, ap, ◌∙◌, arith, length-append}
 use Rattle.std.specs.Vec.{vec_capacity}
-use Rattle.flat_design.specs.Code.{arena_of}
-use Rattle.sim_model.specs.Residual as residual
-use Rattle.sim_model.specs.Residual.{Residual, next_of, put, block}
-use Rattle.body_code.specs.Around.{around_at}
-use Rattle.body_layers.specs.Layers.{shown, inside, standing, landed, layers_of, layers_around, statement_of}
-use Rattle.body_layers.specs.Room.{Fits, own_room}
+use Rattle.kernel_bodies.specs.FlatDesign.Code.{arena_of}
+use Rattle.kernel_bodies.specs.SimModel.Residual as residual
+use Rattle.kernel_bodies.specs.SimModel.Residual.{Residual, next_of, put, block}
+use Rattle.kernel_bodies.specs.Around.{around_at}
+use Rattle.kernel_bodies.specs.Layers.{shown, inside, standing, landed, layers_of, layers_around, statement_of}
+use Rattle.kernel_bodies.specs.Room.{Fits, own_room}
 use Rattle.process_state.specs.Bodies.{settled_in, enclosed}
-use Rattle.body_layers.proofs.Settling.{inside_append}
+use Rattle.kernel_bodies.proofs.Settling.{inside_append}
 use Rattle.process_state.proofs.Keeping.{fits_at_cap, own_comes, own_around}
 use Rattle.process_state.proofs.Stepping.{le_to, statement_comes, put_statement, around_few, enclosed_inside, enclosing_room, enclosing_fits, some_same, statement_same}
 use Rattle.process_state.proofs.body.Body.begin_block.Goals as goal

@@ -1,7 +1,7 @@
 use Rattle.std.proofs.Common.{sym, ap, ◌∙◌}
-use Rattle.flat_design.specs.Code.{arena_of}
-use Rattle.sim_model.specs.Unwinding as unwinding
-use Rattle.body_layers.specs.Layers.{landed}
+use Rattle.kernel_bodies.specs.FlatDesign.Code.{arena_of}
+use Rattle.kernel_bodies.specs.SimModel.Unwinding as unwinding
+use Rattle.kernel_bodies.specs.Layers.{landed}
 use Rattle.process_state.proofs.Shows.{caught, catches_landed}
 use Rattle.process_state.proofs.body.Body.catches.Goals as goal
 

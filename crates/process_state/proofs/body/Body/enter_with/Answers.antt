@@ -1,14 +1,14 @@
 use Rattle.std.proofs.Common.{◌≡◌, ℕ, ◌≤◌, Option, Some, None, refl, sym, ap, ◌∙◌, arith}
 use Rattle.std.specs.Vec.{vec_capacity}
-use Rattle.flat_design.specs.Code.{arena_of, body_at}
-use Rattle.sim_model.specs.Residual as residual
-use Rattle.sim_model.specs.Residual.{Residual, next_of, put}
-use Rattle.body_layers.specs.declared.layers.Layer.TheVariants as layer
-use Rattle.body_layers.specs.declared.layers.Frame.{Frame}
-use Rattle.body_layers.specs.Layers.{inside}
-use Rattle.body_layers.specs.Room.{begun_in, own_room}
+use Rattle.kernel_bodies.specs.FlatDesign.Code.{arena_of, body_at}
+use Rattle.kernel_bodies.specs.SimModel.Residual as residual
+use Rattle.kernel_bodies.specs.SimModel.Residual.{Residual, next_of, put}
+use Rattle.kernel_bodies.specs.declared.layers.Layer.TheVariants as layer
+use Rattle.kernel_bodies.specs.declared.layers.Frame.{Frame}
+use Rattle.kernel_bodies.specs.Layers.{inside}
+use Rattle.kernel_bodies.specs.Room.{begun_in, own_room}
 use Rattle.process_state.specs.Bodies.{settled_in}
-use Rattle.body_layers.proofs.Rooms.{own_less}
+use Rattle.kernel_bodies.proofs.Rooms.{own_less}
 use Rattle.process_state.proofs.Keeping.{fits_at_cap}
 use Rattle.process_state.proofs.Stepping.{le_to, statement_comes, statement_same, put_statement, room_of_call}
 use Rattle.process_state.proofs.body.Body.enter_with.Goals as goal

@@ -1,13 +1,13 @@
 use Rattle.std.proofs.Common.{◌≡◌, ◌≤◌, List, None, refl, subst, ap, ◌∙◌, arith}
 use Rattle.std.specs.Vec.{vec_capacity}
-use Rattle.flat_design.specs.Code.{arena_of}
-use Rattle.sim_model.specs.Residual.{next_of}
-use Rattle.body_layers.specs.declared.layers.Layer.{Layer}
-use Rattle.body_layers.specs.declared.layers.Comes.{Comes}
-use Rattle.body_layers.specs.Layers.{statement_of, EndsIn}
-use Rattle.body_layers.specs.Room.{Fits, own_room}
+use Rattle.kernel_bodies.specs.FlatDesign.Code.{arena_of}
+use Rattle.kernel_bodies.specs.SimModel.Residual.{next_of}
+use Rattle.kernel_bodies.specs.declared.layers.Layer.{Layer}
+use Rattle.kernel_bodies.specs.declared.layers.Comes.{Comes}
+use Rattle.kernel_bodies.specs.Layers.{statement_of, EndsIn}
+use Rattle.kernel_bodies.specs.Room.{Fits, own_room}
 use Rattle.process_state.specs.Bodies.{settled_in}
-use Rattle.body_layers.proofs.Rooms.{fits_less}
+use Rattle.kernel_bodies.proofs.Rooms.{fits_less}
 use Rattle.process_state.proofs.Keeping.{fits_at_cap}
 use Rattle.process_state.proofs.Stepping.{le_to, goal_comes, goal_put}
 use Rattle.process_state.proofs.body.Body.go_on.Goals as goal

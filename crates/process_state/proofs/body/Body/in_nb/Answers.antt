@@ -1,10 +1,10 @@
 use Rattle.std.proofs.Common.{List, ◌∙◌, subst}
-use Rattle.sim_model.specs.Residual as residual
-use Rattle.body_layers.specs.declared.layers.Layer.{Layer}
-use Rattle.body_layers.specs.declared.layers.Sought.TheVariants as sought
-use Rattle.body_layers.specs.Layers.{standing}
-use Rattle.body_layers.specs.Sought.{is_sought, IsLast}
-use Rattle.body_layers.proofs.Seeking.{nb_tests}
+use Rattle.kernel_bodies.specs.SimModel.Residual as residual
+use Rattle.kernel_bodies.specs.declared.layers.Layer.{Layer}
+use Rattle.kernel_bodies.specs.declared.layers.Sought.TheVariants as sought
+use Rattle.kernel_bodies.specs.Layers.{standing}
+use Rattle.kernel_bodies.specs.Sought.{is_sought, IsLast}
+use Rattle.kernel_bodies.proofs.Seeking.{nb_tests}
 use Rattle.process_state.proofs.Shows.{tested, nb_standing}
 use Rattle.process_state.proofs.body.Body.in_nb.Goals as goal
 

@@ -1,12 +1,12 @@
 use Rattle.std.proofs.Common.{◌≡◌, ◌≤◌, List, None, refl, subst, sym, ap, ◌∙◌, arith}
 use Rattle.std.specs.Vec.{vec_capacity}
-use Rattle.flat_design.specs.Code.{arena_of}
-use Rattle.body_layers.specs.declared.layers.Layer.{Layer}
-use Rattle.body_layers.specs.declared.layers.Layer.TheVariants as layer
-use Rattle.body_layers.specs.Layers.{statement_of}
-use Rattle.body_layers.specs.Room.{Fits, own_room}
+use Rattle.kernel_bodies.specs.FlatDesign.Code.{arena_of}
+use Rattle.kernel_bodies.specs.declared.layers.Layer.{Layer}
+use Rattle.kernel_bodies.specs.declared.layers.Layer.TheVariants as layer
+use Rattle.kernel_bodies.specs.Layers.{statement_of}
+use Rattle.kernel_bodies.specs.Room.{Fits, own_room}
 use Rattle.process_state.specs.Bodies.{settled_in}
-use Rattle.body_layers.proofs.Rooms.{fits_less, own_less}
+use Rattle.kernel_bodies.proofs.Rooms.{fits_less, own_less}
 use Rattle.process_state.proofs.Keeping.{fits_at_cap}
 use Rattle.process_state.proofs.Stepping.{le_to, leave_comes, leave_next, leave_put, leave_own}
 use Rattle.process_state.proofs.body.Body.leave.Goals as goal

@@ -1,12 +1,12 @@
 use Rattle.std.proofs.Common.{◌≡◌, ◌+◌, suc, List, drop, subst, sym, ap, ◌∙◌, arith}
 use Rattle.std.specs.Prelude.{slice_get}
-use Rattle.flat_design.specs.Code.{arena_of}
-use Rattle.sim_model.specs.Residual.{skip}
-use Rattle.sim_model.specs.Unwinding.{left_by_unw}
-use Rattle.body_layers.specs.declared.layers.Layer.{Layer}
-use Rattle.body_layers.specs.Layers.{inside}
-use Rattle.body_layers.specs.Sought.{is_handling, LastIs, NoneIs}
-use Rattle.body_layers.proofs.Leaving.{left_standing}
+use Rattle.kernel_bodies.specs.FlatDesign.Code.{arena_of}
+use Rattle.kernel_bodies.specs.SimModel.Residual.{skip}
+use Rattle.kernel_bodies.specs.SimModel.Unwinding.{left_by_unw}
+use Rattle.kernel_bodies.specs.declared.layers.Layer.{Layer}
+use Rattle.kernel_bodies.specs.Layers.{inside}
+use Rattle.kernel_bodies.specs.Sought.{is_handling, LastIs, NoneIs}
+use Rattle.kernel_bodies.proofs.Leaving.{left_standing}
 use Rattle.process_state.proofs.Unwinds.{left_raise_last, left_raise_none}
 use Rattle.process_state.proofs.body.Body.left_by_raise.Goals as goal
 

@@ -1,9 +1,9 @@
 use Rattle.std.proofs.Common.{sym, ap, ◌∙◌}
 use Rattle.std.specs.Prelude.{slice_get}
-use Rattle.sim_model.specs.Residual.{skip}
-use Rattle.sim_model.specs.Unwinding.{left_by_unw}
-use Rattle.body_layers.specs.Layers.{inside}
-use Rattle.body_layers.proofs.Leaving.{left_standing}
+use Rattle.kernel_bodies.specs.SimModel.Residual.{skip}
+use Rattle.kernel_bodies.specs.SimModel.Unwinding.{left_by_unw}
+use Rattle.kernel_bodies.specs.Layers.{inside}
+use Rattle.kernel_bodies.proofs.Leaving.{left_standing}
 use Rattle.process_state.proofs.body.Body.left_by_unwind.Goals as goal
 
 pub returns-clause-value : goal.returns-clause-value

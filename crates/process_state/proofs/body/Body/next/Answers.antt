@@ -1,7 +1,7 @@
 use Rattle.std.proofs.Common.{◌≡◌, sym, ap, ◌∙◌}
-use Rattle.flat_design.specs.Code.{arena_of}
-use Rattle.sim_model.specs.Residual.{next_of, settle}
-use Rattle.body_layers.specs.Layers.{inside, standing, shown}
+use Rattle.kernel_bodies.specs.FlatDesign.Code.{arena_of}
+use Rattle.kernel_bodies.specs.SimModel.Residual.{next_of, settle}
+use Rattle.kernel_bodies.specs.Layers.{inside, standing, shown}
 use Rattle.process_state.specs.Bodies.{settled_in, next_in}
 use Rattle.process_state.proofs.Stepping.{shown_statement, shown_goal, shown_done, shown_nothing}
 use Rattle.process_state.proofs.body.Body.next.Goals as goal

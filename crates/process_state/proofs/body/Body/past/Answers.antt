@@ -1,6 +1,6 @@
 use Rattle.std.proofs.Common.{sym, ◌∙◌}
-use Rattle.flat_design.specs.Code.{arena_of}
-use Rattle.sim_model.specs.Residual.{next_of, skip}
+use Rattle.kernel_bodies.specs.FlatDesign.Code.{arena_of}
+use Rattle.kernel_bodies.specs.SimModel.Residual.{next_of, skip}
 use Rattle.process_state.specs.Bodies.{settled_in}
 use Rattle.process_state.proofs.Stepping.{statement_comes, put_statement}
 use Rattle.process_state.proofs.body.Body.past.Goals as goal

@@ -1,14 +1,14 @@
 use Rattle.std.proofs.Common.{◌≡◌, ◌+◌, ◌≤◌, ◌<◌, suc, List, ◌∷◌, ◌++◌, None, Some, length, map, take, drop, get_or, set, refl, subst, sym, ap, ◌∙◌, arith}
 use Rattle.std.specs.Vec.{vec_capacity}
-use Rattle.flat_design.specs.Code.{arena_of}
-use Rattle.sim_model.specs.Residual.{skip}
-use Rattle.body_layers.specs.declared.layers.Layer.{Layer}
-use Rattle.body_layers.specs.declared.layers.Layer.TheVariants as layer
-use Rattle.body_layers.specs.Layers.{inside, standing}
-use Rattle.body_layers.specs.Sought.{is_handling, NoneIs, LastIs}
-use Rattle.body_layers.specs.Room.{own_room}
-use Rattle.body_layers.specs.Unwound.{unwound, handler_in}
-use Rattle.body_layers.proofs.Seeking.{catches_last}
+use Rattle.kernel_bodies.specs.FlatDesign.Code.{arena_of}
+use Rattle.kernel_bodies.specs.SimModel.Residual.{skip}
+use Rattle.kernel_bodies.specs.declared.layers.Layer.{Layer}
+use Rattle.kernel_bodies.specs.declared.layers.Layer.TheVariants as layer
+use Rattle.kernel_bodies.specs.Layers.{inside, standing}
+use Rattle.kernel_bodies.specs.Sought.{is_handling, NoneIs, LastIs}
+use Rattle.kernel_bodies.specs.Room.{own_room}
+use Rattle.kernel_bodies.specs.Unwound.{unwound, handler_in}
+use Rattle.kernel_bodies.proofs.Seeking.{catches_last}
 use Rattle.process_state.proofs.Keeping.{fits_at_cap, fits_length}
 use Rattle.process_state.proofs.Stepping.{le_to}
 use Rattle.process_state.proofs.Unwinds.{no_goal, kept_none, last_true, raise_last, raise_fits, set_raised, own_raised, caught_none}

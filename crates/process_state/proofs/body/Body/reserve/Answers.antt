@@ -1,7 +1,7 @@
 use Rattle.std.proofs.Common.{◌≤◌, refl, ap, arith}
 use Rattle.std.specs.Vec.{vec_capacity}
-use Rattle.flat_design.specs.Code.{arena_of}
-use Rattle.body_layers.specs.Room.{own_room}
+use Rattle.kernel_bodies.specs.FlatDesign.Code.{arena_of}
+use Rattle.kernel_bodies.specs.Room.{own_room}
 use Rattle.process_state.proofs.Keeping.{fits_at_cap}
 use Rattle.process_state.proofs.Stepping.{le_to}
 use Rattle.process_state.proofs.body.Body.reserve.Goals as goal

@@ -1,13 +1,13 @@
 use Rattle.std.proofs.Common.{List, get_or, set, subst, sym}
 use Rattle.std.specs.Vec.{vec_capacity}
-use Rattle.flat_design.specs.Code.{arena_of}
-use Rattle.sim_model.specs.Storing.{with_local}
-use Rattle.body_layers.specs.declared.layers.Layer.{Layer}
-use Rattle.body_layers.specs.declared.layers.Sought.TheVariants as sought
-use Rattle.body_layers.specs.Layers.{standing}
-use Rattle.body_layers.specs.Sought.{is_sought, LastIs, NoneIs}
-use Rattle.body_layers.specs.Room.{own_room}
-use Rattle.body_layers.specs.Changed.{IsSet}
+use Rattle.kernel_bodies.specs.FlatDesign.Code.{arena_of}
+use Rattle.kernel_bodies.specs.SimModel.Storing.{with_local}
+use Rattle.kernel_bodies.specs.declared.layers.Layer.{Layer}
+use Rattle.kernel_bodies.specs.declared.layers.Sought.TheVariants as sought
+use Rattle.kernel_bodies.specs.Layers.{standing}
+use Rattle.kernel_bodies.specs.Sought.{is_sought, LastIs, NoneIs}
+use Rattle.kernel_bodies.specs.Room.{own_room}
+use Rattle.kernel_bodies.specs.Changed.{IsSet}
 use Rattle.process_state.proofs.Putting.{set_last, set_none}
 use Rattle.process_state.proofs.Keeping.{fits_set, own_set, set_room}
 use Rattle.process_state.proofs.Stepping.{le_to, innermost_standing, set_standing}

@@ -1,11 +1,11 @@
 use Rattle.std.proofs.Common.{◌≡◌, ◌≤◌, List, ◌++◌, take, subst, sym, ap, ◌∙◌, arith}
 use Rattle.std.specs.Vec.{vec_capacity}
-use Rattle.flat_design.specs.Code.{arena_of}
-use Rattle.sim_model.specs.Residual.{settle}
-use Rattle.body_layers.specs.declared.layers.Layer.{Layer}
-use Rattle.body_layers.specs.Layers.{inside, standing, landed, layers_of, statement_of}
-use Rattle.body_layers.specs.Room.{Fits, own_room}
-use Rattle.body_layers.proofs.Settling.{inside_append}
+use Rattle.kernel_bodies.specs.FlatDesign.Code.{arena_of}
+use Rattle.kernel_bodies.specs.SimModel.Residual.{settle}
+use Rattle.kernel_bodies.specs.declared.layers.Layer.{Layer}
+use Rattle.kernel_bodies.specs.Layers.{inside, standing, landed, layers_of, statement_of}
+use Rattle.kernel_bodies.specs.Room.{Fits, own_room}
+use Rattle.kernel_bodies.proofs.Settling.{inside_append}
 use Rattle.process_state.proofs.Keeping.{fits_at_cap, own_comes}
 use Rattle.process_state.proofs.Stepping.{le_to}
 use Rattle.process_state.proofs.body.Body.settle_to.Goals as goal

@@ -1,12 +1,12 @@
 use Rattle.std.proofs.Common.{◌≤◌, ◌∷◌, None, map, refl, ap, ◌∙◌, arith}
 use Rattle.std.specs.Vec.{vec_capacity}
-use Rattle.flat_design.specs.Code.{arena_of}
-use Rattle.sim_model.specs.Residual as residual
-use Rattle.sim_model.specs.Residual.{skip}
-use Rattle.body_layers.specs.declared.layers.Layer.TheVariants as layer
-use Rattle.body_layers.specs.Layers.{inside, standing}
-use Rattle.body_layers.specs.Room.{own_room}
-use Rattle.body_layers.specs.Unwound.{unwound}
+use Rattle.kernel_bodies.specs.FlatDesign.Code.{arena_of}
+use Rattle.kernel_bodies.specs.SimModel.Residual as residual
+use Rattle.kernel_bodies.specs.SimModel.Residual.{skip}
+use Rattle.kernel_bodies.specs.declared.layers.Layer.TheVariants as layer
+use Rattle.kernel_bodies.specs.Layers.{inside, standing}
+use Rattle.kernel_bodies.specs.Room.{own_room}
+use Rattle.kernel_bodies.specs.Unwound.{unwound}
 use Rattle.process_state.proofs.Keeping.{fits_at_cap, fits_length}
 use Rattle.process_state.proofs.Stepping.{le_to}
 use Rattle.process_state.proofs.Unwinds.{unw_left, kept_none, unwind_fits, own_all_unwound}

@@ -1,5 +1,0 @@
-use Rattle.accepted_laws.proofs.Hops.{sockets_have_hops}
-use Rattle.accepted_laws.proofs.laws.sockets_are_ends_of_hops.Goals as goal
-
-pub returns : goal.returns
-returns c = λ m d clean acyclic limits none design. sockets_have_hops m clean acyclic limits d none design

@@ -1,5 +1,0 @@
-use Rattle.std.proofs.Common.{length}
-use Rattle.action_check.proofs.calls.+inouts_wrong.Given as goal
-
-abbrev pub decreases-inouts_wrong : goal.decreases-inouts_wrong
-decreases-inouts_wrong l = length l.parameters.now

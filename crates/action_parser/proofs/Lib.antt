@@ -1,5 +1,0 @@
-pub mod PartLaws
-pub mod OperationLaws
-pub mod WaitLaws
-pub mod ActionLaws
-pub mod Laws

@@ -1,4 +1,0 @@
-pub mod Operations
-pub mod Waits
-pub mod Actions
-pub mod Parse

@@ -1,5 +1,0 @@
-use Rattle.await_statements.proofs.Numbered.{sound_numbers}
-use Rattle.await_statements.proofs.laws.sound_designs_number_events.Goals as goal
-
-pub returns : goal.returns
-returns c is_missing d sound few = sound_numbers is_missing d sound few

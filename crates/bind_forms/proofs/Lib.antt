@@ -1,4 +1,0 @@
-pub mod Roles
-pub mod Firsts
-pub mod Ends
-pub mod Bindings

@@ -1,6 +1,0 @@
-use Rattle.std.proofs.Common.{arith}
-use Rattle.binding_list.proofs.ChildLemmas.{none_past}
-use Rattle.binding_list.proofs.ends.found.Goals as goal
-
-pub returns-else-instance-len : goal.returns-else-instance-len
-returns-else-instance-len c = none_past c.args.instance c.args.name.now c.args.children.now c.requires (omega (arith, c.if-instance-len.false, c.len.ensures))

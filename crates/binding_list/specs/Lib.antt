@@ -1,4 +1,0 @@
-pub mod Links
-pub mod Left
-pub mod Work
-pub mod Listed

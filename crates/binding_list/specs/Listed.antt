@@ -1,9 +1,0 @@
--- The objects of a design, as far as their names need it.
-use Rattle.std.specs.Prelude.{◌<◌, List, length}
-use Rattle.flat_design.specs.declared.objects.Object.{Object}
-use Rattle.object_list.specs.Parents.{AreInside}
-
--- there is a top instance, and each object is in an instance before it
-pub record AreListed (os : List Object) : Type 0 where
-  pub some : 0 < length os
-  pub inside : AreInside os

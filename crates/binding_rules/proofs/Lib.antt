@@ -1,5 +1,0 @@
-pub mod Lists
-pub mod Reached
-pub mod Ranks
-pub mod Rounds
-pub mod Listed

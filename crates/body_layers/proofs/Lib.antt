@@ -1,6 +1,0 @@
-pub mod Settling
-pub mod Blocks
-pub mod Lands
-pub mod Rooms
-pub mod Seeking
-pub mod Leaving

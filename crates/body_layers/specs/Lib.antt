@@ -1,5 +1,0 @@
-pub mod Layers
-pub mod Room
-pub mod Sought
-pub mod Unwound
-pub mod Changed

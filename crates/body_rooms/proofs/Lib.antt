@@ -1,7 +1,0 @@
-pub mod Greatest
-pub mod Inside
-pub mod Tabled
-pub mod Still
-pub mod Needed
-pub mod Suffices
-pub mod Plain

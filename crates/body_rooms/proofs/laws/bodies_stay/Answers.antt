@@ -1,5 +1,0 @@
-use Rattle.body_rooms.proofs.Still.{body_still, differs_back}
-use Rattle.body_rooms.proofs.laws.bodies_stay.Goals as goal
-
-pub returns : goal.returns
-returns c = record { bodies = λ before after d f b found. body_still before after d f b found; back = λ before after d. differs_back before after d }

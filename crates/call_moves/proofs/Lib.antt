@@ -1,3 +1,0 @@
-pub mod OneBody
-pub mod Ends
-pub mod Homes

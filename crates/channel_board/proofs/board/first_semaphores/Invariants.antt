@@ -1,6 +1,0 @@
-use Rattle.std.proofs.Common.{◌≡◌, length, map, take, vec_capacity}
-use Rattle.flat_design.specs.declared.design.SemaphorePart.{SemaphorePart}
-use Rattle.channel_board.proofs.board.first_semaphores.Given as goal
-
-abbrev pub invariant-loop-part : goal.invariant-loop-part
-invariant-loop-part l = (l.semaphores.items ≡ map (λ (p : SemaphorePart). p.start) (take l.part-index l.parts)) × (vec_capacity l.semaphores ≡ length l.parts)

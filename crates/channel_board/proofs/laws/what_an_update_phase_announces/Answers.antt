@@ -1,5 +1,0 @@
-use Rattle.channel_board.proofs.Telling.{phase_told}
-use Rattle.channel_board.proofs.laws.what_an_update_phase_announces.Goals as goal
-
-pub returns : goal.returns
-returns c = phase_told

@@ -1,6 +1,0 @@
-use Rattle.std.proofs.Common.{◌≡◌, replicate, vec_capacity}
-use Rattle.signal_channel.specs.Drivers.{undriven}
-use Rattle.channel_board.proofs.wires.first_resolved.Given as goal
-
-abbrev pub invariant-loop : goal.invariant-loop
-invariant-loop l = (l.resolved.items ≡ replicate l.counter undriven) × (vec_capacity l.resolved ≡ l.size)

@@ -1,4 +1,0 @@
-pub mod Announced
-pub mod Writers
-pub mod Codes
-pub mod Asked

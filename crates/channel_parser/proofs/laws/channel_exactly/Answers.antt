@@ -1,8 +1,0 @@
-use Rattle.channel_parser.proofs.ChannelLaws.{channel_ok, channel_reads}
-use Rattle.channel_parser.proofs.laws.channel_exactly.Goals as goal
-
-pub returns-clause-read : goal.returns-clause-read
-returns-clause-read c = channel_reads
-
-pub returns-clause-derived : goal.returns-clause-derived
-returns-clause-derived c = λ brackets x ts rest h. channel_ok brackets ts rest x h

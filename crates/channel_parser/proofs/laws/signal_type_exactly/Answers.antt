@@ -1,8 +1,0 @@
-use Rattle.channel_parser.proofs.TypeLaws.{signal_type_ok, signal_type_reads}
-use Rattle.channel_parser.proofs.laws.signal_type_exactly.Goals as goal
-
-pub returns-clause-read : goal.returns-clause-read
-returns-clause-read c = signal_type_reads
-
-pub returns-clause-derived : goal.returns-clause-derived
-returns-clause-derived c = λ x ts rest h. signal_type_ok ts rest x h

@@ -1,5 +1,0 @@
-pub mod Stored
-pub mod Trying
-pub mod TriedMutexes
-pub mod TriedSemaphores
-pub mod TriedFifos

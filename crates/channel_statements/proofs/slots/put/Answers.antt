@@ -1,5 +1,0 @@
-use Rattle.channel_statements.proofs.Stored.{stored_moves}
-use Rattle.channel_statements.proofs.slots.put.Goals as goal
-
-pub returns-clause-moves : goal.returns-clause-moves
-returns-clause-moves c = stored_moves c.args.k.now c.keep.new.k c.args.p c.args.slot c.args.v c.keep.ensures.moves

@@ -1,0 +1,38 @@
+//! Types of expressions: what operators take and give, what names stand for in an expression, and what a construct needs a
+//! name to be.
+//!
+//! One walk over an expression of a model: what it stands for, and the first broken rule in it.
+#![tactic(auto)]
+
+mod channel_places;
+mod channels;
+mod expressions;
+mod findings;
+mod heads;
+mod judged;
+mod needs;
+mod operators;
+mod types;
+
+pub use channel_places::{JudgedChannel, judge_channel};
+pub use check_names as check_names_api;
+pub use check_names::{
+    model_rules_api as model_rules_api, plain_lists_api as plain_lists_api,
+    sim_time_api as sim_time_api,
+};
+pub use expressions::judge;
+pub use findings::{Finding, first_finding, told_if};
+pub use flat_design as flat_design_api;
+pub use heads::{MemberUse, member_finding};
+pub use judged::Judged;
+pub use model_tree as model_tree_api;
+pub use needs::{is_unmet, meets};
+pub use operators::{
+    becomes_vector, concat_type, conversion_type, digit_count, digit_type, given, is_bool,
+    is_integer, is_logic, is_payload, is_process, is_time, is_vector_of, is_within, operands,
+    seen_as, slice_type, unary_type,
+};
+pub use types::{
+    element_seen, is_array, is_below, is_integer_type, is_port, is_time_literal, logic_type,
+    member_seen, object_if, places, type_seen, value_if,
+};

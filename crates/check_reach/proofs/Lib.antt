@@ -1,0 +1,11 @@
+mod Reached
+mod Rows
+mod BeginLaws
+mod CallGraph
+mod JudgeLaws
+mod Members
+mod PlacedLaws
+mod SetLaws
+mod SiteWalk
+mod SpreadLaws
+mod Turns

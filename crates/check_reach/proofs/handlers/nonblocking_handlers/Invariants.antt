@@ -1,0 +1,9 @@
+use Rattle.std.proofs.Common.{◌≡◌, ◌++◌, ℕ, List, map, drop}
+use Rattle.std.specs.Borrow.{Bor}
+use Rattle.std.specs.List.{flat_map}
+use Rattle.check_expressions.specs.CheckNames.ModuleNames.{items_of}
+use Rattle.check_reach.specs.Flat.{nonblocking_handlers}
+use Rattle.check_reach.proofs.handlers.nonblocking_handlers.Given as goal
+
+abbrev pub invariant-loop-item : goal.invariant-loop-item
+invariant-loop-item l = map (λ (n : Bor (List ℕ)). n.now) l.names.items ++ flat_map nonblocking_handlers (items_of (drop l.item-index l.items)) ≡ flat_map nonblocking_handlers (items_of l.items)

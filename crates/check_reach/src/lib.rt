@@ -1,0 +1,22 @@
+//! Marks on numbers that spread along edges, each number once, in time that grows with the edges.
+//!
+//! The third pass of the rules of a model: what bodies reach.
+#![tactic(auto)]
+
+mod begun;
+mod bodies;
+mod calls;
+mod deeds;
+mod edges;
+mod followed;
+mod handlers;
+mod judged;
+mod placed;
+mod sets;
+mod whole;
+
+pub use check_expressions as check_expressions_api;
+pub use check_expressions::check_names_api as check_names_api;
+pub use edges::Edge;
+pub use followed::spread;
+pub use whole::reach_finding;

@@ -1,6 +1,0 @@
-use Rattle.clean_laws.proofs.Runs.{ended-nowhere, ended-free, ended-left}
-use Rattle.clean_laws.proofs.processes.what_has_ended_is_nowhere.Goals as goal
-
-pub returns : goal.returns
-returns c design script steps choices last reached p i at over =
-    (ended-nowhere design script steps choices last reached p i at over, ended-free design script steps choices last reached p i at over, ended-left design script steps choices last reached p i at over)

@@ -1,0 +1,2 @@
+pub mod Each
+pub use Rattle.model_tree.proofs as ModelTree

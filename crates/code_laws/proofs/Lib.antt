@@ -1,9 +1,0 @@
-pub mod Named
-pub mod Known
-pub mod Declared
-pub mod Exceptions
-pub mod Parts
-pub mod Deeds
-pub mod Blocks
-pub mod Models
-pub mod Everywhere

@@ -1,3 +1,0 @@
-mod Positions
-mod Once
-mod Following

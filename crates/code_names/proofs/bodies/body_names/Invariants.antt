@@ -1,7 +1,0 @@
-use Rattle.std.proofs.Common.{◌≡◌, ◌++◌, drop}
-use Rattle.name_tables.specs.ModuleNames.{items_of}
-use Rattle.code_names.specs.Names.{body_names}
-use Rattle.code_names.proofs.bodies.body_names.Given as goal
-
-abbrev pub invariant-loop-item : goal.invariant-loop-item
-invariant-loop-item l = l.names ++ body_names (items_of (drop l.item-index l.items)) ≡ body_names (items_of l.items)

@@ -1,4 +1,0 @@
-pub mod Terms
-pub mod Deeds
-pub mod Numbered
-pub mod Bodies

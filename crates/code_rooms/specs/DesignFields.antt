@@ -1,0 +1,33 @@
+-- What sound designs have of their code, but for rooms.
+use Rattle.std.specs.Prelude.{◌≡◌, ◌⊎◌, ℕ, Bool, slice_get, Some}
+use Rattle.code_rules.specs.ModelTree.declared.constructs.Construct.{Construct}
+use Rattle.code_rules.specs.FlatDesign.Code as code
+use Rattle.code_rules.specs.FlatDesign.Code.{Statement, arena_of, body_at}
+use Rattle.code_rules.specs.FlatDesign.Typed.{EachOf}
+use Rattle.code_rules.specs.FlatDesign.Reach.{IsIn, InBody, Reached}
+use Rattle.code_rules.specs.FlatDesign.Blocking.{DoesNotBlock, IsPlain, SetsNoTrigger}
+use Rattle.code_rules.specs.FlatDesign.Constructs.{statement_constructs}
+use Rattle.code_rules.specs.FlatDesign.Sound.{ProcessFits, IsHomeOf, IsMethodBody, IsThreadBody, IsNonblockingHandler, IsAnyHandler, NotMissing, EachReached}
+use Rattle.code_rules.specs.FlatDesign.declared.code.CodeBody.{CodeBody}
+use Rattle.code_rules.specs.FlatDesign.declared.design.ProcessPart.{ProcessPart}
+use Rattle.code_rules.specs.FlatDesign.declared.design.Design.{Design}
+
+abbrev pub ProcessesFit : Design → Type 0
+ProcessesFit d = (n : ℕ) (p : ProcessPart) → slice_get d.processes n ≡ Some p → ProcessFits d p
+
+abbrev pub MethodsDoNotBlock : Design → Type 0
+MethodsDoNotBlock d = EachReached d (IsMethodBody (arena_of d.code)) (λ home s. DoesNotBlock d home s)
+
+abbrev pub HandlersDoNotBlock : Design → Type 0
+HandlersDoNotBlock d = EachReached d (λ f b. IsNonblockingHandler d f) (λ home s. DoesNotBlock d home s)
+
+abbrev pub UnwindingIsPlain : Design → Type 0
+UnwindingIsPlain d =
+    (f : ℕ) (b : CodeBody) (home body unwind : ℕ) (s : Statement) → body_at (arena_of d.code) f ≡ Some b → IsHomeOf d home b
+    → InBody (arena_of d.code) b (code.guard body unwind) → Reached (arena_of d.code) unwind s → DoesNotBlock d home s × IsPlain s
+
+abbrev pub ThreadsSetNoTrigger : Design → Type 0
+ThreadsSetNoTrigger d = EachReached d (λ f b. IsThreadBody (arena_of d.code) f b ⊎ IsAnyHandler d f) (λ home s. SetsNoTrigger s)
+
+abbrev pub NothingIsMissing : (Construct → Bool) → Design → Type 0
+NothingIsMissing is_missing d = (b : ℕ) (s : Statement) → IsIn (arena_of d.code) b s → EachOf (NotMissing is_missing) (statement_constructs s)

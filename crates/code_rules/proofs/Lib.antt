@@ -1,0 +1,2 @@
+pub use Rattle.model_rules.proofs.ModelTree as ModelTree
+pub use Rattle.model_rules.proofs as ModelRules

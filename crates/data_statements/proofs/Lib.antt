@@ -1,4 +1,0 @@
-pub mod Following
-pub mod Payloads
-pub mod Stored
-pub mod Entering

@@ -1,5 +1,0 @@
-use Rattle.design_laws.proofs.Parts.{fifos_sized}
-use Rattle.design_laws.proofs.laws.fifos_have_room.Goals as goal
-
-pub returns : goal.returns
-returns c = λ m d none design n p e. fifos_sized m d none design n p e

@@ -1,5 +1,0 @@
-use Rattle.design_laws.proofs.Parts.{parents_before}
-use Rattle.design_laws.proofs.laws.objects_are_inside.Goals as goal
-
-pub returns : goal.returns
-returns c = λ m d design i o e. parents_before m d design i o e

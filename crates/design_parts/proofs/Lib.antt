@@ -1,6 +1,0 @@
-mod Children
-mod Entries
-mod Firsts
-mod PortLemmas
-mod Turns
-mod Walks

@@ -1,6 +1,0 @@
-use Rattle.std.proofs.Common.{◌≡◌, ◌++◌, map, drop}
-use Rattle.design_rules.specs.Parts.{hop_of}
-use Rattle.design_parts.proofs.hops.hops.Given as goal
-
-abbrev pub invariant-loop-sockets : goal.invariant-loop-sockets
-invariant-loop-sockets l = l.hops ++ map (hop_of l.objects) (drop l.sockets-index l.joined) ≡ map (hop_of l.objects) l.joined

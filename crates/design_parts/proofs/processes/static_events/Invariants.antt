@@ -1,6 +1,0 @@
-use Rattle.std.proofs.Common.{◌≡◌, ◌++◌, drop}
-use Rattle.design_rules.specs.Statics.{static_events}
-use Rattle.design_parts.proofs.processes.static_events.Given as goal
-
-abbrev pub invariant-loop-part : goal.invariant-loop-part
-invariant-loop-part l = l.found ++ static_events l.ports l.names (drop l.part-index l.uses) ≡ static_events l.ports l.names l.uses

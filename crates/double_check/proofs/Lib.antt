@@ -1,4 +1,0 @@
-pub mod Behind
-mod Passed
-pub mod Pieces
-mod Tables

@@ -1,0 +1,10 @@
+mod Entries
+mod LinkLemmas
+mod Lasting
+mod ChildLemmas
+mod ChildEntries
+mod NamedEntries
+mod Firsts
+mod PortLemmas
+mod PartTurns
+mod Walks

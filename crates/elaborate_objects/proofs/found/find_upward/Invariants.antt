@@ -1,0 +1,11 @@
+use Rattle.std.proofs.Common.{◌≡◌, ◌<◌, ◌≤◌, ℕ, length}
+use Rattle.std.specs.Bool.{MatchBool}
+use Rattle.elaborate_objects.specs.Marks.{count_of, KeepsFound, IsClosedAt}
+use Rattle.elaborate_objects.proofs.found.find_upward.Given as goal
+
+abbrev pub invariant-loop-k : goal.invariant-loop-k
+invariant-loop-k l = record {
+  counted : MatchBool l.more (count_of l.initial.marks < count_of l.marks)
+      ((l.marks ≡ l.initial.marks) × ((k : ℕ) → l.k ≤ k → k < length l.initial.marks → IsClosedAt l.made l.place l.initial.marks k));
+  found : KeepsFound l.made l.place l.initial.marks l.marks;
+}

@@ -1,4 +1,0 @@
-use Rattle.event_statements.proofs.notifying.stop.Goals as goal
-
-pub returns-clause-steps : goal.returns-clause-steps
-returns-clause-steps c d i h there = c.ask.ensures.moves _ (c.pass.ensures.steps d i h there)

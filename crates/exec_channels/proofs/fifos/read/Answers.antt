@@ -1,0 +1,11 @@
+use Rattle.flat_design.specs.Code.{channel_term}
+use Rattle.kernel_view.specs.SimModel.Reading.{here}
+use Rattle.kernel_view.specs.SimModel.Channels.{read_fifo, fifo_here}
+use Rattle.exec_channels.proofs.Trying.{does_for, at_fault}
+use Rattle.exec_channels.proofs.fifos.read.Goals as goal
+
+pub returns-in-Ok-read_channel-clause-does : goal.returns-in-Ok-read_channel-clause-does
+returns-in-Ok-read_channel-clause-does c = does_for c.args.k.now c.args.p (channel_term c.args.at.now) c.used_at.result c.used_at.ensures (λ ch d q i r. read_fifo d q r (here d q i r) c.args.target ch (fifo_here d ch)) c.read_channel.new.k c.in-Ok.channel c.in-Ok.is c.in-Ok-read_channel.ensures.steps
+
+pub returns-in-Err-clause-does : goal.returns-in-Err-clause-does
+returns-in-Err-clause-does c = at_fault c.args.k.now c.args.p (channel_term c.args.at.now) c.used_at.result c.used_at.ensures (λ ch d q i r. read_fifo d q r (here d q i r) c.args.target ch (fifo_here d ch)) c.in-Err.fault c.in-Err.is

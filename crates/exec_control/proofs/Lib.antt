@@ -1,0 +1,11 @@
+pub mod OneInstance
+pub mod Throwing
+pub mod Ended
+pub mod Reset
+pub mod Resumed
+pub mod Suspended
+pub mod Passing
+pub mod Injected
+pub mod Itself
+pub mod Others
+pub mod Handles

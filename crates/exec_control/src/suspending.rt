@@ -1,0 +1,47 @@
+//! Instances that are suspended.
+ghost use Rattle.std.specs.Prelude.{Ok};
+ghost use Rattle.exec_data.specs.ModelTree.declared.statements.Control.TheVariants as order;
+ghost use Rattle.exec_data.specs.SimModel.Configuration.{Config, instance_at};
+ghost use Rattle.exec_data.specs.SimModel.Storing.{passes};
+ghost use Rattle.exec_data.specs.SimModel.Control as spec;
+ghost use Rattle.exec_data.specs.SimModel.Control.{unless_ended, control_call};
+ghost use Rattle.exec_data.specs.KernelState.Kernel.{StandsFor, IsSound};
+ghost use Rattle.exec_data.specs.KernelState.Moves.{MovesAt, Follows, Does, Lives, HasStatement};
+
+use crate::shown::{lives, yields};
+use exec_data::kernel_state_api::{Kernel, pass};
+
+/// An instance that has not ended is suspended. One that is runnable is kept till it is resumed, and so is a thread on top
+/// that no call and no unwinding holds: it leaves the stack.
+fn suspend_live(k: &mut Kernel, q: u32)
+    requires sound { IsSound k.old }
+    requires lives { Lives k.old q }
+    ensures moves { MovesAt k.old k.new q (λ c i. spec.suspends c q i) }
+    ensures sound { IsSound k.new }
+{
+    let yielding = yields(k, q);
+    exec_data::kernel_processes_api::suspend(&mut k.schedule, q, yielding);
+}
+
+/// An instance is suspended, unless it has ended.
+fn suspend_if(k: &mut Kernel, q: u32)
+    requires sound { IsSound k.old }
+    ensures follows { (c : Config) → StandsFor k.old c → Follows k.new (Ok tt) c (unless_ended c (instance_at c q) (λ i. Ok (spec.suspends c q i))) }
+    ensures sound { IsSound k.new }
+{
+    if lives(k, q) {
+        suspend_live(k, q);
+    }
+}
+
+/// `suspend`: the instance does not run till it is resumed (IEEE 1666-2011, 5.6.6.1).
+pub(crate) fn suspend(k: &mut Kernel, p: u32, q: u32)
+    requires sound { IsSound k.old }
+    requires lives { Lives k.old p }
+    requires statement { HasStatement k.old p }
+    ensures does { Does k.old k.new (Ok tt) p (λ c s i r. control_call (passes c s r) q order.Suspend) }
+    ensures sound { IsSound k.new }
+{
+    pass(k, p);
+    suspend_if(k, q);
+}

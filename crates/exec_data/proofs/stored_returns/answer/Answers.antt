@@ -1,0 +1,25 @@
+use Rattle.std.proofs.Common.{sym, ap, ◌∙◌}
+use Rattle.std.specs.Option.{option_copied_mut}
+use Rattle.kernel_view.specs.SimModel.Residual.{settle}
+use Rattle.kernel_view.specs.SimModel.Unwinding.{returned, return_marks}
+use Rattle.kernel_view.specs.SimModel.Configuration.{arena, with_residual, with_marks}
+use Rattle.kernel_view.specs.SimModel.Statements.{settled_in}
+use Rattle.kernel_view.proofs.KernelBodies.Strips.{strip-returned}
+use Rattle.kernel_view.proofs.KernelState.Frames.{one_body_sound, old_body_sound, steps_to, settled_before, trace_moves}
+use Rattle.exec_data.proofs.stored_returns.answer.Goals as goal
+
+pub answer-requires : goal.answer-requires
+answer-requires c = old_body_sound c.args.k.now c.args.p c.in-Some.x.now (sym c.get_mut.ensures.value ∙ ap option_copied_mut c.in-Some.is) c.requires.sound
+
+pub returns-in-Some-clause-steps : goal.returns-in-Some-clause-steps
+returns-in-Some-clause-steps c d i h there =
+    let at = sym c.get_mut.ensures.value ∙ ap option_copied_mut c.in-Some.is in
+    let left = settle (arena d) i.residual in
+    let after = with_residual (settled_in d c.args.p i.residual) c.args.p (returned c.args.v left) in
+    trace_moves _ after
+    (steps_to c.args.k.now c.args.p c.in-Some.x.now c.answer.new.self at c.answer.ensures.kept d i h there (returned c.args.v left)
+    (strip-returned c.args.v left ∙ ap (returned c.args.v) (settled_before c.args.k.now c.args.p c.in-Some.x.now at d i h there) ∙ sym c.answer.ensures.left))
+    (with_marks after (return_marks c.args.p left)).trace
+
+pub returns-in-Some-clause-sound : goal.returns-in-Some-clause-sound
+returns-in-Some-clause-sound c = one_body_sound c.args.k.now c.args.p c.in-Some.x.now c.answer.new.self (sym c.get_mut.ensures.value ∙ ap option_copied_mut c.in-Some.is) c.answer.ensures.kept c.requires.sound c.answer.ensures.sound

@@ -1,0 +1,146 @@
+//! Writes of channels.
+ghost use Rattle.std.specs.Prelude.{◌≡◌, ◌+◌, ◌<◌, OnOk, OnErr, slice_get};
+ghost use Rattle.flat_design.specs.Code.{term_of, channel_term};
+ghost use Rattle.flat_design.specs.Sound.{ChannelFits};
+ghost use Rattle.flat_design.specs.declared.design.ChannelId.TheVariants as channel_id;
+ghost use Rattle.kernel_view.specs.SimModel.Channels as channels;
+ghost use Rattle.kernel_view.specs.SimModel.Channels.{do_write};
+ghost use Rattle.kernel_view.specs.SimModel.Reading.{here};
+ghost use Rattle.kernel_view.specs.KernelState.Kernel.{IsSound, whole_design};
+ghost use Rattle.kernel_view.specs.KernelState.Moves.{Moves, Steps, Lives, HasStatement, IsOnTop};
+ghost use Rattle.kernel_view.specs.Standings.{Everywhere};
+ghost use Rattle.exec_data.specs.Stopping.{DoesOrStops};
+ghost use Rattle.exec_data.specs.Written.{NamesFit, to_write};
+
+use crate::stops::StatementStop;
+use crate::updates::{drive, write_signal};
+use flat_design::{ChannelId, ChannelUse, Expr, RunFault, ValueType};
+use kernel_view::expr_eval_api::cut_to;
+use kernel_view::kernel_state_api::{Kernel, pass, top_lives, write_fifo};
+use kernel_view::logic_values_api::Value;
+use kernel_view::{channel_at, eval_at, eval_place_at};
+use std::alloc::{AllocError, Global};
+
+/// What a write is for, and what it writes.
+#[derive(Clone, Copy)]
+pub(crate) struct Transfer {
+    /// The channel.
+    pub channel: ChannelId,
+    /// The value, cut to the channel's type.
+    pub value: Value,
+}
+
+/// What a write statement is for, and what it writes.
+///
+/// # Errors
+/// The fault of its place, and then that of its expression; a place past the last channel of a port.
+fn what_is_written(
+    k: &Kernel,
+    p: u32,
+    to: &ChannelUse,
+    t: ValueType,
+    e: &Expr,
+) -> Result<Transfer, RunFault>
+    requires { Lives k.now p }
+    ensures { Everywhere k.now p (λ h. result ≡ to_write h (channel_term to.now) t (term_of e.now)) }
+{
+    let place = eval_place_at(k, p, &to.place)?;
+    let value = eval_at(k, p, e)?;
+    match channel_at(k, p, to.name, place) {
+        Ok(channel) => Ok(Transfer {
+            channel,
+            value: cut_to(t, value),
+        }),
+        Err(fault) => Err(fault),
+    }
+}
+
+/// A value is written to a fifo of the design, or the instance on top is blocked till one is read (IEEE 1666-2011, 6.23).
+/// Where memory is refused nothing changes.
+fn put_in_fifo(
+    k: &mut Kernel,
+    alloc: Global,
+    p: u32,
+    n: u32,
+    events: u32,
+    v: Value,
+) -> Result<(), AllocError>
+    requires sound { IsSound k.old }
+    requires top { IsOnTop k.old p }
+    requires statement { HasStatement k.old p }
+    ensures steps { events + 1 < k.old.design.events → OnOk result (Steps k.old k.new p (λ c q i r. channels.write_fifo c q r n (channel_id.Fifo n events) v (slice_get c.channels.fifos n))) }
+    ensures stays { OnErr result (Moves k.old k.new (λ c. c)) }
+    ensures sound { IsSound k.new }
+{
+    if events >= k.design.events.saturating_sub(1) {
+        return Ok(());
+    }
+    write_fifo(k, alloc, p, n, events, v)
+}
+
+/// A value is written to a channel; a mutex and a semaphore take none.
+///
+/// # Errors
+/// Another process stands as the writer of a signal; no memory. Then nothing changes.
+fn write_channel(
+    k: &mut Kernel,
+    alloc: Global,
+    p: u32,
+    channel: ChannelId,
+    v: Value,
+) -> Result<(), StatementStop>
+    requires sound { IsSound k.old }
+    requires top { IsOnTop k.old p }
+    requires statement { HasStatement k.old p }
+    ensures does { ChannelFits (whole_design k.old) channel → DoesOrStops k.old k.new result p (λ c q i r. channels.write_channel c q r v channel) }
+    ensures sound { IsSound k.new }
+{
+    top_lives(k, p);
+    match channel {
+        ChannelId::Signal { number, .. } => match write_signal(k, p, number, v) {
+            Ok(()) => Ok(()),
+            Err(fault) => Err(StatementStop::Fault(fault)),
+        },
+        ChannelId::Resolved { number, .. } => match drive(k, p, number, v) {
+            Ok(()) => Ok(()),
+            Err(_) => Err(StatementStop::NoMemory),
+        },
+        ChannelId::Fifo { number, events } => match put_in_fifo(k, alloc, p, number, events, v) {
+            Ok(()) => Ok(()),
+            Err(_) => Err(StatementStop::NoMemory),
+        },
+        ChannelId::Mutex { .. } | ChannelId::Semaphore { .. } => {
+            pass(k, p);
+            Ok(())
+        }
+    }
+}
+
+/// `write`: of a signal, a buffer or a resolved signal, which asks for an update, or of a fifo, which may block the instance.
+/// The channel is named, or is that of a port at a place; the value is cut to its type. It takes memory where a process drives a
+/// resolved signal for the first time, and where it blocks.
+///
+/// # Errors
+/// The fault of its place, then that of its expression, then a place past the last channel of a port; another process stands
+/// as the writer of a signal; no memory. Then nothing changes.
+pub fn write(
+    k: &mut Kernel,
+    alloc: Global,
+    p: u32,
+    to: &ChannelUse,
+    t: ValueType,
+    e: &Expr,
+) -> Result<(), StatementStop>
+    requires sound { IsSound k.old }
+    requires top { IsOnTop k.old p }
+    requires statement { HasStatement k.old p }
+    requires names { NamesFit (whole_design k.old) }
+    ensures does { DoesOrStops k.old k.new result p (λ c q i r. do_write c q r (here c q i r) (channel_term to.now) t (term_of e.now)) }
+    ensures sound { IsSound k.new }
+{
+    top_lives(k, p);
+    match what_is_written(k, p, to, t, e) {
+        Ok(x) => write_channel(k, alloc, p, x.channel, x.value),
+        Err(fault) => Err(StatementStop::Fault(fault)),
+    }
+}

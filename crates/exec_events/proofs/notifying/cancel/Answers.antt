@@ -1,0 +1,4 @@
+use Rattle.exec_events.proofs.notifying.cancel.Goals as goal
+
+pub returns-clause-steps : goal.returns-clause-steps
+returns-clause-steps c d i h there = c.take_back.ensures.moves _ (c.pass.ensures.steps d i h there)

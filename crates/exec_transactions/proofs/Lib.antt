@@ -1,0 +1,7 @@
+pub mod Keeping
+pub mod Transfers
+pub mod Making
+pub mod Codes
+pub mod Called
+pub mod Settled
+pub mod Ended

@@ -1,0 +1,28 @@
+use Rattle.std.proofs.Common.{Ok, sym, subst}
+use Rattle.exec_calls.specs.LogicValues.declared.kinds.Value.TheVariants as value
+use Rattle.std.specs.Prelude.{unwrap_or}
+use Rattle.exec_calls.specs.SimModel.Residual.{settle}
+use Rattle.exec_calls.specs.SimModel.Configuration.{arena}
+use Rattle.exec_calls.specs.SimModel.Storing.{passes}
+use Rattle.exec_calls.specs.SimModel.Statements.{settled_in, via_ends}
+use Rattle.exec_calls.specs.KernelState.Moves.{Follows}
+use Rattle.exec_calls.proofs.Handing.{called_by}
+use Rattle.exec_transactions.specs.Ending.{IsBTransport}
+use Rattle.exec_transactions.proofs.Ended.{b_handed, b_ends}
+use Rattle.exec_transactions.proofs.returning.end_blocking.Goals as goal
+
+pub returns-in-Some-clause-does : goal.returns-in-Some-clause-does
+returns-in-Some-clause-does c = λ d i h there x is.
+    let first = settled_in d c.args.p i.residual in
+    let left = settle (arena d) i.residual in
+    b_ends c.return_blocking.new.k c.return_blocking.result d first c.args.p (record i { residual = left }) left x c.args.ending (c.requires.ends d i x h there is) c.args.d (called_by c.args.k.now c.args.p c.requires.lives (IsBTransport c.args.d) c.requires.called x d i h there is)
+    (subst (λ o. Follows c.return_blocking.new.k c.return_blocking.result d (via_ends (passes first c.args.p left) o (b_handed first c.args.p (record i { residual = left }) left c.args.d (unwrap_or c.args.ending.first (value.Moment 0))))) (sym c.in-Some.is)
+    (subst (λ v. Follows c.return_blocking.new.k c.return_blocking.result d (b_handed first c.args.p (record i { residual = left }) left c.args.d v c.in-Some.via)) c.unwrap_or-delay.ensures (c.return_blocking.ensures.does d i h there)))
+
+pub returns-in-None-clause-does : goal.returns-in-None-clause-does
+returns-in-None-clause-does c = λ d i h there x is.
+    let first = settled_in d c.args.p i.residual in
+    let left = settle (arena d) i.residual in
+    b_ends c.leave.new.k (Ok tt) d first c.args.p (record i { residual = left }) left x c.args.ending (c.requires.ends d i x h there is) c.args.d (called_by c.args.k.now c.args.p c.requires.lives (IsBTransport c.args.d) c.requires.called x d i h there is)
+    (subst (λ o. Follows c.leave.new.k (Ok tt) d (via_ends (passes first c.args.p left) o (b_handed first c.args.p (record i { residual = left }) left c.args.d (unwrap_or c.args.ending.first (value.Moment 0))))) (sym c.in-None.is)
+    (c.leave.ensures.steps d i h there))

@@ -1,6 +1,0 @@
-pub mod Parsers
-pub mod OneToken
-pub mod Sound
-pub mod Complete
-pub mod Many
-pub mod Descent

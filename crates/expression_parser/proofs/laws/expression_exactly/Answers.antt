@@ -1,6 +1,0 @@
-use Rattle.expression_parser.proofs.Sound.{expression_ok}
-use Rattle.expression_parser.proofs.Complete.{expression_reads}
-use Rattle.expression_parser.proofs.laws.expression_exactly.Goals as goal
-
-pub returns : goal.returns
-returns c depth e ts rest = (λ h. expression_reads depth e ts rest h, λ h. expression_ok depth ts rest e h)

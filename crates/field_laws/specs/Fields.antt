@@ -1,8 +1,0 @@
--- What sound designs have of their ports.
-use Rattle.std.specs.Prelude.{◌≡◌, ℕ, slice_get, Some}
-use Rattle.flat_design.specs.Sound.{PortFits}
-use Rattle.flat_design.specs.declared.design.PortPart.{PortPart}
-use Rattle.flat_design.specs.declared.design.Design.{Design}
-
-abbrev pub PortsFit : Design → Type 0
-PortsFit d = (n : ℕ) (p : PortPart) → slice_get d.ports n ≡ Some p → PortFits d p

@@ -1,3 +1,0 @@
-mod Coded
-mod Points
-mod Steps

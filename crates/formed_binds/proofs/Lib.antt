@@ -1,5 +1,0 @@
-pub mod SizedItems
-pub mod SizedObjects
-pub mod Few
-pub mod Deep
-pub mod Own

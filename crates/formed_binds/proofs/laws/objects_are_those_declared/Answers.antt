@@ -1,5 +1,0 @@
-use Rattle.formed_binds.proofs.Own.{own_declared}
-use Rattle.formed_binds.proofs.laws.objects_are_those_declared.Goals as goal
-
-pub returns : goal.returns
-returns c = λ m clean at place. own_declared m clean at place

@@ -1,4 +1,0 @@
-pub mod OneInstance
-pub mod Throwing
-pub mod Ended
-pub mod Reset

@@ -1,3 +1,0 @@
-pub mod Unwound
-pub mod Resting
-pub mod Others

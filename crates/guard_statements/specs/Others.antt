@@ -1,9 +1,0 @@
--- What a move of one instance leaves alone.
-use Rattle.std.specs.Prelude.{◌≡◌, ◌≢◌, ℕ}
-use Rattle.schedule.specs.Seen.{body_at as kept_at}
-use Rattle.kernel_state.specs.declared.kernel.Kernel.{Kernel}
-
--- what is kept of all others stays, and so does the code
-pub record KeepsOthers (p : ℕ) (old new : Kernel) : Type 0 where
-  pub bodies : (q : ℕ) → q ≢ p → kept_at new.schedule q ≡ kept_at old.schedule q
-  pub program : new.program ≡ old.program

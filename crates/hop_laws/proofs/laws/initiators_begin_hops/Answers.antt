@@ -1,5 +1,0 @@
-use Rattle.hop_laws.proofs.Sockets.{begins_hop}
-use Rattle.hop_laws.proofs.laws.initiators_begin_hops.Goals as goal
-
-pub returns : goal.returns
-returns c = λ os formed none i o backward at e. begins_hop os formed none i o backward at e

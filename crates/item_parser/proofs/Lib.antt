@@ -1,6 +1,0 @@
-pub mod ValueLaws
-pub mod PlainItemLaws
-pub mod PortLaws
-pub mod SocketLaws
-pub mod BodyLaws
-pub mod ItemLaws

@@ -1,9 +1,0 @@
-use Rattle.std.proofs.Common.{◌≡◌, ◌-◌}
-use Rattle.expression_parser.specs.Parse.{repeat, one_more}
-use Rattle.channel_parser.specs.Parse.{at_no_comma}
-use Rattle.item_parser.specs.Bodies.{next_parameter, more_parameters}
-use Rattle.item_parser.proofs.bodies.more_parameters.Given as goal
-
--- the turns that are left, behind the parameters found so far, give what all of them give
-abbrev pub invariant-loop-turn : goal.invariant-loop-turn
-invariant-loop-turn l = repeat at_no_comma (one_more next_parameter) (l.turns - l.turn) l.found.items l.tokens ≡ more_parameters l.fn.first.items l.fn.tokens

@@ -1,0 +1,14 @@
+use Rattle.std.proofs.Common.{refl, sym, ap}
+use Rattle.sim_model.specs.FlatDesign.Code.{arena_of, block_at}
+use Rattle.sim_model.specs.Residual.{statements}
+use Rattle.kernel_bodies.proofs.Blocks.{rest_some, rest_none, contains_at}
+use Rattle.kernel_bodies.proofs.landing.first_of.Goals as goal
+
+pub returns-in-Some-clause-value : goal.returns-in-Some-clause-value
+returns-in-Some-clause-value c = ap statements (rest_some (block_at (arena_of c.args.program.now.code) c.args.cursor.block) c.args.cursor.place c.in-Some.statement (sym c.in-Some.ensures.found))
+
+pub returns-in-Some-clause-of_block : goal.returns-in-Some-clause-of_block
+returns-in-Some-clause-of_block c = (refl, contains_at (block_at (arena_of c.args.program.now.code) c.args.cursor.block) c.args.cursor.place c.in-Some.statement (sym c.in-Some.ensures.found))
+
+pub returns-in-None-clause-value : goal.returns-in-None-clause-value
+returns-in-None-clause-value c = ap statements (rest_none (block_at (arena_of c.args.program.now.code) c.args.cursor.block) c.args.cursor.place (sym c.in-None.ensures.found))

@@ -1,0 +1,5 @@
+pub mod Announced
+pub mod Writers
+pub mod Codes
+pub mod Asked
+pub use Rattle.kernel_events.specs as KernelEvents

@@ -1,0 +1,125 @@
+-- What is kept stays tied where what is pending for one event changes.
+use Rattle.std.proofs.Common.{◌≡◌, ◌⊎◌, ◌<◌, ◌≤◌, ◌+◌, ◌-◌, inl, inr, ℕ, zero, suc, Bool, true, false, cond, List, ◌∷◌, length, get_or, set, refl, sym, ap, ◌∙◌, ⊎_elim, arith}
+use Rattle.std.specs.Prelude.{is_some, count_by, IsTrue, map, replicate}
+use Rattle.std.specs.FinMap as maps
+use Rattle.std.proofs.lemmas.Bool.{cases_eq}
+use Rattle.std.proofs.lemmas.List.{map-set, length-set, get_or-set_same, get_or-set_other, length-replicate}
+use Rattle.std.proofs.lemmas.List.Sums.{sum_by-set, count_by-le-length}
+use Rattle.std.proofs.lemmas.Option.{slice_get-get_or, slice_get_past}
+use Rattle.sim_model.specs.Lemmas.Updated.{updated}
+use Rattle.sim_model.proofs.Lemmas.MapLemmas.{get-updated_same, get-updated_other}
+use Rattle.sim_model.specs.EventCore.declared.notifications.Pending.{Pending}
+use Rattle.sim_model.specs.EventCore.declared.notifications.Pending.TheVariants as pending
+use Rattle.sim_model.specs.EventCore.declared.notifications.When.{When}
+use Rattle.sim_model.specs.EventCore.Notifications.{pending_at, notified, comes_first, left_pending}
+use Rattle.timed_queue.specs.Timed.{Timed}
+use Rattle.sim_model.specs.Configuration.{change, changed_at}
+use Rattle.sim_model.specs.Phases.{is_delta}
+use Rattle.kernel_events.specs.Kept.{time_of, is_timed, IsTied, with_pending}
+
+-- ---- a change at a number
+
+pub changed_is : (events : List Pending) (e : ℕ) (f : Pending → Pending) → e < length events → set events e (f (pending_at events e)) ≡ change events e f
+changed_is events e f h = ap (changed_at events e f) (sym (slice_get-get_or events e pending.Nothing h))
+
+pub changed_past : (events : List Pending) (e : ℕ) (f : Pending → Pending) → length events ≤ e → events ≡ change events e f
+changed_past events e f h = ap (changed_at events e f) (sym (slice_get_past events e h))
+
+-- ---- the times and the room
+
+times-with_pending : (q : Timed) (e : ℕ) (p : Pending) → (with_pending q e p).times ≡ updated q.times e (time_of p)
+times-with_pending q e pending.Nothing = refl
+times-with_pending q e pending.Delta = refl
+times-with_pending q e (pending.At t) = refl
+
+abbrev one_if : Bool → ℕ
+one_if b = cond b 1 0
+
+spare_then : (q : Timed) (e : ℕ) (p : Pending) (b : Bool) → maps.contains_key q.times e ≡ b → (b ≡ false → 1 ≤ q.spare)
+    → (with_pending q e p).spare + one_if (is_timed p) ≡ q.spare + one_if b
+spare_then q e pending.Nothing b is room = ap (λ c. cond c (q.spare + 1) q.spare + 0) is ∙ by_test b
+  where
+    by_test : (c : Bool) → cond c (q.spare + 1) q.spare + 0 ≡ q.spare + one_if c
+    by_test true = omega arith
+    by_test false = omega arith
+spare_then q e pending.Delta b is room = ap (λ c. cond c (q.spare + 1) q.spare + 0) is ∙ by_test b
+  where
+    by_test : (c : Bool) → cond c (q.spare + 1) q.spare + 0 ≡ q.spare + one_if c
+    by_test true = omega arith
+    by_test false = omega arith
+spare_then q e (pending.At t) b is room = ap (λ c. cond c q.spare (q.spare - 1) + 1) is ∙ by_test b room
+  where
+    by_test : (c : Bool) → (c ≡ false → 1 ≤ q.spare) → cond c q.spare (q.spare - 1) + 1 ≡ q.spare + one_if c
+    by_test true some = omega arith
+    by_test false some = let h = some refl in omega (arith, h)
+
+module _ (events : List Pending) (marks : List Bool) (timed : Timed) (n : ℕ) (tied : IsTied events marks timed n) (e : ℕ) (h : e < length events) where
+  has_time : maps.contains_key timed.times e ≡ is_timed (pending_at events e)
+  has_time = ap is_some (tied.times e)
+
+  counted : (p : Pending) → count_by is_timed (set events e p) + one_if (is_timed (pending_at events e)) ≡ count_by is_timed events + one_if (is_timed p)
+  counted p = sum_by-set (λ x. cond (is_timed x) 1 0) events e p pending.Nothing h
+
+  -- where an event has no time there is room for one
+  some_room : maps.contains_key timed.times e ≡ false → 1 ≤ timed.spare
+  some_room none =
+      let few : one_if (is_timed (pending_at events e)) ≡ 0 = ap one_if (sym has_time ∙ none) in
+      let more = counted (pending.At (record { 0 = 0 })) in
+      let most = count_by-le-length is_timed (set events e (pending.At (record { 0 = 0 }))) in
+      let same = length-set events e (pending.At (record { 0 = 0 })) in
+      let room = tied.room in
+      omega (arith, few, more, most, same, room)
+
+  pub room_for : IsTrue (maps.contains_key timed.times e) ⊎ (0 < timed.spare)
+  room_for = by_test (maps.contains_key timed.times e) some_room
+    where
+      by_test : (b : Bool) → (b ≡ false → 1 ≤ timed.spare) → IsTrue b ⊎ (0 < timed.spare)
+      by_test true room = inl refl
+      by_test false room = let r = room refl in inr (omega (arith, r))
+
+  pub tied_changed : (p : Pending) (marks' : List Bool) (timed' : Timed) → marks' ≡ set marks e (is_delta p) → timed' ≡ with_pending timed e p → IsTied (set events e p) marks' timed' n
+  tied_changed p marks' timed' mark time = record {
+    deltas = mark ∙ ap (λ ds. set ds e (is_delta p)) tied.deltas ∙ sym (map-set is_delta events e p);
+    times = λ q. ap (λ x. maps.get x.times q) time ∙ ap (λ m. maps.get m q) (times-with_pending timed e p) ∙ at q;
+    room =
+        let spare = spare_then timed e p (maps.contains_key timed.times e) refl some_room in
+        let had : one_if (maps.contains_key timed.times e) ≡ one_if (is_timed (pending_at events e)) = ap one_if has_time in
+        let same = length-set events e p in
+        let room = tied.room in
+        omega (arith, ap (λ x. x.spare) time, spare, had, counted p, same, room);
+    size = tied.size ∙ sym (length-set events e p);
+  }
+    where
+      at : (q : ℕ) → maps.get (updated timed.times e (time_of p)) q ≡ time_of (pending_at (set events e p) q)
+      at q = ⊎_elim
+          (λ same. get-updated_same timed.times e (time_of p) q same
+          ∙ ap time_of (sym (ap (λ k. get_or (set events e p) k pending.Nothing) same ∙ get_or-set_same events e p pending.Nothing h)))
+          (λ apart. get-updated_other timed.times e (time_of p) q apart ∙ tied.times q ∙ ap time_of (sym (get_or-set_other events e q p pending.Nothing apart)))
+          (cases_eq q e)
+
+-- ---- a notification that overrides, or not
+
+pub overridden : (w : When) (p : Pending) → comes_first w p ≡ true → notified w p ≡ left_pending w
+overridden w p is = ap (λ b. cond b (left_pending w) p) is
+
+pub kept : (w : When) (p : Pending) → comes_first w p ≡ false → notified w p ≡ p
+kept w p is = ap (λ b. cond b (left_pending w) p) is
+
+-- ---- at the start
+
+pub tied_first : (n : ℕ) (marks : List Bool) (timed : Timed) → marks ≡ replicate n false → timed.times ≡ maps.empty → n ≤ timed.spare → IsTied (replicate n pending.Nothing) marks timed n
+tied_first n marks timed none empty room = record {
+  deltas = none ∙ all n;
+  times = λ e. ap (λ m. maps.get m e) empty ∙ maps.get-empty _ e ∙ ap time_of (sym (nothing n e));
+  room = omega (arith, room, length-replicate n pending.Nothing);
+  size = sym (length-replicate n pending.Nothing);
+}
+  where
+    all : (k : ℕ) → replicate k false ≡ map is_delta (replicate k pending.Nothing)
+    all zero = refl
+    all (suc k) = ap (λ bs. false ∷ bs) (all k)
+
+    nothing : (k e : ℕ) → pending_at (replicate k pending.Nothing) e ≡ pending.Nothing
+    nothing zero e = refl
+    nothing (suc k) zero = refl
+    nothing (suc k) (suc e) = nothing k e

@@ -1,0 +1,69 @@
+-- The earliest of the timed notifications.
+use Rattle.std.proofs.Common.{◌≡◌, ◌≤◌, ℕ, zero, suc, Bool, true, false, cond, List, [], ◌∷◌, Option, Some, None, refl, sym, ap, ◌∙◌, arith, ltb-true, ltb-false}
+use Rattle.std.specs.Prelude.{nat_lt, IsNone, IfSome, ◌↔◌, option_map}
+use Rattle.std.specs.Ordering.{nat_cmp}
+use Rattle.std.specs.FinMap as maps
+use Rattle.timed_queue.specs.SimTime.declared.moments.Time.{Time}
+use Rattle.sim_model.specs.EventCore.declared.notifications.Pending.{Pending}
+use Rattle.sim_model.specs.EventCore.declared.notifications.Pending.TheVariants as pending
+use Rattle.sim_model.specs.EventCore.Notifications.{pending_at}
+use Rattle.timed_queue.specs.Timed.{Timed, IsEarliest}
+use Rattle.sim_model.specs.Phases.{earliest_event}
+use Rattle.kernel_events.specs.Kept.{time_of, IsTied}
+
+-- the earliest, where none is before this time
+from_least : (events : List Pending) (m : ℕ) → ((e : ℕ) (u : Time) → time_of (pending_at events e) ≡ Some u → m ≤ u.0) → earliest_event events (Some m) ≡ Some m
+from_least [] m least = refl
+from_least (pending.Nothing ∷ events) m least = from_least events m (λ e. least (suc e))
+from_least (pending.Delta ∷ events) m least = from_least events m (λ e. least (suc e))
+from_least (pending.At u ∷ events) m least = by_test (nat_lt u.0 m) refl (from_least events m (λ e. least (suc e)))
+  where
+    by_test : (b : Bool) → nat_lt u.0 m ≡ b → earliest_event events (Some m) ≡ Some m → earliest_event events (cond b (Some u.0) (Some m)) ≡ Some m
+    by_test true is rest = absurd (let below = ltb-true u.0 m is in let above = least 0 u refl in omega (arith, below, above))
+    by_test false is rest = rest
+
+-- m stands there, and what came before is not earlier
+abbrev pub IsAfter : ℕ → Option ℕ → Type 0
+IsAfter m None = Unit {0}
+IsAfter m (Some t) = m ≤ t
+
+earliest_is : (events : List Pending) (m : ℕ) (t : Option ℕ) → IsAfter m t → (e : ℕ) (v : Time) → time_of (pending_at events e) ≡ Some v → v.0 ≡ m
+    → ((e : ℕ) (u : Time) → time_of (pending_at events e) ≡ Some u → m ≤ u.0) → earliest_event events t ≡ Some m
+earliest_is [] m t after e v held is least = absurd (let none : None ≡ Some v = held in cc)
+earliest_is (pending.Nothing ∷ events) m t after zero v held is least = absurd (let none : None ≡ Some v = held in cc)
+earliest_is (pending.Nothing ∷ events) m t after (suc e) v held is least = earliest_is events m t after e v held is (λ q. least (suc q))
+earliest_is (pending.Delta ∷ events) m t after zero v held is least = absurd (let none : None ≡ Some v = held in cc)
+earliest_is (pending.Delta ∷ events) m t after (suc e) v held is least = earliest_is events m t after e v held is (λ q. least (suc q))
+earliest_is (pending.At u ∷ events) m None after zero v held is least =
+    let same : u ≡ v = (let h : Some u ≡ Some v = held in cc) in
+    ap (λ k. earliest_event events (Some k)) (ap (λ x. x.0) same ∙ is) ∙ from_least events m (λ q. least (suc q))
+earliest_is (pending.At u ∷ events) m None after (suc e) v held is least = earliest_is events m (Some u.0) (least 0 u refl) e v held is (λ q. least (suc q))
+earliest_is (pending.At u ∷ events) m (Some t) after zero v held is least = by_test (nat_lt u.0 t) refl
+  where
+    same : u.0 ≡ m
+    same = ap (λ x. x.0) (let h : Some u ≡ Some v = held in let same : u ≡ v = cc in same) ∙ is
+
+    by_test : (b : Bool) → nat_lt u.0 t ≡ b → earliest_event events (cond b (Some u.0) (Some t)) ≡ Some m
+    by_test true _ = ap (λ k. earliest_event events (Some k)) same ∙ from_least events m (λ q. least (suc q))
+    by_test false not =
+        let past = ltb-false u.0 t not in
+        let equal : t ≡ m = omega (arith, past, same, after) in
+        ap (λ k. earliest_event events (Some k)) equal ∙ from_least events m (λ q. least (suc q))
+earliest_is (pending.At u ∷ events) m (Some t) after (suc e) v held is least =
+    by_test (nat_lt u.0 t) (earliest_is events m (Some u.0) (least 0 u refl) e v held is (λ q. least (suc q))) (earliest_is events m (Some t) after e v held is (λ q. least (suc q)))
+  where
+    by_test : (b : Bool) → earliest_event events (Some u.0) ≡ Some m → earliest_event events (Some t) ≡ Some m → earliest_event events (cond b (Some u.0) (Some t)) ≡ Some m
+    by_test true new old = new
+    by_test false new old = old
+
+none_there : (events : List Pending) → ((e : ℕ) → time_of (pending_at events e) ≡ None) → earliest_event events None ≡ None
+none_there [] none = refl
+none_there (pending.Nothing ∷ events) none = none_there events (λ e. none (suc e))
+none_there (pending.Delta ∷ events) none = none_there events (λ e. none (suc e))
+none_there (pending.At u ∷ events) none = absurd (let h : Some u ≡ None = none 0 in cc)
+
+module _ (events : List Pending) (marks : List Bool) (timed : Timed) (n : ℕ) (tied : IsTied events marks timed n) where
+  pub earliest_told : (answer : Option Time) → (IsNone answer ↔ (timed.times ≡ maps.empty)) → IfSome answer (IsEarliest timed.times) → option_map (λ t. t.0) answer ≡ earliest_event events None
+  earliest_told None none least = sym (none_there events (λ e. sym (tied.times e) ∙ ap (λ m. maps.get m e) (none.0 refl) ∙ maps.get-empty nat_cmp e))
+  earliest_told (Some t) none least = sym (earliest_is events t.0 None tt least.held.0 t (sym (tied.times least.held.0) ∙ least.held.1) refl
+      (λ e u is. least.least e u (tied.times e ∙ is)))

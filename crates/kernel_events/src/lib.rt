@@ -1,0 +1,145 @@
+//! What is pending for each event of a run, kept so that no phase looks at events that are not due
+//! (IEEE 1666-2011, 4.2.1.4, 4.2.1.5 and 5.10).
+#![tactic(auto)]
+
+ghost use Rattle.std.specs.Prelude.{◌≡◌, ◌++◌, ◌+◌, ◌≤◌, IfOk, count_by, length, map, option_map, replicate, vec_len, vec_capacity};
+
+mod kept;
+
+use kept::{cancel_all, follow, left_by};
+pub use number_marks as number_marks_api;
+use number_marks::{Marks, only_marked_places_rise};
+use sim_model::event_core_api::{Effect, Events, Pending, When};
+pub use sim_model::{
+    event_core_api as event_core_api, fifo_sync_api as fifo_sync_api,
+    flat_design_api as flat_design_api, logic_values_api as logic_values_api,
+    model_tree_api as model_tree_api, signal_channel_api as signal_channel_api,
+};
+use std::alloc::{AllocError, Global};
+use std::marker::Model;
+use timed_queue::TimedQueue;
+use timed_queue::sim_time_api::Time;
+
+/// What is pending for each event of the design, by the event's number.
+///
+/// All memory is taken by `new`. A notification or a cancellation takes time in the logarithm of the number of timed
+/// notifications, and what takes notifications out takes time in how many it takes, times a logarithm.
+#[derive(Drop)]
+pub struct EventBoard {
+    // What is pending for each event.
+    events: Events,
+    // The events with a delta notification.
+    deltas: Marks,
+    // The events with a timed notification, by its time.
+    times: TimedQueue,
+    // How many events there are.
+    size: u32,
+}
+
+impl Model for EventBoard {
+    ghost use Rattle.std.specs.Prelude.{List};
+    ghost use Rattle.std.specs.Coded.{coded_list};
+    ghost use Rattle.sim_model.specs.EventCore.declared.notifications.Pending.{Pending as Kind};
+    ghost use Rattle.sim_model.specs.EventCore.contracts.notifications.Pending.{the_row};
+
+    ghost Value = { List Kind };
+
+    ghost coded = { coded_list the_row.coded };
+
+    ghost use Rattle.kernel_events.specs.Kept.{IsTied};
+
+    ghost view = { λ b. b.events };
+
+    ghost invariant = { λ b. IsTied b.events b.deltas b.times b.size };
+}
+
+impl EventBoard {
+    ghost use Rattle.sim_model.specs.EventCore.Notifications.{notified};
+    ghost use Rattle.sim_model.specs.Configuration.{change};
+    ghost use Rattle.sim_model.specs.Phases.{is_delta, is_at, due_events, without_pending, earliest_event};
+    ghost use Rattle.kernel_events.specs.Numbered.{fixed};
+
+    /// The events from 0 up to `n`, of which none is pending. All memory is taken here.
+    pub fn new(alloc: Global, n: u32) -> Result<EventBoard, AllocError>
+        ensures { IfOk result (λ board. board ≡ replicate n Pending.Nothing) }
+    {
+        let events = Events::new(alloc, n)?;
+        let deltas = Marks::new(alloc, n)?;
+        let mut times = TimedQueue::new(alloc);
+        times.reserve(n)?;
+        Ok(EventBoard {
+            events,
+            deltas,
+            times,
+            size: n,
+        })
+    }
+
+    /// How many events there are.
+    pub fn len(&self) -> u32
+        ensures { result ≡ length self.now }
+    {
+        self.size
+    }
+
+    /// Notifies an event. An earlier pending notification stays, a later one is overridden, and after an immediate
+    /// notification nothing is pending: the caller fires the event. Where there is no event of this number nothing changes.
+    pub fn notify(&mut self, e: u32, w: When)
+        ensures { self.new ≡ change self.old e (notified w) }
+    {
+        if e >= self.size {
+            return;
+        }
+        match self.events.notify(e, w) {
+            Effect::Kept => {}
+            Effect::Fire | Effect::Set => {
+                follow(&mut self.deltas, &mut self.times, e, left_by(w));
+            }
+        }
+    }
+
+    /// Takes the pending notification of an event back, if it has one.
+    pub fn cancel(&mut self, e: u32)
+        ensures { self.new ≡ change self.old e (λ x. Pending.Nothing) }
+    {
+        if e >= self.size {
+            return;
+        }
+        self.events.cancel(e);
+        follow(&mut self.deltas, &mut self.times, e, Pending::Nothing);
+    }
+
+    /// The earliest time of a timed notification.
+    pub fn earliest(&self) -> Option<Time>
+        ensures { option_map (λ t. t.0) result ≡ earliest_event self.now None }
+    {
+        self.times.earliest()
+    }
+
+    /// Takes all delta notifications out: their events, in rising order of the numbers, stand behind what `out` has. It
+    /// takes no memory.
+    pub fn take_deltas(&mut self, out: &mut Vec<u32>)
+        requires room { vec_len out.old + count_by is_delta self.old ≤ vec_capacity out.old }
+        ensures taken { fixed out.new.items ≡ fixed out.old.items ++ due_events is_delta 0 self.old }
+        ensures capacity { vec_capacity out.new ≡ vec_capacity out.old }
+        ensures left { self.new ≡ map (without_pending is_delta) self.old }
+    {
+        let before = out.len();
+        self.deltas.take_all(out);
+        cancel_all(&mut self.events, &out.as_slice()[before..]);
+    }
+
+    /// Takes all notifications at this very time out: their events, in rising order of the numbers, stand behind what `out`
+    /// has. It takes no memory.
+    pub fn take_at(&mut self, t: Time, out: &mut Vec<u32>)
+        requires room { vec_len out.old + count_by (is_at t.0) self.old ≤ vec_capacity out.old }
+        ensures taken { fixed out.new.items ≡ fixed out.old.items ++ due_events (is_at t.0) 0 self.old }
+        ensures capacity { vec_capacity out.new ≡ vec_capacity out.old }
+        ensures left { self.new ≡ map (without_pending (is_at t.0)) self.old }
+    {
+        only_marked_places_rise();
+        let before = out.len();
+        self.times.take_due(t, out);
+        cancel_all(&mut self.events, &out.as_slice()[before..]);
+    }
+}

@@ -1,0 +1,21 @@
+pub mod Wakes
+pub mod Changed
+pub mod Places
+pub mod Rousing
+mod Emptiness
+mod Meeting
+mod Firing
+pub mod Fired
+pub mod Sounding
+mod Single
+mod Finish
+mod Ending
+mod Room
+mod Moving
+pub mod OtherBody
+mod Adding
+mod Overs
+mod Takings
+mod WakingMoves
+pub use Rattle.wait_lists.proofs.Lemmas as Lemmas
+pub use Rattle.ready_set.proofs as ReadySet

@@ -1,0 +1,193 @@
+//! What a part of a schedule is changed by, for one instance at a time.
+ghost use Rattle.std.specs.Prelude.{◌≡◌, ◌≤◌, ◌<◌, ◌-◌, ◌^◌, ◌+◌, true, false, not, ◌||◌, Some, None, OnOk, IfSome, option_map, length};
+ghost use Rattle.std.specs.FinMap as map;
+ghost use Rattle.std.specs.FinSet as set;
+ghost use Rattle.instance_table.specs.declared.instances.Waiting.TheVariants as waiting;
+ghost use Rattle.instance_table.specs.declared.instances.Deadline.TheVariants as due;
+ghost use Rattle.wait_lists.specs.Waits.{room_for};
+ghost use Rattle.kernel_processes.specs.Sound.{time_of, is_zero};
+ghost use Rattle.kernel_processes.specs.Moves.{Changes, with_entry, listed_as, events_of, sensitive_of, waiting_by, is_kept};
+
+use super::parts::{Schedule, Trigger, Wait};
+use instance_table::{Deadline, Waiting};
+use std::alloc::AllocError;
+use std::mem;
+use timed_queue::sim_time_api::Time;
+use wait_lists::event_core_api::Ev;
+
+/// Makes room for an instance that has room, so that it can wait for as many as `items` events, and until a time.
+pub fn hold_room<B>(s: &mut Schedule<B>, p: u32, items: u32) -> Result<(), AllocError>
+    requires { map.contains_key s.old.lists.room p ≡ true }
+    ensures changes { Changes p (λ x. x) s.old s.new }
+    ensures stays { s.new ≡ record s.old { lists = record s.old.lists { room = s.new.lists.room }; deadlines = record s.old.deadlines { spare = s.new.deadlines.spare }; zero = record s.old.zero { spare = s.new.zero.spare } } }
+    ensures events { OnOk result (items ≤ room_for s.new.lists p) }
+    ensures times { OnOk result (0 < s.new.deadlines.spare) }
+    ensures zeros { OnOk result (0 < s.new.zero.spare) }
+{
+    match s.lists.reserve_for(p, items) {
+        Ok(()) => {}
+        Err(_) => return Err(AllocError),
+    }
+    match s.deadlines.reserve(1) {
+        Ok(()) => {}
+        Err(_) => return Err(AllocError),
+    }
+    s.zero.reserve(1)
+}
+
+/// Takes an instance out of all wait lists.
+pub fn leave_lists<B>(s: &mut Schedule<B>, p: u32)
+    ensures { Changes p (λ x. record x { wait = None }) s.old s.new }
+{
+    s.lists.leave(p);
+}
+
+/// Mutes an instance or ends that.
+pub fn mute<B>(s: &mut Schedule<B>, p: u32, on: bool)
+    requires { map.contains_key s.old.lists.room p ≡ true }
+    ensures { Changes p (λ x. record x { muted = on }) s.old s.new }
+{
+    s.lists.mute(p, on);
+}
+
+/// Gives an instance this time-out, in place of the one that it had.
+pub fn put_time<B>(s: &mut Schedule<B>, p: u32, d: Deadline)
+    requires below { p < 2 ^ 32 - 1 }
+    requires times { 0 < s.old.deadlines.spare }
+    requires zeros { 0 < s.old.zero.spare }
+    ensures changes { Changes p (λ x. record x { time = time_of d; zero = is_zero d }) s.old s.new }
+    ensures lists { s.new.lists ≡ s.old.lists }
+    ensures table { s.new.table ≡ s.old.table }
+{
+    s.deadlines.clear(p);
+    s.zero.remove(p);
+    match d {
+        Deadline::None => {}
+        Deadline::Delta => s.zero.insert(p),
+        Deadline::At(t) => s.deadlines.set(p, Time(t)),
+    }
+}
+
+/// Takes an instance out of the runnable ones, and answers whether it was among them.
+pub fn unready<B>(s: &mut Schedule<B>, p: u32) -> bool
+    ensures answer { result ≡ set.contains s.old.ready.members p }
+    ensures changes { Changes p (λ x. record x { ready = false }) s.old s.new }
+{
+    s.ready.remove(p)
+}
+
+/// The events of a wait, of an instance with this static sensitivity.
+fn events_of<'a>(wait: &'a Wait, sensitive: &'a [Ev]) -> &'a [Ev]
+    ensures { result.now ≡ events_of wait.now sensitive.now }
+{
+    match wait {
+        Wait::Static => sensitive,
+        Wait::Any(events) | Wait::All(events) => events.as_slice(),
+    }
+}
+
+/// How many events there are in a wait of an instance, where they are not too many to be counted.
+pub fn count_events<B>(s: &Schedule<B>, p: u32, wait: &Wait) -> Option<u32>
+    ensures { IfSome result (λ n. n ≡ length (events_of wait.now (sensitive_of (map.get s.now.table.live p)))) }
+{
+    match s.table.get(p) {
+        Some(x) => u32::try_from(events_of(wait, x.body.sensitive.as_slice()).len()).ok(),
+        None => u32::try_from(events_of(wait, &[]).len()).ok(),
+    }
+}
+
+/// Lets an instance wait in the lists, in place of what it waited for.
+pub fn put_wait<B>(s: &mut Schedule<B>, p: u32, wait: &Wait)
+    requires { length (events_of wait.now (sensitive_of (map.get s.old.table.live p))) ≤ room_for s.old.lists p }
+    ensures { Changes p (λ x. record x { wait = listed_as wait.now (sensitive_of x.entry) }) s.old s.new }
+{
+    match wait {
+        Wait::Static => match s.table.get(p) {
+            Some(x) => s.lists.wait_any(p, x.body.sensitive.as_slice()),
+            None => s.lists.leave(p),
+        },
+        Wait::Any(events) => s.lists.wait_any(p, events.as_slice()),
+        Wait::All(events) => s.lists.wait_all(p, events.as_slice()),
+    }
+}
+
+fn waiting_by(wait: &Wait) -> Waiting
+    ensures { result ≡ waiting_by wait.now }
+{
+    match wait {
+        Wait::Static => Waiting::Static,
+        Wait::Any(_) => Waiting::Any,
+        Wait::All(_) => Waiting::All,
+    }
+}
+
+/// Notes how an instance waits.
+pub fn mark_wait<B>(s: &mut Schedule<B>, p: u32, t: &Trigger)
+    ensures { Changes p (with_entry (λ x. record x { wait = waiting_by t.now.wait; deadline = t.now.deadline })) s.old s.new }
+{
+    if let Some(x) = s.table.get_mut(p) {
+        x.wait = waiting_by(&t.wait);
+        x.deadline = t.deadline;
+    }
+}
+
+/// Notes that an instance waits for nothing, and is not kept.
+pub fn mark_free<B>(s: &mut Schedule<B>, p: u32)
+    ensures { Changes p (with_entry (λ x. record x { wait = waiting.None; deadline = due.None; kept = false })) s.old s.new }
+{
+    if let Some(x) = s.table.get_mut(p) {
+        x.wait = Waiting::None;
+        x.deadline = Deadline::None;
+        x.kept = false;
+    }
+}
+
+/// Notes that an instance is kept till it is resumed.
+pub fn mark_kept<B>(s: &mut Schedule<B>, p: u32)
+    ensures { Changes p (with_entry (λ x. record x { kept = true })) s.old s.new }
+{
+    if let Some(x) = s.table.get_mut(p) {
+        x.kept = true;
+    }
+}
+
+/// Notes that an instance is suspended.
+pub fn mark_suspended<B>(s: &mut Schedule<B>, p: u32)
+    ensures { Changes p (with_entry (λ x. record x { suspended = true })) s.old s.new }
+{
+    if let Some(x) = s.table.get_mut(p) {
+        x.suspended = true;
+    }
+}
+
+/// Notes that an instance is suspended no more, nor kept, and answers whether it was kept.
+pub fn mark_resumed<B>(s: &mut Schedule<B>, p: u32) -> bool
+    ensures answer { result ≡ is_kept (map.get s.old.table.live p) }
+    ensures changes { Changes p (with_entry (λ x. record x { suspended = false; kept = false })) s.old s.new }
+{
+    match s.table.get_mut(p) {
+        Some(x) => {
+            x.suspended = false;
+            mem::replace(&mut x.kept, false)
+        }
+        None => false,
+    }
+}
+
+/// Notes whether an instance is disabled.
+pub fn mark_disabled<B>(s: &mut Schedule<B>, p: u32, on: bool)
+    ensures { Changes p (with_entry (λ x. record x { disabled = on })) s.old s.new }
+{
+    if let Some(x) = s.table.get_mut(p) {
+        x.disabled = on;
+    }
+}
+
+/// Notes whether the body of an instance has begun.
+pub fn mark_started<B>(s: &mut Schedule<B>, p: u32, on: bool)
+    ensures { Changes p (with_entry (λ x. record x { started = on })) s.old s.new }
+{
+    if let Some(x) = s.table.get_mut(p) {
+        x.started = on;
+    }
+}

@@ -1,0 +1,77 @@
+//! Waits of the active instance.
+ghost use Rattle.std.specs.Prelude.{◌≡◌, ◌≤◌, ◌<◌, ◌-◌, ◌^◌, false, true, OnOk, OnErr, length};
+ghost use Rattle.std.specs.FinMap as map;
+ghost use Rattle.wait_lists.specs.Waits.{room_for};
+ghost use Rattle.kernel_processes.specs.Sound.{IsSound};
+ghost use Rattle.kernel_processes.specs.Moves.{events_of, sensitive_of, Changes, MovesOne};
+ghost use Rattle.kernel_processes.specs.Moved.{IsTop, Stays, leaves_top, waits_as, rests_as, waiting_seen};
+
+use super::turns::leave_stack;
+use crate::{
+    Schedule, Trigger, count_events, hold_room, mark_started, mark_wait, put_time, put_wait,
+};
+use std::alloc::AllocError;
+
+/// Makes room for a wait of the instance.
+fn make_room<B>(s: &mut Schedule<B>, p: u32, t: &Trigger) -> Result<(), AllocError>
+    requires { map.contains_key s.old.lists.room p ≡ true }
+    ensures changes { Changes p (λ x. x) s.old s.new }
+    ensures table { s.new.table ≡ s.old.table }
+    ensures events { OnOk result (length (events_of t.now.wait (sensitive_of (map.get s.new.table.live p))) ≤ room_for s.new.lists p) }
+    ensures times { OnOk result (0 < s.new.deadlines.spare) }
+    ensures zeros { OnOk result (0 < s.new.zero.spare) }
+{
+    match count_events(s, p, &t.wait) {
+        Some(n) => hold_room(s, p, n),
+        None => Err(AllocError),
+    }
+}
+
+/// Puts the instance into the wait lists and the queues of time-outs.
+fn put<B>(s: &mut Schedule<B>, p: u32, t: &Trigger)
+    requires below { p < 2 ^ 32 - 1 }
+    requires events { length (events_of t.now.wait (sensitive_of (map.get s.old.table.live p))) ≤ room_for s.old.lists p }
+    requires times { 0 < s.old.deadlines.spare }
+    requires zeros { 0 < s.old.zero.spare }
+    ensures { Changes p (waiting_seen t.now) s.old s.new }
+{
+    put_time(s, p, t.deadline);
+    put_wait(s, p, &t.wait);
+    mark_wait(s, p, t);
+}
+
+/// The instance on top leaves the stack and waits so (IEEE 1666-2011, 5.2.17). Where memory is refused nothing changes.
+pub fn wait<B>(s: &mut Schedule<B>, p: u32, t: &Trigger) -> Result<(), AllocError>
+    requires sound { IsSound s.old }
+    requires top { IsTop p s.old.stack.items }
+    ensures moves { OnOk result (MovesOne p (waits_as t.now) false (leaves_top p) s.old s.new) }
+    ensures stays { OnErr result (Stays s.old s.new) }
+    ensures sound { IsSound s.new }
+{
+    match make_room(s, p, t) {
+        Ok(()) => {}
+        Err(_) => return Err(AllocError),
+    }
+    leave_stack(s, p);
+    put(s, p, t);
+    Ok(())
+}
+
+/// The method on top has returned: it leaves the stack and waits so, and its body has not begun (IEEE 1666-2011, 5.2.11).
+/// Where memory is refused nothing changes.
+pub fn rest<B>(s: &mut Schedule<B>, p: u32, t: &Trigger) -> Result<(), AllocError>
+    requires sound { IsSound s.old }
+    requires top { IsTop p s.old.stack.items }
+    ensures moves { OnOk result (MovesOne p (rests_as t.now) false (leaves_top p) s.old s.new) }
+    ensures stays { OnErr result (Stays s.old s.new) }
+    ensures sound { IsSound s.new }
+{
+    match make_room(s, p, t) {
+        Ok(()) => {}
+        Err(_) => return Err(AllocError),
+    }
+    leave_stack(s, p);
+    put(s, p, t);
+    mark_started(s, p, false);
+    Ok(())
+}

@@ -1,0 +1,22 @@
+pub mod Operands
+pub mod Has
+pub mod Places
+pub mod Seen
+pub mod Terms
+pub mod Channels
+pub mod Events
+pub mod Calls
+pub mod Actions
+pub mod Plain
+pub mod TypedBlocks
+pub mod Bodies
+pub mod TypedModels
+pub mod Lists
+pub mod Marks
+pub mod Leaves
+pub mod ReachedBlocks
+pub mod ReachedModels
+pub mod Rooted
+pub mod Rules
+pub mod Fields
+pub use Rattle.laws_rules.proofs as LawsRules

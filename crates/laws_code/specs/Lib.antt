@@ -1,0 +1,7 @@
+pub mod Standing
+pub mod Functions
+pub mod Ready
+pub mod TypedCode
+pub mod Bodies
+pub mod Reached
+pub use Rattle.laws_rules.specs as LawsRules

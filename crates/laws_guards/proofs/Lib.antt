@@ -1,0 +1,12 @@
+pub mod Inside
+pub mod Never
+pub mod First
+pub mod Frames
+pub mod Todo
+pub mod EndedGuards
+pub mod Callers
+pub mod Killing
+pub mod Stays
+pub mod Names
+pub mod Raised
+pub mod Throwing

@@ -1,0 +1,17 @@
+ghost use Rattle.std.specs.Prelude.{◌≡◌, true};
+ghost use Rattle.model_print.specs.ModelTree.Limits.{is_sound};
+ghost use Rattle.model_print.specs.ModelTree.Seen.{model_of};
+ghost use Rattle.model_print.specs.ModelTree.Tree as tree;
+ghost use Rattle.model_print.specs.ModelTree.declared.whole.Tree.{Tree};
+ghost use Rattle.model_print.specs.Printed.{printed_text};
+ghost use Rattle.laws_print.specs.ReadsBack.{ReadsBack};
+
+/// The printed text of a tree within the limits reads as the same tree but for line numbers.
+pub fn print_reads_back()
+    ensures { (m : tree.Model) → is_sound m ≡ true → ReadsBack (printed_text m) m }
+{}
+
+/// So does that of each tree in memory, which is within the limits.
+pub fn print_of_a_tree_reads_back()
+    ensures { (t : Tree) → ReadsBack (printed_text (model_of t)) (model_of t) }
+{}

@@ -1,0 +1,2 @@
+pub mod Reached
+pub use Rattle.kernel_phases.specs as KernelPhases

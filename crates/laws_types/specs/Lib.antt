@@ -1,0 +1,6 @@
+pub mod Contents
+pub mod Operands
+pub mod Frames
+pub mod TypedConfig
+pub mod Terms
+pub mod Unfit

@@ -1,0 +1,31 @@
+pub mod Fine
+pub mod Wakes
+pub mod Moves
+pub mod Controls
+pub mod Ends
+pub mod New
+pub mod Forms
+pub mod Statements
+pub mod Steps
+pub mod Runs
+pub mod Parts
+pub mod KeptWakes
+pub mod KeptControls
+pub mod Values
+pub mod News
+pub mod KeptForms
+pub mod KeptEnds
+pub mod KeptStatements
+pub mod KeptSteps
+pub mod KeptRuns
+pub mod StackMoves
+pub mod Each
+pub mod Roots
+pub mod Nested
+pub mod Shaped
+pub mod Kept
+pub mod Fits
+pub mod Opened
+pub mod MarkedRuns
+pub use Rattle.laws_runs.proofs.TransportPhases as TransportPhases
+pub use Rattle.laws_runs.proofs as LawsRuns

@@ -1,0 +1,5 @@
+pub mod LocalLemmas
+pub mod BodyLemmas
+pub mod LaidLemmas
+pub mod Standing
+mod Raised

@@ -1,4 +1,0 @@
-pub mod LocalLemmas
-pub mod BodyLemmas
-pub mod LaidLemmas
-pub mod Standing

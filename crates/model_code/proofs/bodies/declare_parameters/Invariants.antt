@@ -1,7 +1,0 @@
-use Rattle.std.proofs.Common.{◌≡◌, drop}
-use Rattle.model_scopes.specs.Scopes.{with_parameters}
-use Rattle.name_tables.specs.Places.{scope_of}
-use Rattle.model_code.proofs.bodies.declare_parameters.Given as goal
-
-abbrev pub invariant-loop-parameter : goal.invariant-loop-parameter
-invariant-loop-parameter l = with_parameters (scope_of l.place) (drop l.parameter-index l.parameters) ≡ with_parameters (scope_of l.fn.place) l.parameters

@@ -1,5 +1,0 @@
-use Rattle.model_faults.proofs.Firsts.{first_at}
-use Rattle.model_faults.proofs.laws.fault_is_first.Goals as goal
-
-pub returns : goal.returns
-returns c = λ rules xs f h. first_at rules f xs h

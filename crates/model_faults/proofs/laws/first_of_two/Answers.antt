@@ -1,6 +1,0 @@
-use Rattle.model_faults.proofs.Firsts.{first_append}
-use Rattle.model_faults.specs.Passes.{fault_at}
-use Rattle.model_faults.proofs.laws.first_of_two.Goals as goal
-
-pub returns : goal.returns
-returns c = λ rules xs ys. first_append (fault_at rules) xs ys

@@ -1,9 +1,0 @@
-use Rattle.std.proofs.Common.{◌≡◌, drop}
-use Rattle.std.specs.List.{list_all}
-use Rattle.object_rules.specs.declared.made.Made.{Made}
-use Rattle.module_cycles.specs.Marks.{is_marked}
-use Rattle.module_cycles.proofs.settled.are_marked.Given as goal
-
-abbrev pub invariant-loop-x : goal.invariant-loop-x
-invariant-loop-x l =
-    list_all (λ (x : Made). is_marked l.marks x.place) l.made ≡ list_all (λ (x : Made). is_marked l.marks x.place) (drop l.x-index l.made)

@@ -1,5 +1,0 @@
-pub mod Tables
-pub mod LocalNames
-pub mod ModuleNames
-pub mod ModelNames
-pub mod Places

@@ -1,4 +1,0 @@
-mod RowLemmas
-mod Lasting
-mod Counts
-mod Parents

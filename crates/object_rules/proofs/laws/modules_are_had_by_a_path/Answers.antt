@@ -1,5 +1,0 @@
-use Rattle.object_rules.proofs.Paths.{has_path}
-use Rattle.object_rules.proofs.laws.modules_are_had_by_a_path.Goals as goal
-
-pub returns : goal.returns
-returns c = has_path

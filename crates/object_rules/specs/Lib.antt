@@ -1,5 +1,0 @@
-pub mod Values
-pub mod Forms
-pub mod Listing
-pub mod Faults
-pub mod Written

@@ -1,4 +1,0 @@
-pub mod Along
-pub mod Numbered
-pub mod Fits
-pub mod Events

@@ -1,3 +1,0 @@
-pub mod Upward
-pub mod Inside
-pub mod Denoted

@@ -1,5 +1,0 @@
-use Rattle.payload_statements.proofs.Keeping.{quantum_sound}
-use Rattle.payload_statements.proofs.keepers.set_global.Goals as goal
-
-pub returns-clause-sound : goal.returns-clause-sound
-returns-clause-sound c = quantum_sound c.args.k.now c.set_global.new.self c.set_global.ensures.transactions c.requires

@@ -1,5 +1,0 @@
-use Rattle.print_laws.proofs.Whole.{printed_reads}
-use Rattle.print_laws.proofs.laws.print_reads_back.Goals as goal
-
-pub returns : goal.returns
-returns c = λ m h. printed_reads m h

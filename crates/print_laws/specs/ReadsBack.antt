@@ -1,9 +1,0 @@
--- That a text reads as a given tree but for line numbers.
-use Rattle.std.specs.Prelude.{ℕ, List}
-use Rattle.model_tree.specs.Tree as tree
-use Rattle.model_lexer.specs.Reads.{Reads}
-use Rattle.print_laws.specs.Unlined.{SameButLines}
-
--- the text reads as a tree that is this one but for line numbers
-abbrev pub ReadsBack : List ℕ → tree.Model → Type 0
-ReadsBack text m = (n : tree.Model) × Reads text n × SameButLines m n

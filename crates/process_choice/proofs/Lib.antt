@@ -1,4 +1,0 @@
-pub mod Places
-pub mod Orders
-pub mod Chosen
-pub mod Sure

@@ -1,5 +1,0 @@
-use Rattle.schedule.proofs.Changed.{then_changes}
-use Rattle.process_moves.proofs.turns.free.Goals as goal
-
-pub returns : goal.returns
-returns g c = then_changes c.args.p _ _ c.args.s.now _ _ (then_changes c.args.p _ _ c.args.s.now _ _ c.leave_lists.ensures c.end_time.ensures) c.mark_free.ensures

@@ -1,9 +1,0 @@
-mod BeginLaws
-mod CallGraph
-mod JudgeLaws
-mod Members
-mod PlacedLaws
-mod SetLaws
-mod SiteWalk
-mod Spread
-mod Turns

@@ -1,8 +1,0 @@
-use Rattle.std.proofs.Common.{◌≡◌, ◌++◌, drop}
-use Rattle.name_tables.specs.ModuleNames.{items_of}
-use Rattle.reach_check.specs.Flat.{seen_list}
-use Rattle.reach_check.specs.Sets.{edges_of}
-use Rattle.reach_check.proofs.calls.edges_of.Given as goal
-
-abbrev pub invariant-loop-body : goal.invariant-loop-body
-invariant-loop-body l = l.edges.items ++ edges_of (items_of l.names) (seen_list (drop l.body-index l.bodies)) ≡ edges_of (items_of l.names) (seen_list l.bodies)

@@ -1,8 +1,0 @@
-use Rattle.std.proofs.Common.{◌≡◌, drop}
-use Rattle.model_tree.specs.Views.{modules_of}
-use Rattle.model_faults.specs.Names.{first}
-use Rattle.reach_check.specs.Judged.{module_fault}
-use Rattle.reach_check.proofs.whole.modules_finding.Given as goal
-
-abbrev pub invariant-loop-owner : goal.invariant-loop-owner
-invariant-loop-owner l = first module_fault (modules_of l.modules) ≡ first module_fault (modules_of (drop l.owner-index l.modules))

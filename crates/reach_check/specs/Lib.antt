@@ -1,3 +1,0 @@
-pub mod Flat
-pub mod Sets
-pub mod Judged

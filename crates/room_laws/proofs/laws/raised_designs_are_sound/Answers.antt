@@ -1,5 +1,0 @@
-use Rattle.room_laws.proofs.Designs.{sound}
-use Rattle.room_laws.proofs.laws.raised_designs_are_sound.Goals as goal
-
-pub returns : goal.returns
-returns c = λ is_missing d after differs rooms s. sound d after differs is_missing rooms s

@@ -1,5 +1,0 @@
-use Rattle.run_laws.proofs.GuardLemmas.{guards-put, guards-past, guards-local, guards-raise}
-use Rattle.run_laws.proofs.marks.moves_keep_guards.Goals as goal
-
-pub returns : goal.returns
-returns c = record { goes_on = guards-put; passes = guards-past; sets = guards-local; raises = guards-raise }

@@ -1,5 +1,0 @@
-use Rattle.run_laws.proofs.ShapeLemmas.{entered-normal, block-normal}
-use Rattle.run_laws.proofs.shapes.bodies_begin_normal.Goals as goal
-
-pub returns : goal.returns
-returns c = record { body = entered-normal; block = block-normal }

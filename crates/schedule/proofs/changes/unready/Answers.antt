@@ -1,5 +1,0 @@
-use Rattle.schedule.proofs.Changed.{unreadied}
-use Rattle.schedule.proofs.changes.unready.Goals as goal
-
-pub returns-clause-changes : goal.returns-clause-changes
-returns-clause-changes g c = unreadied c.args.s.now c.args.p _ c.remove.ensures.left

@@ -1,8 +1,0 @@
-use Rattle.std.proofs.Common.{◌≡◌, drop}
-use Rattle.script_commands.specs.NamedScript.{name_script}
-use Rattle.script_commands.specs.Naming.{behind}
-use Rattle.script_commands.proofs.naming.name_all.Given as goal
-
-abbrev pub invariant-loop-command : goal.invariant-loop-command
-invariant-loop-command l =
-    name_script l.design l.fn.commands ≡ behind l.script (name_script l.design (drop l.command-index l.command-items))

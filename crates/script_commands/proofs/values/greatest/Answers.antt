@@ -1,5 +1,0 @@
-use Rattle.script_commands.proofs.RangeLemmas.{greatest_is}
-use Rattle.script_commands.proofs.values.greatest.Goals as goal
-
-pub returns : goal.returns
-returns c = greatest_is c.args.width c.requires.some c.requires.at_most_64

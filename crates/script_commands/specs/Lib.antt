@@ -1,9 +1,0 @@
-pub mod ScriptText
-pub mod Pieces
-pub mod Progress
-pub mod ValueTexts
-pub mod NamedScript
-pub mod Fits
-pub mod Naming
-pub mod ChoiceList
-pub mod ChoiceProgress

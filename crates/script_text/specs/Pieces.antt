@@ -1,0 +1,14 @@
+-- What is left of a line while its words are cut off.
+use Rattle.std.specs.Prelude.{ℕ, List, [], ◌∷◌, Option, Some, None}
+use Rattle.std.specs.Option.{option_map_or}
+use Rattle.std.specs.Borrow.{Bor}
+use Rattle.script_text.specs.ScriptText.{words}
+
+-- the words of what is left, where something is
+abbrev pub words_left : Option (Bor (List ℕ)) → List (List ℕ)
+words_left rest = option_map_or (λ bytes. words bytes.now) rest []
+
+-- a word and those behind it; none where no word was found
+abbrev pub words_after : Option (Bor (List ℕ) × Option (Bor (List ℕ))) → List (List ℕ)
+words_after None = []
+words_after (Some found) = found.0.now ∷ words_left found.1

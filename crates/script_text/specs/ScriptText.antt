@@ -1,0 +1,123 @@
+-- What a script text says: the commands of its lines in order, or the first line at which it says none.
+use Rattle.std.specs.Prelude.{ℕ, suc, ◌-◌, ◌*◌, ◌^◌, min, Bool, true, false, not, ◌==◌, nat_lt, if◌then◌else◌, List, [], ◌∷◌, map, filter, length, drop, slice_get, bytes_eq, codes, Option, Some, None, option_map, option_and_then, Result, Ok, Err}
+use Rattle.std.specs.List.{slice_split}
+use Rattle.std.specs.Str.Lines.{strip_carriage_return}
+use Rattle.std.specs.Str.Parse.{digits_value}
+use Rattle.sim_model.specs.SimTime.declared.moments.Time.{Time}
+use Rattle.sim_model.specs.SimTime.declared.moments.Unit.{Unit as TimeUnit}
+use Rattle.sim_model.specs.SimTime.Times.{time_of, picoseconds_in}
+use Rattle.model_lexer.specs.ModelGrammar.Expressions.{unit_of}
+use Rattle.model_lexer.specs.Forms.{is_decimal, is_hexadecimal}
+use Rattle.model_lexer.specs.Meanings.{number_within}
+use Rattle.script_text.specs.declared.forms.CommandForm.{CommandForm}
+use Rattle.script_text.specs.declared.forms.CommandForm.TheVariants as form
+use Rattle.script_text.specs.declared.forms.LineForm.{LineForm}
+use Rattle.script_text.specs.declared.forms.LineForm.TheVariants as line
+use Rattle.script_text.specs.declared.forms.TextCommand.{TextCommand}
+
+-- the lines of a text: byte 10 ends a line, the last line may lack it, and one byte 13 at the end of a line is ignored
+abbrev pub lines : List ℕ → List (List ℕ)
+lines text = map strip_carriage_return (slice_split (λ b. b == 10) text)
+
+-- the words of a line: what stands between spaces
+abbrev pub words : List ℕ → List (List ℕ)
+words bytes = filter (λ word. not (length word == 0)) (slice_split (λ b. b == 32) bytes)
+
+-- a comment has `#` in its first column
+abbrev pub is_comment : List ℕ → Bool
+is_comment [] = false
+is_comment (first ∷ rest) = first == 35
+
+-- the number that bytes write in decimal, where it is below 2^64
+abbrev pub decimal_read : List ℕ → Option ℕ
+decimal_read bytes = if is_decimal bytes then number_within (digits_value 10 bytes) else None
+
+-- the number that bytes write as a number of a model does: in hexadecimal behind `0x`, or in decimal
+abbrev pub number_read : List ℕ → Option ℕ
+number_read bytes = if is_hexadecimal bytes then number_within (digits_value 16 (drop 2 bytes)) else decimal_read bytes
+
+-- a time from 1 ps up
+abbrev pub positive : Time → Option Time
+positive t = if nat_lt 0 t.0 then Some t else None
+
+-- a number of units, where it is a time from 1 ps up and at most 2^64 - 1 ps
+abbrev pub units_read : ℕ → TimeUnit → Option Time
+units_read n u = option_and_then positive (time_of (n * picoseconds_in u))
+
+-- the time that a number and a unit write
+abbrev pub time_read : List ℕ → List ℕ → Option Time
+time_read number unit = option_and_then (λ n. option_and_then (units_read n) (unit_of unit)) (number_read number)
+
+-- a command where its word is the right one
+abbrev pub command_if : Bool → CommandForm → LineForm
+command_if true f = line.Command f
+command_if false f = line.Unreadable
+
+-- a run for a time, where it is one
+abbrev pub run_for : Option Time → LineForm
+run_for None = line.Unreadable
+run_for (Some t) = line.Command (form.Run (Some t))
+
+-- three words: `run NUM UNIT`, or `set PATH VALUE`
+abbrev pub three_words : List ℕ → List ℕ → List ℕ → LineForm
+three_words word second third =
+    if bytes_eq word (codes "run") then run_for (time_read second third) else command_if (bytes_eq word (codes "set")) (form.Set second third)
+
+-- a line of no words says nothing; the commands are `run`, `show PATH`, `run NUM UNIT` and `set PATH VALUE`
+abbrev pub words_form : List (List ℕ) → LineForm
+words_form [] = line.Blank
+words_form (word ∷ []) = command_if (bytes_eq word (codes "run")) (form.Run None)
+words_form (word ∷ path ∷ []) = command_if (bytes_eq word (codes "show")) (form.Show path)
+words_form (word ∷ second ∷ third ∷ []) = three_words word second third
+words_form (word ∷ second ∷ third ∷ fourth ∷ more) = line.Unreadable
+
+-- what a line says
+abbrev pub line_form : List ℕ → LineForm
+line_form bytes = if is_comment bytes then line.Blank else words_form (words bytes)
+
+-- lines count from 1, and a number past 32 bits stands at the greatest one
+abbrev pub line_number : ℕ → ℕ
+line_number n = min n (2 ^ 32 - 1)
+
+-- the commands of lines numbered from n, each with its line
+abbrev pub with_command : ℕ → LineForm → List TextCommand → List TextCommand
+with_command n (line.Command f) later = (record { line = line_number n; form = f }) ∷ later
+with_command n line.Blank later = later
+with_command n line.Unreadable later = later
+
+abbrev pub commands_from : ℕ → List (List ℕ) → List TextCommand
+commands_from n [] = []
+commands_from n (l ∷ ls) = with_command n (line_form l) (commands_from (suc n) ls)
+
+-- the first of lines numbered from n that has none of the forms
+abbrev pub unreadable_at : ℕ → LineForm → Option ℕ → Option ℕ
+unreadable_at n line.Unreadable later = Some (line_number n)
+unreadable_at n line.Blank later = later
+unreadable_at n (line.Command f) later = later
+
+abbrev pub unreadable_from : ℕ → List (List ℕ) → Option ℕ
+unreadable_from n [] = None
+unreadable_from n (l ∷ ls) = unreadable_at n (line_form l) (unreadable_from (suc n) ls)
+
+-- the line of the command with this number, counted from 0
+abbrev pub line_of_command : ℕ → List TextCommand → Option ℕ
+line_of_command k cs = option_map (λ c. c.line) (slice_get cs k)
+
+-- the earlier of two lines
+abbrev pub earlier : Option ℕ → Option ℕ → Option ℕ
+earlier None b = b
+earlier (Some a) None = Some a
+earlier (Some a) (Some b) = Some (min a b)
+
+-- the commands where no line is at fault
+abbrev pub unless : Option ℕ → List TextCommand → Result (List TextCommand) ℕ
+unless None cs = Ok cs
+unless (Some n) cs = Err n
+
+-- the commands of numbered lines, or the first line that has none of the forms or holds the 4,097th command
+abbrev pub read_lines : ℕ → List (List ℕ) → Result (List TextCommand) ℕ
+read_lines n ls = unless (earlier (unreadable_from n ls) (line_of_command 4096 (commands_from n ls))) (commands_from n ls)
+
+-- the commands of a script text, or the line at which it does not read
+abbrev pub read_script : List ℕ → Result (List TextCommand) ℕ
+read_script text = read_lines 1 (lines text)

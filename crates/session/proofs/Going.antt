@@ -1,0 +1,577 @@
+-- A session as far as it has come, and how it may end there.
+use Rattle.std.proofs.Common.{◌≡◌, ◌<◌, ◌≤◌, ◌+◌, ℕ, zero, suc, Bool, true, false, not, nat_le, List, [], ◌∷◌, ◌++◌, length, drop, Option, Some, None, Result, Ok, Err, refl, sym, ◌∙◌, ap, subst, arith, append_assoc, append-nil}
+use Rattle.std.specs.Prelude.{slice_get, if◌then◌else◌}
+use Rattle.std.specs.List.{flat_map}
+use Rattle.std.proofs.lemmas.Bool.Decides.{nat_tests}
+use Rattle.sim_io.specs.declared.outside.Trouble.{Trouble}
+use Rattle.sim_io.specs.declared.outside.Trouble.TheVariants as trouble
+use Rattle.flat_design.specs.declared.faults.RunFault.{RunFault}
+use Rattle.flat_design.specs.declared.design.Design.{Design}
+use Rattle.flat_design.specs.declared.design.Visible.{Visible}
+use Rattle.vcd_trace.specs.SimModel.Configuration.{Config, Snapshot, Told}
+use Rattle.vcd_trace.specs.SimModel.Waits.{holds}
+use Rattle.vcd_trace.specs.SimModel.Steps.{Outcome, went, faulted, takes, ended, step, taken_if}
+use Rattle.vcd_trace.specs.SimModel.Runs.{Chooser, least, greatest, seeded, listed, chooser_of, picked, held_then, first_of, rest_of, missing, stop_at, stop_taking, stop_within}
+use Rattle.vcd_trace.specs.SimModel.Texts.{shown, closing, choice_text}
+use Rattle.vcd_trace.specs.SimModel.Trace.{header, all_values, each_later, first_values, later_values, trace_text}
+use Rattle.vcd_trace.specs.SimModel.declared.plain.Command.{Command}
+use Rattle.vcd_trace.specs.SimModel.declared.plain.Log.{Log}
+use Rattle.vcd_trace.specs.SimModel.declared.plain.Rule.{Rule}
+use Rattle.vcd_trace.specs.SimModel.declared.plain.Rule.TheVariants as rule_of
+use Rattle.vcd_trace.specs.SimModel.declared.plain.Stop.{Stop}
+use Rattle.vcd_trace.specs.SimModel.declared.plain.Stop.TheVariants as stop
+use Rattle.laws_reached.specs.KernelPhases.Own.{ChoosesItself}
+use Rattle.kernel_start.specs.KernelState.declared.kernel.Kernel.{Kernel}
+use Rattle.kernel_start.specs.KernelState.Kernel.{StandsFor}
+use Rattle.laws_reached.specs.Reached.{IsReached}
+use Rattle.vcd_trace.specs.LawsRuns.Added.{added}
+use Rattle.vcd_trace.specs.Traced.{trace_so_far, Keeps}
+use Rattle.vcd_trace.specs.declared.tracing.Tracing.{Tracing}
+use Rattle.kernel_runs.specs.Made.{StepsOn, Rules, PickedNone, GoesTo, TookTo, TookIt, IsFault, IsUntaken, IsOver, TellsOf, told_by_show}
+use Rattle.kernel_runs.specs.declared.answers.Telling.{Telling}
+use Rattle.kernel_runs.specs.declared.answers.Telling.TheVariants as telling
+use Rattle.kernel_runs.specs.declared.answers.Made.TheVariants as made
+use Rattle.session.specs.Cut.{cut_by}
+use Rattle.session.specs.Outputs.{Texts, behind, no_texts, Outer, Names, Took, IsFront, AreFronts, text_for}
+use Rattle.session.specs.Telling.{text_so_far, TextOf, TextOfTurn, TextFor, KeepsIf, HeaderOf, PointOf, LastPointOf, IsClosing, IsListOf, Recorded, Nothing, Finishes, stopped_by}
+use Rattle.session.specs.Begun.{GoesOn}
+use Rattle.session.specs.Course.{Ran, Wrote, IsEnd, IsEndedAs, all_but_last, texts_at, end_of}
+use Rattle.session.specs.declared.plans.Plan.{Plan}
+use Rattle.session.proofs.Outputs.{cut_short, cut_somewhere, took_whole, took_as, took_on, took_nothing}
+use Rattle.session.proofs.Reached.{Reached, held_after, starts, by_step, by_taking, run_of, ruled_of}
+use Rattle.session.proofs.Fronts.{texts-push, split, all_but_pushed}
+
+-- the texts so far
+abbrev pub so_far : Plan → Config → Texts
+so_far plan c = texts_at plan c [] None
+
+pub record Going (plan : Plan) (first : Config) (held : Chooser) (choices : List ℕ) (steps : ℕ) (k : Kernel) (script : List Command) (tracing : Tracing) (AreNamed : Names → Type 0) (old now : Outer) : Type 0 where
+  pub at : Config
+  pub stands : StandsFor k at
+  pub left : at.script ≡ script
+  pub reached : Reached plan.rule first held choices steps at
+  pub sound : IsReached at
+  pub design : at.design ≡ first.design
+  pub keeps : KeepsIf plan.vcd tracing at.trace.snapshots
+  pub written : Took AreNamed old now (so_far plan at)
+
+-- ---- what a step adds
+
+-- from what was told to the next configuration: the text is longer, and the text before lacks at most that of one that was told
+pub record Longer (log : Log) (ts : List Told) (to : Config) : Type 0 where
+  pub more : List ℕ
+  pub adds : text_so_far log to ≡ flat_map (shown log) ts ++ more
+  pub last : List ℕ
+  pub before : flat_map (shown log) ts ≡ flat_map (shown log) (all_but_last to.trace.told) ++ last
+
+longer_by_one : (log : Log) (at to : Config) (t : Told) → to.trace.told ≡ at.trace.told ++ t ∷ [] → Longer log at.trace.told to
+longer_by_one log at to t is = record {
+  more = shown log t;
+  adds = ap (flat_map (shown log)) is ∙ texts-push log at.trace.told t;
+  last = [];
+  before = sym (ap (λ ts. flat_map (shown log) (all_but_last ts)) is ∙ ap (flat_map (shown log)) (all_but_pushed at.trace.told t)) ∙ sym (append-nil _);
+}
+
+longer_by_none : (log : Log) (at to : Config) → to.trace.told ≡ at.trace.told → Longer log at.trace.told to
+longer_by_none log at to is =
+    let cut = split log at.trace.told in
+    record {
+      more = [];
+      adds = ap (flat_map (shown log)) is ∙ sym (append-nil _);
+      last = cut.0;
+      before = cut.1 ∙ ap (λ ts. flat_map (shown log) (all_but_last ts) ++ cut.0) (sym is);
+    }
+
+longer_by_show : (log : Log) (at to : Config) (o : Option Visible) → to.trace.told ≡ at.trace.told ++ told_by_show to o → Longer log at.trace.told to
+longer_by_show log at to None is = longer_by_none log at to (is ∙ append-nil _)
+longer_by_show log at to (Some v) is = longer_by_one log at to _ is
+
+longer : (log : Log) (at to : Config) (t : Telling) → TellsOf at to t → Longer log at.trace.told to
+longer log at to telling.Nothing is = longer_by_none log at to is
+longer log at to (telling.Print p s v) adds = longer_by_one log at to _ adds.told
+longer log at to (telling.Show i) is = longer_by_show log at to (slice_get to.design.visible i) is
+
+-- ---- the trace
+
+-- the values of more snapshots begin with those of the first ones
+later_begin : (s : Snapshot) (ss more : List Snapshot) → IsFront (each_later s ss) (each_later s (ss ++ more))
+later_begin s [] more = (each_later s more, refl)
+later_begin s (t ∷ ss) more =
+    let (rest, is) = later_begin t ss more in
+    (rest, ap (λ x. later_values s t ++ x) is ∙ sym (append_assoc (later_values s t) (each_later t ss) rest))
+
+values_begin : (ss more : List Snapshot) → IsFront (all_values ss) (all_values (ss ++ more))
+values_begin [] more = (all_values more, refl)
+values_begin (s ∷ ss) more =
+    let (rest, is) = later_begin s ss more in
+    (rest, ap (λ x. first_values s ++ x) is ∙ sym (append_assoc (first_values s) (each_later s ss) rest))
+
+-- a trace with more snapshots is longer
+trace_front : (d : Design) (ss more : List Snapshot) → IsFront (header d ++ all_values ss) (header d ++ all_values (ss ++ more))
+trace_front d ss more =
+    let (rest, is) = values_begin ss more in
+    (rest, ap (λ x. header d ++ x) is ∙ sym (append_assoc (header d) (all_values ss) rest))
+
+-- the trace so far of a configuration of the same design, whose snapshots are these
+so_traced : (d : Design) (ss : List Snapshot) (to : Config) → to.design ≡ d → to.trace.snapshots ≡ ss → trace_so_far to ≡ header d ++ all_values ss
+so_traced d ss to same seen = ap (λ x. header x ++ all_values to.trace.snapshots) same ∙ ap (λ x. header d ++ all_values x) seen
+
+trace_on : (v : Option ℕ) (at to : Config) (more : List Snapshot) → to.design ≡ at.design → to.trace.snapshots ≡ at.trace.snapshots ++ more → IsFront (text_for v (trace_so_far at)) (text_for v (trace_so_far to))
+trace_on None at to more same seen = ([], refl)
+trace_on (Some id) at to more same seen =
+    let (rest, is) = trace_front at.design at.trace.snapshots more in
+    (rest, so_traced at.design (at.trace.snapshots ++ more) to same seen ∙ is)
+
+-- what a point adds to the trace, and what is kept behind it
+pub record Traced (v : Option ℕ) (at to : Config) (after : Tracing) (text : List ℕ) : Type 0 where
+  pub adds : text_for v (trace_so_far to) ≡ text_for v (trace_so_far at) ++ text
+  pub keeps : KeepsIf v after to.trace.snapshots
+
+point_on : (v : Option ℕ) (k : Kernel) (time : ℕ) (before after : Tracing) (at to : Config) → step at ≡ went to → StandsFor k to → at.cycle.now ≡ time → to.design ≡ at.design
+    → KeepsIf v before at.trace.snapshots → (text : List ℕ) → TextFor v (PointOf k time before after) text → Traced v at to after text
+point_on None k time before after at to goes stands now same keeps text is = record { adds = sym is; keeps = tt }
+point_on (Some id) k time before after at to goes stands now same keeps text is = record {
+  adds = is.adds at to goes stands now same keeps;
+  keeps = is.keeps at to goes stands now keeps;
+}
+
+nothing_on : (v : Option ℕ) (tracing : Tracing) (at to : Config) → to.design ≡ at.design → to.trace.snapshots ≡ at.trace.snapshots → KeepsIf v tracing at.trace.snapshots → (text : List ℕ) → Nothing text → Traced v at to tracing text
+nothing_on None tracing at to same seen keeps text none = record { adds = sym none; keeps = tt }
+nothing_on (Some id) tracing at to same seen keeps text none = record {
+  adds = so_traced at.design at.trace.snapshots to same seen ∙ sym (ap (λ x. trace_so_far at ++ x) none ∙ append-nil (trace_so_far at));
+  keeps = subst (Keeps tracing) (sym seen) keeps;
+}
+
+-- ---- one step more
+
+-- a step led here, and of the texts that it adds this is known
+pub record Advanced (plan : Plan) (first : Config) (held : Chooser) (choices : List ℕ) (steps : ℕ) (at : Config) (k : Kernel) (script : List Command) (after : Tracing) (T P : List ℕ → Type 0) : Type 0 where
+  pub to : Config
+  pub stands : StandsFor k to
+  pub left : to.script ≡ script
+  pub reached : Reached plan.rule first held choices steps to
+  pub sound : IsReached to
+  pub design : to.design ≡ at.design
+  pub grown : Longer plan.log at.trace.told to
+  pub adds : (text : List ℕ) → T text → text_so_far plan.log to ≡ text_so_far plan.log at ++ text
+  pub traced : IsFront (text_for plan.vcd (trace_so_far at)) (text_for plan.vcd (trace_so_far to))
+  pub traces : (text : List ℕ) → P text → Traced plan.vcd at to after text
+
+module _ (goes_on : GoesOn) (plan : Plan) (first : Config) (held : Chooser) (choices : List ℕ) (steps : ℕ) (k k' : Kernel) (script script' : List Command) (before after : Tracing) (AreNamed : Names → Type 0) (old mid : Outer) (g : Going plan first held choices steps k script before AreNamed old mid) where
+  pub went_on : (t : Telling) (time : ℕ) → ((c : Config) → StandsFor k c → time ≡ c.cycle.now) → StepsOn k k' script script' (made.Went t) step
+      → Advanced plan first held choices (steps + 1) g.at k' script' after (TextOf k' t) (TextFor plan.vcd (PointOf k' time before after))
+  went_on t time now moves = from (step g.at) refl (moves g.at g.stands (goes_on.once g.at g.sound) g.left)
+    where
+      from : (o : Outcome) → step g.at ≡ o → GoesTo k' t (record g.at { script = script' }) o → Advanced plan first held choices (steps + 1) g.at k' script' after (TextOf k' t) (TextFor plan.vcd (PointOf k' time before after))
+      from (went d) e h = record {
+        to = d;
+        stands = h.0;
+        left = h.1;
+        reached = by_step plan.rule first held choices steps g.at d g.reached e;
+        sound = goes_on.steps g.at d g.sound e;
+        design = goes_on.keeps g.at d g.sound e;
+        grown = longer plan.log (record g.at { script = script' }) d t h.2;
+        adds = λ text is. is plan.log (record g.at { script = script' }) d h.0 h.2;
+        traced = trace_on plan.vcd g.at d (added g.at d) (goes_on.keeps g.at d g.sound e) (goes_on.sees g.at d e);
+        traces = point_on plan.vcd k' time before after g.at d e h.0 (sym (now g.at g.stands)) (goes_on.keeps g.at d g.sound e) g.keeps;
+      }
+      from (faulted f) e h = absurd h
+      from takes e h = absurd h
+      from ended e h = absurd h
+
+  pub took_one : (p : ℕ) (next : Chooser) → StepsOn k k' script script' (made.Took p) step → Rules k held next (made.Took p)
+      → Advanced plan first next (choices ++ p ∷ []) (steps + 1) g.at k' script' before (TextOfTurn k' plan.log p) Nothing
+  took_one p next moves rules = from (step g.at) refl (moves g.at g.stands (goes_on.once g.at g.sound) g.left)
+    where
+      picks : (picked held g.at.processes.runnable ≡ Some p) × (next ≡ held_then held)
+      picks = rules g.at g.stands (goes_on.once g.at g.sound)
+
+      from : (o : Outcome) → step g.at ≡ o → TookTo k' p g.at o × (script' ≡ g.at.script) → Advanced plan first next (choices ++ p ∷ []) (steps + 1) g.at k' script' before (TextOfTurn k' plan.log p) Nothing
+      from (went d) e h = absurd h.0
+      from (faulted f) e h = absurd h.0
+      from takes e h =
+          let took : TookIt k' p g.at = h.0 in
+          let same : took.to.design ≡ g.at.design = goes_on.takings_keep g.at took.to p g.sound e took.taken in
+          let seen : took.to.trace.snapshots ≡ g.at.trace.snapshots = goes_on.takings_see g.at took.to p took.taken in
+          record {
+            to = took.to;
+            stands = took.stands;
+            left = took.script ∙ sym h.1;
+            reached = subst (λ x. Reached plan.rule first x (choices ++ p ∷ []) (steps + 1) took.to) (sym picks.1) (by_taking plan.rule first held choices steps g.at took.to p g.reached e took.taken picks.0);
+            sound = goes_on.takings g.at took.to p g.sound e took.taken;
+            design = same;
+            grown = longer_by_one plan.log g.at took.to _ took.turn.told;
+            adds = λ text is. is g.at took.to took.stands took.turn;
+            traced = trace_on plan.vcd g.at took.to [] same (seen ∙ sym (append-nil g.at.trace.snapshots));
+            traces = nothing_on plan.vcd before g.at took.to same seen g.keeps;
+          }
+      from ended e h = absurd h.0
+
+-- ---- the texts of a session in a configuration begin with the texts so far
+
+report_begins : (plan : Plan) (c : Config) (choices : List ℕ) (e : Option Stop) → IsFront (text_so_far plan.log c) (texts_at plan c choices e).report
+report_begins plan c choices None = ([], sym (append-nil _))
+report_begins plan c choices (Some s) = (closing c s, refl)
+
+last_values : (c : Config) → IsFront (trace_so_far c) (trace_text c)
+last_values c = trace_front c.design c.trace.snapshots _
+
+trace_whole : (v : Option ℕ) (c : Config) → IsFront (text_for v (trace_so_far c)) (text_for v (trace_text c))
+trace_whole None c = ([], refl)
+trace_whole (Some id) c = last_values c
+
+trace_begins : (plan : Plan) (c : Config) (choices : List ℕ) (e : Option Stop) → IsFront (text_for plan.vcd (trace_so_far c)) (texts_at plan c choices e).trace
+trace_begins plan c choices None = ([], sym (append-nil _))
+trace_begins plan c choices (Some s) = trace_whole plan.vcd c
+
+texts_begin : (plan : Plan) (c : Config) (choices : List ℕ) (e : Option Stop) → AreFronts (so_far plan c) (texts_at plan c choices e)
+texts_begin plan c choices e = record { report = report_begins plan c choices e; trace = trace_begins plan c choices e; choices = (_, refl) }
+
+front_on : (a b c : List ℕ) → IsFront a b → IsFront b c → IsFront a c
+front_on a b c (x, is) (y, at) = (x ++ y, at ∙ ap (λ z. z ++ y) is ∙ append_assoc a x y)
+
+front_more : (a b c : List ℕ) → IsFront a b → IsFront a (b ++ c)
+front_more a b c front = front_on a b (b ++ c) front (c, refl)
+
+front_as : (a b c : List ℕ) → a ≡ b → IsFront b c → IsFront a c
+front_as a b c same front = subst (λ x. IsFront x c) (sym same) front
+
+module _ (plan : Plan) (first : Config) (held next : Chooser) (choices later : List ℕ) (steps now_steps : ℕ) (k k' : Kernel) (script script' : List Command) (before after : Tracing) (AreNamed : Names → Type 0) (old mid now : Outer) (T P : List ℕ → Type 0)
+    (g : Going plan first held choices steps k script before AreNamed old mid) (a : Advanced plan first next later now_steps g.at k' script' after T P) where
+  -- its texts were written whole
+  pub goes_one_on : Recorded T P Nothing AreNamed mid now (Ok tt) → Going plan first next later now_steps k' script' after AreNamed old now
+  goes_one_on r = record {
+    at = a.to;
+    stands = a.stands;
+    left = a.left;
+    reached = a.reached;
+    sound = a.sound;
+    design = a.design ∙ g.design;
+    keeps = (a.traces r.texts.trace r.parts.1).keeps;
+    written = took_whole T P Nothing AreNamed old mid now (so_far plan g.at) (so_far plan a.to) a.adds (λ text is. (a.traces text is).adds) (λ text none. sym none) g.written r;
+  }
+
+  ending : Option Stop
+  ending = end_of plan a.to later now_steps
+
+  whole : Texts
+  whole = texts_at plan a.to later ending
+
+  begun : AreFronts (so_far plan g.at) whole
+  unfolding whole ending
+  begun = record {
+    report = front_on _ _ _ (a.grown.more, a.grown.adds) (report_begins plan a.to later ending);
+    trace = front_on _ _ _ a.traced (trace_begins plan a.to later ending);
+    choices = (_, refl);
+  }
+
+  reports : (text : List ℕ) → T text → IsFront ((so_far plan g.at).report ++ text) whole.report
+  unfolding whole ending
+  reports text is = front_as _ _ _ (sym (a.adds text is)) (report_begins plan a.to later ending)
+
+  traces : (text : List ℕ) → P text → IsFront ((so_far plan g.at).trace ++ text) whole.trace
+  unfolding whole ending
+  traces text is = front_as _ _ _ (sym (a.traces text is).adds) (trace_begins plan a.to later ending)
+
+  lists : (text : List ℕ) → Nothing text → IsFront text whole.choices
+  unfolding whole ending
+  lists text none = front_as _ _ _ none (_, refl)
+
+  ran_so : (s : Stop) → now_steps ≤ plan.budget → Wrote (Took AreNamed old now) (end_of plan a.to later now_steps) (texts_at plan a.to later (end_of plan a.to later now_steps)) s → (t : Texts) → Took AreNamed mid now t → Ran first plan later now_steps s (Took AreNamed old now)
+  ran_so s within wrote t more = record {
+    last = a.to;
+    is_run = run_of plan.rule first next later now_steps a.to a.reached;
+    ruled = ruled_of plan.rule first next later now_steps a.to a.reached;
+    within = within;
+    wrote = wrote;
+    earlier = (behind (so_far plan g.at) t, took_on AreNamed old mid now (so_far plan g.at) t g.written more, front_more _ _ t.report (a.grown.last, a.grown.before));
+  }
+
+  -- it was cut while they were written
+  pub cut_in_texts : (e : Trouble) → now_steps ≤ plan.budget → Recorded T P Nothing AreNamed mid now (Err e) → Ran first plan later now_steps (cut_by e) (Took AreNamed old now)
+  unfolding whole ending
+  cut_in_texts trouble.Failed within r =
+      ran_so stop.WriteFault within (cut_short T P Nothing AreNamed old mid now (so_far plan g.at) whole begun reports traces lists g.written r) r.texts r.took
+  cut_in_texts trouble.NoMemory within r =
+      ran_so stop.NoMemory within (cut_somewhere T P Nothing AreNamed old mid now (so_far plan g.at) whole begun reports traces lists g.written r) r.texts r.took
+
+-- ---- a rule that picked none that is runnable is a replayed list, whose next choice is missing or not runnable
+
+own_then : (k : Chooser) → ChoosesItself k → ChoosesItself (held_then k)
+own_then least own = own
+own_then greatest own = own
+own_then (seeded g) own = own
+own_then (listed choices) own = absurd own
+
+own_after : (n : ℕ) (k : Chooser) → ChoosesItself k → ChoosesItself (held_after n k)
+own_after zero k own = own
+own_after (suc n) k own = own_then (held_after n k) (own_after n k own)
+
+rest_dropped : (n : ℕ) (xs : List ℕ) → rest_of (drop n xs) ≡ drop (suc n) xs
+rest_dropped zero [] = refl
+rest_dropped zero (x ∷ xs) = refl
+rest_dropped (suc n) [] = refl
+rest_dropped (suc n) (x ∷ xs) = rest_dropped n xs
+
+listed_after : (n : ℕ) (choices : List ℕ) → held_after n (listed choices) ≡ listed (drop n choices)
+listed_after zero choices = refl
+listed_after (suc n) choices = ap held_then (listed_after n choices) ∙ ap listed (rest_dropped n choices)
+
+first_dropped : (n : ℕ) (xs : List ℕ) → first_of (drop n xs) ≡ slice_get xs n
+first_dropped zero [] = refl
+first_dropped zero (x ∷ xs) = refl
+first_dropped (suc n) [] = refl
+first_dropped (suc n) (x ∷ xs) = first_dropped n xs
+
+is_missing : (c : Config) (o : Option ℕ) → PickedNone c o → missing c.processes.runnable o ≡ true
+is_missing c None none = refl
+is_missing c (Some p) none = by (holds c.processes.runnable p) none
+  where
+    by : (b : Bool) → taken_if c p b ≡ None → not b ≡ true
+    by true none = cc
+    by false none = refl
+
+not_taken : (rule : Rule) (n : ℕ) (c : Config) (held : Chooser) → held ≡ held_after n (chooser_of rule) → PickedNone c (picked held c.processes.runnable) → (ChoosesItself held → ⊥) → stop_taking c rule n ≡ Some (stop.Replay (n + 1))
+not_taken rule_of.First n c held same none other = absurd (other (subst ChoosesItself (sym same) (own_after n least tt)))
+not_taken rule_of.Last n c held same none other = absurd (other (subst ChoosesItself (sym same) (own_after n greatest tt)))
+not_taken (rule_of.Seed seed) n c held same none other = absurd (other (subst ChoosesItself (sym same) (own_after n (chooser_of (rule_of.Seed seed)) tt)))
+not_taken (rule_of.Replay choices) n c held same none other =
+    let picks : picked held c.processes.runnable ≡ slice_get choices n = ap (λ x. picked x c.processes.runnable) (same ∙ listed_after n choices) ∙ first_dropped n choices in
+    ap (λ b. if b then Some (stop.Replay (n + 1)) else None) (is_missing c (slice_get choices n) (subst (PickedNone c) picks none))
+
+-- ---- ends
+
+not_used_up : (steps budget : ℕ) → steps < budget → nat_le budget steps ≡ false
+not_used_up steps budget h = grind (arith, nat_tests)
+
+used_up : (steps budget : ℕ) → budget ≤ steps → nat_le budget steps ≡ true
+used_up steps budget h = grind (arith, nat_tests)
+
+-- an end that is no cut, with its whole texts
+wrote_whole : (TookIt : Texts → Type 0) (s : Stop) (texts : Texts) → IsEnd s → TookIt texts → Wrote TookIt (Some s) texts s
+wrote_whole TookIt stop.WriteFault texts end took = absurd end
+wrote_whole TookIt stop.NoMemory texts end took = absurd end
+wrote_whole TookIt stop.Done texts end took = (refl, took)
+wrote_whole TookIt stop.Stopped texts end took = (refl, took)
+wrote_whole TookIt stop.Budget texts end took = (refl, took)
+wrote_whole TookIt (stop.Replay place) texts end took = (refl, took)
+wrote_whole TookIt (stop.Fault f) texts end took = (refl, took)
+
+last_point : (v : Option ℕ) (k : Kernel) (tracing : Tracing) (c : Config) → StandsFor k c → KeepsIf v tracing c.trace.snapshots → (text : List ℕ) → TextFor v (LastPointOf k tracing) text → text_for v (trace_text c) ≡ text_for v (trace_so_far c) ++ text
+last_point None k tracing c stands keeps text none = sym none
+last_point (Some id) k tracing c stands keeps text is = sym (is c stands keeps)
+
+listed_whole : (v : Option ℕ) (choices text : List ℕ) → TextFor v (IsListOf choices) text → text_for v (choice_text choices) ≡ text
+listed_whole None choices text none = sym none
+listed_whole (Some id) choices text is = sym is
+
+module _ (plan : Plan) (first : Config) (held : Chooser) (choices : List ℕ) (steps : ℕ) (AreNamed : Names → Type 0) (old : Outer) where
+  Ends : Kernel → Tracing → Outer → Outer → Stop → Stop → Type 0
+  Ends k tracing mid now s s' = Finishes (Recorded (IsClosing k s) (TextFor plan.vcd (LastPointOf k tracing)) (TextFor plan.choices (IsListOf choices)) AreNamed mid now) s s'
+
+  module _ (k : Kernel) (script : List Command) (tracing : Tracing) (mid now : Outer) (s : Stop) (g : Going plan first held choices steps k script tracing AreNamed old mid) where
+    T : List ℕ → Type 0
+    T = IsClosing k s
+
+    P : List ℕ → Type 0
+    P = TextFor plan.vcd (LastPointOf k tracing)
+
+    C : List ℕ → Type 0
+    C = TextFor plan.choices (IsListOf choices)
+
+    all_texts : Texts
+    all_texts = texts_at plan g.at choices (Some s)
+
+    report_whole : (text : List ℕ) → T text → all_texts.report ≡ (so_far plan g.at).report ++ text
+    unfolding T all_texts
+    report_whole text is = ap (λ x. text_so_far plan.log g.at ++ x) (sym (is g.at g.stands))
+
+    trace_of : (text : List ℕ) → P text → all_texts.trace ≡ (so_far plan g.at).trace ++ text
+    unfolding P all_texts
+    trace_of text is = last_point plan.vcd k tracing g.at g.stands g.keeps text is
+
+    list_of : (text : List ℕ) → C text → all_texts.choices ≡ text
+    unfolding C all_texts
+    list_of text is = listed_whole plan.choices choices text is
+
+    as_front : (a b : List ℕ) → b ≡ a → IsFront a b
+    as_front a b same = ([], same ∙ sym (append-nil a))
+
+    ran_to : (x : Stop) → steps ≤ plan.budget → end_of plan g.at choices steps ≡ Some s → Wrote (Took AreNamed old now) (Some s) all_texts x → (t : Texts) → Took AreNamed mid now t → Ran first plan choices steps x (Took AreNamed old now)
+    unfolding all_texts
+    ran_to x within ending wrote t more =
+        let cut = split plan.log g.at.trace.told in
+        record {
+          last = g.at;
+          is_run = run_of plan.rule first held choices steps g.at g.reached;
+          ruled = ruled_of plan.rule first held choices steps g.at g.reached;
+          within = within;
+          wrote = subst (λ e. Wrote (Took AreNamed old now) e (texts_at plan g.at choices e) x) (sym ending) wrote;
+          earlier = (behind (so_far plan g.at) t, took_on AreNamed old mid now (so_far plan g.at) t g.written more, front_more _ _ t.report cut);
+        }
+
+    ends_by : (s' : Stop) (written : Result Unit Trouble) → IsEnd s → steps ≤ plan.budget → end_of plan g.at choices steps ≡ Some s → Recorded T P C AreNamed mid now written → s' ≡ stopped_by s written → Ran first plan choices steps s' (Took AreNamed old now)
+    unfolding all_texts
+    ends_by s' (Ok u) end within ending r is = subst (λ x. Ran first plan choices steps x (Took AreNamed old now)) (sym is)
+        (ran_to s within ending (wrote_whole (Took AreNamed old now) s all_texts end (took_whole T P C AreNamed old mid now (so_far plan g.at) all_texts report_whole trace_of list_of g.written r)) r.texts r.took)
+    ends_by s' (Err trouble.Failed) end within ending r is = subst (λ x. Ran first plan choices steps x (Took AreNamed old now)) (sym is)
+        (ran_to stop.WriteFault within ending (cut_short T P C AreNamed old mid now (so_far plan g.at) all_texts (texts_begin plan g.at choices (Some s)) (λ text h. as_front _ _ (report_whole text h)) (λ text h. as_front _ _ (trace_of text h)) (λ text h. as_front _ _ (list_of text h)) g.written r) r.texts r.took)
+    ends_by s' (Err trouble.NoMemory) end within ending r is = subst (λ x. Ran first plan choices steps x (Took AreNamed old now)) (sym is)
+        (ran_to stop.NoMemory within ending (cut_somewhere T P C AreNamed old mid now (so_far plan g.at) all_texts (texts_begin plan g.at choices (Some s)) (λ text h. as_front _ _ (report_whole text h)) (λ text h. as_front _ _ (trace_of text h)) (λ text h. as_front _ _ (list_of text h)) g.written r) r.texts r.took)
+
+  -- a session that has come to an end of its own
+  finished : (k : Kernel) (script : List Command) (tracing : Tracing) (mid now : Outer) (s s' : Stop) (g : Going plan first held choices steps k script tracing AreNamed old mid) → IsEnd s → steps ≤ plan.budget → end_of plan g.at choices steps ≡ Some s
+      → Ends k tracing mid now s s' → Ran first plan choices steps s' (Took AreNamed old now)
+  unfolding Ends T P C
+  finished k script tracing mid now s s' g end within ending (written, recorded, is) = ends_by k script tracing mid now s g s' written end within ending recorded is
+
+  -- out of memory between two steps
+  pub cut_before_step : (k : Kernel) (script : List Command) (tracing : Tracing) (now : Outer) → Going plan first held choices steps k script tracing AreNamed old now → steps ≤ plan.budget → Ran first plan choices steps stop.NoMemory (Took AreNamed old now)
+  cut_before_step k script tracing now g within =
+      let cut = split plan.log g.at.trace.told in
+      record {
+        last = g.at;
+        is_run = run_of plan.rule first held choices steps g.at g.reached;
+        ruled = ruled_of plan.rule first held choices steps g.at g.reached;
+        within = within;
+        wrote = record { front = so_far plan g.at; fronts = texts_begin plan g.at choices (end_of plan g.at choices steps); took = g.written };
+        earlier = (so_far plan g.at, g.written, cut);
+      }
+
+  module _ (goes_on : GoesOn) (k k' : Kernel) (script script' : List Command) (tracing : Tracing) (mid now : Outer) (s' : Stop) (g : Going plan first held choices steps k script tracing AreNamed old mid) where
+    -- a kernel that stands for the same configuration
+    moved : StandsFor k' g.at → script' ≡ g.at.script → Going plan first held choices steps k' script' tracing AreNamed old mid
+    moved stands same = record { at = g.at; stands = stands; left = sym same; reached = g.reached; sound = g.sound; design = g.design; keeps = g.keeps; written = g.written }
+
+    ends_so : (s : Stop) → IsEnd s → StandsFor k' g.at → script' ≡ g.at.script → steps < plan.budget → end_of plan g.at choices steps ≡ Some s → Ends k' tracing mid now s s' → Ran first plan choices steps s' (Took AreNamed old now)
+    unfolding moved
+    ends_so s end stands same below ending closes = finished k' script' tracing mid now s s' (moved stands same) end (omega (arith, below)) ending closes
+
+    -- no step is left
+    pub ended_run : (s : Stop) → IsEnd s → StepsOn k k' script script' made.Ended step → steps < plan.budget → IsEndedAs k' s
+        → Finishes (Recorded (IsClosing k' s) (TextFor plan.vcd (LastPointOf k' tracing)) (TextFor plan.choices (IsListOf choices)) AreNamed mid now) s s' → Ran first plan choices steps s' (Took AreNamed old now)
+    unfolding Ends
+    ended_run s end over below how closes = from (step g.at) refl (over g.at g.stands (goes_on.once g.at g.sound) g.left)
+      where
+        from : (o : Outcome) → step g.at ≡ o → IsOver k' g.at o × (script' ≡ g.at.script) → Ran first plan choices steps s' (Took AreNamed old now)
+        from (went d) e h = absurd h.0
+        from (faulted f) e h = absurd h.0
+        from takes e h = absurd h.0
+        from ended e h =
+            ends_so s end h.0 h.1 below
+            (ap (λ b. stop_within g.at plan.rule (length choices) b (step g.at)) (not_used_up steps plan.budget below) ∙ ap (stop_at g.at plan.rule (length choices)) e
+            ∙ ap (λ b. Some (if b then stop.Stopped else stop.Done)) (ap (λ x. x.stopped) h.0.cycle) ∙ ap (λ t. Some t) (sym how)) closes
+
+    -- the next step is a fault
+    pub faulted_run : (f : RunFault) → StepsOn k k' script script' (made.Fault f) step → steps < plan.budget
+        → Finishes (Recorded (IsClosing k' (stop.Fault f)) (TextFor plan.vcd (LastPointOf k' tracing)) (TextFor plan.choices (IsListOf choices)) AreNamed mid now) (stop.Fault f) s' → Ran first plan choices steps s' (Took AreNamed old now)
+    unfolding Ends
+    faulted_run f fault below closes = from (step g.at) refl (fault g.at g.stands (goes_on.once g.at g.sound) g.left)
+      where
+        from : (o : Outcome) → step g.at ≡ o → IsFault k' f g.at o × (script' ≡ g.at.script) → Ran first plan choices steps s' (Took AreNamed old now)
+        from (went d) e h = absurd h.0
+        from (faulted x) e h =
+            ends_so (stop.Fault f) tt h.0.1 h.1 below
+            (ap (λ b. stop_within g.at plan.rule (length choices) b (step g.at)) (not_used_up steps plan.budget below) ∙ ap (stop_at g.at plan.rule (length choices)) e
+            ∙ ap (λ y. Some (stop.Fault y)) (sym h.0.0)) closes
+        from takes e h = absurd h.0
+        from ended e h = absurd h.0
+
+    -- a listed choice is missing or not runnable
+    pub unready_run : (place : ℕ) (next : Chooser) → place ≡ length choices + 1 → StepsOn k k' script script' made.NotReady step → Rules k held next made.NotReady → steps < plan.budget
+        → Finishes (Recorded (IsClosing k' (stop.Replay place)) (TextFor plan.vcd (LastPointOf k' tracing)) (TextFor plan.choices (IsListOf choices)) AreNamed mid now) (stop.Replay place) s' → Ran first plan choices steps s' (Took AreNamed old now)
+    unfolding Ends
+    unready_run place next at_place none rules below closes = from (step g.at) refl (none g.at g.stands (goes_on.once g.at g.sound) g.left)
+      where
+        asked : PickedNone g.at (picked held g.at.processes.runnable) × (ChoosesItself held → ⊥)
+        asked = rules g.at g.stands (goes_on.once g.at g.sound)
+
+        ending : stop_taking g.at plan.rule (length choices) ≡ Some (stop.Replay (length choices + 1))
+        ending = not_taken plan.rule (length choices) g.at held g.reached.holds asked.0 asked.1
+
+        from : (o : Outcome) → step g.at ≡ o → IsUntaken k' g.at o × (script' ≡ g.at.script) → Ran first plan choices steps s' (Took AreNamed old now)
+        from (went d) e h = absurd h.0
+        from (faulted x) e h = absurd h.0
+        from takes e h =
+            ends_so (stop.Replay place) tt h.0 h.1 below
+            (ap (λ b. stop_within g.at plan.rule (length choices) b (step g.at)) (not_used_up steps plan.budget below) ∙ ap (stop_at g.at plan.rule (length choices)) e
+            ∙ ending ∙ ap (λ n. Some (stop.Replay n)) (sym at_place)) closes
+        from ended e h = absurd h.0
+
+  -- the budget is used up
+  pub spent_run : (k : Kernel) (script : List Command) (tracing : Tracing) (mid now : Outer) (s s' : Stop) (g : Going plan first held choices steps k script tracing AreNamed old mid) → IsEnd s → steps ≤ plan.budget → plan.budget ≤ steps → stop_within g.at plan.rule (length choices) true (step g.at) ≡ Some s
+      → Finishes (Recorded (IsClosing k s) (TextFor plan.vcd (LastPointOf k tracing)) (TextFor plan.choices (IsListOf choices)) AreNamed mid now) s s' → Ran first plan choices steps s' (Took AreNamed old now)
+  unfolding Ends
+  spent_run k script tracing mid now s s' g end within spent ending closes =
+      finished k script tracing mid now s s' g end within (ap (λ b. stop_within g.at plan.rule (length choices) b (step g.at)) (used_up steps plan.budget spent) ∙ ending) closes
+
+-- ---- the beginning
+
+first_report : (plan : Plan) (first : Config) → first.trace.told ≡ [] → text_so_far plan.log first ≡ []
+first_report plan first none = ap (flat_map (shown plan.log)) none
+
+first_trace : (v : Option ℕ) (k : Kernel) (first : Config) → StandsFor k first → first.trace.snapshots ≡ [] → (text : List ℕ) → TextFor v (HeaderOf k) text → text_for v (trace_so_far first) ≡ text
+first_trace None k first stands none text is = sym is
+first_trace (Some id) k first stands none text is = ap (λ ss. header first.design ++ all_values ss) none ∙ append-nil (header first.design) ∙ sym (is first stands)
+
+pub first_keeps : (v : Option ℕ) (tracing : Tracing) (ss : List Snapshot) → Keeps tracing [] → ss ≡ [] → KeepsIf v tracing ss
+first_keeps None tracing ss keeps none = tt
+first_keeps (Some id) tracing ss keeps none = subst (Keeps tracing) (sym none) keeps
+
+module _ (plan : Plan) (first : Config) (k : Kernel) (script : List Command) (tracing : Tracing) (AreNamed : Names → Type 0) (old now : Outer) (stands : StandsFor k first) (nothing_told : first.trace.told ≡ []) (nothing_seen : first.trace.snapshots ≡ []) where
+  -- with the header of the trace written
+  pub begins : first.script ≡ script → IsReached first → KeepsIf plan.vcd tracing first.trace.snapshots → Recorded Nothing (TextFor plan.vcd (HeaderOf k)) Nothing AreNamed old now (Ok tt) → Going plan first (chooser_of plan.rule) [] 0 k script tracing AreNamed old now
+  begins left sound keeps r = record {
+    at = first;
+    stands = stands;
+    left = left;
+    reached = starts plan.rule first;
+    sound = sound;
+    design = refl;
+    keeps = keeps;
+    written = took_as AreNamed old now r.texts (so_far plan first) (r.parts.0 ∙ sym (first_report plan first nothing_told)) (sym (first_trace plan.vcd k first stands nothing_seen r.texts.trace r.parts.1)) r.parts.2 r.took;
+  }
+
+  header_ends : Option Stop
+  header_ends = end_of plan first [] 0
+
+  header_texts : Texts
+  header_texts = texts_at plan first [] header_ends
+
+  header_begun : AreFronts no_texts header_texts
+  header_begun = record { report = (_, refl); trace = (_, refl); choices = (_, refl) }
+
+  header_traces : (text : List ℕ) → TextFor plan.vcd (HeaderOf k) text → IsFront text header_texts.trace
+  unfolding header_texts header_ends
+  header_traces text is = front_as _ _ _ (sym (first_trace plan.vcd k first stands nothing_seen text is)) (trace_begins plan first [] (end_of plan first [] 0))
+
+  header_nothing : (text other : List ℕ) → Nothing text → IsFront text other
+  header_nothing text other none = front_as _ _ _ none (other, refl)
+
+  header_ran : (s : Stop) → Wrote (Took AreNamed old now) header_ends header_texts s → (t : Texts) → Took AreNamed old now t → Ran first plan [] 0 s (Took AreNamed old now)
+  unfolding header_texts header_ends
+  header_ran s wrote t took = record {
+    last = first;
+    is_run = refl;
+    ruled = refl;
+    within = omega arith;
+    wrote = wrote;
+    earlier = (t, took, subst (λ ts. IsFront (flat_map (shown plan.log) (all_but_last ts)) t.report) (sym nothing_told) (t.report, refl));
+  }
+
+  -- cut in that header
+  pub cut_in_header : (e : Trouble) → Recorded Nothing (TextFor plan.vcd (HeaderOf k)) Nothing AreNamed old now (Err e) → Ran first plan [] 0 (cut_by e) (Took AreNamed old now)
+  unfolding header_texts header_ends
+  cut_in_header trouble.Failed r = header_ran stop.WriteFault (cut_short Nothing (TextFor plan.vcd (HeaderOf k)) Nothing AreNamed old old now no_texts header_texts header_begun (λ text h. header_nothing text _ h) header_traces (λ text h. header_nothing text _ h) (took_nothing AreNamed old) r) r.texts r.took
+  cut_in_header trouble.NoMemory r = header_ran stop.NoMemory (cut_somewhere Nothing (TextFor plan.vcd (HeaderOf k)) Nothing AreNamed old old now no_texts header_texts header_begun (λ text h. header_nothing text _ h) header_traces (λ text h. header_nothing text _ h) (took_nothing AreNamed old) r) r.texts r.took
+
+-- out of memory before the first step
+pub never_began : (plan : Plan) (first : Config) (AreNamed : Names → Type 0) (outer : Outer) → first.trace.told ≡ [] → Ran first plan [] 0 stop.NoMemory (Took AreNamed outer outer)
+never_began plan first AreNamed outer empty = record {
+  last = first;
+  is_run = refl;
+  ruled = refl;
+  within = omega arith;
+  wrote = record { front = no_texts; fronts = record { report = (_, refl); trace = (_, refl); choices = (_, refl) }; took = took_nothing AreNamed outer };
+  earlier = (no_texts, took_nothing AreNamed outer, subst (λ ts. IsFront (flat_map (shown plan.log) (all_but_last ts)) []) (sym empty) ([], refl));
+}

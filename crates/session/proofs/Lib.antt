@@ -1,0 +1,8 @@
+pub mod Fronts
+pub mod Outputs
+pub mod Reached
+pub mod Idle
+pub mod Going
+pub mod Texts
+pub mod Turning
+pub use Rattle.sim_io.proofs as SimIo

@@ -1,0 +1,111 @@
+use Rattle.std.proofs.Common.{◌<◌, ◌+◌, ◌-◌, ◌^◌, length, refl, sym, ap, ◌∙◌, subst, arith}
+use Rattle.flat_design.specs.Code.{arena_of}
+use Rattle.sim_io.proofs.Chains.{write_keeps_on}
+use Rattle.session.specs.Outputs.{AreNames}
+use Rattle.session.specs.Telling.{HeaderOf, Nothing, PointOf, TextFor, TextOf, TextOfTurn}
+use Rattle.session.proofs.Outputs.{recorded_from, finishes_from}
+use Rattle.session.proofs.Going.{begins, cut_before_step, cut_in_header, ended_run, faulted_run, first_keeps, unready_run, spent_run}
+use Rattle.session.proofs.Turning.{told_on, told_cut, took_on, took_cut}
+use Rattle.session.proofs.looping.run_on.Goals as goal
+
+pub returns-in-Err-clause-ran : goal.returns-in-Err-clause-ran
+returns-in-Err-clause-ran g c = λ first h s r. rw (c.cut.ensures, c.new-choices.ensures)
+    (cut_in_header c.args.plan first c.args.k.now c.args.script.now c.new-tracing.result (AreNames g.S.Shelf.stands c.args.shelf.now c.args.plan.vcd c.args.plan.choices) _ _ h s.nothing_told s.nothing_seen c.in-Err.trouble (c.in-Err.ensures.records c.args.plan.choices))
+
+pub loop-steps-init : goal.loop-steps-init
+loop-steps-init g c = record {
+  sound = c.requires.sound;
+  within = omega arith;
+  in_script = omega arith;
+  none = c.new-events.ensures.items;
+  faults_later = omega arith;
+  writes_later = c.in-Ok.ensures.cause.writes_later;
+  kept = c.in-Ok.ensures.kept;
+  going = λ first h s r. rw (c.new-choosing.ensures, c.new-choices.ensures)
+      (begins c.args.plan first c.args.k.now c.args.script.now c.new-tracing.result (AreNames g.S.Shelf.stands c.args.shelf.now c.args.plan.vcd c.args.plan.choices) _ _ h s.nothing_told s.nothing_seen s.script_left r
+      (first_keeps c.args.plan.vcd c.new-tracing.result first.trace.snapshots c.new-tracing.ensures s.nothing_seen) (c.in-Ok.ensures.records c.args.plan.choices));
+}
+
+pub make_step-requires-clause-asked : goal.make_step-requires-clause-asked
+make_step-requires-clause-asked g c =
+    let begun = c.requires.begun in
+    let so_far = c.loop-steps.invariant.going begun.first begun.stands begun.is_first begun.reached in
+    c.runs_may_step.ensures c.loop-steps.k c.args.program.now so_far.at so_far.stands so_far.sound
+    (subst (λ d. d.events < 2 ^ 32 - 1) (sym so_far.design) begun.events)
+    (begun.code ∙ ap (λ d. arena_of d.code) (sym so_far.design))
+
+pub loop-steps-preserved-in-Ok-record_step : goal.loop-steps-preserved-in-Ok-record_step
+loop-steps-preserved-in-Ok-record_step g c = record {
+  sound = c.in-Went.ensures.sound;
+  within = omega arith;
+  in_script = c.in-Went.ensures.within;
+  none = c.in-Went.ensures.none;
+  faults_later = omega (arith, c.in-Ok-record_step.ensures.cause.faults_later);
+  writes_later = omega (arith, c.in-Ok-record_step.ensures.cause.writes_later);
+  kept = write_keeps_on _ _ _ _ _ _ _ _ c.loop-steps.invariant.kept c.in-Ok-record_step.ensures.kept;
+  going = λ first h s r.
+      told_on c.sound_runs_go_on.ensures c.args.plan first _ _ _ _ _ _ _ _ _ (AreNames g.S.Shelf.stands c.args.shelf.now c.args.plan.vcd c.args.plan.choices) _ _ _ (c.loop-steps.invariant.going first h s r)
+      c.in-Went.told c.now-time.result.0 c.now-time.ensures c.in-Went.ensures.steps _ c.in-Went.ensures.rules
+      (recorded_from g.S.Shelf.stands c.args.shelf.now c.loop-steps.shelf c.args.plan.vcd c.args.plan.choices c.loop-steps.invariant.kept.ids.stands _ _ _ _ _ _ (c.in-Ok-record_step.ensures.records c.args.plan.choices));
+}
+
+pub returns-in-Err-record_step-clause-ran : goal.returns-in-Err-record_step-clause-ran
+returns-in-Err-record_step-clause-ran g c = λ first h s r. rw c.cut-in-Err-record_step.ensures
+    (told_cut c.sound_runs_go_on.ensures c.args.plan first _ _ _ _ _ _ _ _ _ (AreNames g.S.Shelf.stands c.args.shelf.now c.args.plan.vcd c.args.plan.choices) _ _ _ (c.loop-steps.invariant.going first h s r)
+    c.in-Went.told c.now-time.result.0 c.now-time.ensures c.in-Went.ensures.steps c.in-Err-record_step.trouble (omega arith)
+    (recorded_from g.S.Shelf.stands c.args.shelf.now c.loop-steps.shelf c.args.plan.vcd c.args.plan.choices c.loop-steps.invariant.kept.ids.stands _ _ _ _ _ _ (c.in-Err-record_step.ensures.records c.args.plan.choices)))
+
+pub returns-in-Err-push-clause-ran : goal.returns-in-Err-push-clause-ran
+returns-in-Err-push-clause-ran g c = λ first h s r. rw (c.cut-in-Err-push.ensures, c.in-Err-push.ensures.err)
+    (cut_before_step c.args.plan first _ _ _ _ _ _ _ _ _ (c.loop-steps.invariant.going first h s r) (omega arith))
+
+pub loop-steps-preserved : goal.loop-steps-preserved
+loop-steps-preserved g c = record {
+  sound = c.in-Took.ensures.sound;
+  within = omega arith;
+  in_script = c.in-Took.ensures.within;
+  none = c.in-Took.ensures.none;
+  faults_later = omega (arith, c.in-Ok-record_turn.ensures.cause.faults_later);
+  writes_later = c.loop-steps.invariant.writes_later;
+  kept = c.loop-steps.invariant.kept;
+  going = λ first h s r.
+      took_on c.sound_runs_go_on.ensures c.args.plan first _ _ _ _ _ _ _ _ c.loop-steps.tracing (AreNames g.S.Shelf.stands c.args.shelf.now c.args.plan.vcd c.args.plan.choices) _ _ _ (c.loop-steps.invariant.going first h s r)
+      c.in-Took.serial _ _ c.in-Ok-push.ensures.ok c.in-Took.ensures.steps c.in-Took.ensures.rules
+      (recorded_from g.S.Shelf.stands c.args.shelf.now c.loop-steps.shelf c.args.plan.vcd c.args.plan.choices c.loop-steps.invariant.kept.ids.stands _ _ _ _ _ _ (c.in-Ok-record_turn.ensures.records c.args.plan.vcd c.args.plan.choices));
+}
+
+pub returns-in-Err-record_turn-clause-ran : goal.returns-in-Err-record_turn-clause-ran
+returns-in-Err-record_turn-clause-ran g c = λ first h s r. rw c.cut-in-Err-record_turn.ensures
+    (took_cut c.sound_runs_go_on.ensures c.args.plan first _ _ _ _ _ _ _ _ c.loop-steps.tracing (AreNames g.S.Shelf.stands c.args.shelf.now c.args.plan.vcd c.args.plan.choices) _ _ _ (c.loop-steps.invariant.going first h s r)
+    c.in-Took.serial _ _ c.in-Ok-push.ensures.ok c.in-Took.ensures.steps c.in-Took.ensures.rules c.in-Err-record_turn.trouble (omega arith)
+    (recorded_from g.S.Shelf.stands c.args.shelf.now c.loop-steps.shelf c.args.plan.vcd c.args.plan.choices c.loop-steps.invariant.kept.ids.stands _ _ _ _ _ _ (c.in-Err-record_turn.ensures.records c.args.plan.vcd c.args.plan.choices)))
+
+pub returns-in-Ended-clause-ran : goal.returns-in-Ended-clause-ran
+returns-in-Ended-clause-ran g c = λ first h s r. rw (c.finish.ensures.choices, c.finish.ensures.steps)
+    (ended_run c.args.plan first _ _ _ (AreNames g.S.Shelf.stands c.args.shelf.now c.args.plan.vcd c.args.plan.choices) _ c.sound_runs_go_on.ensures _ _ _ _ _ _ _ _ (c.loop-steps.invariant.going first h s r)
+    _ c.ended_as-ending.ensures.end c.in-Ended.ensures.steps c.loop-steps-test.true c.ended_as-ending.ensures.ended
+    (finishes_from g.S.Shelf.stands c.args.shelf.now c.loop-steps.shelf c.args.plan.vcd c.args.plan.choices c.loop-steps.invariant.kept.ids.stands _ _ _ _ _ _ _ c.finish.ensures.finishes))
+
+pub returns-in-Fault-clause-ran : goal.returns-in-Fault-clause-ran
+returns-in-Fault-clause-ran g c = λ first h s r. rw (c.finish-in-Fault.ensures.choices, c.finish-in-Fault.ensures.steps)
+    (faulted_run c.args.plan first _ _ _ (AreNames g.S.Shelf.stands c.args.shelf.now c.args.plan.vcd c.args.plan.choices) _ c.sound_runs_go_on.ensures _ _ _ _ _ _ _ _ (c.loop-steps.invariant.going first h s r)
+    _ c.in-Fault.ensures.steps c.loop-steps-test.true
+    (finishes_from g.S.Shelf.stands c.args.shelf.now c.loop-steps.shelf c.args.plan.vcd c.args.plan.choices c.loop-steps.invariant.kept.ids.stands _ _ _ _ _ _ _ c.finish-in-Fault.ensures.finishes))
+
+pub returns-in-NotReady-clause-ran : goal.returns-in-NotReady-clause-ran
+returns-in-NotReady-clause-ran g c = λ first h s r. rw (c.finish-in-NotReady.ensures.choices, c.finish-in-NotReady.ensures.steps)
+    (unready_run c.args.plan first _ _ _ (AreNames g.S.Shelf.stands c.args.shelf.now c.args.plan.vcd c.args.plan.choices) _ c.sound_runs_go_on.ensures _ _ _ _ _ _ _ _ (c.loop-steps.invariant.going first h s r)
+    (length c.loop-steps.choices + 1) c.make_step.new.choosing refl c.in-NotReady.ensures.steps c.in-NotReady.ensures.rules c.loop-steps-test.true
+    (finishes_from g.S.Shelf.stands c.args.shelf.now c.loop-steps.shelf c.args.plan.vcd c.args.plan.choices c.loop-steps.invariant.kept.ids.stands _ _ _ _ _ _ _ (rw c.not_ready-ending.ensures.place at c.finish-in-NotReady.ensures.finishes)))
+
+pub returns-in-NoMemory-clause-ran : goal.returns-in-NoMemory-clause-ran
+returns-in-NoMemory-clause-ran g c = λ first h s r. rw c.cut-in-NoMemory.ensures
+    (cut_before_step c.args.plan first _ _ _ _ _ _ _ _ _ (c.loop-steps.invariant.going first h s r) (omega arith))
+
+pub returns-clause-ran : goal.returns-clause-ran
+returns-clause-ran g c = λ first h s r.
+    let so_far = c.loop-steps.invariant.going first h s r in
+    rw (c.finish-2.ensures.choices, c.finish-2.ensures.steps)
+    (spent_run c.args.plan first _ _ _ (AreNames g.S.Shelf.stands c.args.shelf.now c.args.plan.vcd c.args.plan.choices) _ _ _ _ _ _ _ _ so_far c.end_at_budget-ending.ensures.end c.loop-steps.invariant.within c.loop-steps-test.false
+    (c.end_at_budget-ending.ensures.ending so_far.at c.args.plan.rule (length c.loop-steps.choices) so_far.stands so_far.left)
+    (finishes_from g.S.Shelf.stands c.args.shelf.now c.loop-steps.shelf c.args.plan.vcd c.args.plan.choices c.loop-steps.invariant.kept.ids.stands _ _ _ _ _ _ _ c.finish-2.ensures.finishes))

@@ -1,0 +1,28 @@
+use Rattle.std.proofs.Common.{refl}
+use Rattle.vcd_trace.specs.SimModel.Configuration.{start}
+use Rattle.session.specs.Outputs.{AreNames}
+use Rattle.session.proofs.Going.{never_began}
+use Rattle.session.proofs.looping.run_session.Goals as goal
+
+pub returns-in-Err-clause-ran : goal.returns-in-Err-clause-ran
+returns-in-Err-clause-ran g c = rw (c.cut.ensures, c.new.ensures)
+    (never_began c.args.plan (start c.args.design c.args.script.now) (AreNames g.S.Shelf.stands c.args.shelf.now c.args.plan.vcd c.args.plan.choices) _ refl)
+
+pub run_on-requires-clause-begun : goal.run_on-requires-clause-begun
+run_on-requires-clause-begun g c = record {
+  first = start c.args.design c.args.script.now;
+  stands = c.in-Ok-first_kernel.ensures.first c.args.script.now;
+  is_first = record { script_left = refl; nothing_told = refl; nothing_seen = refl };
+  reached = (c.runs_begin.ensures c.args.design c.args.script.now c.requires.sound).0;
+  code = c.in-Ok.ensures;
+  events = c.requires.events;
+}
+
+pub returns-in-Ok-first_kernel-clause-ran : goal.returns-in-Ok-first_kernel-clause-ran
+returns-in-Ok-first_kernel-clause-ran g c =
+    c.run_on.ensures.ran (start c.args.design c.args.script.now) (c.in-Ok-first_kernel.ensures.first c.args.script.now) (record { script_left = refl; nothing_told = refl; nothing_seen = refl })
+    (c.runs_begin.ensures c.args.design c.args.script.now c.requires.sound).0
+
+pub returns-in-Err-first_kernel-clause-ran : goal.returns-in-Err-first_kernel-clause-ran
+returns-in-Err-first_kernel-clause-ran g c = rw (c.cut-in-Err-first_kernel.ensures, c.new-in-Err-first_kernel.ensures)
+    (never_began c.args.plan (start c.args.design c.args.script.now) (AreNames g.S.Shelf.stands c.args.shelf.now c.args.plan.vcd c.args.plan.choices) _ refl)

@@ -1,0 +1,43 @@
+-- What a session begins with.
+use Rattle.std.specs.Prelude.{◌≡◌, ◌<◌, ◌-◌, ◌^◌, ℕ, List, [], ◌++◌, Contains, Some}
+use Rattle.flat_design.specs.Code.{Arena, Statement, arena_of}
+use Rattle.flat_design.specs.Reach.{IsIn, inner_blocks}
+use Rattle.vcd_trace.specs.SimModel.Configuration.{Config}
+use Rattle.vcd_trace.specs.SimModel.Steps.{step, went, takes, taking}
+use Rattle.vcd_trace.specs.SimModel.declared.plain.Command.{Command}
+use Rattle.kernel_start.specs.KernelBodies.declared.program.Program.{Program}
+use Rattle.vcd_trace.specs.LawsRuns.Added.{added}
+use Rattle.laws_reached.specs.Reached.{IsReached}
+use Rattle.kernel_runs.specs.Made.{NoDoubles}
+use Rattle.kernel_start.specs.KernelState.Kernel.{StandsFor}
+use Rattle.kernel_start.specs.KernelState.declared.kernel.Kernel.{Kernel}
+
+-- blocks inside a block have smaller numbers
+abbrev pub IsNested : Arena → Type 0
+IsNested a = (b j : ℕ) (s : Statement) → IsIn a b s → Contains (inner_blocks s) j → j < b
+
+-- the script is still to be carried out, and nothing was told or seen
+pub record IsFirst (c : Config) (script : List Command) : Type 0 where
+  pub script_left : c.script ≡ script
+  pub nothing_told : c.trace.told ≡ []
+  pub nothing_seen : c.trace.snapshots ≡ []
+
+-- the kernel stands for the first configuration of a run of a sound design, whose code the program beside it has
+pub record HasBegun (k : Kernel) (program : Program) (script : List Command) : Type 0 where
+  pub first : Config
+  pub stands : StandsFor k first
+  pub is_first : IsFirst first script
+  pub reached : IsReached first
+  pub code : arena_of program.code ≡ arena_of first.design.code
+  pub events : first.design.events < 2 ^ 32 - 1
+
+-- how a run of a sound design goes on: each configuration that it comes to is that of such a run, of the same design, a step adds to its
+-- snapshots where now moves, and in its runnable list nothing stands twice
+pub record GoesOn : Type 0 where
+  pub steps : (c d : Config) → IsReached c → step c ≡ went d → IsReached d
+  pub keeps : (c d : Config) → IsReached c → step c ≡ went d → d.design ≡ c.design
+  pub takings : (c d : Config) (p : ℕ) → IsReached c → step c ≡ takes → taking c p ≡ Some d → IsReached d
+  pub takings_keep : (c d : Config) (p : ℕ) → IsReached c → step c ≡ takes → taking c p ≡ Some d → d.design ≡ c.design
+  pub sees : (c d : Config) → step c ≡ went d → d.trace.snapshots ≡ c.trace.snapshots ++ added c d
+  pub takings_see : (c d : Config) (p : ℕ) → taking c p ≡ Some d → d.trace.snapshots ≡ c.trace.snapshots
+  pub once : (c : Config) → IsReached c → NoDoubles c

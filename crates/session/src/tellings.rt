@@ -1,0 +1,108 @@
+//! What a report tells of a step.
+ghost use Rattle.std.specs.Prelude.{◌≡◌, IfOk, Err};
+ghost use Rattle.sim_io.specs.Cause.{RoseIf};
+ghost use Rattle.sim_io.specs.Told.{Grew};
+ghost use Rattle.sim_io.specs.Taken.{TookOf};
+ghost use Rattle.session.specs.Course.{IsEnd};
+ghost use Rattle.session.specs.Telling.{Into, IsClosing, TextOf, TextOfTurn, text_if};
+
+use flat_design::Line;
+use kernel_runs::Telling;
+use kernel_start::kernel_state_api::Kernel;
+use report_texts::{closing, printed_line, show, turn_text};
+use sim_io::{Sink, Trouble, write_all};
+use std::alloc::{AllocError, Global};
+use vcd_trace::sim_model_api::{Log, Stop};
+
+/// The text that a step adds to a report, where it adds one, by the kernel after it.
+pub(crate) fn text_of(alloc: Global, k: &Kernel, told: Telling) -> Result<Option<Line>, AllocError>
+    ensures { IfOk result (λ text. TextOf k.now told (text_if text)) }
+{
+    match told {
+        Telling::Nothing => Ok(None),
+        Telling::Print(p, s, value) => match printed_line(alloc, k, p, s, value) {
+            Ok(line) => Ok(Some(line)),
+            Err(_) => Err(AllocError),
+        },
+        Telling::Show(number) => show(alloc, k, number),
+    }
+}
+
+/// The text that a taking adds to a report, where it tells the turns, by the kernel after it.
+pub(crate) fn text_of_turn(
+    alloc: Global,
+    k: &Kernel,
+    log: Log,
+    p: u32,
+) -> Result<Option<Line>, AllocError>
+    ensures { IfOk result (λ text. TextOfTurn k.now log p (text_if text)) }
+{
+    match log {
+        Log::Prints => Ok(None),
+        Log::Turns => match turn_text(alloc, k, p) {
+            Ok(line) => Ok(Some(line)),
+            Err(_) => Err(AllocError),
+        },
+    }
+}
+
+/// Writes the text of a line, where there is one.
+fn write_text<O: Sink>(out: &mut O, text: &Option<Line>) -> Result<(), Trouble>
+    ensures took { TookOf (O.holds out.old) (O.holds out.new) (text_if text.now) result }
+    ensures cause { RoseIf (O.faults out.old) (O.faults out.new) (result ≡ Err Trouble.Failed) }
+{
+    match text {
+        None => write_all(out, b""),
+        Some(line) => write_all(out, line.as_slice()),
+    }
+}
+
+/// Writes what a step adds to a report, by the kernel after it.
+pub(crate) fn tell<O: Sink>(
+    alloc: Global,
+    k: &Kernel,
+    told: Telling,
+    out: &mut O,
+) -> Result<(), Trouble>
+    ensures tells { Into (TextOf k.now told) (Grew (O.holds out.old) (O.holds out.new)) result }
+    ensures cause { RoseIf (O.faults out.old) (O.faults out.new) (result ≡ Err Trouble.Failed) }
+{
+    match text_of(alloc, k, told) {
+        Ok(text) => write_text(out, &text),
+        Err(_) => Err(Trouble::NoMemory),
+    }
+}
+
+/// Writes what a taking adds to a report, by the kernel after it.
+pub(crate) fn tell_turn<O: Sink>(
+    alloc: Global,
+    k: &Kernel,
+    log: Log,
+    p: u32,
+    out: &mut O,
+) -> Result<(), Trouble>
+    ensures tells { Into (TextOfTurn k.now log p) (Grew (O.holds out.old) (O.holds out.new)) result }
+    ensures cause { RoseIf (O.faults out.old) (O.faults out.new) (result ≡ Err Trouble.Failed) }
+{
+    match text_of_turn(alloc, k, log, p) {
+        Ok(text) => write_text(out, &text),
+        Err(_) => Err(Trouble::NoMemory),
+    }
+}
+
+/// Writes what follows the lines of the run where the session ends so.
+pub(crate) fn tell_end<O: Sink>(
+    alloc: Global,
+    k: &Kernel,
+    stop: Stop,
+    out: &mut O,
+) -> Result<(), Trouble>
+    requires { IsEnd stop }
+    ensures tells { Into (IsClosing k.now stop) (Grew (O.holds out.old) (O.holds out.new)) result }
+    ensures cause { RoseIf (O.faults out.old) (O.faults out.new) (result ≡ Err Trouble.Failed) }
+{
+    match closing(alloc, k, stop) {
+        Ok(text) => write_all(out, text.as_slice()),
+        Err(_) => Err(Trouble::NoMemory),
+    }
+}

@@ -1,6 +1,0 @@
-use Rattle.sessions.specs.Telling.{TextOf, text_if}
-use Rattle.sessions.proofs.Texts.{told_into}
-use Rattle.sessions.proofs.tellings.tell.Goals as goal
-
-pub returns-in-Ok-clause-tells : goal.returns-in-Ok-clause-tells
-returns-in-Ok-clause-tells g c = told_into (TextOf c.args.k.now c.args.told) (text_if c.in-Ok.text) _ _ c.write_text.result c.in-Ok.ensures c.write_text.ensures.took

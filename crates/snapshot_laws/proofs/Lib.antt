@@ -1,4 +1,0 @@
-mod Wakes
-mod Moves
-mod Forms
-mod Steps

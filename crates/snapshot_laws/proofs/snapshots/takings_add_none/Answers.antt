@@ -1,8 +1,0 @@
-use Rattle.snapshot_laws.proofs.Steps.{takings-stay}
-use Rattle.snapshot_laws.proofs.snapshots.takings_add_none.Goals as goal
-
-pub returns-clause-snapshots : goal.returns-clause-snapshots
-returns-clause-snapshots c = λ d e p to. (takings-stay d e p to).1
-
-pub returns-clause-now : goal.returns-clause-now
-returns-clause-now c = λ d e p to. (takings-stay d e p to).0

@@ -1,5 +1,0 @@
-use Rattle.sound_laws.proofs.Sound.{sound}
-use Rattle.sound_laws.proofs.laws.accepted_designs_are_sound.Goals as goal
-
-pub returns : goal.returns
-returns c = λ is_missing m d accepted design laid statements objects. sound m accepted d design laid is_missing statements objects

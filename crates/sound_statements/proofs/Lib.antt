@@ -1,4 +1,0 @@
-pub mod Channels
-pub mod Events
-pub mod Calls
-pub mod Actions

@@ -1,5 +1,0 @@
-pub mod Operands
-pub mod Has
-pub mod Places
-pub mod Seen
-pub mod Terms

@@ -1,4 +1,0 @@
-pub mod Gathering
-pub mod Sensing
-pub mod Bearing
-pub mod Handing

@@ -1,9 +1,0 @@
-use Rattle.std.proofs.Common.{◌≡◌, ◌++◌, map, drop, Ok}
-use Rattle.flat_design.specs.Code.{term_of}
-use Rattle.sim_model.specs.Values.{on_ok}
-use Rattle.sim_model.specs.Calls.{first_arguments}
-use Rattle.kernel_view.specs.Standings.{Everywhere}
-use Rattle.spawn_statements.proofs.given.first_arguments.Given as goal
-
-abbrev pub invariant-loop-place : goal.invariant-loop-place
-invariant-loop-place l = Everywhere l.k l.p (λ h. on_ok (first_arguments h l.locals l.place (map term_of (drop l.place l.arguments))) (λ vs. Ok (l.values ++ vs)) ≡ first_arguments h l.locals 0 (map term_of l.arguments))

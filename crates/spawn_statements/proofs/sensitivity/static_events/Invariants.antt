@@ -1,6 +1,0 @@
-use Rattle.std.proofs.Common.{◌≡◌, ◌++◌, drop}
-use Rattle.spawn_statements.specs.Sensitive.{static_in}
-use Rattle.spawn_statements.proofs.sensitivity.static_events.Given as goal
-
-abbrev pub invariant-loop-part : goal.invariant-loop-part
-invariant-loop-part l = l.found ++ static_in l.design l.home (drop l.part-index l.uses) ≡ static_in l.design l.home l.uses

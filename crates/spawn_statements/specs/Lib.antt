@@ -1,2 +1,0 @@
-pub mod Sensitive
-pub mod Born

@@ -1,5 +1,0 @@
-use Rattle.standing_laws.proofs.Standing.{design_stands}
-use Rattle.standing_laws.proofs.laws.names_stand_for_what_they_are_declared_as.Goals as goal
-
-pub returns : goal.returns
-returns c = λ m d none acyclic sockets design. design_stands m d design sockets none acyclic

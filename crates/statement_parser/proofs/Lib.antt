@@ -1,4 +1,0 @@
-mod PlainLaws
-mod Begins
-pub mod BlockLaws
-mod Handled

@@ -1,4 +1,0 @@
-pub mod Memories
-pub mod Asking
-pub mod Stopped
-pub mod Fitting

@@ -1,2 +1,0 @@
-mod Logic
-mod Outside

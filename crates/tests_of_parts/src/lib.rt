@@ -1,0 +1,10 @@
+//! Tests of parts that hold values of any type, each at one type, and of what no clause says: a deep design's trace takes
+//! no deep stack.
+#![tactic(auto)]
+
+#[cfg(test)]
+mod maps;
+#[cfg(test)]
+mod slots;
+#[cfg(test)]
+mod traces;

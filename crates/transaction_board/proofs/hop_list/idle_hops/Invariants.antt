@@ -1,6 +1,0 @@
-use Rattle.std.proofs.Common.{◌≡◌, replicate}
-use Rattle.transaction_board.specs.Hops.{nothing_called}
-use Rattle.transaction_board.proofs.hop_list.idle_hops.Given as goal
-
-abbrev pub invariant-loop-i : goal.invariant-loop-i
-invariant-loop-i l = l.hops.items ≡ replicate l._i nothing_called

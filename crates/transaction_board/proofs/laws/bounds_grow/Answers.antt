@@ -1,5 +1,0 @@
-use Rattle.transaction_board.proofs.Counts.{within_more}
-use Rattle.transaction_board.proofs.laws.bounds_grow.Goals as goal
-
-pub returns : goal.returns
-returns c = λ n m b more within. within_more n m b.pool more within

@@ -1,4 +1,0 @@
-pub mod Codes
-pub mod Called
-pub mod Settled
-pub mod Ended

@@ -1,6 +1,0 @@
-use Rattle.std.proofs.Common.{ap, ◌∙◌}
-use Rattle.sim_model.specs.Transport.{value_or}
-use Rattle.transport_statements.proofs.values.value_at.Goals as goal
-
-pub returns : goal.returns
-returns c = λ d i h there. c.value_or.ensures ∙ ap value_or (c.named_at.ensures d i h there)

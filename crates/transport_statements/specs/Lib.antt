@@ -1,3 +1,0 @@
-pub mod Entries
-pub mod Calling
-pub mod Ending

@@ -1,4 +1,0 @@
-pub mod Plain
-pub mod Blocks
-pub mod Bodies
-pub mod Models

@@ -1,8 +1,0 @@
-use Rattle.typed_statements.proofs.InTurn.{typed-fits, meets-types, next-typed}
-use Rattle.typed_statements.proofs.statements.each_statement_meets_its_types.Goals as goal
-
-pub returns : goal.returns
-returns x = record {
-  next = λ missing c p i sound typed at. next-typed missing c p i at sound (typed-fits c typed);
-  operands = λ missing c p i sound typed at. meets-types missing c p i at sound (typed-fits c typed);
-}

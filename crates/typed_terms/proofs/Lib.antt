@@ -1,4 +1,0 @@
-pub mod Lists
-pub mod Types
-pub mod Names
-pub mod TermTypes

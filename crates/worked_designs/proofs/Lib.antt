@@ -1,3 +1,0 @@
-pub mod SameDesign
-pub mod Cutting
-pub mod Reading

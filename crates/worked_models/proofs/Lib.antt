@@ -1,0 +1,4 @@
+pub mod Reading
+pub mod SameDesign
+pub mod Cutting
+pub mod ReadingDesigns

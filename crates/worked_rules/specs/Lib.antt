@@ -1,5 +1,0 @@
-pub mod Trees
-pub mod Rows
-pub mod Coded
-pub mod Arenas
-pub mod Uses
