@@ -3,7 +3,7 @@ pub mod LocalNames
 pub mod ModuleNames
 pub mod ModelNames
 pub mod Places
-pub use Rattle.model_rules.specs.LogicValues as LogicValues
-pub use Rattle.model_rules.specs.ModelTree as ModelTree
-pub use Rattle.model_rules.specs.FlatDesign as FlatDesign
-pub use Rattle.model_rules.specs as ModelRules
+pub mod LogicValues
+pub mod ModelTree
+pub mod FlatDesign
+pub mod ModelRules

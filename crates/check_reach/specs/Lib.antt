@@ -3,5 +3,5 @@ pub mod Spreading
 pub mod Flat
 pub mod Sets
 pub mod Judged
-pub use Rattle.check_expressions.specs.CheckNames as CheckNames
-pub use Rattle.check_expressions.specs as CheckExpressions
+pub mod CheckNames
+pub mod CheckExpressions

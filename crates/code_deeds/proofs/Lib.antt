@@ -1,2 +1,1 @@
 pub mod Each
-pub use Rattle.model_tree.proofs as ModelTree

@@ -6,4 +6,4 @@ pub mod Needed
 pub mod Suffices
 pub mod Read
 pub mod Designs
-pub use Rattle.code_rules.proofs.ModelRules as ModelRules
+pub mod ModelRules

@@ -1,2 +1,1 @@
-pub use Rattle.model_rules.proofs.ModelTree as ModelTree
-pub use Rattle.model_rules.proofs as ModelRules
+pub mod ModelRules

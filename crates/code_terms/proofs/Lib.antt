@@ -3,4 +3,3 @@ mod Outside
 mod Positions
 mod Once
 mod Following
-pub use Rattle.model_tree.proofs as ModelTree

@@ -16,6 +16,6 @@ pub mod Parts
 pub mod Statics
 pub mod Designs
 pub mod Written
-pub use Rattle.code_rules.specs.ModelTree as ModelTree
-pub use Rattle.code_rules.specs.FlatDesign as FlatDesign
-pub use Rattle.code_rules.specs as CodeRules
+pub mod ModelTree
+pub mod FlatDesign
+pub mod CodeRules

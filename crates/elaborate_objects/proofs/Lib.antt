@@ -7,5 +7,5 @@ mod RowLemmas
 mod Lasting
 mod Counts
 mod Parents
-pub use Rattle.check_names.proofs.ModelRules as ModelRules
-pub use Rattle.design_rules.proofs as DesignRules
+pub mod ModelRules
+pub mod DesignRules

@@ -1,3 +1,3 @@
 pub mod Ev
 pub mod Notifications
-pub use Rattle.sim_time.specs as SimTime
+pub mod SimTime

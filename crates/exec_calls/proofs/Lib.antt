@@ -8,7 +8,7 @@ pub mod Gathering
 pub mod Sensing
 pub mod Bearing
 pub mod SpawnHanding
-pub use Rattle.exec_data.proofs.KernelBodies as KernelBodies
-pub use Rattle.exec_data.proofs.KernelProcesses as KernelProcesses
-pub use Rattle.exec_data.proofs.KernelState as KernelState
-pub use Rattle.exec_data.proofs as ExecData
+pub mod KernelBodies
+pub mod KernelProcesses
+pub mod KernelState
+pub mod ExecData

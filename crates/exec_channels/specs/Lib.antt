@@ -1,18 +1,17 @@
 pub mod Slots
 pub mod Tried
-pub use Rattle.kernel_view.specs.LogicValues as LogicValues
-pub use Rattle.kernel_view.specs.EventCore as EventCore
-pub use Rattle.kernel_view.specs.InstanceTable as InstanceTable
-pub use Rattle.kernel_view.specs.SignalChannel as SignalChannel
-pub use Rattle.kernel_view.specs.FifoSync as FifoSync
-pub use Rattle.kernel_view.specs.PayloadPool as PayloadPool
-pub use Rattle.kernel_view.specs.TransportPhases as TransportPhases
-pub use Rattle.kernel_view.specs.QuantumKeeper as QuantumKeeper
-pub use Rattle.kernel_view.specs.ModelTree as ModelTree
-pub use Rattle.flat_design.specs as FlatDesign
-pub use Rattle.kernel_view.specs.SimModel as SimModel
-pub use Rattle.kernel_view.specs.KernelBodies as KernelBodies
-pub use Rattle.kernel_view.specs.ProcessState as ProcessState
-pub use Rattle.kernel_view.specs.KernelProcesses as KernelProcesses
-pub use Rattle.kernel_view.specs.KernelState as KernelState
-pub use Rattle.kernel_view.specs as KernelView
+pub mod LogicValues
+pub mod EventCore
+pub mod InstanceTable
+pub mod SignalChannel
+pub mod FifoSync
+pub mod PayloadPool
+pub mod TransportPhases
+pub mod QuantumKeeper
+pub mod ModelTree
+pub mod SimModel
+pub mod KernelBodies
+pub mod ProcessState
+pub mod KernelProcesses
+pub mod KernelState
+pub mod KernelView

@@ -1,15 +1,14 @@
 pub mod Readings
 pub mod Chains
 pub mod Vectors
-pub use Rattle.sim_model.specs.SimTime as SimTime
-pub use Rattle.sim_model.specs.LogicValues as LogicValues
-pub use Rattle.sim_model.specs.NumberedSlots as NumberedSlots
-pub use Rattle.sim_model.specs.EventCore as EventCore
-pub use Rattle.sim_model.specs.SignalChannel as SignalChannel
-pub use Rattle.sim_model.specs.FifoSync as FifoSync
-pub use Rattle.sim_model.specs.PayloadPool as PayloadPool
-pub use Rattle.sim_model.specs.TransportPhases as TransportPhases
-pub use Rattle.sim_model.specs.QuantumKeeper as QuantumKeeper
-pub use Rattle.sim_model.specs.ModelTree as ModelTree
-pub use Rattle.flat_design.specs as FlatDesign
-pub use Rattle.sim_model.specs as SimModel
+pub mod SimTime
+pub mod LogicValues
+pub mod NumberedSlots
+pub mod EventCore
+pub mod SignalChannel
+pub mod FifoSync
+pub mod PayloadPool
+pub mod TransportPhases
+pub mod QuantumKeeper
+pub mod ModelTree
+pub mod SimModel

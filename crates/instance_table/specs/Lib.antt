@@ -1,3 +1,3 @@
 pub mod Instances
 pub mod Lends
-pub use Rattle.numbered_slots.specs as NumberedSlots
+pub mod NumberedSlots

@@ -6,6 +6,6 @@ pub mod Room
 pub mod Sought
 pub mod Unwound
 pub mod Changed
-pub use Rattle.sim_model.specs.LogicValues as LogicValues
-pub use Rattle.sim_model.specs.FlatDesign as FlatDesign
-pub use Rattle.sim_model.specs as SimModel
+pub mod LogicValues
+pub mod FlatDesign
+pub mod SimModel

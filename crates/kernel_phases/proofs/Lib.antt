@@ -10,7 +10,7 @@ pub mod Initialized
 pub mod TurnFrames
 pub mod Updated
 pub mod Phased
-pub use Rattle.kernel_state.proofs.KernelBodies as KernelBodies
-pub use Rattle.kernel_state.proofs.KernelProcesses as KernelProcesses
-pub use Rattle.kernel_state.proofs.KernelChannels as KernelChannels
-pub use Rattle.kernel_state.proofs as KernelState
+pub mod KernelBodies
+pub mod KernelProcesses
+pub mod KernelChannels
+pub mod KernelState

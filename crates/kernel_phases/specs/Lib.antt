@@ -3,14 +3,13 @@ pub mod Own
 pub mod Due
 pub mod Fresh
 pub mod Turns
-pub use Rattle.kernel_state.specs.SimTime as SimTime
-pub use Rattle.kernel_state.specs.LogicValues as LogicValues
-pub use Rattle.kernel_state.specs.EventCore as EventCore
-pub use Rattle.kernel_state.specs.ReadySet as ReadySet
-pub use Rattle.kernel_state.specs.InstanceTable as InstanceTable
-pub use Rattle.kernel_state.specs.FlatDesign as FlatDesign
-pub use Rattle.kernel_state.specs.SimModel as SimModel
-pub use Rattle.kernel_state.specs.KernelBodies as KernelBodies
-pub use Rattle.kernel_state.specs.ProcessState as ProcessState
-pub use Rattle.kernel_state.specs.KernelProcesses as KernelProcesses
-pub use Rattle.kernel_state.specs as KernelState
+pub mod SimTime
+pub mod LogicValues
+pub mod EventCore
+pub mod ReadySet
+pub mod InstanceTable
+pub mod SimModel
+pub mod KernelBodies
+pub mod ProcessState
+pub mod KernelProcesses
+pub mod KernelState

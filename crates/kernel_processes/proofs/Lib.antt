@@ -17,5 +17,5 @@ mod Adding
 mod Overs
 mod Takings
 mod WakingMoves
-pub use Rattle.wait_lists.proofs.Lemmas as Lemmas
-pub use Rattle.ready_set.proofs as ReadySet
+pub mod Lemmas
+pub mod ReadySet

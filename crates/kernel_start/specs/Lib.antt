@@ -1,4 +1,4 @@
 pub mod Made
-pub use Rattle.kernel_state.specs.InstanceTable as InstanceTable
-pub use Rattle.kernel_state.specs.KernelBodies as KernelBodies
-pub use Rattle.kernel_state.specs as KernelState
+pub mod InstanceTable
+pub mod KernelBodies
+pub mod KernelState

@@ -1,5 +1,5 @@
 pub mod Shown
-pub use Rattle.kernel_state.proofs.KernelBodies as KernelBodies
-pub use Rattle.kernel_state.proofs.KernelProcesses as KernelProcesses
-pub use Rattle.kernel_state.proofs.KernelTransactions as KernelTransactions
-pub use Rattle.kernel_state.proofs as KernelState
+pub mod KernelBodies
+pub mod KernelProcesses
+pub mod KernelTransactions
+pub mod KernelState

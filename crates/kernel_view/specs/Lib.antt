@@ -1,19 +1,18 @@
 pub mod Standings
-pub use Rattle.expr_eval.specs.LogicValues as LogicValues
-pub use Rattle.expr_eval.specs.NumberedSlots as NumberedSlots
-pub use Rattle.expr_eval.specs.EventCore as EventCore
-pub use Rattle.kernel_state.specs.InstanceTable as InstanceTable
-pub use Rattle.expr_eval.specs.SignalChannel as SignalChannel
-pub use Rattle.expr_eval.specs.FifoSync as FifoSync
-pub use Rattle.expr_eval.specs.PayloadPool as PayloadPool
-pub use Rattle.expr_eval.specs.TransportPhases as TransportPhases
-pub use Rattle.expr_eval.specs.QuantumKeeper as QuantumKeeper
-pub use Rattle.expr_eval.specs.ModelTree as ModelTree
-pub use Rattle.flat_design.specs as FlatDesign
-pub use Rattle.expr_eval.specs.SimModel as SimModel
-pub use Rattle.kernel_state.specs.KernelBodies as KernelBodies
-pub use Rattle.kernel_state.specs.ProcessState as ProcessState
-pub use Rattle.kernel_state.specs.KernelProcesses as KernelProcesses
-pub use Rattle.kernel_state.specs.KernelChannels as KernelChannels
-pub use Rattle.kernel_state.specs.KernelTransactions as KernelTransactions
-pub use Rattle.kernel_state.specs as KernelState
+pub mod LogicValues
+pub mod NumberedSlots
+pub mod EventCore
+pub mod InstanceTable
+pub mod SignalChannel
+pub mod FifoSync
+pub mod PayloadPool
+pub mod TransportPhases
+pub mod QuantumKeeper
+pub mod ModelTree
+pub mod SimModel
+pub mod KernelBodies
+pub mod ProcessState
+pub mod KernelProcesses
+pub mod KernelChannels
+pub mod KernelTransactions
+pub mod KernelState

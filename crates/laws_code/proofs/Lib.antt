@@ -19,4 +19,4 @@ pub mod ReachedModels
 pub mod Rooted
 pub mod Rules
 pub mod Fields
-pub use Rattle.laws_rules.proofs as LawsRules
+pub mod LawsRules

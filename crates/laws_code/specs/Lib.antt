@@ -4,4 +4,4 @@ pub mod Ready
 pub mod TypedCode
 pub mod Bodies
 pub mod Reached
-pub use Rattle.laws_rules.specs as LawsRules
+pub mod LawsRules

@@ -1,4 +1,4 @@
 pub mod Sockets
 pub mod Fields
 pub mod Accepted
-pub use Rattle.laws_code.specs as LawsCode
+pub mod LawsCode

@@ -18,5 +18,5 @@ pub mod Sockets
 pub mod Upward
 pub mod Inside
 pub mod Denoted
-pub use Rattle.elaborate_objects.proofs.DesignRules as DesignRules
-pub use Rattle.elaborate_objects.proofs as ElaborateObjects
+pub mod DesignRules
+pub mod ElaborateObjects

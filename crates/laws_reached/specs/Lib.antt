@@ -1,2 +1,2 @@
 pub mod Reached
-pub use Rattle.kernel_phases.specs as KernelPhases
+pub mod KernelPhases

@@ -12,4 +12,4 @@ pub mod Deeds
 pub mod Blocks
 pub mod Models
 pub mod Everywhere
-pub use Rattle.code_rules.proofs.ModelRules as ModelRules
+pub mod ModelRules

@@ -2,8 +2,8 @@ pub mod Met
 pub mod Known
 pub mod Decided
 pub mod HasCode
-pub use Rattle.code_rules.specs.LogicValues as LogicValues
-pub use Rattle.code_rules.specs.ModelTree as ModelTree
-pub use Rattle.code_rules.specs.FlatDesign as FlatDesign
-pub use Rattle.code_rules.specs.ModelRules as ModelRules
-pub use Rattle.code_rules.specs as CodeRules
+pub mod LogicValues
+pub mod ModelTree
+pub mod FlatDesign
+pub mod ModelRules
+pub mod CodeRules

@@ -28,5 +28,5 @@ mod SnapshotWakes
 mod SnapshotMoves
 mod SnapshotForms
 mod SnapshotSteps
-pub use Rattle.sim_model.proofs.LogicValues as LogicValues
-pub use Rattle.sim_model.proofs.TransportPhases as TransportPhases
+pub mod LogicValues
+pub mod TransportPhases

@@ -27,5 +27,5 @@ pub mod Kept
 pub mod Fits
 pub mod Opened
 pub mod MarkedRuns
-pub use Rattle.laws_runs.proofs.TransportPhases as TransportPhases
-pub use Rattle.laws_runs.proofs as LawsRuns
+pub mod TransportPhases
+pub mod LawsRuns

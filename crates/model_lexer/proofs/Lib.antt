@@ -6,5 +6,5 @@ pub mod Turns
 pub mod Numbers
 pub mod LogicDigits
 pub mod OneForm
-pub use Rattle.model_grammar.proofs.LogicValues as LogicValues
-pub use Rattle.model_grammar.proofs as ModelGrammar
+pub mod LogicValues
+pub mod ModelGrammar

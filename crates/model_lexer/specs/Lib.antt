@@ -5,7 +5,7 @@ pub mod Fronts
 pub mod Seen
 pub mod Laws
 pub mod Reads
-pub use Rattle.model_grammar.specs.SimTime as SimTime
-pub use Rattle.model_grammar.specs.LogicValues as LogicValues
-pub use Rattle.model_grammar.specs.ModelTree as ModelTree
-pub use Rattle.model_grammar.specs as ModelGrammar
+pub mod SimTime
+pub mod LogicValues
+pub mod ModelTree
+pub mod ModelGrammar

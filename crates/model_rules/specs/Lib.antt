@@ -14,8 +14,8 @@ pub mod Passes
 pub mod Answered
 pub mod Closed
 pub mod Distinct
-pub use Rattle.flat_design.specs.SimTime as SimTime
-pub use Rattle.flat_design.specs.LogicValues as LogicValues
-pub use Rattle.flat_design.specs.EventCore as EventCore
-pub use Rattle.flat_design.specs.ModelTree as ModelTree
-pub use Rattle.flat_design.specs as FlatDesign
+pub mod SimTime
+pub mod LogicValues
+pub mod EventCore
+pub mod ModelTree
+pub mod FlatDesign

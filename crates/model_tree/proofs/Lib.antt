@@ -1,2 +1,2 @@
 pub mod Trees
-pub use Rattle.logic_values.proofs as LogicValues
+pub mod LogicValues

@@ -7,5 +7,5 @@ pub mod Limits
 pub mod Seen
 pub mod Lines
 pub mod Stops
-pub use Rattle.sim_time.specs as SimTime
-pub use Rattle.logic_values.specs as LogicValues
+pub mod SimTime
+pub mod LogicValues

@@ -1,2 +1,2 @@
 pub mod SlotLemmas
-pub use Rattle.lemmas.proofs as Lemmas
+pub mod Lemmas

@@ -6,7 +6,7 @@ pub mod OperationLaws
 pub mod WaitLaws
 pub mod ActionLaws
 pub mod Laws
-pub use Rattle.parse_expressions.proofs.LogicValues as LogicValues
-pub use Rattle.parse_expressions.proofs.ModelGrammar as ModelGrammar
-pub use Rattle.parse_expressions.proofs.ModelLexer as ModelLexer
-pub use Rattle.parse_expressions.proofs as ParseExpressions
+pub mod LogicValues
+pub mod ModelGrammar
+pub mod ModelLexer
+pub mod ParseExpressions

@@ -5,4 +5,4 @@ pub mod Unwinds
 pub mod Shows
 pub mod Numbers
 pub mod Forgetting
-pub use Rattle.kernel_bodies.proofs as KernelBodies
+pub mod KernelBodies

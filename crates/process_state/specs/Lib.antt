@@ -1,3 +1,3 @@
 pub mod Bodies
 pub mod Forgotten
-pub use Rattle.kernel_bodies.specs as KernelBodies
+pub mod KernelBodies

@@ -1,2 +1,2 @@
 pub mod Keepers
-pub use Rattle.sim_time.specs as SimTime
+pub mod SimTime

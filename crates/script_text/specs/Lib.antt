@@ -7,6 +7,5 @@ pub mod Fits
 pub mod Naming
 pub mod ChoiceList
 pub mod ChoiceProgress
-pub use Rattle.model_lexer.specs as ModelLexer
-pub use Rattle.sim_model.specs.FlatDesign as FlatDesign
-pub use Rattle.sim_model.specs as SimModel
+pub mod ModelLexer
+pub mod SimModel

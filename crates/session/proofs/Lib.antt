@@ -5,4 +5,4 @@ pub mod Idle
 pub mod Going
 pub mod Texts
 pub mod Turning
-pub use Rattle.sim_io.proofs as SimIo
+pub mod SimIo

@@ -1,2 +1,2 @@
 mod Differences
-pub use Rattle.logic_values.proofs as LogicValues
+pub mod LogicValues

@@ -1,3 +1,3 @@
-pub use Rattle.signal_channel.proofs.LogicValues as LogicValues
-pub use Rattle.payload_pool.proofs.Lemmas as Lemmas
-pub use Rattle.transport_phases.proofs as TransportPhases
+pub mod LogicValues
+pub mod Lemmas
+pub mod TransportPhases

@@ -1,3 +1,3 @@
 pub mod Timed
 pub mod Kept
-pub use Rattle.sim_time.specs as SimTime
+pub mod SimTime

@@ -2,5 +2,5 @@ pub mod Points
 pub mod Tables
 pub mod Walks
 pub mod Traced
-pub use Rattle.laws_runs.specs.SimModel as SimModel
-pub use Rattle.laws_runs.specs as LawsRuns
+pub mod SimModel
+pub mod LawsRuns

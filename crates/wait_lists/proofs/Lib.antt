@@ -16,4 +16,4 @@ pub mod LawLemmas
 pub mod Reserved
 pub mod Waiting
 pub mod Counting
-pub use Rattle.lemmas.proofs as Lemmas
+pub mod Lemmas

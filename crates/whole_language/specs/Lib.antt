@@ -1,3 +1,2 @@
 pub mod Whole
-pub use Rattle.model_tree.specs.LogicValues as LogicValues
-pub use Rattle.model_tree.specs as ModelTree
+pub mod LogicValues

@@ -1,0 +1,14 @@
+pub use Rattle.check_expressions.specs.ModelRules.Calls as Calls
+pub use Rattle.check_expressions.specs.ModelRules.Distinct as Distinct
+pub use Rattle.check_expressions.specs.ModelRules.Items as Items
+pub use Rattle.check_expressions.specs.ModelRules.Meanings as Meanings
+pub use Rattle.check_expressions.specs.ModelRules.Members as Members
+pub use Rattle.check_expressions.specs.ModelRules.Names as Names
+pub use Rattle.check_expressions.specs.ModelRules.Operators as Operators
+pub use Rattle.check_expressions.specs.ModelRules.Passes as Passes
+pub use Rattle.check_expressions.specs.ModelRules.Scopes as Scopes
+pub use Rattle.check_expressions.specs.ModelRules.Sites as Sites
+pub use Rattle.check_expressions.specs.ModelRules.Targets as Targets
+pub use Rattle.check_expressions.specs.ModelRules.Types as Types
+pub use Rattle.check_expressions.specs.ModelRules.Values as Values
+pub use Rattle.check_expressions.specs.ModelRules.declared as declared

@@ -1,0 +1,2 @@
+pub use Rattle.model_rules.proofs.Doubles as Doubles
+pub use Rattle.model_rules.proofs.Firsts as Firsts

@@ -1,0 +1,16 @@
+pub use Rattle.model_rules.specs.Calls as Calls
+pub use Rattle.model_rules.specs.Closed as Closed
+pub use Rattle.model_rules.specs.Distinct as Distinct
+pub use Rattle.model_rules.specs.Items as Items
+pub use Rattle.model_rules.specs.Meanings as Meanings
+pub use Rattle.model_rules.specs.Members as Members
+pub use Rattle.model_rules.specs.Names as Names
+pub use Rattle.model_rules.specs.Operators as Operators
+pub use Rattle.model_rules.specs.Passes as Passes
+pub use Rattle.model_rules.specs.Reach as Reach
+pub use Rattle.model_rules.specs.Scopes as Scopes
+pub use Rattle.model_rules.specs.Sites as Sites
+pub use Rattle.model_rules.specs.Targets as Targets
+pub use Rattle.model_rules.specs.Types as Types
+pub use Rattle.model_rules.specs.Values as Values
+pub use Rattle.model_rules.specs.declared as declared

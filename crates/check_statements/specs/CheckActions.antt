@@ -1,0 +1,1 @@
+pub use Rattle.check_actions.specs.Uses as Uses

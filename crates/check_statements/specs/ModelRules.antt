@@ -1,0 +1,10 @@
+pub use Rattle.check_actions.specs.ModelRules.Calls as Calls
+pub use Rattle.check_actions.specs.ModelRules.Items as Items
+pub use Rattle.check_actions.specs.ModelRules.Meanings as Meanings
+pub use Rattle.check_actions.specs.ModelRules.Names as Names
+pub use Rattle.check_actions.specs.ModelRules.Operators as Operators
+pub use Rattle.check_actions.specs.ModelRules.Passes as Passes
+pub use Rattle.check_actions.specs.ModelRules.Scopes as Scopes
+pub use Rattle.check_actions.specs.ModelRules.Sites as Sites
+pub use Rattle.check_actions.specs.ModelRules.Targets as Targets
+pub use Rattle.check_actions.specs.ModelRules.Values as Values

@@ -1,0 +1,1 @@
+pub use Rattle.code_deeds.specs.Homes as Homes

@@ -1,0 +1,13 @@
+pub use Rattle.code_rules.specs.ModelRules.Calls as Calls
+pub use Rattle.code_rules.specs.ModelRules.Distinct as Distinct
+pub use Rattle.code_rules.specs.ModelRules.Items as Items
+pub use Rattle.code_rules.specs.ModelRules.Meanings as Meanings
+pub use Rattle.code_rules.specs.ModelRules.Names as Names
+pub use Rattle.code_rules.specs.ModelRules.Operators as Operators
+pub use Rattle.code_rules.specs.ModelRules.Passes as Passes
+pub use Rattle.code_rules.specs.ModelRules.Reach as Reach
+pub use Rattle.code_rules.specs.ModelRules.Scopes as Scopes
+pub use Rattle.code_rules.specs.ModelRules.Sites as Sites
+pub use Rattle.code_rules.specs.ModelRules.Targets as Targets
+pub use Rattle.code_rules.specs.ModelRules.Values as Values
+pub use Rattle.code_rules.specs.ModelRules.declared as declared

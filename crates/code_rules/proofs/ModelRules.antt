@@ -1,0 +1,3 @@
+pub use Rattle.model_rules.proofs.Closures as Closures
+pub use Rattle.model_rules.proofs.Doubles as Doubles
+pub use Rattle.model_rules.proofs.Firsts as Firsts

@@ -1,0 +1,1 @@
+pub use Rattle.model_rules.specs.EventCore.declared as declared

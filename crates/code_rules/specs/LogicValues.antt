@@ -1,0 +1,4 @@
+pub use Rattle.model_rules.specs.LogicValues.Digits as Digits
+pub use Rattle.model_rules.specs.LogicValues.Integers as Integers
+pub use Rattle.model_rules.specs.LogicValues.Planes as Planes
+pub use Rattle.model_rules.specs.LogicValues.declared as declared

@@ -1,0 +1,1 @@
+pub use Rattle.check_expressions.specs.CheckNames.Places as Places

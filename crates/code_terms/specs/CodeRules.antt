@@ -1,0 +1,3 @@
+pub use Rattle.code_rules.specs.Deeds as Deeds
+pub use Rattle.code_rules.specs.Numbered as Numbered
+pub use Rattle.code_rules.specs.Terms as Terms

@@ -1,0 +1,2 @@
+pub use Rattle.sim_model.specs.TransportPhases.History as History
+pub use Rattle.sim_model.specs.TransportPhases.Lawful as Lawful

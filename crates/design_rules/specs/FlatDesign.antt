@@ -1,0 +1,1 @@
+pub use Rattle.code_rules.specs.FlatDesign.declared as declared

@@ -1,0 +1,2 @@
+pub use Rattle.code_rules.specs.ModelTree.Stops as Stops
+pub use Rattle.code_rules.specs.ModelTree.declared as declared

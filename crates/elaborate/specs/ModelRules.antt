@@ -1,0 +1,1 @@
+pub use Rattle.model_check.specs.ModelRules.Passes as Passes

@@ -1,0 +1,16 @@
+pub use Rattle.design_rules.specs.BindingFaults as BindingFaults
+pub use Rattle.design_rules.specs.Bound as Bound
+pub use Rattle.design_rules.specs.Counting as Counting
+pub use Rattle.design_rules.specs.Denoting as Denoting
+pub use Rattle.design_rules.specs.Designs as Designs
+pub use Rattle.design_rules.specs.Fits as Fits
+pub use Rattle.design_rules.specs.Formed as Formed
+pub use Rattle.design_rules.specs.Forms as Forms
+pub use Rattle.design_rules.specs.Listing as Listing
+pub use Rattle.design_rules.specs.ObjectFaults as ObjectFaults
+pub use Rattle.design_rules.specs.Objects as Objects
+pub use Rattle.design_rules.specs.Parts as Parts
+pub use Rattle.design_rules.specs.Paths as Paths
+pub use Rattle.design_rules.specs.Statics as Statics
+pub use Rattle.design_rules.specs.Values as Values
+pub use Rattle.design_rules.specs.declared as declared

@@ -1,0 +1,2 @@
+pub use Rattle.sim_time.specs.Times as Times
+pub use Rattle.sim_time.specs.declared as declared

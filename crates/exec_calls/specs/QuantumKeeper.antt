@@ -1,0 +1,1 @@
+pub use Rattle.exec_data.specs.QuantumKeeper.Keepers as Keepers

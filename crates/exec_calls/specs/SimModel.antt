@@ -1,0 +1,10 @@
+pub use Rattle.exec_data.specs.SimModel.Calls as Calls
+pub use Rattle.exec_data.specs.SimModel.Configuration as Configuration
+pub use Rattle.exec_data.specs.SimModel.Payloads as Payloads
+pub use Rattle.exec_data.specs.SimModel.Reading as Reading
+pub use Rattle.exec_data.specs.SimModel.Residual as Residual
+pub use Rattle.exec_data.specs.SimModel.Statements as Statements
+pub use Rattle.exec_data.specs.SimModel.Storing as Storing
+pub use Rattle.exec_data.specs.SimModel.Transport as Transport
+pub use Rattle.exec_data.specs.SimModel.Values as Values
+pub use Rattle.exec_data.specs.SimModel.declared as declared

@@ -1,0 +1,15 @@
+pub use Rattle.kernel_view.specs.SimModel.Calls as Calls
+pub use Rattle.kernel_view.specs.SimModel.Channels as Channels
+pub use Rattle.kernel_view.specs.SimModel.Configuration as Configuration
+pub use Rattle.kernel_view.specs.SimModel.Control as Control
+pub use Rattle.kernel_view.specs.SimModel.Payloads as Payloads
+pub use Rattle.kernel_view.specs.SimModel.Reading as Reading
+pub use Rattle.kernel_view.specs.SimModel.Residual as Residual
+pub use Rattle.kernel_view.specs.SimModel.Statements as Statements
+pub use Rattle.kernel_view.specs.SimModel.Storing as Storing
+pub use Rattle.kernel_view.specs.SimModel.Transport as Transport
+pub use Rattle.kernel_view.specs.SimModel.Unwinding as Unwinding
+pub use Rattle.kernel_view.specs.SimModel.Values as Values
+pub use Rattle.kernel_view.specs.SimModel.Waiting as Waiting
+pub use Rattle.kernel_view.specs.SimModel.Waits as Waits
+pub use Rattle.kernel_view.specs.SimModel.declared as declared

@@ -1,0 +1,9 @@
+pub use Rattle.kernel_view.proofs.KernelState.Counting as Counting
+pub use Rattle.kernel_view.proofs.KernelState.Ending as Ending
+pub use Rattle.kernel_view.proofs.KernelState.Frames as Frames
+pub use Rattle.kernel_view.proofs.KernelState.Leaving as Leaving
+pub use Rattle.kernel_view.proofs.KernelState.Offsprings as Offsprings
+pub use Rattle.kernel_view.proofs.KernelState.ProcessFrames as ProcessFrames
+pub use Rattle.kernel_view.proofs.KernelState.Pushing as Pushing
+pub use Rattle.kernel_view.proofs.KernelState.Stacks as Stacks
+pub use Rattle.kernel_view.proofs.KernelState.Uses as Uses

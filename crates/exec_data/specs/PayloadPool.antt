@@ -1,0 +1,2 @@
+pub use Rattle.kernel_view.specs.PayloadPool.Transfer as Transfer
+pub use Rattle.kernel_view.specs.PayloadPool.declared as declared

@@ -1,0 +1,15 @@
+pub use Rattle.sim_model.specs.Calls as Calls
+pub use Rattle.sim_model.specs.Channels as Channels
+pub use Rattle.sim_model.specs.Configuration as Configuration
+pub use Rattle.sim_model.specs.Control as Control
+pub use Rattle.sim_model.specs.Payloads as Payloads
+pub use Rattle.sim_model.specs.Reading as Reading
+pub use Rattle.sim_model.specs.Residual as Residual
+pub use Rattle.sim_model.specs.Statements as Statements
+pub use Rattle.sim_model.specs.Storing as Storing
+pub use Rattle.sim_model.specs.Transport as Transport
+pub use Rattle.sim_model.specs.Unwinding as Unwinding
+pub use Rattle.sim_model.specs.Values as Values
+pub use Rattle.sim_model.specs.Waiting as Waiting
+pub use Rattle.sim_model.specs.Waits as Waits
+pub use Rattle.sim_model.specs.declared as declared

@@ -1,0 +1,1 @@
+pub use Rattle.sim_model.specs.SimTime.declared as declared

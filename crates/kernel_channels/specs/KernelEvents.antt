@@ -1,0 +1,1 @@
+pub use Rattle.kernel_events.specs.Numbered as Numbered

@@ -1,0 +1,1 @@
+pub use Rattle.number_marks.specs.Places as Places

@@ -1,0 +1,4 @@
+pub use Rattle.sim_model.specs.SignalChannel.Drivers as Drivers
+pub use Rattle.sim_model.specs.SignalChannel.Signals as Signals
+pub use Rattle.sim_model.specs.SignalChannel.contracts as contracts
+pub use Rattle.sim_model.specs.SignalChannel.declared as declared

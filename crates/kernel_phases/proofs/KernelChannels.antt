@@ -1,0 +1,1 @@
+pub use Rattle.kernel_state.proofs.KernelChannels.Telling as Telling

@@ -1,0 +1,1 @@
+pub use Rattle.kernel_state.specs.InstanceTable.declared as declared

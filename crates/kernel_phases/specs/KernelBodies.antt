@@ -1,0 +1,1 @@
+pub use Rattle.kernel_state.specs.KernelBodies.declared as declared

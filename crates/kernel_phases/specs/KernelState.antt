@@ -1,0 +1,4 @@
+pub use Rattle.kernel_state.specs.Kernel as Kernel
+pub use Rattle.kernel_state.specs.Moves as Moves
+pub use Rattle.kernel_state.specs.Processes as Processes
+pub use Rattle.kernel_state.specs.declared as declared

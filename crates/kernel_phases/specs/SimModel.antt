@@ -1,0 +1,11 @@
+pub use Rattle.kernel_state.specs.SimModel.Clean as Clean
+pub use Rattle.kernel_state.specs.SimModel.Configuration as Configuration
+pub use Rattle.kernel_state.specs.SimModel.Control as Control
+pub use Rattle.kernel_state.specs.SimModel.Phases as Phases
+pub use Rattle.kernel_state.specs.SimModel.Residual as Residual
+pub use Rattle.kernel_state.specs.SimModel.Runs as Runs
+pub use Rattle.kernel_state.specs.SimModel.Statements as Statements
+pub use Rattle.kernel_state.specs.SimModel.Steps as Steps
+pub use Rattle.kernel_state.specs.SimModel.Values as Values
+pub use Rattle.kernel_state.specs.SimModel.Waits as Waits
+pub use Rattle.kernel_state.specs.SimModel.declared as declared

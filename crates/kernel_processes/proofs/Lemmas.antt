@@ -1,0 +1,1 @@
+pub use Rattle.wait_lists.proofs.Lemmas.MapLemmas as MapLemmas

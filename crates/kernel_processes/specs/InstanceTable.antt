@@ -1,0 +1,1 @@
+pub use Rattle.instance_table.specs.declared as declared

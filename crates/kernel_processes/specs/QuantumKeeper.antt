@@ -1,0 +1,1 @@
+pub use Rattle.sim_model.specs.QuantumKeeper.Keepers as Keepers

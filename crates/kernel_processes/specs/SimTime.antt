@@ -1,0 +1,1 @@
+pub use Rattle.timed_queue.specs.SimTime.declared as declared

@@ -1,0 +1,1 @@
+pub use Rattle.process_state.proofs.KernelBodies.Strips as Strips

@@ -1,0 +1,1 @@
+pub use Rattle.kernel_transactions.proofs.Histories as Histories

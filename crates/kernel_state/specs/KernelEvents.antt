@@ -1,0 +1,1 @@
+pub use Rattle.kernel_channels.specs.KernelEvents.Numbered as Numbered

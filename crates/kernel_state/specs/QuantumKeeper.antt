@@ -1,0 +1,1 @@
+pub use Rattle.kernel_processes.specs.QuantumKeeper.Keepers as Keepers

@@ -1,0 +1,15 @@
+pub use Rattle.kernel_processes.specs.SimModel.Calls as Calls
+pub use Rattle.kernel_processes.specs.SimModel.Clean as Clean
+pub use Rattle.kernel_processes.specs.SimModel.Configuration as Configuration
+pub use Rattle.kernel_processes.specs.SimModel.Control as Control
+pub use Rattle.kernel_processes.specs.SimModel.Phases as Phases
+pub use Rattle.kernel_processes.specs.SimModel.Reading as Reading
+pub use Rattle.kernel_processes.specs.SimModel.Residual as Residual
+pub use Rattle.kernel_processes.specs.SimModel.Runs as Runs
+pub use Rattle.kernel_processes.specs.SimModel.Statements as Statements
+pub use Rattle.kernel_processes.specs.SimModel.Steps as Steps
+pub use Rattle.kernel_processes.specs.SimModel.Storing as Storing
+pub use Rattle.kernel_processes.specs.SimModel.Texts as Texts
+pub use Rattle.kernel_processes.specs.SimModel.Values as Values
+pub use Rattle.kernel_processes.specs.SimModel.Waits as Waits
+pub use Rattle.kernel_processes.specs.SimModel.declared as declared

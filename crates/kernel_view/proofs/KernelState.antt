@@ -1,0 +1,10 @@
+pub use Rattle.kernel_state.proofs.Counting as Counting
+pub use Rattle.kernel_state.proofs.Ending as Ending
+pub use Rattle.kernel_state.proofs.Fifos as Fifos
+pub use Rattle.kernel_state.proofs.Frames as Frames
+pub use Rattle.kernel_state.proofs.Leaving as Leaving
+pub use Rattle.kernel_state.proofs.Offsprings as Offsprings
+pub use Rattle.kernel_state.proofs.ProcessFrames as ProcessFrames
+pub use Rattle.kernel_state.proofs.Pushing as Pushing
+pub use Rattle.kernel_state.proofs.Stacks as Stacks
+pub use Rattle.kernel_state.proofs.Uses as Uses

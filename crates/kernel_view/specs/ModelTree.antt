@@ -1,0 +1,1 @@
+pub use Rattle.expr_eval.specs.ModelTree.declared as declared

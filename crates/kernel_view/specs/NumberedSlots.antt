@@ -1,0 +1,1 @@
+pub use Rattle.expr_eval.specs.NumberedSlots.Numbered as Numbered

@@ -1,0 +1,15 @@
+pub use Rattle.expr_eval.specs.SimModel.Calls as Calls
+pub use Rattle.expr_eval.specs.SimModel.Channels as Channels
+pub use Rattle.expr_eval.specs.SimModel.Configuration as Configuration
+pub use Rattle.expr_eval.specs.SimModel.Control as Control
+pub use Rattle.expr_eval.specs.SimModel.Payloads as Payloads
+pub use Rattle.expr_eval.specs.SimModel.Reading as Reading
+pub use Rattle.expr_eval.specs.SimModel.Residual as Residual
+pub use Rattle.expr_eval.specs.SimModel.Statements as Statements
+pub use Rattle.expr_eval.specs.SimModel.Storing as Storing
+pub use Rattle.expr_eval.specs.SimModel.Transport as Transport
+pub use Rattle.expr_eval.specs.SimModel.Unwinding as Unwinding
+pub use Rattle.expr_eval.specs.SimModel.Values as Values
+pub use Rattle.expr_eval.specs.SimModel.Waiting as Waiting
+pub use Rattle.expr_eval.specs.SimModel.Waits as Waits
+pub use Rattle.expr_eval.specs.SimModel.declared as declared

@@ -1,0 +1,3 @@
+pub use Rattle.laws_rules.specs.HasCode as HasCode
+pub use Rattle.laws_rules.specs.Known as Known
+pub use Rattle.laws_rules.specs.Met as Met

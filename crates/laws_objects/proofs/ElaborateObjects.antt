@@ -1,0 +1,1 @@
+pub use Rattle.elaborate_objects.proofs.Closed as Closed

@@ -1,0 +1,16 @@
+pub use Rattle.elaborate_objects.specs.DesignRules.BindingFaults as BindingFaults
+pub use Rattle.elaborate_objects.specs.DesignRules.Bound as Bound
+pub use Rattle.elaborate_objects.specs.DesignRules.Counting as Counting
+pub use Rattle.elaborate_objects.specs.DesignRules.Denoting as Denoting
+pub use Rattle.elaborate_objects.specs.DesignRules.Designs as Designs
+pub use Rattle.elaborate_objects.specs.DesignRules.Fits as Fits
+pub use Rattle.elaborate_objects.specs.DesignRules.Formed as Formed
+pub use Rattle.elaborate_objects.specs.DesignRules.Forms as Forms
+pub use Rattle.elaborate_objects.specs.DesignRules.Listing as Listing
+pub use Rattle.elaborate_objects.specs.DesignRules.ObjectFaults as ObjectFaults
+pub use Rattle.elaborate_objects.specs.DesignRules.Objects as Objects
+pub use Rattle.elaborate_objects.specs.DesignRules.Parts as Parts
+pub use Rattle.elaborate_objects.specs.DesignRules.Paths as Paths
+pub use Rattle.elaborate_objects.specs.DesignRules.Statics as Statics
+pub use Rattle.elaborate_objects.specs.DesignRules.Values as Values
+pub use Rattle.elaborate_objects.specs.DesignRules.declared as declared

@@ -1,0 +1,1 @@
+pub use Rattle.kernel_phases.specs.Own as Own

@@ -1,0 +1,1 @@
+pub use Rattle.sim_model.proofs.LogicValues.VectorLaws as VectorLaws

@@ -1,0 +1,17 @@
+pub use Rattle.laws_runs.proofs.Blocks as Blocks
+pub use Rattle.laws_runs.proofs.Changes as Changes
+pub use Rattle.laws_runs.proofs.CleanRuns as CleanRuns
+pub use Rattle.laws_runs.proofs.Fits as Fits
+pub use Rattle.laws_runs.proofs.GuardLemmas as GuardLemmas
+pub use Rattle.laws_runs.proofs.Kept as Kept
+pub use Rattle.laws_runs.proofs.MarkLemmas as MarkLemmas
+pub use Rattle.laws_runs.proofs.Places as Places
+pub use Rattle.laws_runs.proofs.ResidualLemmas as ResidualLemmas
+pub use Rattle.laws_runs.proofs.ShapeLemmas as ShapeLemmas
+pub use Rattle.laws_runs.proofs.Splits as Splits
+pub use Rattle.laws_runs.proofs.Stacks as Stacks
+pub use Rattle.laws_runs.proofs.Start as Start
+pub use Rattle.laws_runs.proofs.Steps as Steps
+pub use Rattle.laws_runs.proofs.Tight as Tight
+pub use Rattle.laws_runs.proofs.Times as Times
+pub use Rattle.laws_runs.proofs.Wakes as Wakes

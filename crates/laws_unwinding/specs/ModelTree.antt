@@ -1,0 +1,1 @@
+pub use Rattle.laws_runs.specs.ModelTree.declared as declared

@@ -1,0 +1,1 @@
+pub use Rattle.code_rooms.specs.ModelRules.Passes as Passes

@@ -1,0 +1,1 @@
+pub use Rattle.model_tree.proofs.LogicValues.VectorLaws as VectorLaws

@@ -1,0 +1,1 @@
+pub use Rattle.model_tree.specs.SimTime.declared as declared

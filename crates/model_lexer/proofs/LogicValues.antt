@@ -1,0 +1,1 @@
+pub use Rattle.model_grammar.proofs.LogicValues.VectorLaws as VectorLaws

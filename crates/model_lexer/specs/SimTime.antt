@@ -1,0 +1,1 @@
+pub use Rattle.model_grammar.specs.SimTime.declared as declared

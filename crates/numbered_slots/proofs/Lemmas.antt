@@ -1,0 +1,1 @@
+pub use Rattle.lemmas.proofs.MapLemmas as MapLemmas

@@ -1,0 +1,1 @@
+pub use Rattle.lemmas.specs.Updated as Updated

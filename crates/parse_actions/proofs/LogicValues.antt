@@ -1,0 +1,1 @@
+pub use Rattle.parse_expressions.proofs.LogicValues.VectorLaws as VectorLaws

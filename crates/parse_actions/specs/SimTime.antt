@@ -1,0 +1,1 @@
+pub use Rattle.parse_expressions.specs.SimTime.declared as declared

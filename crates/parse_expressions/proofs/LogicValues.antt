@@ -1,0 +1,1 @@
+pub use Rattle.model_lexer.proofs.LogicValues.VectorLaws as VectorLaws

@@ -1,0 +1,1 @@
+pub use Rattle.parse_actions.proofs.LogicValues.VectorLaws as VectorLaws

@@ -1,0 +1,1 @@
+pub use Rattle.parse_actions.specs.SimTime.declared as declared

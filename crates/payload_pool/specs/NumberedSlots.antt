@@ -1,0 +1,1 @@
+pub use Rattle.numbered_slots.specs.Numbered as Numbered

@@ -1,0 +1,1 @@
+pub use Rattle.elaborate.specs.DesignRules.Designs as Designs

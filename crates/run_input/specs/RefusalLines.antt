@@ -1,0 +1,2 @@
+pub use Rattle.refusal_lines.specs.ErrLines as ErrLines
+pub use Rattle.refusal_lines.specs.declared as declared

@@ -1,0 +1,1 @@
+pub use Rattle.whole_language.specs.Whole as Whole

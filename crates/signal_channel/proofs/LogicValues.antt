@@ -1,0 +1,1 @@
+pub use Rattle.logic_values.proofs.VectorLaws as VectorLaws

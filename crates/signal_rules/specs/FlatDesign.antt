@@ -1,0 +1,2 @@
+pub use Rattle.flat_design.specs.Code as Code
+pub use Rattle.flat_design.specs.declared as declared

@@ -1,0 +1,1 @@
+pub use Rattle.signal_channel.proofs.LogicValues.VectorLaws as VectorLaws

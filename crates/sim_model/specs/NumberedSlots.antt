@@ -1,0 +1,1 @@
+pub use Rattle.payload_pool.specs.NumberedSlots.Numbered as Numbered

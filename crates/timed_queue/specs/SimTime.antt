@@ -1,0 +1,1 @@
+pub use Rattle.sim_time.specs.declared as declared

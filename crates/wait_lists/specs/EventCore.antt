@@ -1,0 +1,3 @@
+pub use Rattle.event_core.specs.Ev as Ev
+pub use Rattle.event_core.specs.Notifications as Notifications
+pub use Rattle.event_core.specs.declared as declared
