@@ -16,4 +16,8 @@ mod rows;
 mod twice;
 
 pub use binds::bind;
-pub use design_rules as design_rules_api;
+
+/// What is passed on of design_rules.
+pub mod design_rules_api {
+    pub use design_rules::Bindings;
+}

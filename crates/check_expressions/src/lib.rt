@@ -15,17 +15,10 @@ mod operators;
 mod types;
 
 pub use channel_places::{JudgedChannel, judge_channel};
-pub use check_names as check_names_api;
-pub use check_names::{
-    model_rules_api as model_rules_api, plain_lists_api as plain_lists_api,
-    sim_time_api as sim_time_api,
-};
 pub use expressions::judge;
 pub use findings::{Finding, first_finding, told_if};
-pub use flat_design as flat_design_api;
 pub use heads::{MemberUse, member_finding};
 pub use judged::Judged;
-pub use model_tree as model_tree_api;
 pub use needs::{is_unmet, meets};
 pub use operators::{
     becomes_vector, concat_type, conversion_type, digit_count, digit_type, given, is_bool,
@@ -36,3 +29,29 @@ pub use types::{
     element_seen, is_array, is_below, is_integer_type, is_port, is_time_literal, logic_type,
     member_seen, object_if, places, type_seen, value_if,
 };
+
+/// What is passed on of check_names.
+pub mod check_names_api {
+    pub use check_names::{
+        Locals, ModelNames, ModuleNames, NameTable, Place, event_member, is_width, item_name,
+        port_size, row_of, signal_type, value_member, variable_type,
+    };
+}
+
+/// What is passed on of model_rules.
+pub mod model_rules_api {
+    pub use check_names::model_rules_api::{
+        Destination, EndMeaning, ExpressionType, LeftEnd, Meaning, Need, Row, ValueMember,
+        blocking_is_least, reached_is_least,
+    };
+}
+
+/// What is passed on of plain_lists.
+pub mod plain_lists_api {
+    pub use check_names::plain_lists_api::Items;
+}
+
+/// What is passed on of sim_time.
+pub mod sim_time_api {
+    pub use check_names::sim_time_api::of_unit;
+}

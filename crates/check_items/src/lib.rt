@@ -8,5 +8,9 @@ mod items;
 mod models;
 mod owns;
 
-pub use check_statements as check_statements_api;
 pub use models::construct_finding;
+
+/// What is passed on of check_statements.
+pub mod check_statements_api {
+    pub use check_statements::double_finding;
+}

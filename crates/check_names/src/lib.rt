@@ -16,12 +16,6 @@ pub use locals::{Locals, Visible};
 pub use meanings::{item_meaning, item_name};
 pub use members::{event_member, has_edges, member_type, row_of, value_member};
 pub use model_names::ModelNames;
-pub use model_rules as model_rules_api;
-pub use model_rules::{
-    event_core_api as event_core_api, flat_design_api as flat_design_api,
-    logic_values_api as logic_values_api, model_tree_api as model_tree_api,
-    plain_lists_api as plain_lists_api, sim_time_api as sim_time_api,
-};
 pub use module_names::ModuleNames;
 pub use name_table::NameTable;
 pub use places::Place;
@@ -29,3 +23,50 @@ pub use types::{
     form_type, hands_on, is_width, plain_meaning, port_meaning, port_size, signal_type, takes_over,
     variable_type,
 };
+
+/// What is passed on of event_core.
+pub mod event_core_api {
+    pub use model_rules::event_core_api::Ev;
+}
+
+/// What is passed on of flat_design.
+pub mod flat_design_api {
+    pub use model_rules::flat_design_api::{
+        Binding, ChannelId, Code, CodeId, Denoted, Design, EventMember, FifoPart, Hop,
+        InstancePart, LeadsTo, MemoryPart, Object, ObjectForm, Objects, PortPart, ProcessPart,
+        ResolvedPart, SemaphorePart, SignalPart, StaticUse, ValueType, VariablePart, Visible,
+        VisibleId, default_value,
+    };
+}
+
+/// What is passed on of logic_values.
+pub mod logic_values_api {
+    pub use model_rules::logic_values_api::{Digit, Lv, Sign, Text, Value, cut, digit, sub};
+}
+
+/// What is passed on of model_rules.
+pub mod model_rules_api {
+    pub use model_rules::{
+        Destination, EndMeaning, ExpressionType, LeftEnd, Meaning, Need, Row, Seen, ValueMember,
+        blocking_is_least, reached_is_least,
+    };
+}
+
+/// What is passed on of model_tree.
+pub mod model_tree_api {
+    pub use model_rules::model_tree_api::{
+        BoundRule, CheckStop, ClockItem, Constant, ConstantForm, End, Event, Fault, InitiatorRole,
+        Interface, Item, Kind, Module, Name, Place, PlainKind, PortSize, ProcessItem, ProcessKind,
+        SignalItem, SignalKind, SignalType, Span, TargetRole, Top, Tree, VarType, item_line,
+    };
+}
+
+/// What is passed on of plain_lists.
+pub mod plain_lists_api {
+    pub use model_rules::plain_lists_api::Items;
+}
+
+/// What is passed on of sim_time.
+pub mod sim_time_api {
+    pub use model_rules::sim_time_api::{Time, Unit, of_unit};
+}

@@ -15,8 +15,18 @@ mod placed;
 mod sets;
 mod whole;
 
-pub use check_expressions as check_expressions_api;
-pub use check_expressions::check_names_api as check_names_api;
 pub use edges::Edge;
 pub use followed::spread;
 pub use whole::reach_finding;
+
+/// What is passed on of check_expressions.
+pub mod check_expressions_api {
+    pub use check_expressions::Finding;
+}
+
+/// What is passed on of check_names.
+pub mod check_names_api {
+    pub use check_expressions::check_names_api::{
+        Locals, ModelNames, ModuleNames, Place, variable_type,
+    };
+}

@@ -6,7 +6,21 @@ mod laid;
 mod leaves;
 
 pub use blocks::lay_block;
-pub use code_deeds as code_deeds_api;
-pub use code_deeds::code_terms_api as code_terms_api;
 pub use laid::{Laid, add, push_block};
-pub use laws_code::laws_rules_api as laws_rules_api;
+
+/// What is passed on of code_deeds.
+pub mod code_deeds_api {
+    pub use code_deeds::Home;
+}
+
+/// What is passed on of code_terms.
+pub mod code_terms_api {
+    pub use code_deeds::code_terms_api::{
+        NameList, Source, body_names, body_sources, exceptions_of, function_sources,
+    };
+}
+
+/// What is passed on of laws_rules.
+pub mod laws_rules_api {
+    pub use laws_code::laws_rules_api::sound_models_have_code;
+}

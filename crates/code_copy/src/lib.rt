@@ -8,4 +8,3 @@ mod statements;
 mod terms;
 
 pub use bodies::copy_code;
-pub use flat_design as flat_design_api;

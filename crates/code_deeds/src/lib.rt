@@ -13,11 +13,20 @@ mod written;
 
 pub use actions::action_code;
 pub use calls::{call_arguments, controlled_by, exception_number, function_number, spawn_code};
-pub use code_terms as code_terms_api;
-pub use code_terms::plain_lists_api as plain_lists_api;
 pub use events::{await_code, notification_code};
-pub use flat_design as flat_design_api;
 pub use homes::Home;
-pub use model_tree as model_tree_api;
 pub use operations::operate_code;
 pub use written::{put_into, written_to};
+
+/// What is passed on of code_terms.
+pub mod code_terms_api {
+    pub use code_terms::{
+        Deed, NameList, Source, assign_code, body_names, body_sources, exceptions_of,
+        function_sources, term_code, var_code,
+    };
+}
+
+/// What is passed on of plain_lists.
+pub mod plain_lists_api {
+    pub use code_terms::plain_lists_api::Items;
+}

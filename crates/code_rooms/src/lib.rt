@@ -9,11 +9,21 @@ mod raised_designs;
 mod rooms_suffice;
 mod tables;
 
-pub use code_rules::{
-    flat_design_api as flat_design_api, logic_values_api as logic_values_api,
-    model_tree_api as model_tree_api, plain_lists_api as plain_lists_api,
-    sim_time_api as sim_time_api,
-};
 pub use raised::raise_rooms;
 pub use raised_designs::{code_stays, fields_stay, raised_designs_are_sound};
 pub use rooms_suffice::{blocks_stay, bodies_stay, calls_have_room, waits_have_room};
+
+/// What is passed on of logic_values.
+pub mod logic_values_api {
+    pub use code_rules::logic_values_api::{Text, Value};
+}
+
+/// What is passed on of plain_lists.
+pub mod plain_lists_api {
+    pub use code_rules::plain_lists_api::Items;
+}
+
+/// What is passed on of sim_time.
+pub mod sim_time_api {
+    pub use code_rules::sim_time_api::of_unit;
+}

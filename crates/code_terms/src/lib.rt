@@ -24,14 +24,9 @@ mod values;
 
 pub use bodies::body_names;
 pub use channels::{channel_code, event_code, static_code};
-pub use check_expressions as check_expressions_api;
-pub use check_expressions::check_names_api as check_names_api;
-pub use code_rules::{model_rules_api as model_rules_api, plain_lists_api as plain_lists_api};
 pub use deeds::Deed;
 pub use exceptions::exceptions_of;
-pub use flat_design as flat_design_api;
 pub use locals::var_code;
-pub use model_tree as model_tree_api;
 pub use named_terms::{declared_place, use_of};
 pub use names::NameList;
 pub use operands::evaluated_as;
@@ -39,3 +34,23 @@ pub use sources::{Source, body_sources, function_sources};
 pub use stores::{optional_store, store};
 pub use targets::assign_code;
 pub use terms::{option_code, term_code};
+
+/// What is passed on of check_expressions.
+pub mod check_expressions_api {
+    pub use check_expressions::judge_channel;
+}
+
+/// What is passed on of check_names.
+pub mod check_names_api {
+    pub use check_expressions::check_names_api::Place;
+}
+
+/// What is passed on of model_rules.
+pub mod model_rules_api {
+    pub use code_rules::model_rules_api::{Meaning, Need};
+}
+
+/// What is passed on of plain_lists.
+pub mod plain_lists_api {
+    pub use code_rules::plain_lists_api::Items;
+}

@@ -13,5 +13,9 @@ pub use laws::{simulations_write_apart, two_names_are_a_simulation, what_exclude
 pub use modes::{ChoiceRule, Generated, Mode, Order, Simulation, WordsStop};
 pub use numbers::{BUDGET_LIMIT, DEFAULT_BUDGET, GENERATED_LIMIT};
 pub use reading::read_line;
-pub use sim_model as sim_model_api;
 pub use words::Words;
+
+/// What is passed on of sim_model.
+pub mod sim_model_api {
+    pub use sim_model::{Log, Rule, Stop};
+}

@@ -21,10 +21,6 @@ pub use binding_laws::{
     targets_are_reached,
 };
 pub use bindings::{Bindings, BoundPort, Joined};
-pub use code_rules::{
-    flat_design_api as flat_design_api, logic_values_api as logic_values_api,
-    model_tree_api as model_tree_api, plain_lists_api as plain_lists_api,
-};
 pub use counts::Counts;
 pub use made::Made;
 pub use object_laws::modules_are_had_by_a_path;
@@ -41,3 +37,25 @@ pub use worked_objects::{
     children_stand_at_their_place, first_values_fit_their_types, memories_are_counted_together,
     modules_are_not_among_their_instances,
 };
+
+/// What is passed on of flat_design.
+pub mod flat_design_api {
+    pub use code_rules::flat_design_api::{
+        Binding, LeadsTo, Object, ObjectForm, Objects, ValueType,
+    };
+}
+
+/// What is passed on of logic_values.
+pub mod logic_values_api {
+    pub use code_rules::logic_values_api::Text;
+}
+
+/// What is passed on of model_tree.
+pub mod model_tree_api {
+    pub use code_rules::model_tree_api::{BoundRule, CheckStop, Fault, Kind};
+}
+
+/// What is passed on of plain_lists.
+pub mod plain_lists_api {
+    pub use code_rules::plain_lists_api::Items;
+}

@@ -12,6 +12,14 @@ mod objects;
 
 pub use bound::{BoundObjects, bound_objects};
 pub use elaborated::elaborate;
-pub use laws_design as laws_design_api;
 pub use making::sound_design;
-pub use model_check as model_check_api;
+
+/// What is passed on of laws_design.
+pub mod laws_design_api {
+    pub use laws_design::designs_are_few;
+}
+
+/// What is passed on of model_check.
+pub mod model_check_api {
+    pub use model_check::{check, judge_rules};
+}

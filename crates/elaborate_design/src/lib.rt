@@ -24,5 +24,9 @@ mod turns;
 
 pub use children::Children;
 pub use design::design_of;
-pub use elaborate_objects as elaborate_objects_api;
 pub use list::list_binds;
+
+/// What is passed on of elaborate_objects.
+pub mod elaborate_objects_api {
+    pub use elaborate_objects::{judge_cycles, list_objects};
+}

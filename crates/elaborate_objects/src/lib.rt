@@ -23,15 +23,49 @@ mod turns;
 mod values;
 mod walks;
 
-pub use check_names as check_names_api;
-pub use check_names::{
-    event_core_api as event_core_api, flat_design_api as flat_design_api,
-    logic_values_api as logic_values_api, model_tree_api as model_tree_api,
-    plain_lists_api as plain_lists_api,
-};
 pub use cycles::judge_cycles;
-pub use design_rules as design_rules_api;
 pub use list::list_objects;
 pub use modules::ModulePlaces;
 pub use names::NamePlaces;
 pub use rows::{ObjectRow, rows_of};
+
+/// What is passed on of check_names.
+pub mod check_names_api {
+    pub use check_names::{ModuleNames, NameTable, event_member, item_name, row_of};
+}
+
+/// What is passed on of design_rules.
+pub mod design_rules_api {
+    pub use design_rules::{Bindings, BoundPort, Counts, Joined};
+}
+
+/// What is passed on of event_core.
+pub mod event_core_api {
+    pub use check_names::event_core_api::Ev;
+}
+
+/// What is passed on of flat_design.
+pub mod flat_design_api {
+    pub use check_names::flat_design_api::{
+        Binding, ChannelId, Code, CodeId, Denoted, Design, EventMember, FifoPart, Hop,
+        InstancePart, MemoryPart, Object, ObjectForm, Objects, PortPart, ProcessPart, ResolvedPart,
+        SemaphorePart, SignalPart, StaticUse, ValueType, VariablePart, Visible, VisibleId,
+    };
+}
+
+/// What is passed on of logic_values.
+pub mod logic_values_api {
+    pub use check_names::logic_values_api::{Text, Value};
+}
+
+/// What is passed on of model_tree.
+pub mod model_tree_api {
+    pub use check_names::model_tree_api::{
+        End, Event, Item, Module, Name, Place, ProcessKind, SignalKind, Top, Tree,
+    };
+}
+
+/// What is passed on of plain_lists.
+pub mod plain_lists_api {
+    pub use check_names::plain_lists_api::Items;
+}

@@ -11,7 +11,6 @@ mod notifications;
 pub use event::{Ev, same_event, same_events_are_equal};
 pub use notifications::{Effect, Pending, When};
 use notifications::{answer_to, surviving};
-pub use sim_time as sim_time_api;
 use std::alloc::{AllocError, Global};
 use std::marker::Model;
 
@@ -75,4 +74,9 @@ impl Events {
     {
         self.pending[e as usize].when()
     }
+}
+
+/// What is passed on of sim_time.
+pub mod sim_time_api {
+    pub use sim_time::{Time, Unit, of_unit};
 }

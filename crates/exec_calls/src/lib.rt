@@ -20,19 +20,8 @@ mod storing;
 
 pub use calls::call;
 pub use entering::{enter_call, enter_ready_call};
-pub use exec_data as exec_data_api;
 pub use exec_data::kernel_bodies_api::Frame;
 pub use exec_data::process_state_api::EnterStop;
-pub use exec_data::{
-    expr_eval_api as expr_eval_api, kernel_bodies_api as kernel_bodies_api,
-    kernel_state_api as kernel_state_api, kernel_transactions_api as kernel_transactions_api,
-    kernel_view_api as kernel_view_api, logic_values_api as logic_values_api,
-    plain_lists_api as plain_lists_api, process_state_api as process_state_api,
-    sim_model_api as sim_model_api, sim_time_api as sim_time_api,
-    transport_phases_api as transport_phases_api,
-};
-pub use exec_events as exec_events_api;
-pub use flat_design as flat_design_api;
 pub use frames::{answer_of, final_value};
 pub use leaving::{ending_call, leave_call};
 pub use returns::{calling_statement, leave_plain_call};
@@ -40,3 +29,73 @@ pub use rooms::{reserve_call, reserve_locals};
 pub use spawns::spawn;
 pub use standings::home_at;
 pub use storing::{store_if_in, store_in};
+
+/// What is passed on of exec_data.
+pub mod exec_data_api {
+    pub use exec_data::{StatementStop, store};
+}
+
+/// What is passed on of exec_events.
+pub mod exec_events_api {
+    pub use exec_events::{
+        AwaitStop, cancel_named, notify_after, notify_delta, notify_named, stop, trigger_statement,
+        wait_statement,
+    };
+}
+
+/// What is passed on of expr_eval.
+pub mod expr_eval_api {
+    pub use exec_data::expr_eval_api::{bits, moment};
+}
+
+/// What is passed on of kernel_bodies.
+pub mod kernel_bodies_api {
+    pub use exec_data::kernel_bodies_api::{Frame, Next, Program};
+}
+
+/// What is passed on of kernel_state.
+pub mod kernel_state_api {
+    pub use exec_data::kernel_state_api::{Kernel, acquire, pass, release, settle, top_lives};
+}
+
+/// What is passed on of kernel_transactions.
+pub mod kernel_transactions_api {
+    pub use exec_data::kernel_transactions_api::{
+        MakeStop, TransactionBoard, live_payloads_are_used, payloads_are_made,
+    };
+}
+
+/// What is passed on of kernel_view.
+pub mod kernel_view_api {
+    pub use exec_data::kernel_view_api::{denoted_at, eval_at, eval_if_at, named_at, payload_at};
+}
+
+/// What is passed on of logic_values.
+pub mod logic_values_api {
+    pub use exec_data::logic_values_api::Value;
+}
+
+/// What is passed on of plain_lists.
+pub mod plain_lists_api {
+    pub use exec_data::plain_lists_api::{Bytes, Items};
+}
+
+/// What is passed on of process_state.
+pub mod process_state_api {
+    pub use exec_data::process_state_api::Body;
+}
+
+/// What is passed on of sim_model.
+pub mod sim_model_api {
+    pub use exec_data::sim_model_api::Via;
+}
+
+/// What is passed on of sim_time.
+pub mod sim_time_api {
+    pub use exec_data::sim_time_api::Time;
+}
+
+/// What is passed on of transport_phases.
+pub mod transport_phases_api {
+    pub use exec_data::transport_phases_api::Path;
+}

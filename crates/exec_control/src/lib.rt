@@ -20,8 +20,14 @@ mod throws;
 pub use controls::control;
 pub use endings::body_ends;
 pub use exceptions::throw_it;
-pub use exec_data as exec_data_api;
 pub use goals::reach_goal;
 pub use guards::{begin_guard, begin_try};
 pub use instances::is_thread;
 pub use throws::{catches, raise_at, throw};
+
+/// What is passed on of exec_data.
+pub mod exec_data_api {
+    pub use exec_data::{
+        StatementStop, assign, if_then, print, return_value, var, while_do, write,
+    };
+}

@@ -23,17 +23,6 @@ mod writes;
 pub use assignments::{assign_field, assign_name, assign_payload_byte};
 pub use blocks::{if_then, while_do};
 pub use elements::assign_element;
-pub use flat_design as flat_design_api;
-pub use kernel_view as kernel_view_api;
-pub use kernel_view::{
-    event_core_api as event_core_api, expr_eval_api as expr_eval_api,
-    instance_table_api as instance_table_api, kernel_bodies_api as kernel_bodies_api,
-    kernel_processes_api as kernel_processes_api, kernel_state_api as kernel_state_api,
-    kernel_transactions_api as kernel_transactions_api, logic_values_api as logic_values_api,
-    model_tree_api as model_tree_api, plain_lists_api as plain_lists_api,
-    process_state_api as process_state_api, sim_model_api as sim_model_api,
-    sim_time_api as sim_time_api, transport_phases_api as transport_phases_api,
-};
 pub use prints::print;
 pub use returns::return_nothing;
 pub use stops::StatementStop;
@@ -42,3 +31,88 @@ pub use stored_returns::return_value;
 pub use storing::{store, variable_number};
 pub use variables::var;
 pub use writes::write;
+
+/// What is passed on of event_core.
+pub mod event_core_api {
+    pub use kernel_view::event_core_api::Ev;
+}
+
+/// What is passed on of expr_eval.
+pub mod expr_eval_api {
+    pub use kernel_view::expr_eval_api::{bits, cut_to, moment, process_handle};
+}
+
+/// What is passed on of instance_table.
+pub mod instance_table_api {
+    pub use kernel_view::instance_table_api::{Deadline, ProcessKind, SpawnStop};
+}
+
+/// What is passed on of kernel_bodies.
+pub mod kernel_bodies_api {
+    pub use kernel_view::kernel_bodies_api::{Frame, Next, Program, locals_in, many_locals};
+}
+
+/// What is passed on of kernel_processes.
+pub mod kernel_processes_api {
+    pub use kernel_view::kernel_processes_api::{
+        Trigger, Wait, begin, disable, end, fire, is_active, push, rest, resume, stay_kept,
+        suspend, top,
+    };
+}
+
+/// What is passed on of kernel_state.
+pub mod kernel_state_api {
+    pub use kernel_view::kernel_state_api::{
+        Kept, Kernel, Offspring, acquire, fire, kill, pass, release, reset, set_variable, settle,
+        spawn, top_lives,
+    };
+}
+
+/// What is passed on of kernel_transactions.
+pub mod kernel_transactions_api {
+    pub use kernel_view::kernel_transactions_api::{
+        MakeStop, TransactionBoard, left_calls_end, live_payloads_are_used, payloads_are_made,
+    };
+}
+
+/// What is passed on of kernel_view.
+pub mod kernel_view_api {
+    pub use kernel_view::{
+        denoted_at, denoted_in, eval_at, eval_if_at, home_at, home_within, named_at, payload_at,
+    };
+}
+
+/// What is passed on of logic_values.
+pub mod logic_values_api {
+    pub use kernel_view::logic_values_api::Value;
+}
+
+/// What is passed on of model_tree.
+pub mod model_tree_api {
+    pub use kernel_view::model_tree_api::{Control, ProcessKind};
+}
+
+/// What is passed on of plain_lists.
+pub mod plain_lists_api {
+    pub use kernel_view::plain_lists_api::{Bytes, Items};
+}
+
+/// What is passed on of process_state.
+pub mod process_state_api {
+    pub use kernel_view::process_state_api::{Body, EnterStop};
+}
+
+/// What is passed on of sim_model.
+pub mod sim_model_api {
+    pub use kernel_view::sim_model_api::{Goal, Via};
+}
+
+/// What is passed on of sim_time.
+pub mod sim_time_api {
+    pub use kernel_view::sim_time_api::Time;
+}
+
+/// What is passed on of transport_phases.
+pub mod transport_phases_api {
+    pub use kernel_view::transport_phases_api::Path;
+}

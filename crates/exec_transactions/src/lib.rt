@@ -17,9 +17,20 @@ mod statements;
 mod values;
 
 pub use carrying::carry;
-pub use exec_calls as exec_calls_api;
-pub use exec_calls::exec_events_api as exec_events_api;
 pub use keepers::{qk_global, qk_inc, qk_reset, qk_set};
 pub use payloads::{acquire, make, release};
 pub use returning::{b_transport_returns, nb_transport_returns};
 pub use statements::{b_transport, nb_transport};
+
+/// What is passed on of exec_calls.
+pub mod exec_calls_api {
+    pub use exec_calls::{call, calling_statement, ending_call, leave_plain_call, spawn};
+}
+
+/// What is passed on of exec_events.
+pub mod exec_events_api {
+    pub use exec_calls::exec_events_api::{
+        AwaitStop, cancel_named, notify_after, notify_delta, notify_named, stop, trigger_statement,
+        wait_statement,
+    };
+}

@@ -13,12 +13,40 @@ mod values;
 mod views;
 
 pub use expressions::{eval, eval_if, eval_place};
-pub use flat_design as flat_design_api;
-pub use sim_model as sim_model_api;
-pub use sim_model::{
-    event_core_api as event_core_api, logic_values_api as logic_values_api,
-    model_tree_api as model_tree_api, plain_lists_api as plain_lists_api,
-    sim_time_api as sim_time_api, transport_phases_api as transport_phases_api,
-};
 pub use values::{bits, cut_to, moment, payload_handle, process_handle, truth, widened};
 pub use views::{Reading, View};
+
+/// What is passed on of event_core.
+pub mod event_core_api {
+    pub use sim_model::event_core_api::{Ev, When, same_event};
+}
+
+/// What is passed on of logic_values.
+pub mod logic_values_api {
+    pub use sim_model::logic_values_api::{Digit, Value, digit};
+}
+
+/// What is passed on of model_tree.
+pub mod model_tree_api {
+    pub use sim_model::model_tree_api::{Control, PrintText, ProcessKind};
+}
+
+/// What is passed on of plain_lists.
+pub mod plain_lists_api {
+    pub use sim_model::plain_lists_api::{Bytes, Items};
+}
+
+/// What is passed on of sim_model.
+pub mod sim_model_api {
+    pub use sim_model::{Goal, Via};
+}
+
+/// What is passed on of sim_time.
+pub mod sim_time_api {
+    pub use sim_model::sim_time_api::{Time, add};
+}
+
+/// What is passed on of transport_phases.
+pub mod transport_phases_api {
+    pub use sim_model::transport_phases_api::Path;
+}

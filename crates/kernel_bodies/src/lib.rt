@@ -28,8 +28,21 @@ pub use frames::{
 pub use landing::{land, next_shown};
 pub use layers::{Comes, Frame, Landing, Layer, Next, Sought};
 pub use program::Program;
-pub use sim_model as sim_model_api;
-pub use sim_model::{flat_design_api as flat_design_api, logic_values_api as logic_values_api};
 pub use sought::{frame_in, last, last_try, via_in};
 pub use stripped::{numbers_change_nothing, numbers_show_nowhere};
 pub use unwinding::{begin_unwinding, handler_in, left_by};
+
+/// What is passed on of flat_design.
+pub mod flat_design_api {
+    pub use sim_model::flat_design_api::{BlockId, CodeId, Local, NameId, StmtId};
+}
+
+/// What is passed on of logic_values.
+pub mod logic_values_api {
+    pub use sim_model::logic_values_api::Value;
+}
+
+/// What is passed on of sim_model.
+pub mod sim_model_api {
+    pub use sim_model::{Goal, Via};
+}

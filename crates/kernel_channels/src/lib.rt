@@ -10,7 +10,11 @@ mod signals;
 mod wires;
 
 pub use board::ChannelBoard;
-pub use kernel_events as kernel_events_api;
 pub use laws::{
     a_write_is_that_of_a_run, what_an_update_phase_announces, what_is_not_done_changes_nothing,
 };
+
+/// What is passed on of kernel_events.
+pub mod kernel_events_api {
+    pub use kernel_events::EventBoard;
+}

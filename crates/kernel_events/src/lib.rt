@@ -7,14 +7,8 @@ ghost use Rattle.std.specs.Prelude.{◌≡◌, ◌++◌, ◌+◌, ◌≤◌, IfO
 mod kept;
 
 use kept::{cancel_all, follow, left_by};
-pub use number_marks as number_marks_api;
 use number_marks::{Marks, only_marked_places_rise};
 use sim_model::event_core_api::{Effect, Events, Pending, When};
-pub use sim_model::{
-    event_core_api as event_core_api, fifo_sync_api as fifo_sync_api,
-    flat_design_api as flat_design_api, logic_values_api as logic_values_api,
-    model_tree_api as model_tree_api, signal_channel_api as signal_channel_api,
-};
 use std::alloc::{AllocError, Global};
 use std::marker::Model;
 use timed_queue::TimedQueue;
@@ -142,4 +136,41 @@ impl EventBoard {
         self.times.take_due(t, out);
         cancel_all(&mut self.events, &out.as_slice()[before..]);
     }
+}
+
+/// What is passed on of event_core.
+pub mod event_core_api {
+    pub use sim_model::event_core_api::When;
+}
+
+/// What is passed on of fifo_sync.
+pub mod fifo_sync_api {
+    pub use sim_model::fifo_sync_api::{Fifo, Mutex, Semaphore};
+}
+
+/// What is passed on of flat_design.
+pub mod flat_design_api {
+    pub use sim_model::flat_design_api::{
+        Design, FifoPart, ResolvedPart, SemaphorePart, SignalPart,
+    };
+}
+
+/// What is passed on of logic_values.
+pub mod logic_values_api {
+    pub use sim_model::logic_values_api::{Digit, Value};
+}
+
+/// What is passed on of model_tree.
+pub mod model_tree_api {
+    pub use sim_model::model_tree_api::SignalKind;
+}
+
+/// What is passed on of number_marks.
+pub mod number_marks_api {
+    pub use number_marks::Marks;
+}
+
+/// What is passed on of signal_channel.
+pub mod signal_channel_api {
+    pub use sim_model::signal_channel_api::{Changed, Policy, Resolved, Signal, WriterConflict};
 }

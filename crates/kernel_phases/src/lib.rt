@@ -18,13 +18,37 @@ pub use choosing::Choosing;
 pub use commands::{begin_run, set_signal};
 pub use due::delta;
 pub use initial::initialize;
-pub use kernel_state as kernel_state_api;
-pub use kernel_state::{
-    flat_design_api as flat_design_api, kernel_bodies_api as kernel_bodies_api,
-    kernel_processes_api as kernel_processes_api, logic_values_api as logic_values_api,
-    ready_set_api as ready_set_api, sim_model_api as sim_model_api,
-};
 pub use laws::{picked_in_any_order, what_is_picked_is_runnable};
 pub use times::{earliest, timed};
 pub use turns::turn;
 pub use updates::update;
+
+/// What is passed on of kernel_bodies.
+pub mod kernel_bodies_api {
+    pub use kernel_state::kernel_bodies_api::Program;
+}
+
+/// What is passed on of kernel_processes.
+pub mod kernel_processes_api {
+    pub use kernel_state::kernel_processes_api::top;
+}
+
+/// What is passed on of kernel_state.
+pub mod kernel_state_api {
+    pub use kernel_state::Kernel;
+}
+
+/// What is passed on of logic_values.
+pub mod logic_values_api {
+    pub use kernel_state::logic_values_api::Value;
+}
+
+/// What is passed on of ready_set.
+pub mod ready_set_api {
+    pub use kernel_state::ready_set_api::least_of_a_set;
+}
+
+/// What is passed on of sim_model.
+pub mod sim_model_api {
+    pub use kernel_state::sim_model_api::{Command, Phase};
+}

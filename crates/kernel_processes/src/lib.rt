@@ -25,21 +25,60 @@ pub use changes::{
     mark_started, mark_suspended, mark_wait, mute, put_time, put_wait, unready,
 };
 pub use control::{disable, end, push, resume, stay_kept, suspend};
-pub use instance_table as instance_table_api;
 pub use making::empty;
 pub use moves::{end_time, join};
 pub use parts::{Process, Schedule, Trigger, Wait};
-pub use ready_set as ready_set_api;
-pub use sim_model as sim_model_api;
-pub use sim_model::{
-    flat_design_api as flat_design_api, logic_values_api as logic_values_api,
-    model_tree_api as model_tree_api, plain_lists_api as plain_lists_api,
-};
 pub use spawning::spawn;
 pub use time::{earliest, take_due, take_zero, wake_due};
-pub use timed_queue::sim_time_api as sim_time_api;
 pub use turns::{begin, initialize, take, top};
-pub use wait_lists::event_core_api as event_core_api;
 pub use waits::{rest, wait as begin_wait};
 pub use wakes_told::{a_wake_reaches_one_instance, an_event_reaches_each_instance};
 pub use waking::{fire, is_active, wake};
+
+/// What is passed on of event_core.
+pub mod event_core_api {
+    pub use wait_lists::event_core_api::{Ev, Pending, When};
+}
+
+/// What is passed on of flat_design.
+pub mod flat_design_api {
+    pub use sim_model::flat_design_api::{
+        Choices, Code, CodeId, Design, MemoryPart, PayloadBytes, PayloadField, ProcessPart,
+        RunFault, VariablePart, VisibleId,
+    };
+}
+
+/// What is passed on of instance_table.
+pub mod instance_table_api {
+    pub use instance_table::{Deadline, ProcessKind, SpawnStop};
+}
+
+/// What is passed on of logic_values.
+pub mod logic_values_api {
+    pub use sim_model::logic_values_api::{Value, value_text};
+}
+
+/// What is passed on of model_tree.
+pub mod model_tree_api {
+    pub use sim_model::model_tree_api::ProcessKind;
+}
+
+/// What is passed on of plain_lists.
+pub mod plain_lists_api {
+    pub use sim_model::plain_lists_api::{Bytes, Items};
+}
+
+/// What is passed on of ready_set.
+pub mod ready_set_api {
+    pub use ready_set::{ReadySet, least_of_a_set};
+}
+
+/// What is passed on of sim_model.
+pub mod sim_model_api {
+    pub use sim_model::{Command, Goal, Phase, Rule, Stop};
+}
+
+/// What is passed on of sim_time.
+pub mod sim_time_api {
+    pub use timed_queue::sim_time_api::{Time, add};
+}

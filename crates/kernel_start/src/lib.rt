@@ -5,6 +5,14 @@ mod making;
 mod parts;
 mod processes;
 
-pub use kernel_state as kernel_state_api;
-pub use kernel_state::kernel_bodies_api as kernel_bodies_api;
 pub use making::first_kernel;
+
+/// What is passed on of kernel_bodies.
+pub mod kernel_bodies_api {
+    pub use kernel_state::kernel_bodies_api::Program;
+}
+
+/// What is passed on of kernel_state.
+pub mod kernel_state_api {
+    pub use kernel_state::Kernel;
+}

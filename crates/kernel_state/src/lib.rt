@@ -12,20 +12,92 @@ mod statements;
 
 pub use control::{kill, reset};
 pub use kernel::{Cycle, Kept, Kernel, Offspring, PathOf};
-pub use kernel_channels as kernel_channels_api;
-pub use kernel_channels::kernel_events_api as kernel_events_api;
-pub use kernel_processes as kernel_processes_api;
-pub use kernel_processes::{
-    event_core_api as event_core_api, flat_design_api as flat_design_api,
-    instance_table_api as instance_table_api, logic_values_api as logic_values_api,
-    model_tree_api as model_tree_api, plain_lists_api as plain_lists_api,
-    ready_set_api as ready_set_api, sim_model_api as sim_model_api, sim_time_api as sim_time_api,
-};
-pub use kernel_transactions as kernel_transactions_api;
 pub use laws::top_lives;
 pub use moves::{fire, notify, pass, set_local, set_variable, settle, wait, wake};
 pub use payloads::{acquire, make, release, set_byte, set_field};
-pub use process_state as process_state_api;
-pub use process_state::kernel_bodies_api as kernel_bodies_api;
 pub use spawning::spawn;
 pub use statements::{block, store_variable, wait_so, write_fifo};
+
+/// What is passed on of event_core.
+pub mod event_core_api {
+    pub use kernel_processes::event_core_api::{Ev, Pending};
+}
+
+/// What is passed on of flat_design.
+pub mod flat_design_api {
+    pub use kernel_processes::flat_design_api::{
+        Choices, Code, Design, MemoryPart, ProcessPart, RunFault, VariablePart, VisibleId,
+    };
+}
+
+/// What is passed on of instance_table.
+pub mod instance_table_api {
+    pub use kernel_processes::instance_table_api::{Deadline, ProcessKind, SpawnStop};
+}
+
+/// What is passed on of kernel_bodies.
+pub mod kernel_bodies_api {
+    pub use process_state::kernel_bodies_api::{Frame, Next, Program, locals_in, many_locals};
+}
+
+/// What is passed on of kernel_channels.
+pub mod kernel_channels_api {
+    pub use kernel_channels::{
+        ChannelBoard, a_write_is_that_of_a_run, what_an_update_phase_announces,
+    };
+}
+
+/// What is passed on of kernel_events.
+pub mod kernel_events_api {
+    pub use kernel_channels::kernel_events_api::EventBoard;
+}
+
+/// What is passed on of kernel_processes.
+pub mod kernel_processes_api {
+    pub use kernel_processes::{
+        Schedule, Trigger, Wait, begin, disable, earliest, empty, end, fire, initialize, is_active,
+        push, rest, resume, spawn, stay_kept, suspend, take, take_due, take_zero, top, wake_due,
+    };
+}
+
+/// What is passed on of kernel_transactions.
+pub mod kernel_transactions_api {
+    pub use kernel_transactions::{
+        MakeStop, TransactionBoard, left_calls_end, live_payloads_are_used, payloads_are_made,
+    };
+}
+
+/// What is passed on of logic_values.
+pub mod logic_values_api {
+    pub use kernel_processes::logic_values_api::{Value, value_text};
+}
+
+/// What is passed on of model_tree.
+pub mod model_tree_api {
+    pub use kernel_processes::model_tree_api::ProcessKind;
+}
+
+/// What is passed on of plain_lists.
+pub mod plain_lists_api {
+    pub use kernel_processes::plain_lists_api::{Bytes, Items};
+}
+
+/// What is passed on of process_state.
+pub mod process_state_api {
+    pub use process_state::{Body, EnterStop};
+}
+
+/// What is passed on of ready_set.
+pub mod ready_set_api {
+    pub use kernel_processes::ready_set_api::{ReadySet, least_of_a_set};
+}
+
+/// What is passed on of sim_model.
+pub mod sim_model_api {
+    pub use kernel_processes::sim_model_api::{Command, Phase, Rule, Stop};
+}
+
+/// What is passed on of sim_time.
+pub mod sim_time_api {
+    pub use kernel_processes::sim_time_api::{Time, add};
+}

@@ -12,10 +12,14 @@ mod standing_statements;
 mod standing_terms;
 mod typed_bodies;
 
-pub use laws_rules as laws_rules_api;
 pub use reached_bodies::{
     handlers_do_not_block, methods_do_not_block, threads_set_no_trigger, unwinding_is_plain,
 };
 pub use standing_statements::sound_statements_are_typed;
 pub use standing_terms::sound_terms_are_typed;
 pub use typed_bodies::sound_code_is_typed;
+
+/// What is passed on of laws_rules.
+pub mod laws_rules_api {
+    pub use laws_rules::sound_models_have_code;
+}

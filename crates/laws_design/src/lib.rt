@@ -25,8 +25,12 @@ mod standing_names;
 pub use accepted_models::{handlers_are_functions, names_stand, sockets_are_ends_of_hops};
 pub use first_values::{fifos_have_room, first_values_have_their_types, objects_are_inside};
 pub use fitting_fields::{hops_fit, ports_fit, processes_fit};
-pub use laws_objects as laws_objects_api;
 pub use limits::{designs_are_few, semaphores_start_low};
 pub use numbered_parts::{channels_have_their_events, names_stand_for_what_is_there};
 pub use sound_designs::accepted_designs_are_sound;
 pub use standing_names::names_stand_for_what_they_are_declared_as;
+
+/// What is passed on of laws_objects.
+pub mod laws_objects_api {
+    pub use laws_objects::sound_models_are_formed;
+}

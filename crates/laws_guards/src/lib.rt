@@ -13,7 +13,11 @@ mod throws;
 
 pub use ended::{nothing_names_what_has_ended, what_has_ended_never_runs_again};
 pub use kills::a_kill_unwinds_all_guards;
-pub use laws_unwinding as laws_unwinding_api;
 pub use left::a_guard_that_was_left_never_runs_its_unwind_block;
 pub use once::{unwind_blocks_run_once, unwinding_ends_before_the_caller_goes_on};
 pub use throws::a_throw_unwinds_the_guards_inside_its_try;
+
+/// What is passed on of laws_unwinding.
+pub mod laws_unwinding_api {
+    pub use laws_unwinding::runs_are_clean;
+}

@@ -12,7 +12,11 @@ mod starts;
 pub use counts::{events_keep_their_number, semaphores_are_within};
 pub use designs::{designs_stay, reached_designs_are_sound};
 pub use goals::{others_have_no_goal, throws_are_free};
-pub use kernel_phases as kernel_phases_api;
 pub use processes::{runnable_once, tops};
 pub use runs::{runs_begin, runs_go_on};
 pub use starts::fresh_at_start;
+
+/// What is passed on of kernel_phases.
+pub mod kernel_phases_api {
+    pub use kernel_phases::Choosing;
+}

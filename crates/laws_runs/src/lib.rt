@@ -22,13 +22,28 @@ pub use processes::{
 pub use residuals::{settling_twice_is_settling_once, unwinding_keeps_guards};
 pub use runs::{no_earlier_end, runs_split};
 pub use shapes::{bodies_begin_normal, moves_keep_shapes, shapes_have_one_unwinding};
-pub use sim_model as sim_model_api;
-pub use sim_model::{
-    flat_design_api as flat_design_api, logic_values_api as logic_values_api,
-    plain_lists_api as plain_lists_api, sim_time_api as sim_time_api,
-};
 pub use snapshots::{steps_add_snapshots, takings_add_none};
 pub use standing::{
     below_a_goal_are_unwind_blocks, the_statement_in_place_stands_in_a_body,
     unwindings_stand_in_unwind_blocks,
 };
+
+/// What is passed on of logic_values.
+pub mod logic_values_api {
+    pub use sim_model::logic_values_api::{Digit, Lv, Text, Value, digit, is_same};
+}
+
+/// What is passed on of plain_lists.
+pub mod plain_lists_api {
+    pub use sim_model::plain_lists_api::Items;
+}
+
+/// What is passed on of sim_model.
+pub mod sim_model_api {
+    pub use sim_model::{Command, Log, Phase, Rule, Stop};
+}
+
+/// What is passed on of sim_time.
+pub mod sim_time_api {
+    pub use sim_model::sim_time_api::Time;
+}

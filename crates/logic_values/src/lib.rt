@@ -17,8 +17,12 @@ pub use equality::is_same;
 pub use integers::{add, cut, div, lt, mul, rem, shl, shr, sub};
 pub use kinds::{Digit, Sign, Value};
 pub use laws::same_values_are_equal;
-pub use plain_lists as plain_lists_api;
 pub use planes::Lv;
 pub use tables::resolve;
 pub use texts::value_text;
 pub use vectors::{and, concat, digit, not, or, slice, vector_of_digits, xor};
+
+/// What is passed on of plain_lists.
+pub mod plain_lists_api {
+    pub use plain_lists::Items;
+}

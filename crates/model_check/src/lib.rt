@@ -15,9 +15,20 @@ mod locals;
 mod whole;
 
 pub use checked::{Checked, check};
-pub use code_blocks::code_terms_api as code_terms_api;
-pub use code_rooms::{logic_values_api as logic_values_api, plain_lists_api as plain_lists_api};
-pub use flat_design as flat_design_api;
 pub use judged::judge_rules;
-pub use model_tree as model_tree_api;
 pub use whole::code_of;
+
+/// What is passed on of code_terms.
+pub mod code_terms_api {
+    pub use code_blocks::code_terms_api::exceptions_of;
+}
+
+/// What is passed on of logic_values.
+pub mod logic_values_api {
+    pub use code_rooms::logic_values_api::Text;
+}
+
+/// What is passed on of plain_lists.
+pub mod plain_lists_api {
+    pub use code_rooms::plain_lists_api::Items;
+}

@@ -5,4 +5,8 @@ mod generated;
 mod modules;
 
 pub use generated::generate;
-pub use logic_values as logic_values_api;
+
+/// What is passed on of logic_values.
+pub mod logic_values_api {
+    pub use logic_values::Text;
+}

@@ -8,14 +8,31 @@ ghost use Rattle.model_grammar.specs.Tokens.{Tokens, are_limited};
 ghost use Rattle.model_grammar.specs.Items.{DerivesModel};
 ghost use Rattle.model_grammar.specs.Brackets.{brackets};
 
-pub use model_tree as model_tree_api;
-pub use model_tree::{
-    logic_values_api as logic_values_api, plain_lists_api as plain_lists_api,
-    sim_time_api as sim_time_api,
-};
-
 /// A tree that tokens within their limits derive, with no more brackets open than may be, keeps the limits and
 /// the levels of the language.
 pub fn sound_tree()
     ensures { (m : tree.Model) (ts : Tokens) → DerivesModel m ts [] → are_limited ts ≡ true → brackets m ≤ bracket_limit → is_sound m ≡ true }
 {}
+
+/// What is passed on of logic_values.
+pub mod logic_values_api {
+    pub use model_tree::logic_values_api::{Digit, Lv, concat};
+}
+
+/// What is passed on of model_tree.
+pub mod model_tree_api {
+    pub use model_tree::{
+        CheckStop, Fault, Kind, ParseStop, SYMBOLS, Symbol, Word, is_letter, is_name,
+        is_print_byte, is_print_text, is_word_byte, symbol_text, word_of,
+    };
+}
+
+/// What is passed on of plain_lists.
+pub mod plain_lists_api {
+    pub use model_tree::plain_lists_api::Items;
+}
+
+/// What is passed on of sim_time.
+pub mod sim_time_api {
+    pub use model_tree::sim_time_api::Unit;
+}

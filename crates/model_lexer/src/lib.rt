@@ -12,8 +12,19 @@ pub use laws::{
     limited_tokens, longest_piece, one_cut, one_form, one_piece, ordered_tokens, past_limit_refused,
 };
 pub use lexing::tokens;
-pub use model_grammar::{
-    logic_values_api as logic_values_api, model_tree_api as model_tree_api,
-    sim_time_api as sim_time_api,
-};
 pub use token::{Token, TokenKind, Tokens};
+
+/// What is passed on of logic_values.
+pub mod logic_values_api {
+    pub use model_grammar::logic_values_api::Lv;
+}
+
+/// What is passed on of model_tree.
+pub mod model_tree_api {
+    pub use model_grammar::model_tree_api::{CheckStop, Fault, Kind, ParseStop};
+}
+
+/// What is passed on of sim_time.
+pub mod sim_time_api {
+    pub use model_grammar::sim_time_api::Unit;
+}

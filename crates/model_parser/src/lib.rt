@@ -14,5 +14,9 @@ mod starts;
 mod values;
 
 pub use module_items::items;
-pub use parse_statements::model_lexer_api as model_lexer_api;
 pub use parsing::{one_tree, parse};
+
+/// What is passed on of model_lexer.
+pub mod model_lexer_api {
+    pub use parse_statements::model_lexer_api::{Token, TokenKind, tokens};
+}

@@ -11,7 +11,15 @@ mod printing;
 mod shapes;
 mod statements;
 
-pub use model_tree as model_tree_api;
-pub use model_tree::logic_values_api as logic_values_api;
 pub use page::Page;
 pub use printing::print;
+
+/// What is passed on of logic_values.
+pub mod logic_values_api {
+    pub use model_tree::logic_values_api::Text;
+}
+
+/// What is passed on of model_tree.
+pub mod model_tree_api {
+    pub use model_tree::{CheckStop, Fault, Kind, ParseStop, Tree};
+}

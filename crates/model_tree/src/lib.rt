@@ -25,9 +25,6 @@ pub use leaves::{
     is_word, is_word_byte,
 };
 pub use lines::{first_line, item_line};
-pub use logic_values as logic_values_api;
-pub use logic_values::plain_lists_api as plain_lists_api;
-pub use sim_time as sim_time_api;
 pub use spelling::{
     binary_symbol, constant_word, control_word, conversion_word, plain_word, process_word,
     signal_word, unary_symbol, unit_name,
@@ -42,3 +39,20 @@ pub use types::{
 };
 pub use vocabulary::{SYMBOLS, Symbol, WORDS, Word, symbol_text, word_of, word_text};
 pub use whole::Tree;
+
+/// What is passed on of logic_values.
+pub mod logic_values_api {
+    pub use logic_values::{
+        Digit, Lv, Sign, Text, Value, concat, cut, digit, sub, value_text, vector_of_digits,
+    };
+}
+
+/// What is passed on of plain_lists.
+pub mod plain_lists_api {
+    pub use logic_values::plain_lists_api::Items;
+}
+
+/// What is passed on of sim_time.
+pub mod sim_time_api {
+    pub use sim_time::{Time, Unit};
+}

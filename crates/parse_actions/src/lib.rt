@@ -22,11 +22,25 @@ pub use channels_exactly::{
 };
 pub use dispatch::{action, operation, sees_action, sees_operation};
 pub use exactly::{action_exactly, operation_exactly};
-pub use model_tree as model_tree_api;
-pub use parse_expressions as parse_expressions_api;
-pub use parse_expressions::{
-    logic_values_api as logic_values_api, model_lexer_api as model_lexer_api,
-    sim_time_api as sim_time_api,
-};
 pub use parts::{arguments, optional_expression, optional_index};
 pub use types::{signal_type, variable_type};
+
+/// What is passed on of logic_values.
+pub mod logic_values_api {
+    pub use parse_expressions::logic_values_api::Lv;
+}
+
+/// What is passed on of model_lexer.
+pub mod model_lexer_api {
+    pub use parse_expressions::model_lexer_api::{Token, TokenKind, tokens};
+}
+
+/// What is passed on of parse_expressions.
+pub mod parse_expressions_api {
+    pub use parse_expressions::{Cursor, expression, push};
+}
+
+/// What is passed on of sim_time.
+pub mod sim_time_api {
+    pub use parse_expressions::sim_time_api::Unit;
+}

@@ -13,6 +13,18 @@ pub use building::push;
 pub use cursor::Cursor;
 pub use expressions::{expression, group, inside};
 pub use laws::{expression_exactly, one_expression};
-pub use model_lexer as model_lexer_api;
-pub use model_lexer::{logic_values_api as logic_values_api, sim_time_api as sim_time_api};
-pub use model_tree as model_tree_api;
+
+/// What is passed on of logic_values.
+pub mod logic_values_api {
+    pub use model_lexer::logic_values_api::Lv;
+}
+
+/// What is passed on of model_lexer.
+pub mod model_lexer_api {
+    pub use model_lexer::{Token, TokenKind, tokens};
+}
+
+/// What is passed on of sim_time.
+pub mod sim_time_api {
+    pub use model_lexer::sim_time_api::Unit;
+}

@@ -7,9 +7,28 @@ mod plain;
 
 pub use blocks::block;
 pub use laws::block_exactly;
-pub use model_tree as model_tree_api;
-pub use parse_actions as parse_actions_api;
-pub use parse_actions::{
-    logic_values_api as logic_values_api, model_lexer_api as model_lexer_api,
-    parse_expressions_api as parse_expressions_api, sim_time_api as sim_time_api,
-};
+
+/// What is passed on of logic_values.
+pub mod logic_values_api {
+    pub use parse_actions::logic_values_api::Lv;
+}
+
+/// What is passed on of model_lexer.
+pub mod model_lexer_api {
+    pub use parse_actions::model_lexer_api::{Token, TokenKind, tokens};
+}
+
+/// What is passed on of parse_actions.
+pub mod parse_actions_api {
+    pub use parse_actions::{optional_member, sensitive, signal_type, variable_type};
+}
+
+/// What is passed on of parse_expressions.
+pub mod parse_expressions_api {
+    pub use parse_actions::parse_expressions_api::{Cursor, push};
+}
+
+/// What is passed on of sim_time.
+pub mod sim_time_api {
+    pub use parse_actions::sim_time_api::Unit;
+}

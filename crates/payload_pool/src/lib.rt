@@ -13,7 +13,11 @@ pub use laws::{
 pub use payload::{
     ADDRESS, BURST, BYTE_ENABLE, COMMAND, IGNORE, INCOMPLETE, OK, Payload, READ, WRITE,
 };
-pub use plain_lists as plain_lists_api;
 pub use plain_lists::Bytes;
 pub use pool::{Freed, MAX_BYTES, MAX_LIVE, MakeStop, Pool};
 pub use transfer::carry;
+
+/// What is passed on of plain_lists.
+pub mod plain_lists_api {
+    pub use plain_lists::{Bytes, Items};
+}

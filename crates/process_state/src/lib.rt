@@ -9,7 +9,11 @@ mod starting;
 mod unwind;
 
 pub use body::Body;
-pub use kernel_bodies as kernel_bodies_api;
 pub use kernel_bodies::{Frame, Next};
 pub use laws::stands_without_numbers;
 pub use starting::EnterStop;
+
+/// What is passed on of kernel_bodies.
+pub mod kernel_bodies_api {
+    pub use kernel_bodies::{Frame, Next, Program, locals_in, many_locals};
+}

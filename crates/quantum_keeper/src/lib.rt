@@ -6,4 +6,8 @@
 mod keeper;
 
 pub use keeper::{Keeper, local_quantum};
-pub use sim_time as sim_time_api;
+
+/// What is passed on of sim_time.
+pub mod sim_time_api {
+    pub use sim_time::{Time, Unit, add, of_unit, sub, times};
+}

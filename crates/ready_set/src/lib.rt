@@ -7,7 +7,6 @@ ghost use Rattle.std.specs.FinSet as set;
 mod laws;
 
 pub use laws::least_of_a_set;
-pub use room_map as room_map_api;
 use room_map::RoomMap;
 use std::alloc::{AllocError, Global};
 use std::marker::Model;
@@ -126,4 +125,9 @@ impl ReadySet {
     {
         key_of(self.kept.greatest())
     }
+}
+
+/// What is passed on of room_map.
+pub mod room_map_api {
+    pub use room_map::RoomMap;
 }

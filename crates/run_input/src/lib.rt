@@ -10,6 +10,18 @@ pub use judging::{JudgeStop, Judged, ModelStop, judge, judge_text};
 pub use laws::one_cause;
 pub use laying::laid_out;
 pub use loading::{LoadStop, MODEL_LIMIT, REPLAY_LIMIT, SCRIPT_LIMIT, Texts, load, load_model};
-pub use model_parser as model_parser_api;
-pub use refusal_lines as refusal_lines_api;
-pub use script_text as script_text_api;
+
+/// What is passed on of model_parser.
+pub mod model_parser_api {
+    pub use model_parser::one_tree;
+}
+
+/// What is passed on of refusal_lines.
+pub mod refusal_lines_api {
+    pub use refusal_lines::{Refusal, memory_line, refusal_line, write_line};
+}
+
+/// What is passed on of script_text.
+pub mod script_text_api {
+    pub use script_text::Script;
+}

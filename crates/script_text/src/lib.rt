@@ -14,4 +14,3 @@ pub use choices::choice_list;
 pub use forms::{CommandForm, TextCommand};
 pub use naming::{Script, name_all};
 pub use reading::{COMMAND_LIMIT, Commands, commands};
-pub use sim_model::flat_design_api as flat_design_api;

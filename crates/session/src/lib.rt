@@ -9,7 +9,12 @@ mod recording;
 mod tellings;
 mod traces;
 
-pub use flat_design as flat_design_api;
 pub use looping::run_session;
 pub use plans::{Outcome, Plan};
-pub use sim_io as sim_io_api;
+
+/// What is passed on of sim_io.
+pub mod sim_io_api {
+    pub use sim_io::{
+        HostShelf, HostSink, MemoryShelf, MemorySink, Shelf, Sink, Trouble, write_all,
+    };
+}

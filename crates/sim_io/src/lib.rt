@@ -19,8 +19,12 @@ pub use memory_shelf::MemoryShelf;
 pub use memory_sink::MemorySink;
 pub use null_sink::NullSink;
 pub use outside::{Shelf, Sink, Trouble};
-pub use plain_lists as plain_lists_api;
 pub use plain_lists::Bytes;
 pub use sound_file::SoundFile;
 pub use sound_shelf::SoundShelf;
 pub use transfer::{ReadStop, read_all, write_all, write_file};
+
+/// What is passed on of plain_lists.
+pub mod plain_lists_api {
+    pub use plain_lists::Items;
+}

@@ -8,7 +8,6 @@ mod laws;
 
 pub use laws::due_names_are_held;
 use room_map::RoomMap;
-pub use sim_time as sim_time_api;
 use sim_time::Time;
 use std::alloc::{AllocError, Global};
 use std::marker::Model;
@@ -155,4 +154,9 @@ impl TimedQueue {
             out.push_reserved(name);
         }
     }
+}
+
+/// What is passed on of sim_time.
+pub mod sim_time_api {
+    pub use sim_time::{Time, add};
 }

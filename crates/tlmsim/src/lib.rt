@@ -18,4 +18,8 @@ pub use creating::{Created, create_files};
 pub use flat_design::Choices;
 pub use main_call::{Ended, sim_main};
 pub use run_input::{MODEL_LIMIT, SCRIPT_LIMIT, one_cause};
-pub use session::sim_io_api as sim_io_api;
+
+/// What is passed on of sim_io.
+pub mod sim_io_api {
+    pub use session::sim_io_api::{HostShelf, HostSink, MemoryShelf, MemorySink};
+}

@@ -23,8 +23,16 @@ pub use choices::choices_text;
 pub use header_texts::header_text;
 pub use headers::header;
 pub use laws::header_and_points_are_the_trace;
-pub use laws_runs as laws_runs_api;
-pub use laws_runs::sim_model_api as sim_model_api;
 pub use points::point;
 pub use takings::takings_add_no_text;
 pub use tracing::Tracing;
+
+/// What is passed on of laws_runs.
+pub mod laws_runs_api {
+    pub use laws_runs::{steps_add_snapshots, takings_add_none};
+}
+
+/// What is passed on of sim_model.
+pub mod sim_model_api {
+    pub use laws_runs::sim_model_api::{Command, Log, Phase, Rule, Stop};
+}

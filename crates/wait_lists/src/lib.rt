@@ -14,7 +14,6 @@ mod laws;
 mod links;
 mod waiter;
 
-pub use event_core as event_core_api;
 pub use event_core::Ev;
 use kept::{Kept, make_room, nothing_kept, put_out, set_mark, set_wait, strike_all};
 pub use laws::{
@@ -128,4 +127,9 @@ impl WaitLists {
     {
         strike_all(&mut self.kept, e, out);
     }
+}
+
+/// What is passed on of event_core.
+pub mod event_core_api {
+    pub use event_core::{Ev, Pending, When};
 }

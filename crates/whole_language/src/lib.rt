@@ -1,4 +1,7 @@
 //! The whole language: no construct of it is left out.
 #![tactic(auto)]
 
-pub use model_tree::sim_time_api as sim_time_api;
+/// What is passed on of sim_time.
+pub mod sim_time_api {
+    pub use model_tree::sim_time_api::Time;
+}
