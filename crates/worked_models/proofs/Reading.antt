@@ -1,7 +1,7 @@
 -- The numbers of the worked code, one statement after another.
 use Rattle.std.proofs.Common.{[], ◌∷◌, refl, true}
 use Rattle.model_lexer.specs.LogicValues.declared.kinds.Value.TheVariants as value
-use Rattle.signal_rules.specs.FlatDesign.Code as code
+use Rattle.code_rules.specs.FlatDesign.Code as code
 use Rattle.worked_models.specs.Arenas.{ReadsBack}
 
 pub clock_reads_back : ReadsBack 4000

@@ -1,12 +1,71 @@
 -- The flat design that is written by hand is that of the tree.
 use Rattle.std.specs.Prelude.{refl}
-use Rattle.signal_rules.specs.SignalDesign.{IsDesign, IsCodeOf}
+use Rattle.code_rules.specs.Bodies.{IsCodeOf}
+use Rattle.design_rules.specs.Listing.{inside_within, binds_within}
+use Rattle.design_rules.specs.Paths.{ends_within}
+use Rattle.design_rules.specs.Designs.{IsDesignOf}
 use Rattle.worked_models.specs.Following.{model, follows}
 
-pub parts : IsDesign model follows
-parts = record {
+-- The module has two bodies: the first is an `if`, with a write in it, and a print; the second is a print.
+code : IsCodeOf model follows.code
+code = (
+  _,
+  (
+    _,
+    refl,
+    (
+      _,
+      refl,
+      (
+        _,
+        (
+          _,
+          refl,
+          record {
+            kind = refl;
+            in_module = refl;
+            name = refl;
+            locals = refl;
+            parameters = refl;
+            answer = refl;
+            statements = (
+              _,
+              refl,
+              (
+                _,
+                (_, _, _, refl, (_, _, refl, refl, refl), (_, refl, (_, (_, refl, (_, _, refl, refl, refl)), refl)), refl),
+                (_, (_, refl, (_, _, refl, refl, refl)), refl),
+              ),
+            );
+          },
+        ),
+        (
+          _,
+          (
+            _,
+            refl,
+            record {
+              kind = refl;
+              in_module = refl;
+              name = refl;
+              locals = refl;
+              parameters = refl;
+              answer = refl;
+              statements = (_, refl, (_, (_, refl, (_, _, refl, refl, refl)), refl));
+            },
+          ),
+          refl,
+        ),
+      ),
+    ),
+  ),
+  refl,
+)
+
+pub same : IsDesignOf model follows
+unfolding inside_within binds_within ends_within
+same = record {
   objects = refl;
-  binds = refl;
   instances = refl;
   signals = refl;
   resolved = refl;
@@ -22,48 +81,5 @@ parts = record {
   events = refl;
   visible = refl;
   exceptions = refl;
+  code = code;
 }
-
--- the first body is an `if`, with a write in it, and a print; the second is a print
-pub code : IsCodeOf model follows.code
-code = (
-  _,
-  _,
-  refl,
-  record {
-    kind = refl;
-    in_module = refl;
-    name = refl;
-    locals = refl;
-    parameters = refl;
-    answer = refl;
-    room = refl;
-    statements = (
-      _,
-      refl,
-      (
-        _,
-        _,
-        refl,
-        (_, refl, (_, _, _, refl, (0, refl, refl), (_, refl, (_, _, refl, (_, refl, (_, _, refl, record { named = refl; source_place = refl; code_place = refl }, refl)), refl)), refl)),
-        (_, _, refl, (_, refl, (_, refl, (_, refl, (1, refl, refl)))), refl),
-      ),
-    );
-  },
-  (
-    _,
-    _,
-    refl,
-    record {
-      kind = refl;
-      in_module = refl;
-      name = refl;
-      locals = refl;
-      parameters = refl;
-      answer = refl;
-      room = refl;
-      statements = (_, refl, (_, _, refl, (_, refl, (_, refl, (_, refl, (1, refl, refl)))), refl));
-    },
-    refl,
-  ),
-)

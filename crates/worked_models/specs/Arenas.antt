@@ -6,13 +6,13 @@ use Rattle.model_lexer.specs.ModelTree.Tree as tree
 use Rattle.model_lexer.specs.ModelTree.Views.{block_of}
 use Rattle.model_lexer.specs.ModelTree.declared.types.TypeForm.TheVariants as form
 use Rattle.model_lexer.specs.ModelTree.declared.items.PlainKind.TheVariants as plain_kind
-use Rattle.signal_rules.specs.FlatDesign.Code as code
-use Rattle.signal_rules.specs.FlatDesign.Code.{Arena}
-use Rattle.signal_rules.specs.FlatDesign.declared.value_types.ValueType.TheVariants as type
-use Rattle.signal_rules.specs.FlatDesign.declared.names.NameUse.TheVariants as name_use
-use Rattle.signal_rules.specs.FlatDesign.declared.names.Member.TheVariants as member
-use Rattle.signal_rules.specs.FlatDesign.declared.code.BodyKind.TheVariants as body_kind
-use Rattle.signal_rules.specs.FlatDesign.declared.code.CodeBody.{CodeBody}
+use Rattle.code_rules.specs.FlatDesign.Code as code
+use Rattle.code_rules.specs.FlatDesign.Code.{Arena}
+use Rattle.code_rules.specs.FlatDesign.declared.value_types.ValueType.TheVariants as type
+use Rattle.code_rules.specs.FlatDesign.declared.names.NameUse.TheVariants as name_use
+use Rattle.code_rules.specs.FlatDesign.declared.names.Member.TheVariants as member
+use Rattle.code_rules.specs.FlatDesign.declared.code.BodyKind.TheVariants as body_kind
+use Rattle.code_rules.specs.FlatDesign.declared.code.CodeBody.{CodeBody}
 use Rattle.code_rules.specs.Bodies.{AreModules, exceptions_of}
 use Rattle.worked_models.specs.Trees.{model, thread, span, local, plain, yes_}
 

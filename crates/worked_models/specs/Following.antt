@@ -4,9 +4,9 @@ use Rattle.model_lexer.specs.ModelTree.Tree as tree
 use Rattle.model_lexer.specs.ModelTree.declared.items.SignalKind.TheVariants as signal_kind
 use Rattle.model_lexer.specs.ModelTree.declared.items.ProcessKind.TheVariants as process
 use Rattle.model_lexer.specs.ModelTree.declared.types.TypeForm.TheVariants as type_form
-use Rattle.signal_rules.specs.EventCore.declared.event.Ev.TheVariants as ev
-use Rattle.signal_rules.specs.FlatDesign.declared.value_types.ValueType.TheVariants as type
-use Rattle.signal_rules.specs.FlatDesign.declared.design.Design.{Design}
+use Rattle.code_rules.specs.EventCore.declared.event.Ev.TheVariants as ev
+use Rattle.code_rules.specs.FlatDesign.declared.value_types.ValueType.TheVariants as type
+use Rattle.code_rules.specs.FlatDesign.declared.design.Design.{Design}
 use Rattle.worked_runs.specs.Body.{end, then, branch, item, named, say_value, write}
 use Rattle.worked_runs.specs.Build.{design_of, signal, method, process_of}
 use Rattle.worked_runs.specs.Rows.{one}

@@ -7,12 +7,12 @@ ghost use Rattle.model_lexer.specs.ModelTree.declared.expressions.BinaryOp.TheVa
 ghost use Rattle.model_lexer.specs.ModelTree.declared.expressions.UnaryOp.TheVariants as unary_op;
 ghost use Rattle.model_lexer.specs.ModelTree.declared.expressions.Conversion.TheVariants as conversion;
 ghost use Rattle.model_lexer.specs.ModelTree.declared.expressions.NamedConstant.TheVariants as constant;
-ghost use Rattle.signal_rules.specs.FlatDesign.Code as code;
-ghost use Rattle.signal_rules.specs.FlatDesign.declared.value_types.ValueType.TheVariants as type;
-ghost use Rattle.signal_rules.specs.FlatDesign.declared.names.NameUse.TheVariants as name_use;
-ghost use Rattle.signal_rules.specs.FlatDesign.declared.names.Member.TheVariants as member;
-ghost use Rattle.signal_rules.specs.FlatDesign.declared.names.PayloadField.TheVariants as field;
-ghost use Rattle.signal_rules.specs.FlatDesign.declared.names.PayloadBytes.TheVariants as bytes;
+ghost use Rattle.code_rules.specs.FlatDesign.Code as code;
+ghost use Rattle.code_rules.specs.FlatDesign.declared.value_types.ValueType.TheVariants as type;
+ghost use Rattle.code_rules.specs.FlatDesign.declared.names.NameUse.TheVariants as name_use;
+ghost use Rattle.code_rules.specs.FlatDesign.declared.names.Member.TheVariants as member;
+ghost use Rattle.code_rules.specs.FlatDesign.declared.names.PayloadField.TheVariants as field;
+ghost use Rattle.code_rules.specs.FlatDesign.declared.names.PayloadBytes.TheVariants as bytes;
 ghost use Rattle.code_rules.specs.Terms.{term_of};
 ghost use Rattle.code_rules.specs.Deeds.{action_code, operation_code, store, destination_term};
 ghost use Rattle.code_rules.specs.Numbered.{assign_code};

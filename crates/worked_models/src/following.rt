@@ -2,16 +2,15 @@
 ghost use Rattle.std.specs.Prelude.{◌≡◌, [], ◌∷◌, codes, Some, true};
 ghost use Rattle.model_lexer.specs.LogicValues.declared.kinds.Value.TheVariants as value;
 ghost use Rattle.model_lexer.specs.Reads.{Reads};
-ghost use Rattle.signal_rules.specs.SignalDesign.{IsDesign, IsCodeOf};
+ghost use Rattle.design_rules.specs.Designs.{IsDesignOf};
 ghost use Rattle.worked_models.specs.Following.{text, model, follows};
 ghost use Rattle.worked_runs.specs.Run.{told, run, set};
 
 /// The text reads as the tree, the design is the flat design of the tree, and its code reads back as the bodies of the tree.
-#[tactic(auto, using(crate::proofs::SameDesign::parts, crate::proofs::SameDesign::code, crate::proofs::ReadingDesigns::reads))]
+#[tactic(auto, using(crate::proofs::SameDesign::same, crate::proofs::ReadingDesigns::reads))]
 pub fn the_design_is_that_of_its_text()
     ensures reads { Reads text model }
-    ensures parts { IsDesign model follows }
-    ensures bodies { IsCodeOf model follows.code }
+    ensures design { IsDesignOf model follows }
 {}
 
 /// The first method writes where its signal is 1, and the second one tells what was written after the update.

@@ -1,2 +1,0 @@
-pub use Rattle.flat_design.specs.Code as Code
-pub use Rattle.flat_design.specs.declared as declared

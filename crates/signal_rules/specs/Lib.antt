@@ -1,6 +1,0 @@
-pub mod FirstFault
-pub mod ReadBack
-pub mod SignalDesign
-pub mod SoundNames
-pub mod EventCore
-pub mod FlatDesign
