@@ -11,3 +11,4 @@ pub mod Targets
 pub mod Selves
 pub mod Links
 pub mod Words
+pub mod Leaving

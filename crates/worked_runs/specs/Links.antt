@@ -131,12 +131,27 @@ completes = kept.Assign (destination.Field (local 0) field.Status) (integer 1)
 abbrev pub frees : Statement
 frees = kept.Release (local 0)
 
+-- the response is there no longer: by t, and by a handler
+
+abbrev pub takes_back : Statement
+takes_back = kept.Assign (destination.Field (item 1) field.Status) (integer 0)
+
+abbrev pub clears : Statement
+clears = kept.Assign (destination.Field (local 0) field.Status) (integer 0)
+
 abbrev pub has_phase : ℕ → Expr
 has_phase n = binary op.Equal signed (named (local 1)) (integer n)
 
 -- a handler that does this at a phase, and answers so at another
 abbrev pub at_phase : ℕ → List Statement → ℕ → Body
 at_phase n ss e = branch (has_phase n) (does ss end) (does (answers e ∷ []) end)
+
+-- a body that does this the first time, and that from then on; the answer of its module tells which
+abbrev pub first_time : Body → Body → Body
+first_time b rest = branch (binary op.Equal signed (named (item 3)) (integer 0)) b rest
+
+abbrev pub counts : Statement
+counts = assign (item 3) (type.Int 32) (integer 1)
 
 abbrev pub accepts : Body
 accepts = does (answers 0 ∷ []) end

@@ -1,17 +1,14 @@
 -- The words of the base protocol: what is called and answered from a request to the end of a transaction, told by models of the
--- link. Each has a blocking call of the same payload behind it, which may come only where the transaction is idle.
+-- link. Each has a blocking call of the same payload behind it, which may come only where the transaction is idle. And models in
+-- which a rule is broken.
 use Rattle.std.specs.Prelude.{ℕ, List, [], ◌∷◌, ◌++◌, codes}
-use Rattle.sim_model.specs.ModelTree.declared.statements.Control.TheVariants as control_of
-use Rattle.sim_model.specs.ModelTree.declared.expressions.BinaryOp.TheVariants as op
 use Rattle.sim_model.specs.FlatDesign.declared.value_types.ValueType.TheVariants as type
 use Rattle.sim_model.specs.FlatDesign.declared.code.Statement.{Statement}
-use Rattle.sim_model.specs.FlatDesign.declared.code.Statement.TheVariants as kept
 use Rattle.sim_model.specs.FlatDesign.declared.design.Design.{Design}
-use Rattle.worked_runs.specs.Body.{Body, end, does, branch, guarded, tried, item, local, named, moment, binary, assign, say, wait_for, control, throw_at}
+use Rattle.worked_runs.specs.Body.{Body, end, does, item, named, assign, say, wait_for}
 use Rattle.worked_runs.specs.Build.{thread}
-use Rattle.worked_runs.specs.Rows.{integer, signed}
 use Rattle.worked_runs.specs.Transports.{answers}
-use Rattle.worked_runs.specs.Links.{Handlers, all, link, link_of, makes, makes_q, phase, calls, calls_for, tells, tells_phase, tells_delay, sends, blocks, completed, idle, keeps, goes, updates, completes, at_phase, accepts, nothing, woken}
+use Rattle.worked_runs.specs.Links.{Handlers, all, link, link_of, makes, makes_q, phase, calls, calls_for, tells, tells_phase, sends, blocks, completed, idle, keeps, goes, updates, completes, at_phase, first_time, counts, accepts, nothing, woken}
 
 -- the request is answered with COMPLETED
 abbrev pub completed_request : Design
@@ -76,7 +73,7 @@ word q s =
     (response_handler s) (request_handler q (end_answer s)) nothing
     (woken (request_ends q ++ completed ∷ sends 3 ++ updated_phase s))
 
--- Rules that are broken. At a call:
+-- Rules that are broken.
 
 -- t calls with a phase, after this
 abbrev pub calls_behind : List Statement → Body → Design
@@ -104,8 +101,8 @@ two_responses_by_call =
     (woken (completed ∷ sends 3 ++ phase 3 ∷ calls_for 9 ∷ []))
 
 -- another thread of the initiator's module calls while a blocking call is open
-abbrev pub calls_meanwhile : List Statement → Design
-calls_meanwhile ss = link_of all (does (makes ∷ blocks ∷ []) end) accepts accepts (does (wait_for 2000 ∷ completes ∷ []) end) nothing (thread (codes "v") (does (wait_for 1000 ∷ ss) end) ∷ [])
+abbrev pub calls_meanwhile : Handlers → List Statement → Design
+calls_meanwhile hs ss = link_of hs (does (makes ∷ blocks ∷ []) end) accepts accepts (does (wait_for 2000 ∷ completes ∷ []) end) nothing (thread (codes "v") (does (wait_for 1000 ∷ ss) end) ∷ [])
 
 -- t makes a blocking call, after this
 abbrev pub blocks_behind : Handlers → List Statement → Body → Design
@@ -115,37 +112,18 @@ blocks_behind hs ss h = link_of hs (does (makes ∷ ss ++ blocks ∷ []) end) ac
 abbrev pub without_handler : Handlers → List Statement → Design
 without_handler hs ss = link_of hs (does (makes ∷ ss) end) accepts accepts nothing nothing []
 
--- Transport calls that are left.
+-- Several rules that are broken at once. A second transaction requests while the first does, which has requested before and has
+-- had its answer.
+abbrev pub requests_again : Design
+requests_again = calls_behind (makes_q ∷ phase 1 ∷ calls_for 5 ∷ sends 1 ++ phase 1 ∷ calls_for 5 ∷ []) (first_time (does (counts ∷ updates 2 ∷ answers 1 ∷ []) end) accepts)
 
-abbrev pub first_time : Body → Body → Body
-first_time b rest = branch (binary op.Equal signed (named (item 3)) (integer 0)) b rest
+-- the first transaction is over, and is called back with a response while the second responds
+abbrev pub response_of_an_idle_one : Design
+response_of_an_idle_one =
+    link (does (makes ∷ two_requests) end) accepts
+    (first_time (does (counts ∷ completes ∷ keeps ∷ answers 2 ∷ []) end) (does (completes ∷ updates 3 ∷ goes ∷ answers 1 ∷ []) end)) nothing
+    (woken (phase 3 ∷ calls ∷ []))
 
-abbrev pub counts : Statement
-counts = assign (item 3) (type.Int 32) (integer 1)
-
-abbrev pub delays : ℕ → Statement
-delays n = assign (local 1) type.Time (moment n)
-
--- an exception passes a blocking call, out of a guard, and its transaction begins anew
-abbrev pub thrown_out : Design
-thrown_out =
-    link (does (makes ∷ []) (tried (does (blocks ∷ say (codes "never") ∷ []) end) 0 (does (tells_delay ∷ []) end) (does (blocks ∷ tells_delay ∷ []) end))) accepts accepts
-    (first_time (does (counts ∷ delays 5000 ∷ []) (guarded (does (kept.Throw 0 ∷ []) end) (does (say (codes "undo") ∷ []) end) end)) (does (completes ∷ delays 7000 ∷ []) end)) nothing
-
--- an exception passes a non-blocking call
-abbrev pub thrown_out_of_nb : Design
-thrown_out_of_nb =
-    link (does (makes ∷ []) (tried (does (phase 1 ∷ calls ∷ say (codes "never") ∷ []) end) 0 (does (tells_phase ∷ []) end) (does (sends 1) end))) accepts
-    (first_time (does (counts ∷ updates 2 ∷ kept.Throw 0 ∷ []) end) (does (completes ∷ answers 2 ∷ []) end)) nothing nothing
-
--- another thread kills the caller while its call waits, or throws an exception at it, and the transaction begins anew
-abbrev pub killed_in_a_call : Design
-killed_in_a_call =
-    link_of all (does (makes ∷ blocks ∷ []) end) accepts accepts (does (wait_for 2000 ∷ completes ∷ []) end) nothing
-    (thread (codes "v") (does (wait_for 1000 ∷ control control_of.Kill 7 ∷ blocks ∷ say (codes "v") ∷ []) end) ∷ [])
-
-abbrev pub thrown_at_in_a_call : Design
-thrown_at_in_a_call =
-    link_of all (does (makes ∷ []) (tried (does (blocks ∷ say (codes "never") ∷ []) end) 0 (does (say (codes "caught") ∷ []) end) (does (blocks ∷ tells_delay ∷ []) end))) accepts accepts
-    (does (wait_for 2000 ∷ completes ∷ delays 5000 ∷ []) end) nothing
-    (thread (codes "v") (does (wait_for 1000 ∷ throw_at 7 0 ∷ []) end) ∷ [])
+-- both are answered with the response, the second without a status
+abbrev pub response_without_a_status : Design
+response_without_a_status = calls_behind two_requests (first_time (does (counts ∷ completes ∷ updates 3 ∷ answers 1 ∷ []) end) (does (updates 3 ∷ answers 1 ∷ []) end))

@@ -11,9 +11,10 @@
 //! suspended, disabled, not begun, idle, being unwound, active or ended. A clause says, for one model, that the run of exactly so
 //! many steps with these choices ends there, and its report.
 //!
-//! Worked runs of transport calls by the base protocol (IEEE 1666-2011, 15.2): each word of calls and answers that it allows, each
-//! of its rules broken, and calls that are left by an exception or a kill. A clause says, for one model, that the run of exactly
-//! so many steps with these choices ends there, and its report.
+//! Worked runs of transport calls by the base protocol (IEEE 1666-2011, 15.2): each word of calls and answers that it allows; each
+//! of its rules broken by each call, and by each return, that can break it, and several at once; and calls that are left by an
+//! exception, a kill or a reset: of each phase and a blocking one, with what may follow. A clause says, for one model, that the run
+//! of exactly so many steps with these choices ends there, and its report; or what was then called, returned and left on the hop.
 #![tactic(auto, unfolding(crate::specs::Run::told, crate::specs::Run::told_under, crate::specs::Run::traced, crate::specs::Run::IsRuled, crate::specs::Run::marked, crate::specs::Run::called))]
 
 mod breaking;
@@ -37,14 +38,18 @@ mod vectors;
 mod waiting;
 
 pub use breaking::a_blocking_call_comes_alone;
+pub use breaking::a_freed_payload_has_no_status;
 pub use breaking::a_handler_is_missing;
 pub use breaking::a_phase_comes_on_its_path;
 pub use breaking::a_phase_comes_where_it_may;
 pub use breaking::a_response_has_a_status;
+pub use breaking::a_response_is_taken_back;
 pub use breaking::a_second_call_of_one_kind_is_open;
 pub use breaking::an_answer_comes_where_it_may;
 pub use breaking::another_transaction_requests;
 pub use breaking::another_transaction_responds;
+pub use breaking::the_first_rule_that_a_call_breaks_is_the_fault;
+pub use breaking::the_first_rule_that_a_return_breaks_is_the_fault;
 pub use breaking::what_comes_back_may_not_come;
 pub use calling::a_request_ends_by_a_call;
 pub use calling::a_request_ends_by_its_answer;
@@ -89,8 +94,14 @@ pub use itself::a_thread_controls_itself;
 pub use killing::a_killed_process_has_ended;
 pub use killing::a_process_is_killed_before_it_begins;
 pub use killing::an_ended_process_is_left_alone;
+pub use leaving::a_response_is_left;
 pub use leaving::a_thread_is_killed_or_thrown_at_in_a_call;
+pub use leaving::a_thread_is_reset_in_a_call;
+pub use leaving::a_thread_resets_itself_in_a_call;
 pub use leaving::an_exception_leaves_a_call;
+pub use leaving::calls_are_left_together;
+pub use leaving::the_end_of_a_request_is_left;
+pub use leaving::the_end_of_a_response_is_left;
 pub use members::a_fifo_is_filled;
 pub use members::a_handle_is_asked;
 pub use members::a_keeper_is_set;
