@@ -7,9 +7,8 @@ use Rattle.sim_model.specs.declared.plain.Log.TheVariants as log
 use Rattle.command_line.specs.declared.modes.Order.{Order}
 use Rattle.command_line.specs.declared.modes.Order.TheVariants as order
 use Rattle.command_line.specs.declared.modes.Generated.{Generated}
-use Rattle.command_line.specs.declared.numbers.TheConstants.{BUDGET_LIMIT, DEFAULT_BUDGET, GENERATED_LIMIT}
 use Rattle.command_line.specs.Given.{Given, given_by}
-use Rattle.command_line.specs.Numbers.{number_in, number_or}
+use Rattle.command_line.specs.Numbers.{budget_limit, default_budget, number_in, number_or, size_limit}
 
 -- how processes are chosen: by an order, or as the file of this name lists it
 pub data ChoiceRule : Type 0 where
@@ -35,7 +34,7 @@ pub data Mode : Type 0 where
 -- ---- single values
 
 abbrev pub budget_in : Option Text → Option ℕ
-budget_in = number_or DEFAULT_BUDGET 1 BUDGET_LIMIT
+budget_in = number_or default_budget 1 budget_limit
 
 abbrev pub seed_in : Option Text → Option ℕ
 seed_in = number_or 0 0 (2 ^ 64 - 1)
@@ -120,7 +119,7 @@ generated_with _ _ _ = None
 
 abbrev pub generated_alone : Text → Given → Option Mode
 generated_alone size g =
-    if names_no_run g then generated_with (number_in 1 GENERATED_LIMIT size) (budget_in g.budget) (order_in g) else None
+    if names_no_run g then generated_with (number_in 1 size_limit size) (budget_in g.budget) (order_in g) else None
 
 -- by what `--format` and `--generate` give
 abbrev pub mode_by : Option Text → Option Text → Given → Option Mode

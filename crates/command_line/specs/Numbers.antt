@@ -4,6 +4,17 @@ use Rattle.std.specs.Str.{all_ascii_digits}
 use Rattle.std.specs.Str.Parse.{digits_value}
 use Rattle.clap.specs.Words.{Text}
 
+-- the most steps that a run may be given, and how many it is given where the words say nothing of them
+abbrev pub budget_limit : ℕ
+budget_limit = 67108864
+
+abbrev pub default_budget : ℕ
+default_budget = 10000000
+
+-- the greatest size of a generated model
+abbrev pub size_limit : ℕ
+size_limit = 1000
+
 -- decimal digits, at least one, and nothing else
 abbrev pub is_decimal : Text → Bool
 is_decimal text = nat_lt 0 (length text) && all_ascii_digits text

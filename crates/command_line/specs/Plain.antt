@@ -3,8 +3,8 @@ use Rattle.std.specs.Prelude.{◌==◌, Bool, true, not, [], ◌∷◌, None}
 use Rattle.clap.specs.Words.{Text}
 use Rattle.sim_model.specs.declared.plain.Log.TheVariants as log
 use Rattle.command_line.specs.declared.modes.Order.TheVariants as order
-use Rattle.command_line.specs.declared.numbers.TheConstants.{DEFAULT_BUDGET}
 use Rattle.command_line.specs.Line.{Simulation, Ordered}
+use Rattle.command_line.specs.Numbers.{default_budget}
 
 -- the text does not begin with `-` (45)
 abbrev pub has_no_hyphen : Text → Bool
@@ -18,7 +18,7 @@ plain_simulation model script = record {
   script = script;
   vcd = None;
   choices = None;
-  budget = DEFAULT_BUDGET;
+  budget = default_budget;
   rule = Ordered order.First;
   log = log.Prints;
 }
