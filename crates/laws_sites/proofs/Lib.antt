@@ -1,0 +1,5 @@
+pub mod Along
+pub mod Expressions
+pub mod Statements
+pub mod Items
+pub mod Whole
