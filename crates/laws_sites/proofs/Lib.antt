@@ -3,3 +3,4 @@ pub mod Expressions
 pub mod Statements
 pub mod Items
 pub mod Whole
+pub mod Once

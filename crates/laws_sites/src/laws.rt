@@ -3,6 +3,13 @@ ghost use Rattle.model_rules.specs.ModelTree.Tree as tree;
 ghost use Rattle.model_rules.specs.Sites.{sites};
 ghost use Rattle.model_lexer.specs.Reads.{Reads};
 ghost use Rattle.laws_sites.specs.Order.{LinesNeverFall};
+ghost use Rattle.laws_sites.specs.Productions.{in_model, AreSitesOf};
+
+/// The list of sites at which first faults are judged has each production of the tree once, with its line, and an outer one
+/// before those that stand in it.
+pub fn sites_are_productions()
+    ensures { (m : tree.Model) → AreSitesOf (in_model m) (sites m) }
+{}
 
 /// Along the sites of a tree that was read lines never fall.
 pub fn lines_never_fall()
