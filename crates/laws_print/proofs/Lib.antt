@@ -10,4 +10,5 @@ pub mod Actions
 pub mod Blocks
 pub mod Items
 pub mod Depths
+pub mod Unprinted
 pub mod Whole

@@ -9,11 +9,13 @@ use Rattle.model_lexer.specs.ModelGrammar.Brackets.{brackets}
 use Rattle.model_lexer.specs.Cut.{Lexeme}
 use Rattle.model_lexer.specs.Laws.{with_lines}
 use Rattle.model_print.specs.Printed.{printed, printed_text}
+use Rattle.laws_print.specs.PrintsAgain.{PrintsAgain}
 use Rattle.laws_print.specs.ReadsBack.{ReadsBack}
 use Rattle.laws_print.proofs.Laid.{layout_cut}
 use Rattle.laws_print.proofs.Spelled.{meanings}
 use Rattle.laws_print.proofs.Items.{model_spelled}
 use Rattle.laws_print.proofs.Depths.{same_brackets, sound_deep}
+use Rattle.laws_print.proofs.Unprinted.{same_text}
 
 tokens_lined : (ls : List Lexeme) → meanings (with_lines ls) ≡ map (λ l. l.token) ls
 tokens_lined [] = refl
@@ -27,3 +29,6 @@ printed_reads m h =
     let deep : brackets n ≡ brackets m = sym (same_brackets n) ∙ ap brackets alike ∙ same_brackets m in
     let few = sound_deep m h in
     (n, (ls, cut, subst (λ (ts : Tokens). DerivesModel n ts []) (append-nil (with_lines ls)) (derives []), omega (arith, deep)), sym alike)
+
+pub printed_again : (m : tree.Model) → is_sound m ≡ true → PrintsAgain (printed_text m) m
+printed_again m h = let (n, reads, same) = printed_reads m h in (n, reads, same, sym (same_text m n same))

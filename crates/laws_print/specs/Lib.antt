@@ -1,2 +1,3 @@
 pub mod Unlined
 pub mod ReadsBack
+pub mod PrintsAgain

@@ -3,4 +3,6 @@
 
 mod laws;
 
-pub use laws::{print_of_a_tree_reads_back, print_reads_back};
+pub use laws::{
+    lines_are_not_printed, print_of_a_tree_reads_back, print_prints_again, print_reads_back,
+};
