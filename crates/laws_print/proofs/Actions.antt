@@ -66,7 +66,7 @@ handle_spelled x h =
     maybe_fixed DerivesHandle (λ y. piece.name y ∷ piece.operator s.Equal ∷ []) x
     (λ y e. led false (piece.name y) (name y) (name_piece y (option_named x y h e)) refl (one false (piece.operator s.Equal) (symbol s.Equal) (operator_piece s.Equal) refl refl))
 
-five : (a b c d e : List Piece) → a ++ (b ++ (c ++ (d ++ e))) ≡ a ++ b ++ c ++ d ++ e
+pub five : (a b c d e : List Piece) → a ++ (b ++ (c ++ (d ++ e))) ≡ a ++ b ++ c ++ d ++ e
 five a b c d e = sym (append_assoc a b (c ++ (d ++ e))) ∙ sym (append_assoc (a ++ b) c (d ++ e)) ∙ sym (append_assoc (a ++ b ++ c) d e)
 
 pub spawn_spelled : (n : ℕ) (x : tree.Spawn) → fits_spawn n x ≡ true

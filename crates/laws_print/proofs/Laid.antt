@@ -89,19 +89,19 @@ neighbour a b bytes e f g o = record {
 behind_blank : (a : Shape) (b : ℕ) (r : List ℕ) → is_second b ≡ false → is_word_byte b ≡ false → Stops a (b ∷ r)
 behind_blank a b r h k = record { mark = h; word = λ _. k }
 
-ended : (a : Shape) → ends_line a ≡ true → line_end a ≡ codes "\n"
+pub ended : (a : Shape) → ends_line a ≡ true → line_end a ≡ codes "\n"
 ended a e = rw e refl
 
-not_ended : (a : Shape) → ends_line a ≡ false → line_end a ≡ []
+pub not_ended : (a : Shape) → ends_line a ≡ false → line_end a ≡ []
 not_ended a e = rw e refl
 
-spaced : (page : Page) (b : Shape) → ends_line page.last ≡ false → is_spaced page.last b ≡ true → gap page b ≡ codes " "
+pub spaced : (page : Page) (b : Shape) → ends_line page.last ≡ false → is_spaced page.last b ≡ true → gap page b ≡ codes " "
 spaced page b e k = rw (e, k) refl
 
-not_spaced : (page : Page) (b : Shape) → ends_line page.last ≡ false → is_spaced page.last b ≡ false → gap page b ≡ []
+pub not_spaced : (page : Page) (b : Shape) → ends_line page.last ≡ false → is_spaced page.last b ≡ false → gap page b ≡ []
 not_spaced page b e k = rw (e, k) refl
 
-begun : (page : Page) (b : Shape) → ends_line page.last ≡ true → gap page b ≡ margin_before page.margin b
+pub begun : (page : Page) (b : Shape) → ends_line page.last ≡ true → gap page b ≡ margin_before page.margin b
 begun page b e = rw e refl
 
 module _ (page : Page) (p : Piece) where

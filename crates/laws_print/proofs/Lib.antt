@@ -11,4 +11,7 @@ pub mod Blocks
 pub mod Items
 pub mod Depths
 pub mod Unprinted
+pub mod Weighed
+pub mod Lengths
+pub mod Bounds
 pub mod Whole

@@ -1,3 +1,4 @@
 pub mod Unlined
 pub mod ReadsBack
 pub mod PrintsAgain
+pub mod Bounds

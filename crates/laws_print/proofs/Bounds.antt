@@ -1,0 +1,43 @@
+-- How long a printed text is, against the text that it was read of.
+use Rattle.std.proofs.Common.{◌≡◌, ℕ, suc, ◌+◌, ◌*◌, ◌≤◌, ◌<◌, ◌^◌, List, [], ◌∷◌, length, refl, lit<, arith}
+use Rattle.std.proofs.Math.Nat.{mul-le-mul_left, mul-le-mul_right}
+use Rattle.std.proofs.lemmas.List.{length-map}
+use Rattle.model_print.specs.ModelTree.Tree as tree
+use Rattle.model_lexer.specs.ModelGrammar.Brackets.{brackets}
+use Rattle.model_lexer.specs.Cut.{Lexeme}
+use Rattle.model_lexer.specs.Laws.{with_lines, AreInOrder}
+use Rattle.model_lexer.specs.Reads.{Reads}
+use Rattle.model_lexer.proofs.CutLaws.{cut_limited, cut_ordered}
+use Rattle.model_print.specs.Layout.{blank}
+use Rattle.model_print.specs.Printed.{printed, printed_text}
+use Rattle.laws_print.specs.Bounds.{model_limit, bytes_for_each}
+use Rattle.laws_print.proofs.Weighed.{size, cost, cost_is, layout_size}
+use Rattle.laws_print.proofs.Lengths.{whole}
+
+-- a text has a byte for each token at least
+some_bytes : (from up : ℕ) (ts : List Lexeme) → AreInOrder from up ts → from + length ts ≤ up
+some_bytes from up [] h = let all : from ≤ up = h in omega (arith, all)
+some_bytes from up (t ∷ ts) (a, b, more) = let size : length (t ∷ ts) ≡ suc (length ts) = refl in omega (arith, size, a, b, some_bytes t.end up ts more)
+
+chain : (a b c x y : ℕ) → a ≡ b → b + 0 ≤ c → c ≡ x → x ≤ y → a ≤ y
+chain a b c x y e f g h = omega (arith, e, f, g, h)
+
+pub bounded : (text : List ℕ) (m : tree.Model) → Reads text m → length (printed_text m) ≤ bytes_for_each m * length text
+bounded text m (ls, cut, derives, few) =
+    let (none, f) = (whole m).weighs (with_lines ls) [] derives (cut_limited text 0 ls cut) in
+    let room : 0 + (brackets m + brackets m) + 124 ≤ 2 * brackets m + 124 = omega arith in
+    let (one, same) = f (bytes_for_each m) blank room in
+    let tokens : length (with_lines ls) ≡ length ls = length-map ls (λ t. (t.token, t.line)) in
+    let fewer : length (with_lines ls) ≤ length text = omega (arith, tokens, some_bytes 0 (length text) ls (cut_ordered text 0 ls cut)) in
+    chain (length (printed_text m)) (size blank (printed m)) (cost (bytes_for_each m) (with_lines ls)) (bytes_for_each m * length (with_lines ls)) (bytes_for_each m * length text)
+    (layout_size (printed m)) one (cost_is (bytes_for_each m) (with_lines ls)) (mul-le-mul_left (bytes_for_each m) fewer)
+
+below : (a x y z top : ℕ) → a ≤ x → x ≤ y → y ≤ z → z < top → a < top
+below a x y z top e f g h = omega (arith, e, f, g, h)
+
+pub small : (text : List ℕ) (m : tree.Model) → Reads text m → length text ≤ model_limit → length (printed_text m) < 2 ^ 32
+small text m (ls, cut, derives, few) h =
+    let low : brackets m ≤ 64 = few in
+    let each : 2 * brackets m + 124 ≤ 252 = omega (arith, low) in
+    below (length (printed_text m)) (bytes_for_each m * length text) (252 * length text) (252 * 1048576) (2 ^ 32)
+    (bounded text m (ls, cut, derives, few)) (mul-le-mul_right (length text) each) (mul-le-mul_left 252 h) (lit< tt)
