@@ -1,0 +1,4 @@
+pub mod Orders
+pub mod Grants
+pub mod Sofar
+pub mod OneTable
