@@ -5,11 +5,6 @@ use address_map::AddressMap;
 use logic_values::Text;
 use logic_values::plain_lists_api::Items;
 
-/// What is passed on of address_map.
-pub mod address_map_api {
-    pub use address_map::TargetRange;
-}
-
 /// What is passed on of plain_lists.
 pub mod plain_lists_api {
     pub use logic_values::plain_lists_api::Items;
