@@ -71,7 +71,7 @@ module _ (now : ℕ) (ss : List Snapshot) where
   update_stays c s = fifos_stay c.design.fifos c.channels.fifos _ (resolved_stay c.design.resolved c.channels.resolved c.channels.resolved_asked _ (signals_stay c.design.signals c.channels.signals c s))
 
   update_step_stays : (c : Config) → Stays now ss c → Stays now ss (update_step c)
-  update_step_stays c s = stays-if now ss c.cycle.stop_asked _ _ s (update_stays c s)
+  update_step_stays c s = stays-if now ss c.cycle.stop_asked _ _ (update_stays c s) (update_stays c s)
 
   due_stays : (test : Pending → Bool) (time : Deadline → Bool) (c : Config) → Stays now ss c → Stays now ss (fire_due test time c)
   due_stays test time c s = due-rest (λ d x y t. (y.now ≡ now) × (t.snapshots ≡ ss)) test time c s

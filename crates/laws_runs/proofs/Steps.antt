@@ -14,7 +14,7 @@ use Rattle.sim_model.specs.Configuration.{Config, Cycle, Instance, Processes, To
 use Rattle.sim_model.specs.Waits.{holds, without}
 use Rattle.sim_model.specs.Control.{begins}
 use Rattle.sim_model.specs.Statements.{statement_step}
-use Rattle.sim_model.specs.Phases.{initialization, update_phase, delta_phase, delta_step, timed_at, fired_at, run_over, phase_after, phase_at, is_end, is_past, is_at, is_due_at, is_delta, is_zero_timeout, initialize_each, now_becomes, earliest}
+use Rattle.sim_model.specs.Phases.{initialization, update_phase, session_stopped, delta_phase, delta_step, timed_at, fired_at, run_over, phase_after, phase_at, is_end, is_past, is_at, is_due_at, is_delta, is_zero_timeout, initialize_each, now_becomes, earliest}
 use Rattle.sim_model.specs.Steps.{Outcome, went, faulted, takes, ended, as_outcome, shows, sets, sets_visible, first_phase, run_begun, begin_run, carry_out, next_command, evaluate, step_in, step, turn_line, instance_taken, taken_if, taking}
 use Rattle.sim_model.specs.Clean.{times}
 use Rattle.sim_model.specs.declared.plain.Phase.{Phase}
@@ -126,8 +126,13 @@ went_good (Ok d) s = (s.0, subst (λ ph. FitsPhase ph d.cycle.begun d) (sym s.1.
 went_good (Err f) s = tt
 
 update_if : (b : Bool) (c : Config) → c.cycle.begun ≡ true → c.cycle.phase ≡ phase.Evaluate → AllFit c.processes
-    → Good (cond b (record c { cycle = record c.cycle { stopped = true } }) (record (update_phase c) { cycle = record (update_phase c).cycle { phase = phase.Notify } }))
-update_if true c begun now fits = (fits, subst (λ ph. FitsPhase ph c.cycle.begun (record c { cycle = record c.cycle { stopped = true } })) (sym now) begun)
+    → Good (cond b (session_stopped (update_phase c)) (record (update_phase c) { cycle = record (update_phase c).cycle { phase = phase.Notify } }))
+update_if true c begun now fits =
+    let u = update_phase c in
+    let still = update-still c in (
+      subst AllFit (sym still.processes) fits,
+      subst (λ ph. FitsPhase ph u.cycle.begun (session_stopped u)) (sym (ap (λ (y : Cycle). y.phase) still.cycle ∙ now)) (ap (λ (y : Cycle). y.begun) still.cycle ∙ begun),
+    )
 update_if false c begun now fits = (subst AllFit (sym (update-still c).processes) fits, ap (λ (y : Cycle). y.begun) (update-still c).cycle ∙ begun)
 
 evaluate_good : (c : Config) (stack runnable : List ℕ) → c.processes.stack ≡ stack → c.cycle.begun ≡ true → c.cycle.phase ≡ phase.Evaluate → AllFit c.processes → IfWent (evaluate c stack runnable) Good

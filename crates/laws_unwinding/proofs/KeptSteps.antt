@@ -24,7 +24,7 @@ use Rattle.laws_runs.specs.SimModel.Configuration.{Config, Instance, Deadline, n
 use Rattle.laws_runs.specs.SimModel.Waits.{freed, without, holds, fire_all}
 use Rattle.laws_runs.specs.SimModel.Control.{begins}
 use Rattle.laws_runs.specs.SimModel.Statements.{statement_step}
-use Rattle.laws_runs.specs.SimModel.Phases.{was_some, notified_if, announced, announce_signals, announce_resolved, announce_fifos, update_phase, update_step, due_events, due_instances, without_pending, without_deadline, fire_due, initialize_each, now_becomes, run_over, timed_at, is_past, is_at, is_due_at, is_delta, is_zero_timeout, earliest}
+use Rattle.laws_runs.specs.SimModel.Phases.{was_some, notified_if, announced, announce_signals, announce_resolved, announce_fifos, update_phase, session_stopped, update_step, due_events, due_instances, without_pending, without_deadline, fire_due, initialize_each, now_becomes, run_over, timed_at, is_past, is_at, is_due_at, is_delta, is_zero_timeout, earliest}
 use Rattle.laws_runs.specs.SimModel.Steps.{Outcome, ended, as_outcome, shows, sets, sets_visible, run_begun, begin_run, carry_out, next_command, evaluate, step_in, step, turn_line, instance_taken, taken_if, taking}
 use Rattle.laws_runs.specs.SimModel.declared.plain.Phase.{Phase}
 use Rattle.laws_runs.specs.SimModel.declared.plain.Phase.TheVariants as phase
@@ -106,7 +106,7 @@ module _ (Q : Parts → Type 0) (between : IsKeptBetween Q) where
   timed_kept c (Some t) s = kept-if (is_past t c.cycle.end) (run_over c) _ (over_kept c s) (due_kept (is_at t) (is_due_at t) (now_becomes c t) (now_kept c t s))
 
   update_step_kept : (c : Config) → Kept Q c → Kept Q (update_step c)
-  update_step_kept c s = kept-if c.cycle.stop_asked (record c { cycle = record c.cycle { stopped = true } }) _ s (update_kept c s)
+  update_step_kept c s = kept-if c.cycle.stop_asked (session_stopped (update_phase c)) _ (update_kept c s) (update_kept c s)
 
   -- ---- commands
 

@@ -26,7 +26,7 @@ use Rattle.laws_runs.specs.SimModel.Configuration.{Config, Instance, Deadline, T
 use Rattle.laws_runs.specs.SimModel.Waits.{freed, without, holds, fire_all}
 use Rattle.laws_runs.specs.SimModel.Control.{begins}
 use Rattle.laws_runs.specs.SimModel.Statements.{statement_step}
-use Rattle.laws_runs.specs.SimModel.Phases.{was_some, notified_if, announced, announce_signals, announce_resolved, announce_fifos, update_phase, update_step, due_events, due_instances, without_pending, without_deadline, fire_due, initialize_each, now_becomes, run_over, timed_at, is_past, is_at, is_due_at, is_delta, is_zero_timeout, earliest}
+use Rattle.laws_runs.specs.SimModel.Phases.{was_some, notified_if, announced, announce_signals, announce_resolved, announce_fifos, update_phase, session_stopped, update_step, due_events, due_instances, without_pending, without_deadline, fire_due, initialize_each, now_becomes, run_over, timed_at, is_past, is_at, is_due_at, is_delta, is_zero_timeout, earliest}
 use Rattle.laws_runs.specs.SimModel.Steps.{Outcome, went, faulted, takes, ended, as_outcome, shows, sets, sets_visible, run_begun, begin_run, carry_out, next_command, evaluate, step_in, step, turn_line, instance_taken, taken_if, taking}
 use Rattle.laws_runs.specs.SimModel.Clean.{times}
 use Rattle.laws_runs.specs.SimModel.declared.plain.Phase.{Phase}
@@ -106,7 +106,7 @@ module _ (missing : Construct → Bool) where
   timed_sound c (Some t) s = sound-if missing (is_past t c.cycle.end) (run_over c) _ (over_sound c s) (due_sound (is_at t) (is_due_at t) (now_becomes c t) (now_sound c t s))
 
   update_step_sound : (c : Config) → Sound missing c → Sound missing (update_step c)
-  update_step_sound c s = sound-if missing c.cycle.stop_asked (record c { cycle = record c.cycle { stopped = true } }) _ s (update_sound c s)
+  update_step_sound c s = sound-if missing c.cycle.stop_asked (session_stopped (update_phase c)) _ (update_sound c s) (update_sound c s)
 
   -- ---- commands
 

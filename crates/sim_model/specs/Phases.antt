@@ -230,6 +230,11 @@ timed_at c (Some t) = if is_past t c.cycle.end then run_over c else with_phase (
 abbrev pub timed_step : Config → Config
 timed_step c = timed_at c (earliest c)
 
--- at the end of an evaluation phase the update phase follows, or the end of the session, where the model asked for it
+-- the session ends
+abbrev pub session_stopped : Config → Config
+session_stopped c = record c { cycle = record c.cycle { stopped = true } }
+
+-- an evaluation phase ends with the update phase; the delta notification phase comes next, or, where the model asked to stop since
+-- the run began, the session ends there, and what the updates notified wakes nobody
 abbrev pub update_step : Config → Config
-update_step c = if c.cycle.stop_asked then record c { cycle = record c.cycle { stopped = true } } else with_phase (update_phase c) phase.Notify
+update_step c = if c.cycle.stop_asked then session_stopped (update_phase c) else with_phase (update_phase c) phase.Notify

@@ -154,6 +154,6 @@ cancelled c e = record c { events = change c.events e (λ x. pending.Nothing) }
 abbrev pub do_cancel : Config → ℕ → Residual → Here → ℕ → Result Config RunFault
 do_cancel c p r h n = Ok (on_event (passes c p r) (event_number (denotes h n)) (cancelled (passes c p r)))
 
--- the model asks the session to stop at the end of the evaluation phase
+-- the model asks the session to stop behind the update phase that ends this evaluation phase
 abbrev pub do_stop : Config → ℕ → Residual → Result Config RunFault
 do_stop c p r = let d = passes c p r in Ok (record d { cycle = record d.cycle { stop_asked = true } })

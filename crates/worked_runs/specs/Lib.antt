@@ -9,6 +9,7 @@ pub mod Notifications
 pub mod Waiting
 pub mod Targets
 pub mod Selves
+pub mod Stopping
 pub mod Links
 pub mod Words
 pub mod Leaving

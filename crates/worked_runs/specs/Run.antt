@@ -1,5 +1,5 @@
 -- What a run tells.
-use Rattle.std.specs.Prelude.{ℕ, List, length, slice_get, option_map, option_and_then, Option, Some, None}
+use Rattle.std.specs.Prelude.{ℕ, Bool, List, length, slice_get, option_map, option_and_then, Option, Some, None}
 use Rattle.std.specs.Fmt.{digits}
 use Rattle.rand_core.specs.Pcg32Seed.{pcg32_seed}
 use Rattle.rand_core.specs.Steps.{word_bytes, u32_at}
@@ -44,6 +44,11 @@ told n choices d script = told_under rule.First log_of.Prints 10000000 n choices
 unfoldable pub traced : ℕ → List ℕ → Design → List Command → Option (List ℕ)
 unfolding digits
 traced n choices d script = option_map trace_text (after n choices (start d script))
+
+-- which signals the last update phase changed at this time, after the run of n steps with these choices
+unfoldable pub changed : ℕ → List ℕ → Design → List Command → Option (List Bool)
+unfolding digits
+changed n choices d script = option_map (λ c. c.channels.changed) (after n choices (start d script))
 
 -- the marks of guards in the run of n steps with these choices
 unfoldable pub marked : ℕ → List ℕ → Design → List Command → Option (List Mark)

@@ -15,7 +15,7 @@
 //! of its rules broken by each call, and by each return, that can break it, and several at once; and calls that are left by an
 //! exception, a kill or a reset: of each phase and a blocking one, with what may follow. A clause says, for one model, that the run
 //! of exactly so many steps with these choices ends there, and its report; or what was then called, returned and left on the hop.
-#![tactic(auto, unfolding(crate::specs::Run::told, crate::specs::Run::told_under, crate::specs::Run::traced, crate::specs::Run::IsRuled, crate::specs::Run::marked, crate::specs::Run::called))]
+#![tactic(auto, unfolding(crate::specs::Run::told, crate::specs::Run::told_under, crate::specs::Run::traced, crate::specs::Run::changed, crate::specs::Run::IsRuled, crate::specs::Run::marked, crate::specs::Run::called))]
 
 mod breaking;
 mod calling;
@@ -30,6 +30,7 @@ mod members;
 mod pairs;
 mod resetting;
 mod scheduling;
+mod stopping;
 mod suspending;
 mod throwing;
 mod transporting;
@@ -124,6 +125,9 @@ pub use scheduling::a_wait_for_all_ends_by_its_time;
 pub use scheduling::an_own_notification_wakes_nobody;
 pub use scheduling::sessions_end;
 pub use scheduling::the_earliest_notification_stands;
+pub use stopping::a_stop_makes_its_update_phase;
+pub use stopping::a_stop_waits_for_what_is_runnable;
+pub use stopping::a_stop_wakes_nobody;
 pub use suspending::a_process_is_suspended;
 pub use suspending::a_suspended_process_is_resumed;
 pub use suspending::a_thread_suspends_itself_in_a_call;
