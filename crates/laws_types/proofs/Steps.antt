@@ -33,7 +33,7 @@ use Rattle.laws_unwinding.specs.SimModel.Storing.{passes}
 use Rattle.laws_unwinding.specs.SimModel.Waits.{freed, holds, without, fire, fire_all}
 use Rattle.laws_unwinding.specs.SimModel.Control.{begins, stays_kept, restarts, reaches_goal}
 use Rattle.laws_unwinding.specs.SimModel.Statements.{on_statement, do_next, settled_in, step_by, statement_step}
-use Rattle.laws_unwinding.specs.SimModel.Phases.{was_some, notified_if, announced, announce_signals, announce_resolved, announce_fifos, resettled_all, channels_updated, update_phase, due_events, due_instances, without_pending, without_deadline, fire_due, is_delta, is_zero_timeout, initialize_each, now_becomes, run_over, is_at, is_due_at, is_past, earliest, timed_at, update_step, unchanged}
+use Rattle.laws_unwinding.specs.SimModel.Phases.{was_some, notified_if, announced, announce_signals, announce_resolved, announce_fifos, resettled_all, channels_updated, update_phase, session_stopped, due_events, due_instances, without_pending, without_deadline, fire_due, is_delta, is_zero_timeout, initialize_each, now_becomes, run_over, is_at, is_due_at, is_past, earliest, timed_at, update_step, unchanged}
 use Rattle.laws_unwinding.specs.SimModel.Steps.{Outcome, ended, as_outcome, shows, sets, sets_visible, run_begun, begin_run, carry_out, next_command, evaluate, step_in, step, turn_line, instance_taken, taken_if, taking}
 use Rattle.laws_unwinding.specs.SimModel.declared.plain.Goal.{Goal}
 use Rattle.laws_unwinding.specs.SimModel.declared.plain.Goal.TheVariants as goal_of
@@ -212,7 +212,7 @@ module _ (d : Design) where
   timed_fits c (Some t) k = phase-if (is_past t c.cycle.end) (run_over c) _ (now_fits c _ k) (due_fits (is_at t) (is_due_at t) (now_becomes c t) (now_fits c t k))
 
   update_step_fits : (c : Config) → Fits d c → Fits d (update_step c)
-  update_step_fits c k = phase-if c.cycle.stop_asked (record c { cycle = record c.cycle { stopped = true } }) _ k (update-fits c k)
+  update_step_fits c k = phase-if c.cycle.stop_asked (session_stopped (update_phase c)) _ (update-fits c k) (update-fits c k)
 
   -- ---- commands
 
