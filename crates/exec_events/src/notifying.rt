@@ -59,7 +59,7 @@ pub fn cancel(k: &mut Kernel, p: u32, e: u32)
     take_back(k, e);
 }
 
-/// The model asks to stop at the end of the evaluation phase.
+/// The model asks to stop.
 fn ask(k: &mut Kernel)
     requires { IsSound k.old }
     ensures moves { Moves k.old k.new asks_to_stop }
@@ -68,7 +68,7 @@ fn ask(k: &mut Kernel)
     k.cycle.stop_asked = true;
 }
 
-/// The session is to stop at the end of the evaluation phase (IEEE 1666-2011, 4.5.3).
+/// The session is to stop behind the update phase that ends this evaluation phase (IEEE 1666-2011, 4.5.3).
 pub fn stop(k: &mut Kernel, p: u32)
     requires sound { IsSound k.old }
     requires lives { Lives k.old p }

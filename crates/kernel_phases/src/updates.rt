@@ -1,5 +1,5 @@
 //! The update phase.
-ghost use Rattle.std.specs.Prelude.{◌≡◌, length};
+ghost use Rattle.std.specs.Prelude.{◌≡◌, length, true};
 ghost use Rattle.kernel_state.specs.SimModel.Configuration.{with_phase};
 ghost use Rattle.kernel_state.specs.SimModel.Phases as phases;
 ghost use Rattle.kernel_state.specs.Kernel.{IsSound};
@@ -25,6 +25,7 @@ pub(crate) fn update_channels(k: &mut Kernel)
     ensures moves { Moves k.old k.new phases.update_phase }
     ensures schedule { k.new.schedule ≡ k.old.schedule }
     ensures many { length k.new.events ≡ length k.old.events }
+    ensures cycle { k.new.cycle ≡ k.old.cycle }
     ensures design { k.new.design ≡ k.old.design }
     ensures program { k.new.program ≡ k.old.program }
     ensures sound { IsSound k.new }
@@ -33,18 +34,28 @@ pub(crate) fn update_channels(k: &mut Kernel)
     k.channels.update(&k.design, &mut k.events);
 }
 
-/// The end of an evaluation phase: the update phase, or the end of the session where the model asked for it (IEEE
-/// 1666-2011, 4.2.1.3 and 4.5.3). It takes no memory.
+/// The session ends.
+fn end_session(k: &mut Kernel)
+    requires { IsSound k.old }
+    ensures moves { Moves k.old k.new phases.session_stopped }
+    ensures left { k.new ≡ record k.old { cycle = record k.old.cycle { stopped = true } } }
+    ensures sound { IsSound k.new }
+{
+    k.cycle.stopped = true;
+}
+
+/// The end of an evaluation phase: the update phase; then the delta notification phase comes next, or the session ends, where the
+/// model asked for it (IEEE 1666-2011, 4.2.1.3 and 4.5.3). It takes no memory.
 pub fn update(k: &mut Kernel)
     requires { IsSound k.old }
     ensures moves { Moves k.old k.new phases.update_step }
     ensures kept { KeepsBodies k.old k.new }
     ensures sound { IsSound k.new }
 {
+    update_channels(k);
     if k.cycle.stop_asked {
-        k.cycle.stopped = true;
+        end_session(k);
     } else {
-        update_channels(k);
         set_phase(k, Phase::Notify);
     }
 }

@@ -7,7 +7,7 @@ use Rattle.flat_design.specs.declared.design.ProcessPart.{ProcessPart}
 use Rattle.kernel_phases.proofs.KernelChannels.Telling.{phase_told}
 use Rattle.kernel_phases.specs.SimModel.Configuration.{Config, Deadline, instance_at, change_instance, with_runnable, with_phase}
 use Rattle.kernel_phases.specs.SimModel.Waits.{freed, fire, fire_all, wake, wake_all}
-use Rattle.kernel_phases.specs.SimModel.Phases.{with_snapshot, update_phase, without_pending, without_deadline, due_events, due_instances, fire_due, is_delta, is_zero_timeout, delta_step, initialize_each, initialization, unchanged, now_becomes, is_at, is_due_at, is_past, run_over, phase_at, fired_at, timed_at, timed_step, update_step, earliest}
+use Rattle.kernel_phases.specs.SimModel.Phases.{with_snapshot, update_phase, session_stopped, without_pending, without_deadline, due_events, due_instances, fire_due, is_delta, is_zero_timeout, delta_step, initialize_each, initialization, unchanged, now_becomes, is_at, is_due_at, is_past, run_over, phase_at, fired_at, timed_at, timed_step, update_step, earliest}
 use Rattle.kernel_phases.specs.SimModel.Steps.{went}
 use Rattle.kernel_phases.specs.SimModel.declared.plain.Phase.TheVariants as phase
 use Rattle.kernel_phases.specs.KernelState.Kernel.{StandsFor}
@@ -69,4 +69,4 @@ module _ (c : Config) where
   timed_quiet = timed_at_quiet (earliest c)
 
   pub update_quiet : Quiet c (update_step c)
-  update_quiet = either c (record c { cycle = record c.cycle { stopped = true } }) (with_phase (update_phase c) phase.Notify) c.cycle.stop_asked refl updated_quiet
+  update_quiet = either c (session_stopped (update_phase c)) (with_phase (update_phase c) phase.Notify) c.cycle.stop_asked updated_quiet updated_quiet

@@ -29,7 +29,7 @@ use Rattle.laws_unwinding.specs.SimModel.Configuration.{Config, Deadline, Instan
 use Rattle.laws_unwinding.specs.SimModel.Waits.{holds, without, freed, fire_all}
 use Rattle.laws_unwinding.specs.SimModel.Control.{begins}
 use Rattle.laws_unwinding.specs.SimModel.Statements.{statement_step}
-use Rattle.laws_unwinding.specs.SimModel.Phases.{was_some, notified_if, announced, announce_signals, announce_resolved, announce_fifos, resolved_change, update_phase, update_step, due_events, due_instances, without_pending, without_deadline, fire_due, initialize_each, now_becomes, run_over, timed_at, is_past, is_at, is_due_at, is_delta, is_zero_timeout, earliest, with_snapshot, unchanged}
+use Rattle.laws_unwinding.specs.SimModel.Phases.{was_some, notified_if, announced, announce_signals, announce_resolved, announce_fifos, resolved_change, update_phase, session_stopped, update_step, due_events, due_instances, without_pending, without_deadline, fire_due, initialize_each, now_becomes, run_over, timed_at, is_past, is_at, is_due_at, is_delta, is_zero_timeout, earliest, with_snapshot, unchanged}
 use Rattle.laws_unwinding.specs.SimModel.Steps.{Outcome, went, faulted, takes, ended, as_outcome, shows, sets, sets_visible, run_begun, begin_run, carry_out, next_command, evaluate, step_in, step, turn_line, instance_taken, taken_if, taking}
 use Rattle.laws_unwinding.specs.SimModel.Runs.{after, and_then, took}
 use Rattle.laws_unwinding.specs.SimModel.declared.plain.Phase.{Phase}
@@ -108,7 +108,7 @@ module _ (c : Config) where
       either c (run_over c) _ (is_past t c.cycle.end) (now_near (unwrap_or c.cycle.end c.cycle.now)) (due_near (is_at t) (is_due_at t) (now_becomes c t) (now_near t))
 
   update_step_near : Near c (update_step c)
-  update_step_near = either c (record c { cycle = record c.cycle { stopped = true } }) (with_phase (update_phase c) phase.Notify) c.cycle.stop_asked (stays c) update_near
+  update_step_near = either c (session_stopped (update_phase c)) (with_phase (update_phase c) phase.Notify) c.cycle.stop_asked update_near update_near
 
   -- ---- commands
 
