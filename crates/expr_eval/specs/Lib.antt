@@ -1,5 +1,4 @@
 pub mod Readings
-pub mod Chains
 pub mod Vectors
 pub mod SimTime
 pub mod LogicValues

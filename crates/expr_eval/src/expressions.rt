@@ -3,7 +3,6 @@ ghost use Rattle.std.specs.Prelude.{◌≡◌, option_map};
 ghost use Rattle.flat_design.specs.Code.{term_of};
 ghost use Rattle.sim_model.specs.Reading.{Here, val, val_if, place_in};
 ghost use Rattle.expr_eval.specs.Readings.{reading_value};
-ghost use Rattle.expr_eval.specs.Chains.{start_of, rest_of, finished};
 
 use crate::conversions::converted;
 use crate::digits::{digit_at, digits_between, joined_digits};
@@ -16,9 +15,8 @@ use sim_model::logic_values_api::Value;
 /// The value of the expression, or its first fault from left to right. It takes no memory.
 ///
 /// Operands are evaluated from the left to the right, and the right one of `&&` and `||` only where the left one does not
-/// decide. Of a name with a place or an index these are evaluated first, and then the name is read.
-#[cycle(eval)]
-#[tactic(auto, using(crate::proofs::ChainLaws::digit_is))]
+/// decide. A name with places and indices is taken piece by piece: what a further index is taken of is read before that
+/// index is evaluated.
 pub fn eval<V: View>(view: &V, e: &Expr) -> Result<Value, RunFault>
     ensures { (h : Here) → V.Shows view.now h → result ≡ val h (term_of e.now) }
 {
@@ -45,9 +43,8 @@ pub fn eval<V: View>(view: &V, e: &Expr) -> Result<Value, RunFault>
             read(view, Reading::PayloadByte(*n, *b, i))
         }
         Expr::Digit(t, of, index) => {
-            let start = start(view, of)?;
+            let v = eval(view, of)?;
             let i = bits(eval(view, index)?);
-            let v = finish(view, start, of)?;
             digit_at(*t, v, i)
         }
         Expr::Digits(t, of, high, low) => {
@@ -75,70 +72,6 @@ pub fn eval<V: View>(view: &V, e: &Expr) -> Result<Value, RunFault>
             let l = eval(view, lower)?;
             Ok(joined_digits(u, l))
         }
-    }
-}
-
-// The reading with which the expression begins, its place or index evaluated, and the indices behind it too.
-#[cycle(eval)]
-fn start<V: View>(view: &V, e: &Expr) -> Result<Option<Reading>, RunFault>
-    ensures { (h : Here) → V.Shows view.now h → result ≡ start_of h (term_of e.now) }
-{
-    match e {
-        Expr::Name(n) => Ok(Some(Reading::Name(*n))),
-        Expr::Placed(n, place) => {
-            let k = bits(eval(view, place)?);
-            Ok(Some(Reading::Placed(*n, k)))
-        }
-        Expr::Member(n, m) => Ok(Some(Reading::Member(*n, *m))),
-        Expr::PlacedMember(n, place, m) => {
-            let k = bits(eval(view, place)?);
-            Ok(Some(Reading::PlacedMember(*n, k, *m)))
-        }
-        Expr::Element(n, index) => {
-            let i = bits(eval(view, index)?);
-            Ok(Some(Reading::Element(*n, i)))
-        }
-        Expr::PayloadByte(n, b, index) => {
-            let i = bits(eval(view, index)?);
-            Ok(Some(Reading::PayloadByte(*n, *b, i)))
-        }
-        Expr::Digit(_, of, index) => {
-            start(view, of)?;
-            eval(view, index)?;
-            Ok(None)
-        }
-        Expr::Digits(_, of, _, _) => start(view, of),
-        Expr::Literal(_)
-        | Expr::Now
-        | Expr::Myself
-        | Expr::Unary(..)
-        | Expr::Binary(..)
-        | Expr::Convert(..)
-        | Expr::Concat(..) => Ok(None),
-    }
-}
-
-// The value of an expression whose places and indices are evaluated, with this for a start.
-#[cycle(eval)]
-fn finish<V: View>(view: &V, start: Option<Reading>, e: &Expr) -> Result<Value, RunFault>
-    ensures { (h : Here) → V.Shows view.now h → result ≡ finished h (term_of e.now) start }
-{
-    match start {
-        Some(reading) => rest(view, reading, e),
-        None => eval(view, e),
-    }
-}
-
-// The value of an expression that begins with this reading.
-fn rest<V: View>(view: &V, reading: Reading, e: &Expr) -> Result<Value, RunFault>
-    ensures { (h : Here) → V.Shows view.now h → result ≡ rest_of h reading (term_of e.now) }
-{
-    match e {
-        Expr::Digits(t, of, high, low) => {
-            let v = rest(view, reading, of)?;
-            Ok(digits_between(*t, v, *high, *low))
-        }
-        _ => read(view, reading),
     }
 }
 

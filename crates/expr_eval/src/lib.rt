@@ -1,8 +1,7 @@
 //! The value of an expression of the code, or its first fault from left to right, over a view of what it reads.
 //!
 //! An expression takes no memory. It may be any expression: where an operand has another type than its operation says,
-//! it counts as 0, false, no digits or time 0. Each part of it is evaluated once, but for the places and indices below a
-//! digit of which a digit is taken: a value with digits is never itself a digit in a model that is accepted.
+//! it counts as 0, false, no digits or time 0. Each part of it is evaluated once at most.
 #![tactic(auto)]
 
 mod conversions;

@@ -14,7 +14,7 @@ use Rattle.laws_unwinding.specs.FlatDesign.declared.value_types.ValueType.TheVar
 use Rattle.laws_unwinding.specs.FlatDesign.declared.code.Local.{Local}
 use Rattle.laws_unwinding.specs.FlatDesign.declared.faults.RunFault.{RunFault}
 use Rattle.laws_unwinding.specs.SimModel.Values.{on_ok, bits, bool_value, truth, binary, decides, index_within}
-use Rattle.laws_unwinding.specs.SimModel.Reading.{Here, val, first_part, memory_here, payload_here, payload_bytes, byte_in}
+use Rattle.laws_unwinding.specs.SimModel.Reading.{Here, val, memory_here, payload_here, payload_bytes, byte_in}
 use Rattle.laws_types.specs.Contents.{IsOf, PlaceFits, context_of}
 use Rattle.laws_types.specs.Operands.{GivesInteger, OperandsFit}
 use Rattle.laws_types.proofs.Types.{if-any, if-is, unary-type, binary-type, decided-type, digit-type, digits-type, convert-type, concat-type}
@@ -44,7 +44,7 @@ module _ (missing : Construct → Bool) (h : Here) (sound : SoundDesign missing 
   term-type (code.element n e) t is = if-any (IsOf t) (val h e) _ (λ i. subst (λ t. IfOk (byte_in (memory_here h n) (bits i)) (IsOf t)) (sym is.2) (byte_type (memory_here h n) (bits i)))
   term-type (code.payload_byte n b e) t is =
       if-any (IsOf t) (val h e) _ (λ i. if-any (IsOf t) (payload_here h n) _ (λ p. subst (λ t. IfOk (byte_in (payload_bytes b p) (bits i)) (IsOf t)) (sym is.2) (byte_type (payload_bytes b p) (bits i))))
-  term-type (code.digit s e i) t is = if-any (IsOf t) (first_part h e) _ (λ ok. if-any (IsOf t) (val h i) _ (λ k. if-any (IsOf t) (val h e) _ (λ v. digit-type s t v (bits k) is.2)))
+  term-type (code.digit s e i) t is = if-any (IsOf t) (val h e) _ (λ v. if-any (IsOf t) (val h i) _ (λ k. digit-type s t v (bits k) is.2))
   term-type (code.digits s e high low) t is = if-is (IsOf s) (IsOf t) (val h e) _ (term-type e s is.0) (λ v typed. digits-type s t v high low is.1 typed)
   term-type (code.unary o s e) t is = if-is (IsOf s) (IsOf t) (val h e) _ (term-type e s is.0) (λ v typed. unary-type o s t v is.1 typed)
   term-type (code.binary o s l r) t is =

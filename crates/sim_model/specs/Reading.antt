@@ -308,46 +308,25 @@ payload_bytes bytes_of.ByteEnable p = p.enables
 abbrev pub read_wide : Result Value RunFault → Result Value RunFault
 read_wide v = on_ok v (λ x. Ok (widened x))
 
--- From left to right, the first fault counts. In a chain of a name, a place and indices these are evaluated first, and then
--- the name is read: `first_part` is the first fault of a chain's place and indices.
-abbrev pub no_fault_in : Result Value RunFault → Result Unit RunFault
-no_fault_in (Ok v) = Ok tt
-no_fault_in (Err e) = Err e
-
-abbrev mutual
-  pub val : Here → Term → Result Value RunFault
-  val h (code.literal v) = Ok v
-  val h code.now = Ok (value.Moment h.config.cycle.now)
-  val h code.myself = Ok (value.Handle (Some h.serial))
-  val h (code.name n) = read_wide (read_name h n)
-  val h (code.placed n e) = on_ok (val h e) (λ k. on_ok (channel_here h n (Some (bits k))) (λ ch. Ok (widened (channel_value h.config ch))))
-  val h (code.member n m) = member_value h n m
-  val h (code.placed_member n e m) = on_ok (val h e) (λ k. on_ok (channel_here h n (Some (bits k))) (λ ch. Ok (channel_member h.config m ch)))
-  val h (code.element n e) = on_ok (val h e) (λ i. byte_in (memory_here h n) (bits i))
-  val h (code.payload_byte n b e) = on_ok (val h e) (λ i. on_ok (payload_here h n) (λ p. byte_in (payload_bytes b p) (bits i)))
-  val h (code.digit t e i) = on_ok (first_part h e) (λ ok. on_ok (val h i) (λ k. on_ok (val h e) (λ v. digit_at t v (bits k))))
-  val h (code.digits t e high low) = on_ok (val h e) (λ v. Ok (digits_between t v high low))
-  val h (code.unary o t e) = on_ok (val h e) (λ v. Ok (unary o t v))
-  val h (code.binary o t l r) = on_ok (val h l) (λ x. if decides o x then Ok (bool_value (truth x)) else on_ok (val h r) (λ y. binary o t x y))
-  val h (code.convert to from e) = on_ok (val h e) (λ v. Ok (converted to from v))
-  val h (code.concat u l) = on_ok (val h u) (λ x. on_ok (val h l) (λ y. Ok (joined_digits x y)))
-
-  pub first_part : Here → Term → Result Unit RunFault
-  first_part h (code.literal v) = Ok tt
-  first_part h code.now = Ok tt
-  first_part h code.myself = Ok tt
-  first_part h (code.name n) = Ok tt
-  first_part h (code.placed n e) = no_fault_in (val h e)
-  first_part h (code.member n m) = Ok tt
-  first_part h (code.placed_member n e m) = no_fault_in (val h e)
-  first_part h (code.element n e) = no_fault_in (val h e)
-  first_part h (code.payload_byte n b e) = no_fault_in (val h e)
-  first_part h (code.digit t e i) = on_ok (first_part h e) (λ ok. no_fault_in (val h i))
-  first_part h (code.digits t e high low) = first_part h e
-  first_part h (code.unary o t e) = Ok tt
-  first_part h (code.binary o t l r) = Ok tt
-  first_part h (code.convert to from e) = Ok tt
-  first_part h (code.concat u l) = Ok tt
+-- From left to right, the first fault counts. A chain of a name, a place and indices is taken piece by piece: the place, and
+-- then the channel of the port there; the index of an element, and then the element; each further index behind what stands
+-- left of it, and then that digit.
+abbrev pub val : Here → Term → Result Value RunFault
+val h (code.literal v) = Ok v
+val h code.now = Ok (value.Moment h.config.cycle.now)
+val h code.myself = Ok (value.Handle (Some h.serial))
+val h (code.name n) = read_wide (read_name h n)
+val h (code.placed n e) = on_ok (val h e) (λ k. on_ok (channel_here h n (Some (bits k))) (λ ch. Ok (widened (channel_value h.config ch))))
+val h (code.member n m) = member_value h n m
+val h (code.placed_member n e m) = on_ok (val h e) (λ k. on_ok (channel_here h n (Some (bits k))) (λ ch. Ok (channel_member h.config m ch)))
+val h (code.element n e) = on_ok (val h e) (λ i. byte_in (memory_here h n) (bits i))
+val h (code.payload_byte n b e) = on_ok (val h e) (λ i. on_ok (payload_here h n) (λ p. byte_in (payload_bytes b p) (bits i)))
+val h (code.digit t e i) = on_ok (val h e) (λ v. on_ok (val h i) (λ k. digit_at t v (bits k)))
+val h (code.digits t e high low) = on_ok (val h e) (λ v. Ok (digits_between t v high low))
+val h (code.unary o t e) = on_ok (val h e) (λ v. Ok (unary o t v))
+val h (code.binary o t l r) = on_ok (val h l) (λ x. if decides o x then Ok (bool_value (truth x)) else on_ok (val h r) (λ y. binary o t x y))
+val h (code.convert to from e) = on_ok (val h e) (λ v. Ok (converted to from v))
+val h (code.concat u l) = on_ok (val h u) (λ x. on_ok (val h l) (λ y. Ok (joined_digits x y)))
 
 -- expressions one after another, and what may be written or not
 abbrev pub vals : Here → List Term → Result (List Value) RunFault

@@ -210,6 +210,11 @@ abbrev pub port : List ℕ → LeadsTo → List ChannelId → Design → Design
 port name leads_to channels d =
     with_object name (form.Port leads_to 1 bound.One) (denoted.Port (length d.ports)) (record d { ports = d.ports ++ (record { object = next_object d; leads_to = leads_to; channels = channels }) ∷ [] })
 
+-- a port of so many places, of which none need be bound, and none is
+abbrev pub zero_port : List ℕ → LeadsTo → ℕ → Design → Design
+zero_port name leads_to size d =
+    with_object name (form.Port leads_to size bound.Zero) (denoted.Port (length d.ports)) (record d { ports = d.ports ++ (record { object = next_object d; leads_to = leads_to; channels = [] }) ∷ [] })
+
 -- a clock that begins with its first posedge: a signal, and a thread with this body
 abbrev pub clock : List ℕ → ℕ → ℕ → Body → Design → Design
 clock name period high b d =

@@ -5,6 +5,7 @@ pub mod Rows
 pub mod Transports
 pub mod Printed
 pub mod Members
+pub mod Chains
 pub mod Notifications
 pub mod Waiting
 pub mod Targets

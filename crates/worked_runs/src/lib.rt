@@ -19,6 +19,7 @@
 
 mod breaking;
 mod calling;
+mod chains;
 mod controlling;
 mod data;
 mod disabling;
@@ -56,6 +57,8 @@ pub use calling::a_request_ends_by_a_call;
 pub use calling::a_request_ends_by_its_answer;
 pub use calling::a_request_stays_open;
 pub use calling::a_transaction_ends_by_the_answers_of_its_request;
+pub use chains::a_chain_is_read_piece_by_piece;
+pub use chains::a_value_comes_before_its_element;
 pub use controlling::a_kill_may_be_a_fault;
 pub use controlling::a_kill_unwinds_at_once;
 pub use controlling::a_reset_begins_again;
