@@ -99,7 +99,8 @@ first_value t (Some v) = cut_to t v
 abbrev pub do_var : Config → ℕ → Residual → Here → ℕ → ValueType → Option Term → Result Config RunFault
 do_var c p r h n t e = on_ok (val_if h e) (λ v. Ok (set_local (passes c p r) p n (first_value t v)))
 
--- an assignment: its index and its value are evaluated, and then it is stored
+-- an assignment: its index is evaluated, then its value, and then it is stored. What is stored to is not read: that it is there is
+-- judged behind the value
 abbrev pub do_assign : Config → ℕ → Residual → Here → DestinationTerm → Term → Result Config RunFault
 do_assign c p r h (code.to_name target) e = on_ok (val h e) (λ v. Ok (stored (passes c p r) p h target v))
 do_assign c p r h (code.to_field n f) e =
