@@ -9,7 +9,7 @@ use Rattle.kernel_state.specs.KernelProcesses.Woken.{if_there}
 use Rattle.kernel_state.specs.KernelProcesses.Seen.{bare, is_on, shown_at, body_at}
 use Rattle.kernel_state.specs.KernelProcesses.declared.parts.Schedule.{Schedule}
 use Rattle.kernel_state.specs.KernelProcesses.Times.{TakesDue}
-use Rattle.kernel_state.specs.Processes.{Beside, beside, TellsBy, Tells, StandsForProcesses}
+use Rattle.kernel_state.specs.Processes.{Beside, beside, Rests, TellsBy, Tells, StandsForProcesses}
 use Rattle.kernel_state.proofs.ProcessFrames.{Agrees, tells_after}
 
 -- ---- who is due
@@ -49,9 +49,9 @@ same_without : {A : Type 0} (h : Instance → A) → ((i : Instance) → h (reco
 same_without h same true i = same i
 same_without h same false i = refl
 
-over_without : (b : Bool) (i : Instance) → i.deadline ≡ no_deadline → (if b then record i { deadline = no_deadline } else i).deadline ≡ no_deadline
-over_without true i none = refl
-over_without false i none = none
+over_without : (b : Bool) (i : Instance) → Rests i → Rests (if b then record i { deadline = no_deadline } else i)
+over_without true i rests = (rests.0, (refl, rests.1.1))
+over_without false i rests = rests
 
 module _ {B : Type 0} (Shows : B → Beside → Type 0) (test : Deadline → Bool) (none : test no_deadline ≡ false) (s t : Schedule B) (takes : TakesDue test s t) (x : Processes) (stands : StandsForProcesses Shows s x) where
   agrees : Agrees Shows (without_deadline test) (without_deadline test)
@@ -65,14 +65,14 @@ module _ {B : Type 0} (Shows : B → Beside → Type 0) (test : Deadline → Boo
   taken_stands = record {
     each = λ q. subst (Tells Shows (shown_at t q) (body_at t q)) (sym (slice_get-map (without_deadline test) x.instances q))
         (tells_after Shows (without_deadline test) (without_deadline test) agrees (shown_at s q) (shown_at t q) (body_at s q) (body_at t q) (slice_get x.instances q)
-        (λ i at ended over. over_without (test i.deadline) i over) (takes.shown q) (takes.bodies q) (stands.each q));
+        (λ i at ended rests. over_without (test i.deadline) i rests) (takes.shown q) (takes.bodies q) (stands.each q));
     ready = λ q. takes.ready q ∙ stands.ready q;
     stack = stands.stack ∙ ap (λ v. reverse v.items) (sym takes.stack);
     next = takes.next ∙ stands.next ∙ sym (length-map x.instances (without_deadline test));
   }
 
   shown_due : (o : Option Instance) (b : Option B) (i : Instance) (e : Bool) → i.ended ≡ e → TellsBy Shows e o b i → if_there (λ j. test j.deadline) o ≡ test i.deadline
-  shown_due o b i true is gone = ap (if_there (λ j. test j.deadline)) gone.0 ∙ sym (ap test gone.1 ∙ none)
+  shown_due o b i true is gone = ap (if_there (λ j. test j.deadline)) gone.0 ∙ sym (ap test gone.1.1.0 ∙ none)
   shown_due o b i false is lives = ap (if_there (λ j. test j.deadline)) lives.shown
 
   told_due : (o : Option Instance) (b : Option B) (i : Option Instance) → Tells Shows o b i → if_there (λ j. test j.deadline) o ≡ if_there (λ j. test j.deadline) i

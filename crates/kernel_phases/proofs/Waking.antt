@@ -1,14 +1,14 @@
 -- Instances of a list wake one after another, and a second wake of one is nothing new.
-use Rattle.std.proofs.Common.{◌≡◌, ◌&&◌, ◌||◌, ℕ, Bool, true, false, List, [], ◌∷◌, slice_get, Option, Some, None, option_map, refl, sym, ap, ◌∙◌, eq-eqb, ne_eqb, ⊎_elim}
+use Rattle.std.proofs.Common.{◌≡◌, ◌&&◌, ◌||◌, ℕ, Bool, true, false, List, [], ◌∷◌, slice_get, Option, Some, None, option_map, refl, sym, ap, ◌∙◌, subst, eq-eqb, ne_eqb, ⊎_elim}
 use Rattle.std.specs.Prelude.{if◌then◌else◌}
 use Rattle.std.proofs.lemmas.Bool.{cases_eq}
-use Rattle.kernel_state.specs.SimModel.Configuration.{Config, Instance, no_deadline}
+use Rattle.kernel_state.specs.SimModel.Configuration.{Config, Instance}
 use Rattle.kernel_state.specs.SimModel.Waits.{freed, holds, is_active, wake, wake_all}
 use Rattle.kernel_state.specs.KernelProcesses.Woken.{if_there, is_deaf, roused, after_wake, joins, at_only, joins_only, Rouses}
 use Rattle.kernel_state.proofs.KernelProcesses.Wakes.{wake_rouses}
 use Rattle.kernel_state.specs.KernelProcesses.Seen.{bare, is_on}
 use Rattle.kernel_state.specs.KernelProcesses.Times.{those_on, those_join}
-use Rattle.kernel_state.specs.Processes.{Beside, beside}
+use Rattle.kernel_state.specs.Processes.{Beside, beside, Rests}
 use Rattle.kernel_state.proofs.ProcessFrames.{Rousing, rousing_wake}
 
 -- ---- a second wake is nothing new
@@ -137,9 +137,9 @@ module _ {B : Type 0} (Shows : B → Beside → Type 0) (ps : List ℕ) where
   bare_by true q a i = ap bare (sym (hit q a i)) ∙ (rousing_wake Shows q).bares q a i ∙ hit q a (bare i)
   bare_by false q a i = refl
 
-  over_by : (b : Bool) (q : ℕ) (a : Bool) (i : Instance) → i.deadline ≡ no_deadline → (if b then after_wake a i else i).deadline ≡ no_deadline
-  over_by true q a i none = ap (λ j. j.deadline) (sym (hit q a i)) ∙ (rousing_wake Shows q).over q a i none
-  over_by false q a i none = none
+  over_by : (b : Bool) (q : ℕ) (a : Bool) (i : Instance) → i.ended ≡ true → Rests i → Rests (if b then after_wake a i else i)
+  over_by true q a i ended rests = subst Rests (hit q a i) ((rousing_wake Shows q).over q a i ended rests)
+  over_by false q a i ended rests = rests
 
   none_joins : (b : Bool) (q : ℕ) (a : Bool) (i : Instance) → i.ended ≡ true → (b && joins a i) ≡ false
   none_joins true q a i is = sym (hit_joins q a i) ∙ (rousing_wake Shows q).joins_no_ended q a i is
@@ -151,6 +151,6 @@ module _ {B : Type 0} (Shows : B → Beside → Type 0) (ps : List ℕ) where
     ends = λ q a i. same_by (λ j. j.ended) (is_on ps q) q a i ((rousing_wake Shows q).ends q a i);
     besides = λ q a i. same_by beside (is_on ps q) q a i ((rousing_wake Shows q).besides q a i);
     joins = λ q a i. refl;
-    over = λ q a i none. over_by (is_on ps q) q a i none;
+    over = λ q a i ended rests. over_by (is_on ps q) q a i ended rests;
     joins_no_ended = λ q a i is. none_joins (is_on ps q) q a i is;
   }

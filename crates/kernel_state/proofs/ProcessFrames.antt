@@ -7,7 +7,7 @@ use Rattle.std.proofs.lemmas.List.Folds.{list_any-append}
 use Rattle.std.proofs.lemmas.Option.{slice_get_past}
 use Rattle.std.specs.FinMap as map
 use Rattle.std.specs.FinSet as set
-use Rattle.kernel_processes.specs.SimModel.Configuration.{Config, Instance, Processes, Wait, waits_for_nothing, waits_statically, waits_for_any, waits_for_all, no_deadline, change}
+use Rattle.kernel_processes.specs.SimModel.Configuration.{Config, Instance, Processes, Wait, waits_for_nothing, waits_statically, waits_for_any, waits_for_all, change}
 use Rattle.kernel_processes.specs.EventCore.declared.event.Ev.{Ev}
 use Rattle.kernel_processes.specs.SimModel.Waits.{holds, is_active, freed, is_among, struck}
 use Rattle.kernel_processes.specs.Woken as woken
@@ -17,7 +17,7 @@ use Rattle.kernel_processes.specs.Seen.{bare, shown_at, body_at, is_on}
 use Rattle.kernel_processes.specs.Moves.{MovesOne, Rouses}
 use Rattle.kernel_processes.specs.declared.parts.Schedule.{Schedule}
 use Rattle.kernel_processes.specs.Moved.{same_stack, leaves_top, joins_top, Stays, Ends, Spawns, PutsBody}
-use Rattle.kernel_state.specs.Processes.{Beside, beside, IsLive, TellsBy, Tells, StandsForProcesses}
+use Rattle.kernel_state.specs.Processes.{Beside, beside, Rests, IsLive, TellsBy, Tells, StandsForProcesses}
 
 -- ---- the stack
 
@@ -45,9 +45,9 @@ module _ {B : Type 0} (Shows : B → Beside → Type 0) where
     pub ends : (i : Instance) → (g i).ended ≡ i.ended
     pub shows : (b : B) (i : Instance) → Shows b (beside i) → Shows b (beside (g i))
 
-  -- of an instance that has ended it keeps that no time ends a wait
+  -- of an instance that has ended it keeps that it rests
   abbrev pub KeepsOver : (Instance → Instance) → Instance → Type 0
-  KeepsOver g i = i.ended ≡ true → i.deadline ≡ no_deadline → (g i).deadline ≡ no_deadline
+  KeepsOver g i = i.ended ≡ true → Rests i → Rests (g i)
 
   tells_by : (f g : Instance → Instance) → Agrees f g → (o p : Option Instance) (b c : Option B) (i : Instance) (e : Bool) → i.ended ≡ e → KeepsOver g i → p ≡ option_map f o → c ≡ b
       → TellsBy Shows e o b i → TellsBy Shows e p c (g i)
@@ -121,7 +121,7 @@ module _ {B : Type 0} (Shows : B → Beside → Type 0) where
     stack_joined p joined = ap (λ xs. p ∷ xs) stands.stack ∙ sym (ap reverse joined ∙ reverse-append s.stack.items (p ∷ []))
 
     -- another body for an instance
-    module _ (p : ℕ) (b : B) (g : Instance → Instance) (puts : PutsBody p b s t) (bares : (i : Instance) → bare (g i) ≡ bare i) (ends : (i : Instance) → (g i).ended ≡ i.ended) (over : (i : Instance) → i.deadline ≡ no_deadline → (g i).deadline ≡ no_deadline)
+    module _ (p : ℕ) (b : B) (g : Instance → Instance) (puts : PutsBody p b s t) (bares : (i : Instance) → bare (g i) ≡ bare i) (ends : (i : Instance) → (g i).ended ≡ i.ended) (over : (i : Instance) → Rests i → Rests (g i))
         (shows : (a : B) (i : Instance) → body_at s p ≡ Some a → slice_get x.instances p ≡ Some i → Shows a (beside i) → Shows b (beside (g i))) where
       put_by : (i : Instance) (e : Bool) → slice_get x.instances p ≡ Some i → i.ended ≡ e → TellsBy Shows e (shown_at s p) (body_at s p) i → TellsBy Shows e (shown_at t p) (body_at t p) (g i)
       put_by i true at is none = (puts.shown p ∙ none.0, over i none.1)
@@ -148,7 +148,7 @@ module _ {B : Type 0} (Shows : B → Beside → Type 0) where
       }
 
     -- an instance ends, and leaves the stack
-    module _ (p : ℕ) (g : Instance → Instance) (ends : Ends p s t) (over : (i : Instance) → ((g i).ended ≡ true) × ((g i).deadline ≡ no_deadline)) where
+    module _ (p : ℕ) (g : Instance → Instance) (ends : Ends p s t) (over : (i : Instance) → ((g i).ended ≡ true) × Rests (g i)) where
       gone_here : (o : Option Instance) → Tells Shows (shown_at t p) (body_at t p) (option_map g o)
       gone_here None = ends.here
       gone_here (Some i) = subst (λ e. TellsBy Shows e (shown_at t p) (body_at t p) (g i)) (sym (over i).0) (ends.here, (over i).1)
@@ -211,7 +211,7 @@ module _ {B : Type 0} (Shows : B → Beside → Type 0) where
     pub ends : (q : ℕ) (a : Bool) (i : Instance) → (f q a i).ended ≡ i.ended
     pub besides : (q : ℕ) (a : Bool) (i : Instance) → beside (f q a i) ≡ beside i
     pub joins : (q : ℕ) (a : Bool) (i : Instance) → joining q a (bare i) ≡ joining q a i
-    pub over : (q : ℕ) (a : Bool) (i : Instance) → i.deadline ≡ no_deadline → (f q a i).deadline ≡ no_deadline
+    pub over : (q : ℕ) (a : Bool) (i : Instance) → i.ended ≡ true → Rests i → Rests (f q a i)
     pub joins_no_ended : (q : ℕ) (a : Bool) (i : Instance) → i.ended ≡ true → joining q a i ≡ false
 
   module _ (f : ℕ → Bool → Instance → Instance) (joining : ℕ → Bool → Instance → Bool) (rousing : Rousing f joining) (s t : Schedule B) (c d : Config)
@@ -230,7 +230,7 @@ module _ {B : Type 0} (Shows : B → Beside → Type 0) where
     roused_tells : (q : ℕ) → Tells Shows (shown_at t q) (body_at t q) (slice_get d.processes.instances q)
     roused_tells q = subst (Tells Shows (shown_at t q) (body_at t q)) (sym (does.instances q))
         (tells_after (f q (is_active c q)) (f q (is_active c q)) (record { bares = rousing.bares q (is_active c q); ends = rousing.ends q (is_active c q); shows = λ b i h. subst (Shows b) (sym (rousing.besides q (is_active c q) i)) h })
-        (shown_at s q) (shown_at t q) (body_at s q) (body_at t q) (slice_get c.processes.instances q) (λ i at ended over. rousing.over q (is_active c q) i over)
+        (shown_at s q) (shown_at t q) (body_at s q) (body_at t q) (slice_get c.processes.instances q) (λ i at ended over. rousing.over q (is_active c q) i ended over)
         (moves.shown q ∙ ap (λ a. option_map (f q a) (shown_at s q)) (active_same q)) (moves.bodies q) (stands.each q))
 
     pub roused_stands : StandsForProcesses Shows t d.processes
@@ -290,29 +290,16 @@ module _ {A : Type 0} (h : Instance → A) (kept_same : (i : Instance) → h (re
   only_same : (p q : ℕ) (a : Bool) (i : Instance) → h (at_only p after_wake q a i) ≡ h i
   only_same p q a i = if_same h (q == p) (after_wake a i) i (h i) (wake_same a i) refl
 
--- what has no time for its wait gets none
-if_kept : (b : Bool) (x y : Instance) → x.deadline ≡ no_deadline → y.deadline ≡ no_deadline → (if b then x else y).deadline ≡ no_deadline
-if_kept true x y is other = is
-if_kept false x y is other = other
+-- what has ended and rests is not roused
+rests_if : (b : Bool) (x y : Instance) → Rests x → Rests y → Rests (if b then x else y)
+rests_if true x y rests other = rests
+rests_if false x y rests other = other
 
-roused_over : (i : Instance) → (roused i).deadline ≡ no_deadline
-roused_over i = if_kept i.suspended (record (freed i) { kept = true }) (freed i) refl refl
+wake_over : (a : Bool) (i : Instance) → i.ended ≡ true → Rests i → Rests (after_wake a i)
+wake_over a i ended rests = subst (λ b. Rests (if b then i else roused i)) (sym (ap (λ b. (b || a) || i.disabled) ended)) rests
 
-wake_over : (a : Bool) (i : Instance) → i.deadline ≡ no_deadline → (after_wake a i).deadline ≡ no_deadline
-wake_over a i none = if_kept (is_deaf a i) i (roused i) none (roused_over i)
-
-last_over : (a : Bool) (i : Instance) (es : List Ev) → i.deadline ≡ no_deadline → (after_last a i es).deadline ≡ no_deadline
-last_over a i [] none = wake_over a i none
-last_over a i (e ∷ es) none = none
-
-named_over : (e : Ev) (a : Bool) (i : Instance) (w : Wait) → i.deadline ≡ no_deadline → (after_named e a i w).deadline ≡ no_deadline
-named_over e a i waits_for_nothing none = none
-named_over e a i waits_statically none = if_kept (is_among e i.static) (after_wake a i) i (wake_over a i none) none
-named_over e a i (waits_for_any es) none = if_kept (is_among e es) (after_wake a i) i (wake_over a i none) none
-named_over e a i (waits_for_all es) none = if_kept (is_among e es) (after_last a i (struck e es)) i (last_over a i (struck e es) none) none
-
-event_over : (e : Ev) (a : Bool) (i : Instance) → i.deadline ≡ no_deadline → (after_event e a i).deadline ≡ no_deadline
-event_over e a i none = if_kept i.disabled i (after_named e a i i.wait) none (named_over e a i i.wait none)
+event_over : (e : Ev) (a : Bool) (i : Instance) → Rests i → Rests (after_event e a i)
+event_over e a i rests = rests_if i.disabled i (after_named e a i i.wait) rests (subst (λ w. Rests (after_named e a i w)) (sym rests.0) rests)
 
 -- the bare instance moves alike
 bare-wake : (a : Bool) (i : Instance) → bare (after_wake a i) ≡ after_wake a (bare i)
@@ -351,7 +338,7 @@ module _ {B : Type 0} (Shows : B → Beside → Type 0) where
     ends = only_same (λ i. i.ended) (λ i. refl) (λ i. refl) (λ i es. refl) p;
     besides = only_same beside (λ i. refl) (λ i. refl) (λ i es. refl) p;
     joins = λ q a i. refl;
-    over = λ q a i none. if_kept (q == p) (after_wake a i) i (wake_over a i none) none;
+    over = λ q a i ended rests. rests_if (q == p) (after_wake a i) i (wake_over a i ended rests) rests;
     joins_no_ended = λ q a i is. ap (λ b. (q == p) && b) (no_joining a i is) ∙ and-false (q == p);
   }
 
@@ -361,6 +348,6 @@ module _ {B : Type 0} (Shows : B → Beside → Type 0) where
     ends = λ q. event_same (λ i. i.ended) (λ i. refl) (λ i. refl) (λ i es. refl) e;
     besides = λ q. event_same beside (λ i. refl) (λ i. refl) (λ i es. refl) e;
     joins = λ q a i. ap (λ b. b && joins a i) (ends_same e i i.wait);
-    over = λ q a i none. event_over e a i none;
+    over = λ q a i ended rests. event_over e a i rests;
     joins_no_ended = λ q a i is. ap (λ b. ends_wait e i i.wait && b) (no_joining a i is) ∙ and-false (ends_wait e i i.wait);
   }

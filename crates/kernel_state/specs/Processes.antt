@@ -3,7 +3,7 @@ use Rattle.std.specs.Prelude.{◌≡◌, ℕ, Bool, true, false, List, length, r
 use Rattle.std.specs.FinSet as set
 use Rattle.kernel_processes.specs.LogicValues.declared.kinds.Value.{Value}
 use Rattle.kernel_processes.specs.SimModel.Residual.{Residual}
-use Rattle.kernel_processes.specs.SimModel.Configuration.{Trigger, Instance, Processes, no_deadline}
+use Rattle.kernel_processes.specs.SimModel.Configuration.{Trigger, Instance, Processes, waits_for_nothing, no_deadline}
 use Rattle.kernel_processes.specs.SimModel.Waits.{holds}
 use Rattle.kernel_processes.specs.Seen.{bare, shown_at, body_at}
 use Rattle.kernel_processes.specs.declared.parts.Schedule.{Schedule}
@@ -21,6 +21,10 @@ pub record Beside : Type 0 where
 abbrev pub beside : Instance → Beside
 beside i = record { home = i.home; path = i.path; code = i.code; arguments = i.arguments; residual = i.residual; trigger = i.trigger }
 
+-- it waits for nothing, no time ends a wait of it, and it is not kept until it is resumed
+abbrev pub Rests : Instance → Type 0
+Rests i = (i.wait ≡ waits_for_nothing) × (i.deadline ≡ no_deadline) × (i.kept ≡ false)
+
 -- this is shown by what is kept for it beside the schedule
 module _ {B : Type 0} (Shows : B → Beside → Type 0) where
   -- of an instance that has not ended
@@ -28,9 +32,9 @@ module _ {B : Type 0} (Shows : B → Beside → Type 0) where
     pub shown : o ≡ Some (bare i)
     pub kept : (body : B) × ((b ≡ Some body) × Shows body (beside i))
 
-  -- of an instance that has ended nothing is kept, and no time ends a wait of it
+  -- of an instance that has ended nothing is kept, and it has no wait, no deadline and no mark that it is kept
   abbrev pub TellsBy : Bool → Option Instance → Option B → Instance → Type 0
-  TellsBy true o b i = (o ≡ None) × (i.deadline ≡ no_deadline)
+  TellsBy true o b i = (o ≡ None) × Rests i
   TellsBy false o b i = IsLive o b i
 
   abbrev pub Tells : Option Instance → Option B → Option Instance → Type 0
