@@ -19,6 +19,8 @@ pub struct SinkForm {
     pub room: Option<u64>,
     /// The numbers of the calls that fail, from 0.
     pub failing: Vec<u64>,
+    /// The numbers of the calls that are refused memory, from 0. The numbers of those that fail leave these out.
+    pub wanting: Vec<u64>,
 }
 
 impl SinkForm {
@@ -27,6 +29,7 @@ impl SinkForm {
         SinkForm {
             room: None,
             failing: Vec::new(alloc),
+            wanting: Vec::new(alloc),
         }
     }
 }
@@ -42,6 +45,8 @@ pub struct Case {
     pub files: Vec<File>,
     /// The numbers of the shelf's calls that fail, from 0.
     pub failing: Vec<u64>,
+    /// The numbers of the shelf's calls that are refused memory, from 0. The numbers of those that fail leave these out.
+    pub wanting: Vec<u64>,
     /// The sink for the report.
     pub out: SinkForm,
     /// The sink for messages.
@@ -74,6 +79,7 @@ impl Case {
             words: usual_words(alloc)?,
             files: Vec::new(alloc),
             failing: Vec::new(alloc),
+            wanting: Vec::new(alloc),
             out: SinkForm::new(alloc),
             err: SinkForm::new(alloc),
             is_given: false,

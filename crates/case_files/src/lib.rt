@@ -9,6 +9,7 @@ mod outcomes;
 mod outside;
 mod quoting;
 mod reading;
+mod wanting;
 
 pub use cases::{Case, File, SinkForm};
 pub use facts::{Fact, Value};
@@ -16,3 +17,4 @@ pub use judging::{Counts, difference};
 pub use outcomes::Outcome;
 pub use outside::{Outside, outside_of};
 pub use reading::{CaseError, LineError, read_cases};
+pub use wanting::{WantingShelf, WantingSink};

@@ -151,8 +151,8 @@ pub(crate) fn facts_of(
     add_words(alloc, &mut facts, "status", format!(in alloc; "{status}")?)?;
     add_steps(alloc, &mut facts, outcome.steps, outcome.choices.as_slice())?;
     let outside = &outcome.outside;
-    add_sink(alloc, &mut facts, "out", outside.out.bytes())?;
-    add_sink(alloc, &mut facts, "err", outside.err.bytes())?;
-    add_files(alloc, &mut facts, case, &outside.shelf)?;
+    add_sink(alloc, &mut facts, "out", outside.out.below().bytes())?;
+    add_sink(alloc, &mut facts, "err", outside.err.below().bytes())?;
+    add_files(alloc, &mut facts, case, outside.shelf.below())?;
     Ok(facts)
 }

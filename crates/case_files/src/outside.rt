@@ -1,6 +1,7 @@
 //! The outside that a case is run over.
 
 use super::cases::{Case, File, SinkForm};
+use super::wanting::{WantingShelf, WantingSink};
 use sim_io::{MemoryShelf, MemorySink};
 use std::alloc::{AllocError, Global};
 
@@ -8,11 +9,11 @@ use std::alloc::{AllocError, Global};
 #[derive(Drop)]
 pub struct Outside {
     /// The shelf.
-    pub shelf: MemoryShelf,
+    pub shelf: WantingShelf,
     /// The sink of the report.
-    pub out: MemorySink,
+    pub out: WantingSink,
     /// The sink of messages.
-    pub err: MemorySink,
+    pub err: WantingSink,
 }
 
 fn copies(alloc: Global, files: &[File]) -> Result<Vec<(String, Vec<u8>)>, AllocError> {
@@ -25,15 +26,19 @@ fn copies(alloc: Global, files: &[File]) -> Result<Vec<(String, Vec<u8>)>, Alloc
     Ok(all)
 }
 
-fn sink_of(alloc: Global, form: &SinkForm) -> Result<MemorySink, AllocError> {
+fn sink_of(alloc: Global, form: &SinkForm) -> Result<WantingSink, AllocError> {
     let failing = Vec::from_slice(alloc, form.failing.as_slice())?;
-    Ok(MemorySink::new(alloc, form.room, failing))
+    let wanting = Vec::from_slice(alloc, form.wanting.as_slice())?;
+    let below = MemorySink::new(alloc, form.room, failing);
+    Ok(WantingSink::new(below, wanting))
 }
 
-fn shelf_of(alloc: Global, case: &Case) -> Result<MemoryShelf, AllocError> {
+fn shelf_of(alloc: Global, case: &Case) -> Result<WantingShelf, AllocError> {
     let files = copies(alloc, case.files.as_slice())?;
     let failing = Vec::from_slice(alloc, case.failing.as_slice())?;
-    Ok(MemoryShelf::new(alloc, files, failing))
+    let wanting = Vec::from_slice(alloc, case.wanting.as_slice())?;
+    let below = MemoryShelf::new(alloc, files, failing);
+    Ok(WantingShelf::new(below, wanting))
 }
 
 /// The outside of a case before its run.

@@ -2,8 +2,8 @@
 //!
 //! A line is empty, a comment that begins with `#`, or a word and what follows it:
 //! `case NAME` begins a case; `words WORD..`, `model TEXT`, `script TEXT`, `file NAME TEXT`,
-//! `shelf fails NUMBER..`, `out room NUMBER`, `out fails NUMBER..`, and the same two for `err` say what
-//! the case has. `quoting` has the form of a TEXT.
+//! `shelf fails NUMBER..`, `shelf lacks NUMBER..`, `out room NUMBER`, `out fails NUMBER..`, `out lacks NUMBER..`, and the same
+//! three for `err` say what the case has: calls that fail, and calls that are refused memory. `quoting` has the form of a TEXT.
 //!
 //! Behind a line `gives` stands what is wanted, each as the program tells it: `status NUMBER`, `steps NUMBER`,
 //! `choices none`, `choices SERIAL..` or, of more than a thousand, `choices NUMBER in all`, `out TEXT`, `err TEXT`,
@@ -90,6 +90,10 @@ fn add_faults(alloc: Global, case: &mut Case, rest: &str) -> Result<(), LineErro
             case.failing = numbers(alloc, list)?;
             Ok(())
         }
+        ("lacks", list) => {
+            case.wanting = numbers(alloc, list)?;
+            Ok(())
+        }
         _ => Err(LineError::Form),
     }
 }
@@ -102,6 +106,10 @@ fn add_to_sink(alloc: Global, sink: &mut SinkForm, rest: &str) -> Result<(), Lin
         }
         ("fails", list) => {
             sink.failing = numbers(alloc, list)?;
+            Ok(())
+        }
+        ("lacks", list) => {
+            sink.wanting = numbers(alloc, list)?;
             Ok(())
         }
         _ => Err(LineError::Form),
