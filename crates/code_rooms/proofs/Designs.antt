@@ -1,6 +1,5 @@
 -- With other rooms a design has all that it had of its code.
 use Rattle.std.proofs.Common.{◌≡◌, ℕ, Bool, Option, Some, None, inl, inr}
-use Rattle.code_rules.specs.ModelTree.declared.constructs.Construct.{Construct}
 use Rattle.code_rules.specs.ModelTree.declared.items.ProcessKind.{ProcessKind}
 use Rattle.code_rules.specs.FlatDesign.Code as code
 use Rattle.code_rules.specs.FlatDesign.Code.{Statement, arena_of, body_at}
@@ -131,11 +130,8 @@ module _ (d : Design) (after : Code) (differs : DiffersInRooms d.code after) whe
       let w = was f b found in
       fit f (record b { room = w.0 }) home s w.1 (inr root) (home_was home w.0 b home_of) (reached_still after d.code back b.block s x)
 
-  pub missing : (is_missing : Construct → Bool) → NothingIsMissing is_missing d → NothingIsMissing is_missing new
-  missing is_missing fit b s x = fit b s (stands_still after d.code back b s x)
-
-  pub sound : (is_missing : Construct → Bool) → HasRooms (arena_of after) → SoundDesign is_missing d → SoundDesign is_missing new
-  sound is_missing rooms s = record {
+  pub sound : HasRooms (arena_of after) → SoundDesign d → SoundDesign new
+  sound rooms s = record {
     parents = s.parents;
     names = s.names;
     signals = s.signals;
@@ -153,6 +149,4 @@ module _ (d : Design) (after : Code) (differs : DiffersInRooms d.code after) whe
     threads = threads s.threads;
     waits = waits new rooms;
     room = calls new rooms (typed s.typed) (hops s.hops);
-    statements = missing is_missing s.statements;
-    objects = s.objects;
   }

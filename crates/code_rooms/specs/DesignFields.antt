@@ -1,13 +1,10 @@
 -- What sound designs have of their code, but for rooms.
-use Rattle.std.specs.Prelude.{◌≡◌, ◌⊎◌, ℕ, Bool, slice_get, Some}
-use Rattle.code_rules.specs.ModelTree.declared.constructs.Construct.{Construct}
+use Rattle.std.specs.Prelude.{◌≡◌, ◌⊎◌, ℕ, slice_get, Some}
 use Rattle.code_rules.specs.FlatDesign.Code as code
 use Rattle.code_rules.specs.FlatDesign.Code.{Statement, arena_of, body_at}
-use Rattle.code_rules.specs.FlatDesign.Typed.{EachOf}
-use Rattle.code_rules.specs.FlatDesign.Reach.{IsIn, InBody, Reached}
+use Rattle.code_rules.specs.FlatDesign.Reach.{InBody, Reached}
 use Rattle.code_rules.specs.FlatDesign.Blocking.{DoesNotBlock, IsPlain, SetsNoTrigger}
-use Rattle.code_rules.specs.FlatDesign.Constructs.{statement_constructs}
-use Rattle.code_rules.specs.FlatDesign.Sound.{ProcessFits, IsHomeOf, IsMethodBody, IsThreadBody, IsNonblockingHandler, IsAnyHandler, NotMissing, EachReached}
+use Rattle.code_rules.specs.FlatDesign.Sound.{ProcessFits, IsHomeOf, IsMethodBody, IsThreadBody, IsNonblockingHandler, IsAnyHandler, EachReached}
 use Rattle.code_rules.specs.FlatDesign.declared.code.CodeBody.{CodeBody}
 use Rattle.code_rules.specs.FlatDesign.declared.design.ProcessPart.{ProcessPart}
 use Rattle.code_rules.specs.FlatDesign.declared.design.Design.{Design}
@@ -28,6 +25,3 @@ UnwindingIsPlain d =
 
 abbrev pub ThreadsSetNoTrigger : Design → Type 0
 ThreadsSetNoTrigger d = EachReached d (λ f b. IsThreadBody (arena_of d.code) f b ⊎ IsAnyHandler d f) (λ home s. SetsNoTrigger s)
-
-abbrev pub NothingIsMissing : (Construct → Bool) → Design → Type 0
-NothingIsMissing is_missing d = (b : ℕ) (s : Statement) → IsIn (arena_of d.code) b s → EachOf (NotMissing is_missing) (statement_constructs s)

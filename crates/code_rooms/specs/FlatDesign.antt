@@ -1,5 +1,4 @@
 pub use Rattle.code_rules.specs.FlatDesign.Code as Code
-pub use Rattle.code_rules.specs.FlatDesign.Constructs as Constructs
 pub use Rattle.code_rules.specs.FlatDesign.Denotes as Denotes
 pub use Rattle.code_rules.specs.FlatDesign.Sound as Sound
 pub use Rattle.code_rules.specs.FlatDesign.Typed as Typed

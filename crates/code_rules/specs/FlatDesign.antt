@@ -1,6 +1,5 @@
 pub use Rattle.model_rules.specs.FlatDesign.Blocking as Blocking
 pub use Rattle.model_rules.specs.FlatDesign.Code as Code
-pub use Rattle.model_rules.specs.FlatDesign.Constructs as Constructs
 pub use Rattle.model_rules.specs.FlatDesign.Denotes as Denotes
 pub use Rattle.model_rules.specs.FlatDesign.Reach as Reach
 pub use Rattle.model_rules.specs.FlatDesign.Sound as Sound

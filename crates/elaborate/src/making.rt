@@ -3,12 +3,12 @@ ghost use Rattle.model_tree.specs.Limits.{is_sound};
 ghost use Rattle.model_tree.specs.Seen.{model_of};
 ghost use Rattle.model_tree.specs.Stops.{IfRefused};
 ghost use Rattle.flat_design.specs.Code.{arena_of};
+ghost use Rattle.flat_design.specs.Sound.{SoundDesign};
 ghost use Rattle.model_check.specs.CodeRules.Bodies.{IsCodeOf};
 ghost use Rattle.model_check.specs.CodeRooms.Rooms.{HasRooms};
 ghost use Rattle.model_check.specs.Parts.{AllStand};
 ghost use Rattle.binding.specs.DesignRules.Designs.{IsDesignOf};
 ghost use Rattle.elaborate.specs.Elaborated.{elaboration_fault};
-ghost use Rattle.elaborate.specs.Sound.{IsSound};
 
 use crate::elaborate;
 use flat_design::Design;
@@ -32,7 +32,7 @@ pub fn sound_design(alloc: Global, checked: Checked) -> Result<Design, CheckStop
     ensures accepted { OnOk result (elaboration_fault (model_of checked.tree) ≡ None) }
     ensures design { IfOk result (λ design. IsDesignOf (model_of checked.tree) design) }
     ensures code { IfOk result (λ design. design.code ≡ checked.code) }
-    ensures sound { IfOk result (λ design. IsSound design) }
+    ensures sound { IfOk result (λ design. SoundDesign design) }
     ensures refused { IfErr result (λ stop. IfRefused stop (λ fault. elaboration_fault (model_of checked.tree) ≡ Some fault)) }
 {
     accepted_designs_are_sound();

@@ -1,7 +1,6 @@
 -- A sound design whose events are few has numbers for the events of its channels.
 use Rattle.std.proofs.Common.{◌≡◌, ◌<◌, ◌+◌, ◌-◌, ◌^◌, ℕ, zero, suc, Bool, true, false, List, [], ◌∷◌, slice_get, Option, Some, None, Result, Ok, Err, refl, sym, ap, subst, arith, true≢false}
 use Rattle.std.specs.Prelude.{is_some, unwrap_or}
-use Rattle.kernel_view.specs.ModelTree.declared.constructs.Construct.{Construct}
 use Rattle.flat_design.specs.Denotes.{denoted_at}
 use Rattle.flat_design.specs.Typed.{EachOf}
 use Rattle.flat_design.specs.Sound.{ChannelFits, DenotedFits, PortFits, SoundDesign}
@@ -63,5 +62,5 @@ module _ (d : Design) (few : d.events < 2 ^ 32 - 1) (ports : (n : ℕ) (p : Port
   of_denoted (denoted.Process n) place ch fits is = none _ ch is
   of_denoted (denoted.Socket n forward) place ch fits is = none _ ch is
 
-pub sound_numbers : (is_missing : Construct → Bool) (d : Design) → SoundDesign is_missing d → d.events < 2 ^ 32 - 1 → NumbersEvents d
-sound_numbers is_missing d sound few home n place ch is = of_denoted d few sound.ports (denoted_at d home n) place ch (sound.names home n) is
+pub sound_numbers : (d : Design) → SoundDesign d → d.events < 2 ^ 32 - 1 → NumbersEvents d
+sound_numbers d sound few home n place ch is = of_denoted d few sound.ports (denoted_at d home n) place ch (sound.names home n) is

@@ -4,7 +4,6 @@ pub mod Denotes
 pub mod Typed
 pub mod Reach
 pub mod Blocking
-pub mod Constructs
 pub mod Sound
 pub mod SimTime
 pub mod LogicValues

@@ -3,7 +3,6 @@
 use Rattle.std.specs.Prelude.{◌≡◌, ◌⊎◌, ◌≤◌, ◌<◌, ◌+◌, ⊤, ℕ, Bool, true, false, List, [], ◌∷◌, length, slice_get, Option, Some, None, Contains}
 use Rattle.event_core.specs.declared.event.Ev.{Ev}
 use Rattle.event_core.specs.declared.event.Ev.TheVariants as ev
-use Rattle.model_tree.specs.declared.constructs.Construct.{Construct}
 use Rattle.model_tree.specs.declared.items.ProcessKind.{ProcessKind}
 use Rattle.model_tree.specs.declared.items.ProcessKind.TheVariants as process
 use Rattle.flat_design.specs.Code as code
@@ -13,7 +12,6 @@ use Rattle.flat_design.specs.Denotes.{denoted_at}
 use Rattle.flat_design.specs.Typed.{IsTyped, ChannelOffers, EachOf, parameters_of}
 use Rattle.flat_design.specs.Reach.{IsIn, InBody, Reached, inner_blocks}
 use Rattle.flat_design.specs.Blocking.{DoesNotBlock, IsPlain, SetsNoTrigger}
-use Rattle.flat_design.specs.Constructs.{statement_constructs, object_construct}
 use Rattle.flat_design.specs.declared.value_types.ValueType.{ValueType}
 use Rattle.flat_design.specs.declared.value_types.ValueType.TheVariants as type
 use Rattle.flat_design.specs.declared.code.BodyKind.{BodyKind}
@@ -241,10 +239,6 @@ RoomSuffices d home room (code.while_ e b) = ⊤
 RoomSuffices d home room (code.guard b u) = ⊤
 RoomSuffices d home room (code.try_ b handlers) = ⊤
 
--- nothing of this is missing
-abbrev pub NotMissing : (Construct → Bool) → Construct → Type 0
-NotMissing is_missing c = is_missing c ≡ false
-
 -- A statement of a body, in an instance of its module.
 abbrev pub EachStatement : Design → (ℕ → ℕ → CodeBody → Statement → Type 0) → Type 0
 EachStatement d P =
@@ -255,8 +249,7 @@ abbrev pub EachReached : Design → (ℕ → CodeBody → Type 0) → (ℕ → S
 EachReached d Root P =
     (f : ℕ) (b : CodeBody) (home : ℕ) (s : Statement) → body_at (arena_of d.code) f ≡ Some b → Root f b → IsHomeOf d home b → Reached (arena_of d.code) b.block s → P home s
 
--- The first argument tells which constructs are missing.
-pub record SoundDesign (is_missing : Construct → Bool) (d : Design) : Type 0 where
+pub record SoundDesign (d : Design) : Type 0 where
   pub parents : (i : ℕ) (o : Object) → slice_get d.objects.list i ≡ Some o → (o.parent < i) ⊎ ((i ≡ 0) × (o.parent ≡ 0))
   pub names : (home n : ℕ) → DenotedFits d (denoted_at d home n)
   pub signals : (n : ℕ) (p : _) → slice_get d.signals n ≡ Some p → (type_of_value p.initial ≡ p.value_type) × (p.events + 2 < d.events)
@@ -275,5 +268,3 @@ pub record SoundDesign (is_missing : Construct → Bool) (d : Design) : Type 0 w
   pub threads : EachReached d (λ f b. IsThreadBody (arena_of d.code) f b ⊎ IsAnyHandler d f) (λ home s. SetsNoTrigger s)
   pub waits : EachStatement d (λ f home b s. events_of s ≤ b.room)
   pub room : EachStatement d (λ f home b s. RoomSuffices d home b.room s)
-  pub statements : (b : ℕ) (s : Statement) → IsIn (arena_of d.code) b s → EachOf (NotMissing is_missing) (statement_constructs s)
-  pub objects : (i : ℕ) (o : Object) → slice_get d.objects.list i ≡ Some o → (i ≡ 0) ⊎ NotMissing is_missing (object_construct o.form)

@@ -1,7 +1,5 @@
 -- The design of an accepted model is sound.
-use Rattle.std.specs.Prelude.{Bool}
 use Rattle.code_rooms.specs.ModelTree.Tree as tree
-use Rattle.code_rooms.specs.ModelTree.declared.constructs.Construct.{Construct}
 use Rattle.code_rooms.specs.FlatDesign.Sound.{SoundDesign}
 use Rattle.code_rooms.specs.FlatDesign.declared.design.Design.{Design}
 use Rattle.laws_objects.specs.DesignRules.Designs.{IsDesignOf}
@@ -18,11 +16,10 @@ use Rattle.laws_design.proofs.Handlers.{handlers_stand}
 use Rattle.laws_design.proofs.SocketHops.{sockets_have_hops}
 use Rattle.code_rooms.specs.RoomFields.{HopsFit}
 use Rattle.code_rooms.proofs.Suffices.{waits, calls}
-use Rattle.code_rooms.specs.DesignFields.{NothingIsMissing}
 use Rattle.laws_design.proofs.FittingHops.{hops_fit}
 use Rattle.laws_design.proofs.Ports.{ports_fit, no_binding_fault}
 use Rattle.laws_design.proofs.Processes.{processes_fit}
-use Rattle.laws_design.specs.Accepted.{IsAccepted, IsLaidOut, NoObjectIsMissing}
+use Rattle.laws_design.specs.Accepted.{IsAccepted, IsLaidOut}
 
 module _ (m : tree.Model) (accepted : IsAccepted m) (d : Design) (design : IsDesignOf m d) (laid : IsLaidOut d) where
   stands : DesignStands m d
@@ -37,8 +34,8 @@ module _ (m : tree.Model) (accepted : IsAccepted m) (d : Design) (design : IsDes
   hops : HopsFit d
   hops = hops_fit m accepted.rules d design accepted.acyclic accepted.few
 
-  pub sound : (is_missing : Construct → Bool) → NothingIsMissing is_missing d → NoObjectIsMissing is_missing d → SoundDesign is_missing d
-  sound is_missing statements objects =
+  pub sound : SoundDesign d
+  sound =
       record {
         parents = parents_before m d design;
         names = names_fit m d design;
@@ -57,6 +54,4 @@ module _ (m : tree.Model) (accepted : IsAccepted m) (d : Design) (design : IsDes
         threads = threads m d accepted.rules design.code laid.standing named;
         waits = waits d laid.rooms;
         room = calls d laid.rooms typed hops;
-        statements = statements;
-        objects = objects;
       }

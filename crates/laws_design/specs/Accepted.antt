@@ -1,12 +1,8 @@
 -- Models that are accepted, and what the making of a design gives its code.
-use Rattle.std.specs.Prelude.{◌≡◌, ◌⊎◌, ℕ, Bool, true, slice_get, Some, None}
+use Rattle.std.specs.Prelude.{◌≡◌, true, None}
 use Rattle.code_rooms.specs.ModelTree.Tree as tree
 use Rattle.code_rooms.specs.ModelTree.Limits.{is_sound}
-use Rattle.code_rooms.specs.ModelTree.declared.constructs.Construct.{Construct}
 use Rattle.code_rooms.specs.FlatDesign.Code.{arena_of}
-use Rattle.code_rooms.specs.FlatDesign.Constructs.{object_construct}
-use Rattle.code_rooms.specs.FlatDesign.Sound.{NotMissing}
-use Rattle.code_rooms.specs.FlatDesign.declared.objects.Object.{Object}
 use Rattle.code_rooms.specs.FlatDesign.declared.design.Design.{Design}
 use Rattle.code_rooms.specs.ModelRules.Passes.{first_fault}
 use Rattle.laws_objects.specs.DesignRules.Listing.{objects_of}
@@ -30,7 +26,3 @@ pub record IsLaidOut (d : Design) : Type 0 where
   pub nested : IsNested (arena_of d.code)
   pub standing : StatementsStand d
   pub rooms : HasRooms (arena_of d.code)
-
--- no object is of a construct that is missing
-abbrev pub NoObjectIsMissing : (Construct → Bool) → Design → Type 0
-NoObjectIsMissing is_missing d = (i : ℕ) (o : Object) → slice_get d.objects.list i ≡ Some o → (i ≡ 0) ⊎ NotMissing is_missing (object_construct o.form)

@@ -1,7 +1,6 @@
 -- Who makes a control call waits below its target till the unwinding is over.
 use Rattle.std.proofs.Common.{◌≡◌, ◌≤◌, ◌+◌, ℕ, zero, suc, Bool, true, false, List, [], ◌∷◌, ◌++◌, drop, Some, refl, sym, ap, ◌∙◌, subst, arith, inl, inr, append-nil}
 use Rattle.std.proofs.lemmas.Option.{none-some, same_Some}
-use Rattle.laws_unwinding.specs.ModelTree.declared.constructs.Construct.{Construct}
 use Rattle.laws_unwinding.specs.FlatDesign.Sound.{SoundDesign}
 use Rattle.laws_unwinding.specs.FlatDesign.declared.design.Design.{Design}
 use Rattle.laws_unwinding.specs.SimModel.Residual.{Residual, goal, has_goal}
@@ -35,7 +34,7 @@ one-more_step n choices first c d reached now =
 first_step : (k : ℕ) (own : List ℕ) (x y : Config) → step x ≡ went y → after (suc k) own x ≡ after k own y
 first_step k own x y now = ap (λ o. and_then o x own (after k)) now
 
-module _ (missing : Construct → Bool) (design : Design) (script : List Command) (sound : SoundDesign missing design) where
+module _ (design : Design) (script : List Command) (sound : SoundDesign design) where
   once_at : (n : ℕ) (choices : List ℕ) (x : Config) → after n choices (start design script) ≡ Some x → (p : ℕ) → times p x.processes.stack ≤ 1
   once_at n choices x reached p = let h = (clean-after design script n choices x reached).once p in omega (arith, h)
 
@@ -86,7 +85,7 @@ module _ (missing : Construct → Bool) (design : Design) (script : List Command
     by_step : (m : ℕ) (more : List ℕ) (x e : Config) (n : ℕ) (choices : List ℕ) → after n choices (start design script) ≡ Some x → (a : ℕ) (above : List ℕ) → x.processes.stack ≡ a ∷ (above ++ p ∷ rest)
         → Waits m e → IsFirst (IsOnTop p) (suc m) more x e → (o : Outcome) → step x ≡ o → e.processes.stack ≡ p ∷ rest
     by_step m more x e n choices reached a above is later f (went y) now =
-        moved_on m more x y e (n + 1) choices (one-more_step n choices (start design script) x y reached now) now a above is (only-top missing design script sound n choices x y reached now) later f
+        moved_on m more x y e (n + 1) choices (one-more_step n choices (start design script) x y reached now) now a above is (only-top design script sound n choices x y reached now) later f
     by_step m more x e n choices reached a above is later f (faulted g) now = absurd (none-some e (sym (ap (λ o. and_then o x more (after m)) now) ∙ f.reached))
     by_step m more x e n choices reached a above is later f takes now = absurd (not_empty a (above ++ p ∷ rest) x.processes.stack is (takes-empty x now))
     by_step m more x e n choices reached a above is later f ended now = absurd (none-some e (sym (ap (λ o. and_then o x more (after m)) now) ∙ f.reached))
@@ -103,15 +102,15 @@ module _ (missing : Construct → Bool) (design : Design) (script : List Command
     later_d = one-more_step n choices (start design script) c d reached b.went_on
 
     idle : runs b.then.residual ≡ false
-    idle = idle-step q missing c (sound-run missing design script sound n choices c reached) b.first b.was b.goalless d b.went_on q b.then b.is refl
+    idle = idle-step q c (sound-run design script sound n choices c reached) b.first b.was b.goalless d b.went_on q b.then b.is refl
 
     pub run-before : ends_of gs d.trace.marks ≡ []
     run-before = subst (λ xs. ends_of xs d.trace.marks ≡ []) b.guards
-        (ends-before missing d (marked-after missing design script sound (n + 1) choices d later_d) (sound-run missing design script sound (n + 1) choices d later_d) q b.then b.is idle)
+        (ends-before d (marked-after design script sound (n + 1) choices d later_d) (sound-run design script sound (n + 1) choices d later_d) q b.then b.is idle)
 
     pub run-after : (m : ℕ) (more : List ℕ) (e : Config) → after m more d ≡ Some e → HasNoGoal e q → ends_of gs e.trace.marks ≡ once_each q (innermost_first gs)
     run-after m more e there over = subst (λ xs. ends_of xs e.trace.marks ≡ once_each q (innermost_first xs)) b.guards
-        (ends-after missing d (marked-after missing design script sound (n + 1) choices d later_d) (sound-run missing design script sound (n + 1) choices d later_d) q b.then b.is idle m more e there over.instance over.is over.goalless)
+        (ends-after d (marked-after design script sound (n + 1) choices d later_d) (sound-run design script sound (n + 1) choices d later_d) q b.then b.is idle m more e there over.instance over.is over.goalless)
 
     pub run-killed : (m : ℕ) (more : List ℕ) (e : Config) (i : Instance) → after m more d ≡ Some e → instance_at e q ≡ Some i → i.ended ≡ true → ends_of gs e.trace.marks ≡ once_each q (innermost_first gs)
     run-killed m more e i there at over =
@@ -129,14 +128,14 @@ module _ (missing : Construct → Bool) (design : Design) (script : List Command
       stack_e = waits p rest m e more d (n + 1) choices later_d q [] top f
 
       made_e : Made q (parts e)
-      made_e = kept-after missing (Made q) (made-kept q) (made-settled q) (made-between q) (made-taken q) m more d e (sound-run missing design script sound (n + 1) choices d later_d) (b.then, b.is) f.reached
+      made_e = kept-after (Made q) (made-kept q) (made-settled q) (made-between q) (made-taken q) m more d e (sound-run design script sound (n + 1) choices d later_d) (b.then, b.is) f.reached
 
       pub run-over : HasNoGoal e q
       run-over = record {
         instance = made_e.0;
         is = made_e.1;
         goalless = is-false (has_goal made_e.0.residual) (λ g.
-            let s = sound-run missing design script sound (n + 1 + m) (choices ++ more) e whole_e in
+            let s = sound-run design script sound (n + 1 + m) (choices ++ more) e whole_e in
             let on = (fine-at e.design e.processes q made_e.0 made_e.1 s.1).active g in
             let a = ap (times q) stack_e in
             let none = below_d in
@@ -149,4 +148,4 @@ module _ (missing : Construct → Bool) (design : Design) (script : List Command
   -- of a kill and of a reset these are all guards that are open
   pub all-open : (n : ℕ) (choices : List ℕ) (d : Config) → after n choices (start design script) ≡ Some d → (q : ℕ) (i : Instance) (r : Residual) (k : Goal) → instance_at d q ≡ Some i → i.residual ≡ goal r k → guards_below i.residual ≡ open_guards q d.trace.marks
   all-open n choices d reached q i r k at is =
-      ap guards_below is ∙ sym (ap guards_of is) ∙ sym ((clean-whole missing design script sound n choices d reached).guards.guards q i at)
+      ap guards_below is ∙ sym (ap guards_of is) ∙ sym ((clean-whole design script sound n choices d reached).guards.guards q i at)

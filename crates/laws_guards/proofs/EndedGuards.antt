@@ -3,7 +3,6 @@ use Rattle.std.proofs.Common.{◌≡◌, ◌<◌, ◌≤◌, ◌==◌, ◌||◌,
 use Rattle.std.specs.List.{list_any}
 use Rattle.std.proofs.lemmas.Bool.{cases_lt}
 use Rattle.std.proofs.lemmas.Option.{same_Some}
-use Rattle.laws_unwinding.specs.ModelTree.declared.constructs.Construct.{Construct}
 use Rattle.laws_unwinding.specs.SimModel.Residual.{Mark, enter, leave, begin, finish, has_goal}
 use Rattle.laws_unwinding.specs.SimModel.Configuration.{Config, Instance, instance_at}
 use Rattle.laws_unwinding.specs.SimModel.Waits.{holds}
@@ -116,7 +115,7 @@ module _ (d : Config) (marked : Marked (parts d)) where
 
 -- ---- where an unwinding has begun, and none of its unwind blocks
 
-module _ (missing : Construct → Bool) (d : Config) (marked : Marked (parts d)) (s : Sound missing d) (q : ℕ) (j : Instance) (at : instance_at d q ≡ Some j) (idle : runs j.residual ≡ false) where
+module _ (d : Config) (marked : Marked (parts d)) (s : Sound d) (q : ℕ) (j : Instance) (at : instance_at d q ≡ Some j) (idle : runs j.residual ≡ false) where
   abbrev gs : List ℕ
   gs = guards_below j.residual
 
@@ -214,13 +213,13 @@ module _ (missing : Construct → Bool) (d : Config) (marked : Marked (parts d))
 
   module _ (m : ℕ) (more : List ℕ) (e : Config) (reached : after m more d ≡ Some e) where
     marked_later : Marked (parts e)
-    marked_later = kept-after missing Marked marked-kept marked-settled marked-between marked-taken m more d e s marked reached
+    marked_later = kept-after Marked marked-kept marked-settled marked-between marked-taken m more d e s marked reached
 
     never_later : (g : ℕ) → In g gs → Never g (parts e)
-    never_later g h = kept-after missing (Never g) (never-kept g) (never-settled g) (never-between g) (never-taken g) m more d e s (never_first g h) reached
+    never_later g h = kept-after (Never g) (never-kept g) (never-settled g) (never-between g) (never-taken g) m more d e s (never_first g h) reached
 
     grown : Grown d.trace.marks (parts e)
-    grown = kept-after missing (Grown d.trace.marks) (grown-kept d.trace.marks) (grown-settled d.trace.marks) (grown-between d.trace.marks) (grown-taken d.trace.marks) m more d e s ([], sym (append-nil d.trace.marks)) reached
+    grown = kept-after (Grown d.trace.marks) (grown-kept d.trace.marks) (grown-settled d.trace.marks) (grown-between d.trace.marks) (grown-taken d.trace.marks) m more d e s ([], sym (append-nil d.trace.marks)) reached
 
     in_later : (x : Mark) → In x d.trace.marks → In x e.trace.marks
     in_later x h = subst (In x) (sym grown.1) (in-front x d.trace.marks grown.0 h)
@@ -243,7 +242,7 @@ module _ (missing : Construct → Bool) (d : Config) (marked : Marked (parts d))
 
     module _ (k : Instance) (there : instance_at e q ≡ Some k) (none : has_goal k.residual ≡ false) where
       normal : IsNormal k.residual
-      normal = let t = sound-after missing m more d e s reached in goalless-normal k.residual (standing-shaped e.design k.home k.residual (fine-at e.design e.processes q k there t.1).standing) none
+      normal = let t = sound-after m more d e s reached in goalless-normal k.residual (standing-shaped e.design k.home k.residual (fine-at e.design e.processes q k there t.1).standing) none
 
       nothing_open : (x : Part) → In x (parts_of k.residual) → holds gs (number x) ≡ false
       nothing_open x h = not_held (number x) (λ held. true≢false (sym (normal-inside x k.residual normal h) ∙ (never_later (number x) held).nowhere q k there))

@@ -3,7 +3,6 @@ use Rattle.std.proofs.Common.{◌≡◌, ℕ, Bool, true, false, cond, List, [],
 use Rattle.std.specs.Result.{IfOk}
 use Rattle.std.proofs.lemmas.Option.{same_Some}
 use Rattle.laws_unwinding.specs.LogicValues.declared.kinds.Value.{Value}
-use Rattle.laws_unwinding.specs.ModelTree.declared.constructs.Construct.{Construct}
 use Rattle.laws_unwinding.specs.FlatDesign.Code.{Arena, block_at, body_at}
 use Rattle.laws_unwinding.specs.FlatDesign.declared.code.CodeBody.{CodeBody}
 use Rattle.laws_unwinding.specs.FlatDesign.declared.code.Handler.{Handler}
@@ -190,7 +189,7 @@ module _ (q : ℕ) where
     alike = λ x f alike h. each-map IsIdle x.instances f (λ n i k e. ap runs (alike i).residual ∙ k e) h;
   }
 
-  module _ (missing : Construct → Bool) (c : Config) (s : Sound missing c) (i : Instance) (at : instance_at c q ≡ Some i) (none : has_goal i.residual ≡ false) where
+  module _ (c : Config) (s : Sound c) (i : Instance) (at : instance_at c q ≡ Some i) (none : has_goal i.residual ≡ false) where
     normal : IsNormal i.residual
     normal = goalless-normal i.residual (standing-shaped c.design i.home i.residual (fine-at c.design c.processes q i at s.1).standing) none
 
@@ -204,7 +203,7 @@ module _ (q : ℕ) where
 
     statement_idle : (p : ℕ) (rest : List ℕ) → c.processes.stack ≡ p ∷ rest → (o : Option Instance) → instance_at c p ≡ o → IfOk (step_by c p o) (Kept Idle)
     statement_idle p rest top None there = idle_first
-    statement_idle p rest top (Some j) there = moved-kept p Idle (idle-kept p) missing c rest top s j there (idle_settled p j there)
+    statement_idle p rest top (Some j) there = moved-kept p Idle (idle-kept p) c rest top s j there (idle_settled p j there)
 
     pub idle-step : (d : Config) → step c ≡ went d → Kept Idle d
     idle-step d now = subst (λ o. IfWent o (Kept Idle)) now (steps.step-by Idle idle-between c (λ p rest top. statement_idle p rest top (instance_at c p) refl) idle_first)

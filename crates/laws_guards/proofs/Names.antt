@@ -1,7 +1,6 @@
 -- Nothing names what has ended, and what was left is not unwound.
 use Rattle.std.proofs.Common.{◌≡◌, ◌<◌, ◌≤◌, ◌+◌, ◌||◌, ℕ, zero, suc, Bool, true, false, cond, List, [], ◌∷◌, ◌++◌, count_by, slice_get, Option, Some, None, refl, sym, ap, ◌∙◌, subst, arith, inl, inr, eq-eqb, ne_eqb, true≢false, append-nil}
 use Rattle.std.proofs.lemmas.Option.{none-some, same_Some}
-use Rattle.laws_unwinding.specs.ModelTree.declared.constructs.Construct.{Construct}
 use Rattle.laws_unwinding.specs.EventCore.declared.event.Ev.{Ev}
 use Rattle.laws_unwinding.specs.FlatDesign.Sound.{SoundDesign}
 use Rattle.laws_unwinding.specs.FlatDesign.declared.design.Design.{Design}
@@ -85,11 +84,11 @@ module _ (design : Design) (script : List Command) (n : ℕ) (choices : List ℕ
     timers = λ due none. due_lacks due c.processes.instances q 0 q h.instance (omega arith) h.is (ap due free.deadline ∙ none);
   }
 
-module _ (missing : Construct → Bool) (design : Design) (script : List Command) (sound : SoundDesign missing design) (n : ℕ) (choices : List ℕ) (c : Config) (reached : after n choices (start design script) ≡ Some c) where
+module _ (design : Design) (script : List Command) (sound : SoundDesign design) (n : ℕ) (choices : List ℕ) (c : Config) (reached : after n choices (start design script) ≡ Some c) where
   module _ (q : ℕ) (h : HasEnded c q) (m : ℕ) (more : List ℕ) (e : Config) (later : after m more c ≡ Some e) where
     pub ended-stays : HasEnded e q
     ended-stays =
-        let k = kept-after missing (Ended q) (ended-kept q) (ended-settled q) (ended-between q) (ended-taken q) m more c e (sound-run missing design script sound n choices c reached) (h.instance, h.is, h.over) later in
+        let k = kept-after (Ended q) (ended-kept q) (ended-settled q) (ended-between q) (ended-taken q) m more c e (sound-run design script sound n choices c reached) (h.instance, h.is, h.over) later in
         record { instance = k.0; is = k.1; over = k.2 }
 
     whole : after (n + m) (choices ++ more) (start design script) ≡ Some e
@@ -128,10 +127,10 @@ module _ (missing : Construct → Bool) (design : Design) (script : List Command
   pub left-never_begun : (p g : ℕ) (before behind : List Mark) → c.trace.marks ≡ before ++ leave p g ∷ behind → (m : ℕ) (more : List ℕ) (e : Config) → after m more c ≡ Some e
       → (q : ℕ) (earlier later : List Mark) → e.trace.marks ≡ earlier ++ begin q g ∷ later → ⊥
   left-never_begun p g before behind left m more e there q earlier later begun =
-      let grown = kept-after missing (Grown c.trace.marks) (grown-kept c.trace.marks) (grown-settled c.trace.marks) (grown-between c.trace.marks) (grown-taken c.trace.marks) m more c e (sound-run missing design script sound n choices c reached) ([], sym (append-nil c.trace.marks)) there in
+      let grown = kept-after (Grown c.trace.marks) (grown-kept c.trace.marks) (grown-settled c.trace.marks) (grown-between c.trace.marks) (grown-taken c.trace.marks) m more c e (sound-run design script sound n choices c reached) ([], sym (append-nil c.trace.marks)) there in
       let a = subst (In (leave p g)) (sym grown.1) (in-front (leave p g) c.trace.marks grown.0 (in_split (leave p g) before behind c.trace.marks left)) in
       let b = in_split (begin q g) earlier later e.trace.marks begun in
       let two = two_in (leaves_or_begins g) (leave p g) (begin q g) e.trace.marks (λ e. cc) a b (eq-eqb g g refl) (eq-eqb g g refl) in
-      let clean = clean-whole missing design script sound (n + m) (choices ++ more) e (joined n m choices more (start design script) c reached ∙ there) in
+      let clean = clean-whole design script sound (n + m) (choices ++ more) e (joined n m choices more (start design script) c reached ∙ there) in
       let one = clean.guards.marks.once g in
       omega (arith, one, two)

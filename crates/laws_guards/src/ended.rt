@@ -1,6 +1,5 @@
 //! An instance that has ended.
 ghost use Rattle.std.specs.Prelude.{◌≡◌, ℕ, Bool, List, ◌∷◌, Some};
-ghost use Rattle.laws_unwinding.specs.ModelTree.declared.constructs.Construct.{Construct};
 ghost use Rattle.laws_unwinding.specs.FlatDesign.Sound.{SoundDesign};
 ghost use Rattle.laws_unwinding.specs.FlatDesign.declared.design.Design.{Design};
 ghost use Rattle.laws_unwinding.specs.SimModel.Configuration.{Config, start};
@@ -12,13 +11,13 @@ ghost use Rattle.laws_guards.specs.Nowhere.{IsNamedNowhere, HasEnded};
 /// In every run of a sound design an instance that has ended stays ended (`stays`): it is never taken again (`taken`), and no
 /// statement of it is ever carried out (`steps`), however long the run goes on (IEEE 1666-2011, 5.6.6).
 pub fn what_has_ended_never_runs_again()
-    ensures stays { (missing : Construct → Bool) (design : Design) (script : List Command) → SoundDesign missing design
+    ensures stays { (design : Design) (script : List Command) → SoundDesign design
         → (n : ℕ) (choices : List ℕ) (c : Config) → after n choices (start design script) ≡ Some c → (q : ℕ) → HasEnded c q
         → (m : ℕ) (more : List ℕ) (e : Config) → after m more c ≡ Some e → HasEnded e q }
-    ensures taken { (missing : Construct → Bool) (design : Design) (script : List Command) → SoundDesign missing design
+    ensures taken { (design : Design) (script : List Command) → SoundDesign design
         → (n : ℕ) (choices : List ℕ) (c : Config) → after n choices (start design script) ≡ Some c → (q : ℕ) → HasEnded c q
         → (m : ℕ) (more : List ℕ) (e next : Config) → after m more c ≡ Some e → taking e q ≡ Some next → ⊥ }
-    ensures steps { (missing : Construct → Bool) (design : Design) (script : List Command) → SoundDesign missing design
+    ensures steps { (design : Design) (script : List Command) → SoundDesign design
         → (n : ℕ) (choices : List ℕ) (c : Config) → after n choices (start design script) ≡ Some c → (q : ℕ) → HasEnded c q
         → (m : ℕ) (more : List ℕ) (e : Config) (rest : List ℕ) → after m more c ≡ Some e → e.processes.stack ≡ q ∷ rest → ⊥ }
 {}

@@ -1,6 +1,5 @@
 //! A guard that was left.
 ghost use Rattle.std.specs.Prelude.{◌≡◌, ℕ, Bool, List, ◌∷◌, ◌++◌, Some};
-ghost use Rattle.laws_unwinding.specs.ModelTree.declared.constructs.Construct.{Construct};
 ghost use Rattle.laws_unwinding.specs.FlatDesign.Sound.{SoundDesign};
 ghost use Rattle.laws_unwinding.specs.FlatDesign.declared.design.Design.{Design};
 ghost use Rattle.laws_unwinding.specs.SimModel.Residual.{Mark, leave, begin};
@@ -11,7 +10,7 @@ ghost use Rattle.laws_unwinding.specs.SimModel.declared.plain.Command.{Command};
 /// In every run of a sound design a guard that was left, at its end or by a return, has its unwind block begun neither before
 /// nor ever after, by whichever instance (IEEE 1666-2011, 5.6.6).
 pub fn a_guard_that_was_left_never_runs_its_unwind_block()
-    ensures { (missing : Construct → Bool) (design : Design) (script : List Command) → SoundDesign missing design
+    ensures { (design : Design) (script : List Command) → SoundDesign design
         → (n : ℕ) (choices : List ℕ) (c : Config) → after n choices (start design script) ≡ Some c
         → (p g : ℕ) (before behind : List Mark) → c.trace.marks ≡ before ++ leave p g ∷ behind
         → (m : ℕ) (more : List ℕ) (e : Config) → after m more c ≡ Some e

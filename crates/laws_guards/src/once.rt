@@ -1,6 +1,5 @@
 //! Unwind blocks run exactly once.
 ghost use Rattle.std.specs.Prelude.{◌≡◌, ℕ, Bool, true, List, [], ◌∷◌, Some};
-ghost use Rattle.laws_unwinding.specs.ModelTree.declared.constructs.Construct.{Construct};
 ghost use Rattle.laws_unwinding.specs.FlatDesign.Sound.{SoundDesign};
 ghost use Rattle.laws_unwinding.specs.FlatDesign.declared.design.Design.{Design};
 ghost use Rattle.laws_unwinding.specs.SimModel.Residual.{Residual, goal};
@@ -18,20 +17,20 @@ ghost use Rattle.laws_guards.specs.Once.{guards_below, innermost_first, ends_of,
 /// the goal of a reset, and in the handler of an exception. Of a kill and of a reset the guards to be unwound are all that
 /// the instance has entered and not left (`all`); of an exception those inside its try (IEEE 1666-2011, 5.6.6).
 pub fn unwind_blocks_run_once()
-    ensures before { (missing : Construct → Bool) (design : Design) (script : List Command) → SoundDesign missing design
+    ensures before { (design : Design) (script : List Command) → SoundDesign design
         → (n : ℕ) (choices : List ℕ) (c d : Config) → after n choices (start design script) ≡ Some c
         → (q : ℕ) (gs : List ℕ) → Begins c d q gs → ends_of gs d.trace.marks ≡ [] }
-    ensures after { (missing : Construct → Bool) (design : Design) (script : List Command) → SoundDesign missing design
+    ensures after { (design : Design) (script : List Command) → SoundDesign design
         → (n : ℕ) (choices : List ℕ) (c d : Config) → after n choices (start design script) ≡ Some c
         → (q : ℕ) (gs : List ℕ) → Begins c d q gs
         → (m : ℕ) (more : List ℕ) (e : Config) → after m more d ≡ Some e → HasNoGoal e q
         → ends_of gs e.trace.marks ≡ once_each q (innermost_first gs) }
-    ensures killed { (missing : Construct → Bool) (design : Design) (script : List Command) → SoundDesign missing design
+    ensures killed { (design : Design) (script : List Command) → SoundDesign design
         → (n : ℕ) (choices : List ℕ) (c d : Config) → after n choices (start design script) ≡ Some c
         → (q : ℕ) (gs : List ℕ) → Begins c d q gs
         → (m : ℕ) (more : List ℕ) (e : Config) (i : Instance) → after m more d ≡ Some e → instance_at e q ≡ Some i → i.ended ≡ true
         → ends_of gs e.trace.marks ≡ once_each q (innermost_first gs) }
-    ensures all { (missing : Construct → Bool) (design : Design) (script : List Command) → SoundDesign missing design
+    ensures all { (design : Design) (script : List Command) → SoundDesign design
         → (n : ℕ) (choices : List ℕ) (d : Config) → after n choices (start design script) ≡ Some d
         → (q : ℕ) (i : Instance) (r : Residual) (k : Goal) → instance_at d q ≡ Some i → i.residual ≡ goal r k
         → guards_below i.residual ≡ open_guards q d.trace.marks }
@@ -40,11 +39,11 @@ pub fn unwind_blocks_run_once()
 /// Where another instance p made the call that unwinds q, all this is done before the next step of p: in the first
 /// configuration in which p is on top of the stack again, the unwinding is over.
 pub fn unwinding_ends_before_the_caller_goes_on()
-    ensures over { (missing : Construct → Bool) (design : Design) (script : List Command) → SoundDesign missing design
+    ensures over { (design : Design) (script : List Command) → SoundDesign design
         → (n : ℕ) (choices : List ℕ) (c d : Config) → after n choices (start design script) ≡ Some c
         → (p q : ℕ) (rest gs : List ℕ) → Begins c d q gs → d.processes.stack ≡ q ∷ p ∷ rest
         → (m : ℕ) (more : List ℕ) (e : Config) → IsFirst (IsOnTop p) m more d e → HasNoGoal e q }
-    ensures done { (missing : Construct → Bool) (design : Design) (script : List Command) → SoundDesign missing design
+    ensures done { (design : Design) (script : List Command) → SoundDesign design
         → (n : ℕ) (choices : List ℕ) (c d : Config) → after n choices (start design script) ≡ Some c
         → (p q : ℕ) (rest gs : List ℕ) → Begins c d q gs → d.processes.stack ≡ q ∷ p ∷ rest
         → (m : ℕ) (more : List ℕ) (e : Config) → IsFirst (IsOnTop p) m more d e

@@ -4,7 +4,6 @@ use Rattle.std.specs.Prelude.{Result, Ok, is_some}
 use Rattle.std.proofs.lemmas.Option.{none-some}
 use Rattle.laws_unwinding.specs.LogicValues.declared.kinds.Value.{Value}
 use Rattle.laws_unwinding.specs.LogicValues.declared.kinds.Value.TheVariants as value
-use Rattle.laws_unwinding.specs.ModelTree.declared.constructs.Construct.{Construct}
 use Rattle.laws_unwinding.specs.PayloadPool.declared.payload.Payload.{Payload}
 use Rattle.laws_unwinding.specs.TransportPhases.History.{Entry, Call, Return, BCall, BReturn, broken}
 use Rattle.laws_unwinding.specs.TransportPhases.declared.phases.Rule.{Rule}
@@ -135,9 +134,9 @@ module _ (c x : Config) (same : x.transactions.hops ≡ c.transactions.hops) (ho
 
 -- ---- calls
 
-module _ (missing : Construct → Bool) (design : Design) (script : List Command) (sound : SoundDesign missing design) (steps : ℕ) (choices : List ℕ) (c : Config) (reached : after steps choices (start design script) ≡ Some c) where
+module _ (design : Design) (script : List Command) (sound : SoundDesign design) (steps : ℕ) (choices : List ℕ) (c : Config) (reached : after steps choices (start design script) ≡ Some c) where
   known : Protocol (parts c)
-  known = protocol-after missing design script sound steps choices c reached
+  known = protocol-after design script sound steps choices c reached
 
   hop_in : (hop : ℕ) (h : Hop) → slice_get c.design.hops hop ≡ Some h → IsHop c.transactions.hops hop
   hop_in hop h at = known.many hop h at

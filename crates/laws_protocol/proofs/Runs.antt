@@ -1,7 +1,6 @@
 -- In every run of a sound design each history is lawful.
 use Rattle.std.proofs.Common.{◌≡◌, ◌<◌, ◌⊎◌, ℕ, zero, suc, Bool, List, [], ◌∷◌, slice_get, get_or, map, replicate, length, unwrap_or, Contains, Option, Some, None, option_map, refl, sym, ap, ◌∙◌, subst, inl, inr, arith}
 use Rattle.std.proofs.lemmas.Option.{none-some, same_Some, slice_get-map}
-use Rattle.laws_unwinding.specs.ModelTree.declared.constructs.Construct.{Construct}
 use Rattle.laws_unwinding.specs.TransportPhases.declared.kept.Open.TheVariants.{Nothing}
 use Rattle.laws_unwinding.specs.TransportPhases.History.{Entry, is_open}
 use Rattle.laws_unwinding.specs.TransportPhases.Lawful.{Lawful}
@@ -64,10 +63,10 @@ start-protocol d script = record {
   kinds = λ p i at. first_kinds d (slice_get d.processes p) i (sym (slice_get-map (first_instance d) d.processes p) ∙ at);
 }
 
-module _ (missing : Construct → Bool) (d : Design) (script : List Command) (sound : SoundDesign missing d) (n : ℕ) (choices : List ℕ) (last : Config) (reached : after n choices (start d script) ≡ Some last) where
+module _ (d : Design) (script : List Command) (sound : SoundDesign d) (n : ℕ) (choices : List ℕ) (last : Config) (reached : after n choices (start d script) ≡ Some last) where
   whole_after : Whole (parts last)
   whole_after =
-      kept-after missing Whole whole-kept whole-settled whole-between whole-taken n choices (start d script) last (start-sound missing d script sound)
+      kept-after Whole whole-kept whole-settled whole-between whole-taken n choices (start d script) last (start-sound d script sound)
       (record { marked = start-marked d script; protocol = start-protocol d script }) reached
 
   pub protocol-after : Protocol (parts last)

@@ -1,6 +1,5 @@
 //! Faults of the base protocol, in every run of a sound design.
 ghost use Rattle.std.specs.Prelude.{◌≡◌, ℕ, Bool, List, Some};
-ghost use Rattle.laws_unwinding.specs.ModelTree.declared.constructs.Construct.{Construct};
 ghost use Rattle.laws_unwinding.specs.TransportPhases.History.{Entry};
 ghost use Rattle.laws_unwinding.specs.FlatDesign.Sound.{SoundDesign};
 ghost use Rattle.laws_unwinding.specs.FlatDesign.declared.design.Design.{Design};
@@ -16,10 +15,10 @@ ghost use Rattle.laws_protocol.specs.Added.{WouldAdd, IsJudged, WouldAddFreed, I
 /// of a call whose payload is freed it reads as incomplete, and the rule on the response is then the fault of a freed payload
 /// (`freed`).
 pub fn faults_of_the_protocol_are_exact()
-    ensures live { (missing : Construct → Bool) (design : Design) (script : List Command) → SoundDesign missing design
+    ensures live { (design : Design) (script : List Command) → SoundDesign design
         → (steps : ℕ) (choices : List ℕ) (c : Config) → after steps choices (start design script) ≡ Some c
         → (hop t : ℕ) (e : Entry) → WouldAdd c hop t e → IsJudged c hop t e (step c) }
-    ensures freed { (missing : Construct → Bool) (design : Design) (script : List Command) → SoundDesign missing design
+    ensures freed { (design : Design) (script : List Command) → SoundDesign design
         → (steps : ℕ) (choices : List ℕ) (c : Config) → after steps choices (start design script) ≡ Some c
         → (hop t : ℕ) (e : Entry) → WouldAddFreed c hop t e → IsJudgedFreed c hop t e (step c) }
 {}

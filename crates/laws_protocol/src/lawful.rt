@@ -1,6 +1,5 @@
 //! The histories of hops, in every run of a sound design.
 ghost use Rattle.std.specs.Prelude.{◌≡◌, ◌⊎◌, ℕ, Bool, List, Contains, Some};
-ghost use Rattle.laws_unwinding.specs.ModelTree.declared.constructs.Construct.{Construct};
 ghost use Rattle.laws_unwinding.specs.TransportPhases.declared.kept.Open.TheVariants.{Nothing};
 ghost use Rattle.laws_unwinding.specs.TransportPhases.History.{is_open};
 ghost use Rattle.laws_unwinding.specs.TransportPhases.Lawful.{Lawful};
@@ -18,7 +17,7 @@ ghost use Rattle.laws_protocol.specs.Calls.{IsInCall, call_of};
 /// of each hop is lawful: what was called, returned and left on it forms the words of the base protocol, transaction by
 /// transaction (IEEE 1666-2011, 15.2).
 pub fn histories_are_lawful()
-    ensures { (missing : Construct → Bool) (design : Design) (script : List Command) → SoundDesign missing design
+    ensures { (design : Design) (script : List Command) → SoundDesign design
         → (steps : ℕ) (choices : List ℕ) (last : Config) → after steps choices (start design script) ≡ Some last
         → (hop : ℕ) → Lawful (history last hop) }
 {}
@@ -26,11 +25,11 @@ pub fn histories_are_lawful()
 /// In every run of a sound design a call is open on a hop where an instance is in it (`held`), and nowhere else (`owned`): a
 /// call that a kill, a reset or an exception has left is open no more, in the same step (IEEE 1666-2011, 5.6.6 and 15.2).
 pub fn open_calls_are_of_instances()
-    ensures held { (missing : Construct → Bool) (design : Design) (script : List Command) → SoundDesign missing design
+    ensures held { (design : Design) (script : List Command) → SoundDesign design
         → (steps : ℕ) (choices : List ℕ) (last : Config) → after steps choices (start design script) ≡ Some last
         → (p : ℕ) (i : Instance) (v : Via) → instance_at last p ≡ Some i → Contains (left_by_unw i.residual) v
         → is_open (history last v.hop) v.payload ≡ call_of v.blocking }
-    ensures owned { (missing : Construct → Bool) (design : Design) (script : List Command) → SoundDesign missing design
+    ensures owned { (design : Design) (script : List Command) → SoundDesign design
         → (steps : ℕ) (choices : List ℕ) (last : Config) → after steps choices (start design script) ≡ Some last
         → (hop t : ℕ) → (is_open (history last hop) t ≡ Nothing) ⊎ IsInCall last hop t }
 {}

@@ -10,8 +10,8 @@ use Rattle.exec_events.proofs.Numbered.{sound_numbers}
 use Rattle.laws_reached.specs.Reached.{IsReached}
 use Rattle.laws_reached.proofs.Reaching.{design-sound}
 
-pub kernel-design : (k : Kernel) (c : Config) → StandsFor k c → IsReached c → SoundDesign (λ x. false) (whole_design k)
-kernel-design k c h r = subst (λ d. SoundDesign (λ x. false) d) h.design (design-sound c r)
+pub kernel-design : (k : Kernel) (c : Config) → StandsFor k c → IsReached c → SoundDesign (whole_design k)
+kernel-design k c h r = subst (λ d. SoundDesign d) h.design (design-sound c r)
 
 pub kernel-names : (k : Kernel) (c : Config) → StandsFor k c → IsReached c → NamesFit (whole_design k)
 kernel-names k c h r = let s = kernel-design k c h r in record { names = s.names; ports = s.ports }

@@ -1,6 +1,5 @@
 -- A run goes on by a step or a taking; and its design is the one that it began with.
-use Rattle.std.proofs.Common.{◌≡◌, ◌+◌, ◌++◌, ℕ, Bool, false, List, [], ◌∷◌, Some, refl, sym, ap, ◌∙◌}
-use Rattle.model_tree.specs.declared.constructs.Construct.{Construct}
+use Rattle.std.proofs.Common.{◌≡◌, ◌+◌, ◌++◌, ℕ, List, [], ◌∷◌, Some, refl, sym, ap, ◌∙◌}
 use Rattle.flat_design.specs.Sound.{SoundDesign}
 use Rattle.flat_design.specs.declared.design.Design.{Design}
 use Rattle.laws_unwinding.specs.SimModel.Configuration.{Config, arena, start}
@@ -19,12 +18,9 @@ use Rattle.laws_unwinding.proofs.Parts.{IsKept, IsKeptBetween, IsKeptByTakings}
 use Rattle.laws_unwinding.proofs.KeptRuns.{sound-run, kept-after}
 use Rattle.laws_reached.specs.Reached.{IsReached, GoesOn}
 
-abbrev nothing_missing : Construct → Bool
-nothing_missing x = false
-
 -- ---- from one configuration to the next
 
-abbrev pub reached-start : (design : Design) (script : List Command) → SoundDesign (λ x. false) design → IsReached (start design script)
+abbrev pub reached-start : (design : Design) (script : List Command) → SoundDesign design → IsReached (start design script)
 reached-start design script sound = record { design = design; script = script; steps = 0; choices = []; sound = sound; is_run = refl }
 
 abbrev pub reached-step : (c d : Config) → IsReached c → step c ≡ went d → IsReached d
@@ -85,15 +81,15 @@ module _ (d : Design) where
 module _ (c : Config) (r : IsReached c) where
   pub design-is : c.design ≡ r.design
   design-is =
-      kept-after nothing_missing (λ x. x.design ≡ r.design) (kept_moves r.design) (λ p x i at h. h) (kept_between r.design) (kept_by_takings r.design) r.steps r.choices
-      (start r.design r.script) c (start-sound nothing_missing r.design r.script r.sound) refl r.is_run
+      kept-after (λ x. x.design ≡ r.design) (kept_moves r.design) (λ p x i at h. h) (kept_between r.design) (kept_by_takings r.design) r.steps r.choices
+      (start r.design r.script) c (start-sound r.design r.script r.sound) refl r.is_run
 
   -- ---- what other laws say of each configuration of a run
 
-  pub sound-reached : Sound nothing_missing c
-  sound-reached = sound-run nothing_missing r.design r.script r.sound r.steps r.choices c r.is_run
+  pub sound-reached : Sound c
+  sound-reached = sound-run r.design r.script r.sound r.steps r.choices c r.is_run
 
-  pub design-sound : SoundDesign (λ x. false) c.design
+  pub design-sound : SoundDesign c.design
   design-sound = sound-reached.0
 
   pub good-reached : Good c
@@ -103,7 +99,7 @@ module _ (c : Config) (r : IsReached c) where
   clean-reached = clean-after r.design r.script r.steps r.choices c r.is_run
 
   pub goals-reached : CleanGoals (arena c) c.processes
-  goals-reached = goals-after nothing_missing r.design r.script r.sound r.steps r.choices c r.is_run
+  goals-reached = goals-after r.design r.script r.sound r.steps r.choices c r.is_run
 
 -- ---- from one configuration to the next the design is the same
 

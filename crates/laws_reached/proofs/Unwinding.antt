@@ -27,7 +27,7 @@ use Rattle.laws_reached.proofs.Standing.{IsKeptFor, kept-for, off-stack}
 
 -- ---- a throw stands in no unwind block, nor is it reached from one
 
-plain_throws : (d : Design) (home n e : ℕ) → SoundDesign (λ x. false) d → OfUnwindBlock d home n → statement_at (code_of d) n ≡ Some (code.throw e) → ⊥
+plain_throws : (d : Design) (home n e : ℕ) → SoundDesign d → OfUnwindBlock d home n → statement_at (code_of d) n ≡ Some (code.throw e) → ⊥
 plain_throws d home n e sound of there =
     let b = of.is_block in
     (sound.unwinding b.function b.body home b.block of.unwind (code.throw e) b.found b.home_of b.stands (of.reached (code.throw e) there)).1
@@ -37,7 +37,7 @@ goal_or_none true not = absurd (not refl)
 goal_or_none false not = refl
 
 -- so the instance in whose body it comes next has no goal
-throws_goalless : (d : Design) (home : ℕ) (r : Residual) (n e : ℕ) → SoundDesign (λ x. false) d → IsStanding d home r → next_of (settle (code_of d) r) ≡ residual.statement n
+throws_goalless : (d : Design) (home : ℕ) (r : Residual) (n e : ℕ) → SoundDesign d → IsStanding d home r → next_of (settle (code_of d) r) ≡ residual.statement n
     → statement_at (code_of d) n ≡ Some (code.throw e) → has_goal r ≡ false
 throws_goalless d home r n e sound stands is there =
     let place = next-standing d home (settle (code_of d) r) n (settle-standing d home r stands) is in

@@ -12,7 +12,7 @@ pub record IsReached (c : Config) : Type 0 where
   pub script : List Command
   pub steps : ℕ
   pub choices : List ℕ
-  pub sound : SoundDesign (λ x. false) design
+  pub sound : SoundDesign design
   pub is_run : after steps choices (start design script) ≡ Some c
 
 -- one step more, with these choices, comes to d

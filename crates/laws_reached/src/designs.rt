@@ -19,7 +19,7 @@ pub fn designs_stay()
 
 /// The design of a kernel in a run is sound: its names stand for what is there, and its events, if they are few, have numbers.
 pub fn reached_designs_are_sound()
-    ensures sound { (k : Kernel) (c : Config) → StandsFor k c → IsReached c → SoundDesign (λ x. false) (whole_design k) }
+    ensures sound { (k : Kernel) (c : Config) → StandsFor k c → IsReached c → SoundDesign (whole_design k) }
     ensures names { (k : Kernel) (c : Config) → StandsFor k c → IsReached c → NamesFit (whole_design k) }
     ensures numbers { (k : Kernel) (c : Config) → StandsFor k c → IsReached c → k.design.events < 2 ^ 32 - 1 → NumbersEvents (whole_design k) }
 {}

@@ -9,7 +9,7 @@ ghost use Rattle.laws_reached.specs.Reached.{IsReached, GoesOn};
 
 /// A run of a sound design comes to the configuration before the first command by no step.
 pub fn runs_begin()
-    ensures { (design : Design) (script : List Command) → SoundDesign (λ x. false) design
+    ensures { (design : Design) (script : List Command) → SoundDesign design
         → (r : IsReached (start design script)) × (r.design ≡ design) × (r.script ≡ script) × (r.steps ≡ 0) × (r.choices ≡ []) }
 {}
 

@@ -3,7 +3,6 @@ use Rattle.std.proofs.Common.{◌≡◌, ◌+◌, ℕ, zero, suc, Bool, List, []
 use Rattle.std.specs.Prelude.{Result, Ok, Err, IfOk}
 use Rattle.std.proofs.lemmas.Option.{none-some, same_Some}
 use Rattle.laws_unwinding.specs.LogicValues.declared.kinds.Value.{Value}
-use Rattle.laws_unwinding.specs.ModelTree.declared.constructs.Construct.{Construct}
 use Rattle.laws_unwinding.specs.FlatDesign.Code as code
 use Rattle.laws_unwinding.specs.FlatDesign.Code.{Term, ArgumentTerm}
 use Rattle.laws_unwinding.specs.FlatDesign.ValueTypes.{in_expressions}
@@ -123,9 +122,9 @@ parameter-final k ls ts i t x v h at fits = let p = parameter-at k ls ts i t h a
 
 -- ---- the values of expressions and arguments
 
-module _ (missing : Construct → Bool) (h : Here) (sound : SoundDesign missing h.config.design) (locals : List Local) (place : PlaceFits locals h) where
+module _ (h : Here) (sound : SoundDesign h.config.design) (locals : List Local) (place : PlaceFits locals h) where
   pub cut-value : (e : Term) (t : ValueType) → Gives (context_of locals h) e t → IfOk (val h e) (λ v. IsOf t (cut_to t v))
-  cut-value e t g = weaker (val h e) (term-type missing h sound locals place e g.0 g.1)
+  cut-value e t g = weaker (val h e) (term-type h sound locals place e g.0 g.1)
     where
       weaker : (m : Result Value RunFault) → IfOk m (IsOf g.0) → IfOk m (λ v. IsOf t (cut_to t v))
       weaker (Ok v) is = cut-type t g.0 v g.2 is
@@ -133,7 +132,7 @@ module _ (missing : Construct → Bool) (h : Here) (sound : SoundDesign missing 
 
   argument : (q : Local) (x : ArgumentTerm) → IsArgument (context_of locals h) q x → IfOk (argument_value h x) (λ v. IsOf q.value_type (cut_to q.value_type v))
   argument q (code.by_value e) is = cut-value e q.value_type is.1
-  argument q (code.inout n) is = weaker (argument_value h (code.inout n)) (variable-type missing h sound locals place n q.value_type is.1)
+  argument q (code.inout n) is = weaker (argument_value h (code.inout n)) (variable-type h sound locals place n q.value_type is.1)
     where
       weaker : (m : Result Value RunFault) → IfOk m (IsOf q.value_type) → IfOk m (λ v. IsOf q.value_type (cut_to q.value_type v))
       weaker (Ok v) is = cut-same q.value_type v is

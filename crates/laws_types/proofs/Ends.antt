@@ -5,7 +5,6 @@ use Rattle.std.proofs.lemmas.Option.{same_Some}
 use Rattle.laws_unwinding.specs.LogicValues.declared.kinds.Value.{Value}
 use Rattle.laws_unwinding.specs.LogicValues.declared.kinds.Value.TheVariants as value
 use Rattle.laws_unwinding.specs.EventCore.declared.event.Ev.TheVariants as ev
-use Rattle.laws_unwinding.specs.ModelTree.declared.constructs.Construct.{Construct}
 use Rattle.laws_unwinding.specs.ModelTree.declared.items.ProcessKind.{ProcessKind}
 use Rattle.laws_unwinding.specs.ModelTree.declared.items.ProcessKind.TheVariants as process
 use Rattle.laws_unwinding.specs.TransportPhases.History.{Entry, Return, BReturn, broken}
@@ -50,7 +49,7 @@ use Rattle.laws_types.proofs.Place.{StatementFits, left-here, inside-fits}
 
 -- ---- a call that ends
 
-module _ (missing : Construct → Bool) (c : Config) (p : ℕ) (i : Instance) (at : instance_at c p ≡ Some i) (r : Residual) (is : i.residual ≡ r) (sound : SoundDesign missing c.design) (types : TypesHaveValues c.design) (k : Fits c.design c) (tight : IsTight r)
+module _ (c : Config) (p : ℕ) (i : Instance) (at : instance_at c p ≡ Some i) (r : Residual) (is : i.residual ≡ r) (sound : SoundDesign c.design) (types : TypesHaveValues c.design) (k : Fits c.design c) (tight : IsTight r)
     (x : Frame) (next : next_of r ≡ leaves x) where
   abbrev d : Design
   d = c.design
@@ -64,7 +63,7 @@ module _ (missing : Construct → Bool) (c : Config) (p : ℕ) (i : Instance) (a
   call_at : FrameFits d (inner None (put r skip)) (place_of d i.home (put r skip)) x
   call_at = leaves-at d x None i.home r tight left next
 
-  module _ (s : ℕ) (stands : StatementFits missing (passes c p r) p i (put r skip) s) where
+  module _ (s : ℕ) (stands : StatementFits (passes c p r) p i (put r skip) s) where
     abbrev f : ℕ
     f = stands.place.number
 
@@ -163,7 +162,7 @@ module _ (missing : Construct → Bool) (c : Config) (p : ℕ) (i : Instance) (a
   left_at : (call : Option ℕ) → CallFits d (inner None (put r skip)) call x.body call_at.body → IfOk (handed_back (passes c p r) p (here (passes c p r) p i (put r skip)) x (calling_statement c call)) (Fits d)
   left_at None fits = past
   left_at (Some s) fits =
-      handed_at s (inside-fits missing (passes c p r) p i (put r skip) s sound past (past-fits d None i.home r left) fits.0) (statement_at (code_of d) s) refl fits.1
+      handed_at s (inside-fits (passes c p r) p i (put r skip) s sound past (past-fits d None i.home r left) fits.0) (statement_at (code_of d) s) refl fits.1
 
   pub leaves-fits : IfOk (leaves_call c p i r x) (Fits d)
   leaves-fits = left_at x.call call_at.call_fits

@@ -15,7 +15,6 @@ use Rattle.laws_unwinding.specs.FifoSync.Locks.{answer, is_unlocked, is_owner, l
 use Rattle.laws_unwinding.specs.FifoSync.Fifos.{Queued, free, readable, after_read, after_write}
 use Rattle.laws_unwinding.specs.QuantumKeeper.declared.keeper.Keeper.{Keeper}
 use Rattle.laws_unwinding.specs.PayloadPool.declared.payload.Payload.{Payload}
-use Rattle.laws_unwinding.specs.ModelTree.declared.constructs.Construct.{Construct}
 use Rattle.laws_unwinding.specs.ModelTree.declared.statements.Control.{Control}
 use Rattle.laws_unwinding.specs.FlatDesign.Code as code
 use Rattle.laws_unwinding.specs.FlatDesign.Code.{Term, DestinationTerm, AwaitTerm, ArgumentTerm, SpawnTerm, ChannelTerm, Statement, block_at, statement_at, body_at}
@@ -84,7 +83,7 @@ use Rattle.laws_types.proofs.Arguments.{OfFirst, handler-fits, store-type, follo
 use Rattle.laws_types.proofs.Controls.{control-fits, throw-fits, thrown-fits}
 use Rattle.laws_types.proofs.Place.{InPlace, StatementFits, left-here, statement-fits}
 
-module _ (missing : Construct → Bool) (c : Config) (p : ℕ) (i : Instance) (at : instance_at c p ≡ Some i) (r : Residual) (is : i.residual ≡ r) (sound : SoundDesign missing c.design) (types : TypesHaveValues c.design) (k : Fits c.design c)
+module _ (c : Config) (p : ℕ) (i : Instance) (at : instance_at c p ≡ Some i) (r : Residual) (is : i.residual ≡ r) (sound : SoundDesign c.design) (types : TypesHaveValues c.design) (k : Fits c.design c)
     (standing : IsStanding c.design i.home r) (n : ℕ) (next : next_of r ≡ statement n) where
   abbrev d : Design
   d = c.design
@@ -98,8 +97,8 @@ module _ (missing : Construct → Bool) (c : Config) (p : ℕ) (i : Instance) (a
   left : LeftFits d None i.home r
   left = left-here c p i r k at is
 
-  stands : StatementFits missing c p i r n
-  stands = statement-fits missing c p i r n sound k left next
+  stands : StatementFits c p i r n
+  stands = statement-fits c p i r n sound k left next
 
   module _ (place : InPlace c p i r) (inside : IsInside d (Some place.number) n) where
     abbrev f : ℕ
@@ -131,7 +130,7 @@ module _ (missing : Construct → Bool) (c : Config) (p : ℕ) (i : Instance) (a
     -- ---- values that are stored
 
     cut : (e : Term) (t : ValueType) → Gives ctx e t → IfOk (val h e) (λ v. IsOf t (cut_to t v))
-    cut e t g = cut-value missing h sound b.locals place.place_fits e t g
+    cut e t g = cut-value h sound b.locals place.place_fits e t g
 
     name-kept : (e : Config) (m : NameUse) (t : ValueType) (v : Value) → variable_type ctx m ≡ Some t → IsOf t v → G e → G (set_name e p h m v)
     name-kept e m t v is_ typed g = name-in d p f b place.found h refl e m t v is_ typed g
@@ -225,7 +224,7 @@ module _ (missing : Construct → Bool) (c : Config) (p : ℕ) (i : Instance) (a
         let fh = typed.1 in
         if-is (Fits d) (Pairwise LocalFits (parameters_of cb)) (argument_values h (locals_in (body_at (code_of d) g)) 0 arguments) _
         (subst (λ m. IfOk (argument_values h (locals_in m) 0 arguments) (Pairwise LocalFits (parameters_of cb))) (sym fh.found)
-        (arguments-fit missing h sound b.locals place.place_fits cb.locals 0 (parameters_of cb) arguments (follows cb.locals cb.parameters) typed.2))
+        (arguments-fit h sound b.locals place.place_fits cb.locals 0 (parameters_of cb) arguments (follows cb.locals cb.parameters) typed.2))
         (λ vs fits. if-any (Fits d) (may_enter r) _ (λ ok.
         new_fits (entered (code_of d) g vs (Some n) None)
         (entered-fits d (Some f) home g cb vs (Some n) None fh.found (function_home g cb fh) tt (types.bodies g cb fh.found) fits (inside, subst (λ s. Calls s g cb) (sym found) refl))))
@@ -295,7 +294,7 @@ module _ (missing : Construct → Bool) (c : Config) (p : ℕ) (i : Instance) (a
     -- ---- channels
 
     channel-kept : (t : ChannelTerm) (j : Option ℕ) (wanted : LeadsTo) → UsesAs ctx t wanted → IfOk (channel_in h t j) (OffersOf d wanted)
-    channel-kept t j wanted uses = channel-offers missing d sound (denotes h t.channel_name) j wanted (sound.names h.home t.channel_name) uses.0
+    channel-kept t j wanted uses = channel-offers d sound (denotes h t.channel_name) j wanted (sound.names h.home t.channel_name) uses.0
 
     unless_fits : (m : ℕ) (s : Signal) (v : Value) (w : Option WriterConflict) → ((x : SignalPart) → slice_get d.signals m ≡ Some x → SignalFits x (written (Some p) v s)) → IfOk (written_unless (passes c p r) m s v p w) (Fits d)
     unless_fits m s v None fits = signal-fits d (passes c p r) m (written (Some p) v s) fits passed.0
@@ -564,7 +563,7 @@ module _ (missing : Construct → Bool) (c : Config) (p : ℕ) (i : Instance) (a
         let fh = typed.1 in
         if-is (Fits d) (Pairwise LocalFits (parameters_of cb)) (first_arguments h (locals_in (body_at (code_of d) x.function)) 0 x.arguments) _
         (subst (λ m. IfOk (first_arguments h (locals_in m) 0 x.arguments) (Pairwise LocalFits (parameters_of cb))) (sym fh.found)
-        (first-arguments missing h sound b.locals place.place_fits cb.locals 0 (parameters_of cb) x.arguments (follows cb.locals cb.parameters) typed.2))
+        (first-arguments h sound b.locals place.place_fits cb.locals 0 (parameters_of cb) x.arguments (follows cb.locals cb.parameters) typed.2))
         (λ vs fits. if-any (Fits d) (may_spawn c) _ (λ ok.
         let new = new_instance (passes c p r) h x vs in
         let new_one : InstanceFits d new = record { body = cb; found = fh.found; home_of = function_home x.function cb fh; arguments = fits; left = tt } in
@@ -587,8 +586,8 @@ module _ (missing : Construct → Bool) (c : Config) (p : ℕ) (i : Instance) (a
     module_value (denoted.Socket hop forward) t e typed = absurd (none-some t e)
 
     named_value : (m : NameUse) (t : ValueType) → variable_type ctx m ≡ Some t → IsOf t (value_named h m)
-    named_value (name_use.Local j) t e = variable-type missing h sound b.locals place.place_fits (name_use.Local j) t e
-    named_value (name_use.Declared j) t e = module_value (denotes h j) t e (variable-type missing h sound b.locals place.place_fits (name_use.Declared j) t e)
+    named_value (name_use.Local j) t e = variable-type h sound b.locals place.place_fits (name_use.Local j) t e
+    named_value (name_use.Declared j) t e = module_value (denotes h j) t e (variable-type h sound b.locals place.place_fits (name_use.Declared j) t e)
 
     -- a handler that is entered, where the call breaks no rule
     handler_entered : (o : Option ℕ) (hop : ℕ) (e : Entry) (t : ℕ) (args : List Value) (via : Via) (rule : Option Rule) → ((g : ℕ) → o ≡ Some g → LeftFits d (Some f) home (entered (code_of d) g args (Some n) (Some via)))

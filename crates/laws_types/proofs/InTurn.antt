@@ -2,7 +2,6 @@
 use Rattle.std.proofs.Common.{◌≡◌, ℕ, Bool, List, [], ◌∷◌, Some, None, refl, sym, ap, ◌∙◌, subst}
 use Rattle.std.specs.Prelude.{Result, Ok, Err, IfOk}
 use Rattle.std.proofs.lemmas.Option.{same_Some}
-use Rattle.laws_unwinding.specs.ModelTree.declared.constructs.Construct.{Construct}
 use Rattle.laws_unwinding.specs.FlatDesign.Code.{Term, Statement, statement_at}
 use Rattle.laws_unwinding.specs.FlatDesign.Typed.{EachOf}
 use Rattle.laws_unwinding.specs.FlatDesign.Sound.{SoundDesign}
@@ -42,7 +41,7 @@ settled-fits c p i at k =
     residual-fits c.design c p (settle (arena c) i.residual)
     (λ j there h. settle-fits c.design None j.home i.residual (subst (LeftFits c.design None j.home) (ap (λ (x : Instance). x.residual) (same_Some j i (sym there ∙ at))) h.left)) k
 
-module _ (missing : Construct → Bool) (c : Config) (p : ℕ) (i : Instance) (at : instance_at c p ≡ Some i) (sound : SoundDesign missing c.design) (k : Fits c.design c) where
+module _ (c : Config) (p : ℕ) (i : Instance) (at : instance_at c p ≡ Some i) (sound : SoundDesign c.design) (k : Fits c.design c) where
   abbrev r : Residual
   r = settle (arena c) i.residual
 
@@ -53,25 +52,25 @@ module _ (missing : Construct → Bool) (c : Config) (p : ℕ) (i : Instance) (a
   meets-types n s next found =
       let k2 = settled-fits c p i at k in
       let at2 = change-here c.processes.instances p (λ j. record j { residual = r }) i at in
-      let stands = statement-fits missing later p (record i { residual = r }) r n sound k2 (left-here later p (record i { residual = r }) r k2 at2 refl) next in
+      let stands = statement-fits later p (record i { residual = r }) r n sound k2 (left-here later p (record i { residual = r }) r k2 at2 refl) next in
       each (here later p (record i { residual = r }) r) stands (terms_of s) (terms-typed (context_of stands.place.body.locals (here later p (record i { residual = r }) r)) (code_of c.design) stands.place.body.module_place stands.place.body.answer s (stands.typed s found))
     where
-      each : (h : Here) (stands : StatementFits missing later p (record i { residual = r }) r n) (es : List Term) → EachOf (IsSome (context_of stands.place.body.locals (here later p (record i { residual = r }) r))) es
+      each : (h : Here) (stands : StatementFits later p (record i { residual = r }) r n) (es : List Term) → EachOf (IsSome (context_of stands.place.body.locals (here later p (record i { residual = r }) r))) es
           → EachOf (OperandsFit (here later p (record i { residual = r }) r)) es
       each h stands [] e = tt
-      each h stands (x ∷ xs) e = (operands-fit missing (here later p (record i { residual = r }) r) sound stands.place.body.locals stands.place.place_fits x e.0.0 e.0.1, each h stands xs e.1)
+      each h stands (x ∷ xs) e = (operands-fit (here later p (record i { residual = r }) r) sound stands.place.body.locals stands.place.place_fits x e.0.0 e.0.1, each h stands xs e.1)
 
   pub next-typed : NextIsTyped c p i
   next-typed n s next found =
       let k2 = settled-fits c p i at k in
       let at2 = change-here c.processes.instances p (λ j. record j { residual = r }) i at in
-      let stands = statement-fits missing later p (record i { residual = r }) r n sound k2 (left-here later p (record i { residual = r }) r k2 at2 refl) next in
+      let stands = statement-fits later p (record i { residual = r }) r n sound k2 (left-here later p (record i { residual = r }) r k2 at2 refl) next in
       record { body = stands.place.body; home_of = stands.place.home_of; place_fits = stands.place.place_fits; typed = stands.typed s found }
 
 typed_ok : (d : Design) (m : Result Config RunFault) → IfOk m (Fits d) → IfOk m IsTypedConfig
 typed_ok d (Ok e) k = fits-typed d e k
 typed_ok d (Err f) k = tt
 
-pub statement-typed : (missing : Construct → Bool) (c : Config) (p : ℕ) (i : Instance) (n : ℕ) (s : Statement) → SoundDesign missing c.design → TypesHaveValues c.design → IsTypedConfig c → instance_at c p ≡ Some i → IsStanding c.design i.home i.residual
+pub statement-typed : (c : Config) (p : ℕ) (i : Instance) (n : ℕ) (s : Statement) → SoundDesign c.design → TypesHaveValues c.design → IsTypedConfig c → instance_at c p ≡ Some i → IsStanding c.design i.home i.residual
     → next_of i.residual ≡ residual.statement n → statement_at (code_of c.design) n ≡ Some s → IfOk (do_statement c p i i.residual (here c p i i.residual) n s) IsTypedConfig
-statement-typed missing c p i n s sound types typed at standing next found = typed_ok c.design _ (form-kept missing c p i at i.residual refl sound types (typed-fits c typed) standing n next s found)
+statement-typed c p i n s sound types typed at standing next found = typed_ok c.design _ (form-kept c p i at i.residual refl sound types (typed-fits c typed) standing n next s found)

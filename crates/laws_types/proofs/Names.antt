@@ -5,7 +5,6 @@ use Rattle.std.proofs.lemmas.Option.{none-some, same_Some}
 use Rattle.laws_unwinding.specs.LogicValues.declared.kinds.Value.TheVariants as value
 use Rattle.laws_unwinding.specs.SignalChannel.Drivers.{Driven}
 use Rattle.laws_unwinding.specs.QuantumKeeper.declared.keeper.Keeper.{Keeper}
-use Rattle.laws_unwinding.specs.ModelTree.declared.constructs.Construct.{Construct}
 use Rattle.laws_unwinding.specs.FlatDesign.ValueTypes.{in_expressions}
 use Rattle.laws_unwinding.specs.FlatDesign.Denotes.{type_of_variable, variable_type}
 use Rattle.laws_unwinding.specs.FlatDesign.Typed.{ChannelOffers, PortOffers, Offers, IsProcess, UseOffers, UsesKeeper, ChannelMember, MemberType, NameType, field_type}
@@ -61,19 +60,19 @@ one_channel d p wanted k fits offers (Some ch) at =
     (c.0, port_offers d ch p.leads_to wanted offers c.1)
 
 -- what a name offers, the channel that it stands for does
-pub channel-offers : (missing : Construct → Bool) (d : Design) → SoundDesign missing d → (x : Denoted) (k : Option ℕ) (wanted : LeadsTo) → DenotedFits d x → Offers d x wanted → IfOk (channel_of d x k) (OffersOf d wanted)
-channel-offers missing d sound denoted.Nothing k wanted fits h = absurd h
-channel-offers missing d sound (denoted.Channel ch) k wanted fits h = (fits, h)
-channel-offers missing d sound (denoted.Event e) k wanted fits h = absurd h
-channel-offers missing d sound (denoted.Keeper n) k wanted fits h = absurd h
-channel-offers missing d sound (denoted.Memory n) k wanted fits h = absurd h
-channel-offers missing d sound (denoted.Variable n) k wanted fits h = absurd h
-channel-offers missing d sound (denoted.Port n) k wanted fits h =
+pub channel-offers : (d : Design) → SoundDesign d → (x : Denoted) (k : Option ℕ) (wanted : LeadsTo) → DenotedFits d x → Offers d x wanted → IfOk (channel_of d x k) (OffersOf d wanted)
+channel-offers d sound denoted.Nothing k wanted fits h = absurd h
+channel-offers d sound (denoted.Channel ch) k wanted fits h = (fits, h)
+channel-offers d sound (denoted.Event e) k wanted fits h = absurd h
+channel-offers d sound (denoted.Keeper n) k wanted fits h = absurd h
+channel-offers d sound (denoted.Memory n) k wanted fits h = absurd h
+channel-offers d sound (denoted.Variable n) k wanted fits h = absurd h
+channel-offers d sound (denoted.Port n) k wanted fits h =
     let p = h.0 in
     let place = unwrap_or k 0 in
     subst (λ o. IfOk (port_channel o place) (OffersOf d wanted)) (sym h.1) (one_channel d p wanted place (sound.ports n p h.1) h.2 (slice_get p.channels place) refl)
-channel-offers missing d sound (denoted.Process n) k wanted fits h = absurd h
-channel-offers missing d sound (denoted.Socket hop forward) k wanted fits h = absurd h
+channel-offers d sound (denoted.Process n) k wanted fits h = absurd h
+channel-offers d sound (denoted.Socket hop forward) k wanted fits h = absurd h
 
 -- a channel that is read has a value of its type
 some_resolved : (o : Option Driven) (x : Driven) → o ≡ Some x → IsOf type.Logic (resolved_value o)
@@ -101,7 +100,7 @@ channel-value c (channel.Semaphore n events) t fit there o = absurd o
 
 -- ---- names
 
-module _ (missing : Construct → Bool) (h : Here) (sound : SoundDesign missing h.config.design) (locals : List Local) (place : PlaceFits locals h) where
+module _ (h : Here) (sound : SoundDesign h.config.design) (locals : List Local) (place : PlaceFits locals h) where
   abbrev d : Design
   d = h.config.design
 
@@ -109,7 +108,7 @@ module _ (missing : Construct → Bool) (h : Here) (sound : SoundDesign missing 
   there n = sound.names h.home n
 
   channel_type : (x : Denoted) (k : Option ℕ) (t : ValueType) → DenotedFits d x → Offers d x (leads.In t) → IfOk (channel_of d x k) (λ ch. IsOf t (channel_value h.config ch))
-  channel_type x k t fits offers = weaker (channel_of d x k) (channel-offers missing d sound x k (leads.In t) fits offers)
+  channel_type x k t fits offers = weaker (channel_of d x k) (channel-offers d sound x k (leads.In t) fits offers)
     where
       weaker : (m : Result ChannelId RunFault) → IfOk m (OffersOf d (leads.In t)) → IfOk m (λ ch. IsOf t (channel_value h.config ch))
       weaker (Ok ch) o = channel-value h.config ch t place.contents o.0 o.1

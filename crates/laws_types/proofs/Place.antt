@@ -1,6 +1,5 @@
 -- The statement in place is one of the body whose call is in place, among local variables of its types.
 use Rattle.std.proofs.Common.{◌≡◌, ℕ, Bool, Option, Some, None, refl, sym, ap, subst}
-use Rattle.laws_unwinding.specs.ModelTree.declared.constructs.Construct.{Construct}
 use Rattle.laws_unwinding.specs.FlatDesign.Code.{Statement, statement_at, body_at}
 use Rattle.laws_unwinding.specs.FlatDesign.Typed.{IsTyped}
 use Rattle.laws_unwinding.specs.FlatDesign.Sound.{SoundDesign, IsHomeOf}
@@ -25,7 +24,7 @@ pub record InPlace (c : Config) (p : ℕ) (i : Instance) (r : Residual) : Type 0
   pub place_fits : PlaceFits body.locals (here c p i r)
 
 -- a statement of it, which is typed among its local variables
-pub record StatementFits (missing : Construct → Bool) (c : Config) (p : ℕ) (i : Instance) (r : Residual) (n : ℕ) : Type 0 where
+pub record StatementFits (c : Config) (p : ℕ) (i : Instance) (r : Residual) (n : ℕ) : Type 0 where
   pub place : InPlace c p i r
   pub stands : IsInside c.design (Some place.number) n
   pub typed : (s : Statement) → statement_at (code_of c.design) n ≡ Some s → IsTyped (code_of c.design) place.body.module_place place.body.answer (context_of place.body.locals (here c p i r)) s
@@ -45,8 +44,8 @@ in-place c p i r x k left is =
       place_fits = record { contents = k.1; locals_fit = subst (λ o. Pairwise LocalFits runs.body.locals (locals_of o)) (sym is) runs.locals_fit };
     }
 
-module _ (missing : Construct → Bool) (c : Config) (p : ℕ) (i : Instance) (r : Residual) (n : ℕ) (sound : SoundDesign missing c.design) (k : Fits c.design c) (left : LeftFits c.design None i.home r) where
-  at_frame : (o : Option Frame) → innermost r ≡ o → IsInside c.design (number_or None o) n → StatementFits missing c p i r n
+module _ (c : Config) (p : ℕ) (i : Instance) (r : Residual) (n : ℕ) (sound : SoundDesign c.design) (k : Fits c.design c) (left : LeftFits c.design None i.home r) where
+  at_frame : (o : Option Frame) → innermost r ≡ o → IsInside c.design (number_or None o) n → StatementFits c p i r n
   unfolding in-place
   at_frame None is inside = absurd inside
   at_frame (Some x) is inside =
@@ -58,8 +57,8 @@ module _ (missing : Construct → Bool) (c : Config) (p : ℕ) (i : Instance) (r
       }
 
   -- a statement of the body in place
-  pub inside-fits : IsInside c.design (inner None r) n → StatementFits missing c p i r n
+  pub inside-fits : IsInside c.design (inner None r) n → StatementFits c p i r n
   inside-fits inside = at_frame (innermost r) refl inside
 
-  pub statement-fits : next_of r ≡ statement n → StatementFits missing c p i r n
+  pub statement-fits : next_of r ≡ statement n → StatementFits c p i r n
   statement-fits next = at_frame (innermost r) refl (next-inside c.design None i.home r n left next)

@@ -1,6 +1,5 @@
 -- The first configuration of a sound design is typed.
 use Rattle.std.proofs.Common.{◌≡◌, ℕ, zero, suc, List, [], ◌∷◌, map, take, length, replicate, slice_get, Some, refl, sym, ap, subst, arith}
-use Rattle.laws_unwinding.specs.ModelTree.declared.constructs.Construct.{Construct}
 use Rattle.std.specs.Prelude.{Bool}
 use Rattle.laws_unwinding.specs.FlatDesign.Typed.{EachOf}
 use Rattle.laws_unwinding.specs.FlatDesign.Sound.{SoundDesign, ProcessFits}
@@ -37,8 +36,8 @@ no_parameters k ls e = subst (λ n. Pairwise LocalFits (take n ls) []) (sym e) t
 process_fits : (d : Design) (p : ProcessPart) → ProcessFits d p → InstanceFits d (first_instance d p)
 process_fits d p h = record { body = h.body; found = h.found; home_of = h.home; arguments = no_parameters h.body.parameters h.body.locals h.parameters; left = tt }
 
-pub start-fits : (missing : Construct → Bool) (d : Design) (script : List Command) → SoundDesign missing d → EachOf (CommandFits d) script → Fits d (start d script)
-start-fits missing d script sound fits = (
+pub start-fits : (d : Design) (script : List Command) → SoundDesign d → EachOf (CommandFits d) script → Fits d (start d script)
+start-fits d script sound fits = (
   refl,
   record {
     variables = pairs_of VariableFits (λ (p : VariablePart). p.initial) d.variables (λ n p at. sound.variables n p at);

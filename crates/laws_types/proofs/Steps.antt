@@ -12,7 +12,6 @@ use Rattle.laws_unwinding.specs.SignalChannel.declared.signal.Signal.{Signal}
 use Rattle.laws_unwinding.specs.SignalChannel.declared.signal.Changed.{Changed}
 use Rattle.laws_unwinding.specs.FifoSync.Fifos.{Queued, after_update}
 use Rattle.laws_unwinding.specs.SimTime.declared.moments.Time.{Time}
-use Rattle.laws_unwinding.specs.ModelTree.declared.constructs.Construct.{Construct}
 use Rattle.laws_unwinding.specs.FlatDesign.Code.{Statement, statement_at}
 use Rattle.laws_unwinding.specs.FlatDesign.Typed.{EachOf}
 use Rattle.laws_unwinding.specs.FlatDesign.Sound.{SoundDesign}
@@ -109,31 +108,30 @@ module _ (d : Design) (types : TypesHaveValues d) where
 
 -- ---- the configuration in which finished parts have fallen away
 
-module _ (missing : Construct → Bool) (c : Config) (p : ℕ) (i : Instance) (at : instance_at c p ≡ Some i) (r : Residual) (is : i.residual ≡ r) (sound : SoundDesign missing c.design) (types : TypesHaveValues c.design) (k : Fits c.design c)
+module _ (c : Config) (p : ℕ) (i : Instance) (at : instance_at c p ≡ Some i) (r : Residual) (is : i.residual ≡ r) (sound : SoundDesign c.design) (types : TypesHaveValues c.design) (k : Fits c.design c)
     (standing : IsStanding c.design i.home r) (tight : IsTight r) where
   statement_fits : (n : ℕ) → next_of r ≡ residual.statement n → (o : Option Statement) → statement_at (code_of c.design) n ≡ o → IfOk (on_statement c p i r n o) (Fits c.design)
   statement_fits n next None there = passed c.design types c p i r at is k
-  statement_fits n next (Some x) there = form-kept missing c p i at r is sound types k standing n next x there
+  statement_fits n next (Some x) there = form-kept c p i at r is sound types k standing n next x there
 
   next_fits : (n : Next) → next_of r ≡ n → IfOk (do_next c p i r n) (Fits c.design)
   next_fits (residual.statement n) next = statement_fits n next (statement_at (code_of c.design) n) refl
-  next_fits (residual.leaves x) next = leaves-fits missing c p i at r is sound types k tight x next
+  next_fits (residual.leaves x) next = leaves-fits c p i at r is sound types k tight x next
   next_fits residual.done next = done-fits c.design types c p i i.kind k
   next_fits (residual.reaches g) next = reaches_fit c.design types c p i r g at is k
   next_fits residual.nothing next = done-fits c.design types c p i i.kind k
 
-module _ (missing : Construct → Bool) where
-  step_of_fits : (c : Config) (p : ℕ) (o : Option Instance) → instance_at c p ≡ o → Sound missing c → TypesHaveValues c.design → Fits c.design c → IfOk (step_by c p o) (Fits c.design)
-  step_of_fits c p None at s types k = k
-  step_of_fits c p (Some i) at s types k =
-      let r = settle (arena c) i.residual in
-      let standing : IsStanding c.design i.home r = settle-standing c.design i.home i.residual (fine-at c.design c.processes p i at s.1).standing in
-      next_fits missing (settled_in c p i.residual) p (record i { residual = r }) (change-here c.processes.instances p (λ j. record j { residual = r }) i at) r refl s.0 types
-      (residual-fits c.design c p r (λ j there h. settle-left c p i j at there h) k) standing (settle-tight (arena c) i.residual) (next_of r) refl
-    where
-      settle-left : (c : Config) (p : ℕ) (i j : Instance) → instance_at c p ≡ Some i → slice_get c.processes.instances p ≡ Some j → InstanceFits c.design j → LeftFits c.design None j.home (settle (arena c) i.residual)
-      settle-left c p i j at there h =
-          settle-fits c.design None j.home i.residual (subst (LeftFits c.design None j.home) (ap (λ (x : Instance). x.residual) (same_Some j i (sym there ∙ at))) h.left)
+step_of_fits : (c : Config) (p : ℕ) (o : Option Instance) → instance_at c p ≡ o → Sound c → TypesHaveValues c.design → Fits c.design c → IfOk (step_by c p o) (Fits c.design)
+step_of_fits c p None at s types k = k
+step_of_fits c p (Some i) at s types k =
+    let r = settle (arena c) i.residual in
+    let standing : IsStanding c.design i.home r = settle-standing c.design i.home i.residual (fine-at c.design c.processes p i at s.1).standing in
+    next_fits (settled_in c p i.residual) p (record i { residual = r }) (change-here c.processes.instances p (λ j. record j { residual = r }) i at) r refl s.0 types
+    (residual-fits c.design c p r (λ j there h. settle-left c p i j at there h) k) standing (settle-tight (arena c) i.residual) (next_of r) refl
+  where
+    settle-left : (c : Config) (p : ℕ) (i j : Instance) → instance_at c p ≡ Some i → slice_get c.processes.instances p ≡ Some j → InstanceFits c.design j → LeftFits c.design None j.home (settle (arena c) i.residual)
+    settle-left c p i j at there h =
+        settle-fits c.design None j.home i.residual (subst (LeftFits c.design None j.home) (ap (λ (x : Instance). x.residual) (same_Some j i (sym there ∙ at))) h.left)
 
 -- ---- phases
 
@@ -254,29 +252,28 @@ module _ (d : Design) where
 
 -- ---- steps
 
-module _ (missing : Construct → Bool) where
-  went_fits : (d : Design) (m : Result Config RunFault) → IfOk m (Fits d) → IfWent (as_outcome m) (Fits d)
-  went_fits d (Ok e) k = k
-  went_fits d (Err f) k = tt
+went_fits : (d : Design) (m : Result Config RunFault) → IfOk m (Fits d) → IfWent (as_outcome m) (Fits d)
+went_fits d (Ok e) k = k
+went_fits d (Err f) k = tt
 
-  evaluate_fits : (c : Config) (stack runnable : List ℕ) → Sound missing c → TypesHaveValues c.design → Fits c.design c → IfWent (evaluate c stack runnable) (Fits c.design)
-  evaluate_fits c (p ∷ rest) runnable s types k = went_fits c.design (statement_step c p) (step_of_fits missing c p (instance_at c p) refl s types k)
-  evaluate_fits c [] (q ∷ runnable) s types k = tt
-  evaluate_fits c [] [] s types k = update_step_fits c.design c k
+evaluate_fits : (c : Config) (stack runnable : List ℕ) → Sound c → TypesHaveValues c.design → Fits c.design c → IfWent (evaluate c stack runnable) (Fits c.design)
+evaluate_fits c (p ∷ rest) runnable s types k = went_fits c.design (statement_step c p) (step_of_fits c p (instance_at c p) refl s types k)
+evaluate_fits c [] (q ∷ runnable) s types k = tt
+evaluate_fits c [] [] s types k = update_step_fits c.design c k
 
-  phase_fits : (c : Config) (ph : Phase) → Sound missing c → TypesHaveValues c.design → Fits c.design c → IfWent (step_in c ph) (Fits c.design)
-  phase_fits c phase.Idle s types k = script_fits c.design c c.script refl k
-  phase_fits c phase.Start s types k = due_fits c.design is_delta is_zero_timeout (initialize_each 0 c.design.processes (update_phase c)) (initialize_fit c.design 0 c.design.processes (update_phase c) (update-fits c.design c k))
-  phase_fits c phase.Evaluate s types k = evaluate_fits c c.processes.stack c.processes.runnable s types k
-  phase_fits c phase.Notify s types k = due_fits c.design is_delta is_zero_timeout c k
-  phase_fits c phase.Timed s types k = timed_fits c.design c (earliest c) k
+phase_fits : (c : Config) (ph : Phase) → Sound c → TypesHaveValues c.design → Fits c.design c → IfWent (step_in c ph) (Fits c.design)
+phase_fits c phase.Idle s types k = script_fits c.design c c.script refl k
+phase_fits c phase.Start s types k = due_fits c.design is_delta is_zero_timeout (initialize_each 0 c.design.processes (update_phase c)) (initialize_fit c.design 0 c.design.processes (update_phase c) (update-fits c.design c k))
+phase_fits c phase.Evaluate s types k = evaluate_fits c c.processes.stack c.processes.runnable s types k
+phase_fits c phase.Notify s types k = due_fits c.design is_delta is_zero_timeout c k
+phase_fits c phase.Timed s types k = timed_fits c.design c (earliest c) k
 
-  unless_stopped : (b : Bool) (P : Config → Type 0) (o : Outcome) → IfWent o P → IfWent (cond b ended o) P
-  unless_stopped true P o h = tt
-  unless_stopped false P o h = h
+unless_stopped : (b : Bool) (P : Config → Type 0) (o : Outcome) → IfWent o P → IfWent (cond b ended o) P
+unless_stopped true P o h = tt
+unless_stopped false P o h = h
 
-  pub step-fits : (c : Config) → Sound missing c → TypesHaveValues c.design → Fits c.design c → IfWent (step c) (Fits c.design)
-  step-fits c s types k = unless_stopped c.cycle.stopped (Fits c.design) (step_in c c.cycle.phase) (phase_fits c c.cycle.phase s types k)
+pub step-fits : (c : Config) → Sound c → TypesHaveValues c.design → Fits c.design c → IfWent (step c) (Fits c.design)
+step-fits c s types k = unless_stopped c.cycle.stopped (Fits c.design) (step_in c c.cycle.phase) (phase_fits c c.cycle.phase s types k)
 
 -- ---- takings
 

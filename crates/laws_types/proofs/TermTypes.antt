@@ -3,7 +3,6 @@ use Rattle.std.proofs.Common.{◌≡◌, ℕ, Bool, true, false, cond, List, Som
 use Rattle.std.specs.Prelude.{Result, Ok, Err, IfOk}
 use Rattle.laws_unwinding.specs.LogicValues.declared.kinds.Value.{Value}
 use Rattle.laws_unwinding.specs.ModelTree.declared.expressions.BinaryOp.{BinaryOp}
-use Rattle.laws_unwinding.specs.ModelTree.declared.constructs.Construct.{Construct}
 use Rattle.laws_unwinding.specs.FlatDesign.Code as code
 use Rattle.laws_unwinding.specs.FlatDesign.Code.{Term}
 use Rattle.laws_unwinding.specs.FlatDesign.ValueTypes.{type_of_value}
@@ -24,7 +23,7 @@ weaker : (P Q : Value → Type 0) (m : Result Value RunFault) → ((v : Value) �
 weaker P Q (Ok v) h p = h v p
 weaker P Q (Err e) h p = tt
 
-module _ (missing : Construct → Bool) (h : Here) (sound : SoundDesign missing h.config.design) (locals : List Local) (place : PlaceFits locals h) where
+module _ (h : Here) (sound : SoundDesign h.config.design) (locals : List Local) (place : PlaceFits locals h) where
   byte_type : (xs : List ℕ) (i : ℕ) → IfOk (byte_in xs i) (IsOf (type.Uint 64))
   byte_type xs i = if-any (IsOf (type.Uint 64)) (index_within i _) _ (λ n. refl)
 
@@ -37,10 +36,10 @@ module _ (missing : Construct → Bool) (h : Here) (sound : SoundDesign missing 
   term-type (code.literal v) t is = sym is.0
   term-type code.now t is = sym is
   term-type code.myself t is = sym is
-  term-type (code.name n) t is = name-type missing h sound locals place n t is
-  term-type (code.placed n e) t is = if-any (IsOf t) (val h e) _ (λ k. placed-type missing h sound locals place n (Some (bits k)) is.2.0 t is.2.1 is.2.2)
-  term-type (code.member n m) t is = member-type missing h sound locals place n m t is
-  term-type (code.placed_member n e m) t is = if-any (IsOf t) (val h e) _ (λ k. placed_member-type missing h sound locals place n (Some (bits k)) m t is.2)
+  term-type (code.name n) t is = name-type h sound locals place n t is
+  term-type (code.placed n e) t is = if-any (IsOf t) (val h e) _ (λ k. placed-type h sound locals place n (Some (bits k)) is.2.0 t is.2.1 is.2.2)
+  term-type (code.member n m) t is = member-type h sound locals place n m t is
+  term-type (code.placed_member n e m) t is = if-any (IsOf t) (val h e) _ (λ k. placed_member-type h sound locals place n (Some (bits k)) m t is.2)
   term-type (code.element n e) t is = if-any (IsOf t) (val h e) _ (λ i. subst (λ t. IfOk (byte_in (memory_here h n) (bits i)) (IsOf t)) (sym is.2) (byte_type (memory_here h n) (bits i)))
   term-type (code.payload_byte n b e) t is =
       if-any (IsOf t) (val h e) _ (λ i. if-any (IsOf t) (payload_here h n) _ (λ p. subst (λ t. IfOk (byte_in (payload_bytes b p) (bits i)) (IsOf t)) (sym is.2) (byte_type (payload_bytes b p) (bits i))))

@@ -1,6 +1,5 @@
 -- Every run of a sound design is typed.
 use Rattle.std.proofs.Common.{◌≡◌, ℕ, Bool, List, Some, refl, sym, subst}
-use Rattle.laws_unwinding.specs.ModelTree.declared.constructs.Construct.{Construct}
 use Rattle.laws_unwinding.specs.FlatDesign.Typed.{EachOf}
 use Rattle.laws_unwinding.specs.FlatDesign.Sound.{SoundDesign}
 use Rattle.laws_unwinding.specs.FlatDesign.declared.design.Design.{Design}
@@ -18,43 +17,42 @@ use Rattle.laws_types.proofs.InTurn.{fits-typed, meets-types, next-typed}
 use Rattle.laws_types.proofs.Start.{start-fits}
 use Rattle.laws_types.proofs.Steps.{step-fits, taking-fits}
 
-module _ (missing : Construct → Bool) where
-  pub record Good (d : Design) (c : Config) : Type 0 where
-    pub sound : Sound missing c
-    pub fits : Fits d c
+pub record Good (d : Design) (c : Config) : Type 0 where
+  pub sound : Sound c
+  pub fits : Fits d c
 
-  typed_step : (d : Design) → TypesHaveValues d → (c : Config) → (o : Outcome) → IfWent o (Sound missing) → IfWent o (Fits d) → IfWent o (Good d)
-  typed_step d types c (went e) one two = record { sound = one; fits = two }
-  typed_step d types c (faulted f) one two = tt
-  typed_step d types c takes one two = tt
-  typed_step d types c ended one two = tt
+typed_step : (d : Design) → TypesHaveValues d → (c : Config) → (o : Outcome) → IfWent o Sound → IfWent o (Fits d) → IfWent o (Good d)
+typed_step d types c (went e) one two = record { sound = one; fits = two }
+typed_step d types c (faulted f) one two = tt
+typed_step d types c takes one two = tt
+typed_step d types c ended one two = tt
 
-  own_design : (d : Design) (c : Config) → TypesHaveValues d → Good d c → IfWent (step c) (Fits d)
-  own_design d c types g = by c.design refl
-    where
-      by : (e : Design) → c.design ≡ e → IfWent (step c) (Fits d)
-      by e is = subst (λ x. IfWent (step c) (Fits x)) g.fits.0 (step-fits missing c g.sound (subst TypesHaveValues (sym g.fits.0) types) (subst (λ x. Fits x c) (sym g.fits.0) g.fits))
+own_design : (d : Design) (c : Config) → TypesHaveValues d → Good d c → IfWent (step c) (Fits d)
+own_design d c types g = by c.design refl
+  where
+    by : (e : Design) → c.design ≡ e → IfWent (step c) (Fits d)
+    by e is = subst (λ x. IfWent (step c) (Fits x)) g.fits.0 (step-fits c g.sound (subst TypesHaveValues (sym g.fits.0) types) (subst (λ x. Fits x c) (sym g.fits.0) g.fits))
 
-  pub typed-after : (d : Design) (script : List Command) → SoundDesign missing d → TypesHaveValues d → EachOf (CommandFits d) script → (n : ℕ) (choices : List ℕ) (last : Config) → after n choices (start d script) ≡ Some last → Good d last
-  typed-after d script sound types fits n choices last reached =
-      holds-after (Good d) (λ c g. typed_step d types c (step c) (step-sound missing c g.sound) (own_design d c types g))
-      (λ c p e now g to. record { sound = taking-sound missing c p e (takes-empty c now) g.sound to; fits = taking-fits d types c p e g.fits to })
-      n choices (start d script) last (record { sound = start-sound missing d script sound; fits = start-fits missing d script sound fits }) reached
+pub typed-after : (d : Design) (script : List Command) → SoundDesign d → TypesHaveValues d → EachOf (CommandFits d) script → (n : ℕ) (choices : List ℕ) (last : Config) → after n choices (start d script) ≡ Some last → Good d last
+typed-after d script sound types fits n choices last reached =
+    holds-after (Good d) (λ c g. typed_step d types c (step c) (step-sound c g.sound) (own_design d c types g))
+    (λ c p e now g to. record { sound = taking-sound c p e (takes-empty c now) g.sound to; fits = taking-fits d types c p e g.fits to })
+    n choices (start d script) last (record { sound = start-sound d script sound; fits = start-fits d script sound fits }) reached
 
-  pub typed-start : (d : Design) (script : List Command) → SoundDesign missing d → EachOf (CommandFits d) script → IsTypedConfig (start d script)
-  typed-start d script sound fits = fits-typed d (start d script) (start-fits missing d script sound fits)
+pub typed-start : (d : Design) (script : List Command) → SoundDesign d → EachOf (CommandFits d) script → IsTypedConfig (start d script)
+typed-start d script sound fits = fits-typed d (start d script) (start-fits d script sound fits)
 
-  pub typed-runs : (d : Design) (script : List Command) → SoundDesign missing d → TypesHaveValues d → EachOf (CommandFits d) script → (n : ℕ) (choices : List ℕ) (last : Config) → after n choices (start d script) ≡ Some last → IsTypedConfig last
-  typed-runs d script sound types fits n choices last reached = fits-typed d last (typed-after d script sound types fits n choices last reached).fits
+pub typed-runs : (d : Design) (script : List Command) → SoundDesign d → TypesHaveValues d → EachOf (CommandFits d) script → (n : ℕ) (choices : List ℕ) (last : Config) → after n choices (start d script) ≡ Some last → IsTypedConfig last
+typed-runs d script sound types fits n choices last reached = fits-typed d last (typed-after d script sound types fits n choices last reached).fits
 
-  pub meets-runs : (d : Design) (script : List Command) → SoundDesign missing d → TypesHaveValues d → EachOf (CommandFits d) script → (n : ℕ) (choices : List ℕ) (last : Config) → after n choices (start d script) ≡ Some last
-      → (p : ℕ) (i : Instance) → instance_at last p ≡ Some i → MeetsItsTypes last p i
-  meets-runs d script sound types fits n choices last reached p i at =
-      let g = typed-after d script sound types fits n choices last reached in
-      meets-types missing last p i at g.sound.0 (subst (λ x. Fits x last) (sym g.fits.0) g.fits)
+pub meets-runs : (d : Design) (script : List Command) → SoundDesign d → TypesHaveValues d → EachOf (CommandFits d) script → (n : ℕ) (choices : List ℕ) (last : Config) → after n choices (start d script) ≡ Some last
+    → (p : ℕ) (i : Instance) → instance_at last p ≡ Some i → MeetsItsTypes last p i
+meets-runs d script sound types fits n choices last reached p i at =
+    let g = typed-after d script sound types fits n choices last reached in
+    meets-types last p i at g.sound.0 (subst (λ x. Fits x last) (sym g.fits.0) g.fits)
 
-  pub next-runs : (d : Design) (script : List Command) → SoundDesign missing d → TypesHaveValues d → EachOf (CommandFits d) script → (n : ℕ) (choices : List ℕ) (last : Config) → after n choices (start d script) ≡ Some last
-      → (p : ℕ) (i : Instance) → instance_at last p ≡ Some i → NextIsTyped last p i
-  next-runs d script sound types fits n choices last reached p i at =
-      let g = typed-after d script sound types fits n choices last reached in
-      next-typed missing last p i at g.sound.0 (subst (λ x. Fits x last) (sym g.fits.0) g.fits)
+pub next-runs : (d : Design) (script : List Command) → SoundDesign d → TypesHaveValues d → EachOf (CommandFits d) script → (n : ℕ) (choices : List ℕ) (last : Config) → after n choices (start d script) ≡ Some last
+    → (p : ℕ) (i : Instance) → instance_at last p ≡ Some i → NextIsTyped last p i
+next-runs d script sound types fits n choices last reached p i at =
+    let g = typed-after d script sound types fits n choices last reached in
+    next-typed last p i at g.sound.0 (subst (λ x. Fits x last) (sym g.fits.0) g.fits)

@@ -17,7 +17,7 @@ use Rattle.laws_unwinding.specs.SimModel.Runs.{after}
 use Rattle.laws_unwinding.specs.LawsRuns.Standing.{code_of}
 use Rattle.laws_types.specs.Contents.{Pairwise, LocalFits}
 use Rattle.laws_types.specs.TypedConfig.{BodyHasValues, TypesHaveValues, IsTypedConfig}
-use Rattle.laws_types.specs.Unfit.{tried, runs, sets_a_time, nothing_missing}
+use Rattle.laws_types.specs.Unfit.{tried, runs, sets_a_time}
 
 -- ---- the design is sound, whatever the width
 
@@ -47,7 +47,7 @@ parents_fit w (suc (suc (suc i))) o at = absurd (none-some o at)
 home_fits : (w : ℕ) (b : CodeBody) → b.module_place ≡ 0 → IsHomeOf (tried w) 0 b
 home_fits w b e = record { instance = _; found = refl; same = sym e }
 
-pub sound-tried : (w : ℕ) → SoundDesign nothing_missing (tried w)
+pub sound-tried : (w : ℕ) → SoundDesign (tried w)
 sound-tried w = record {
   parents = parents_fit w;
   names = names_fit w;

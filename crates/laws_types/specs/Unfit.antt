@@ -1,7 +1,6 @@
 -- A design by which it can be tried what the laws ask for: a bool signal, and a thread with a local variable of so many digits.
 use Rattle.std.specs.Prelude.{ℕ, Bool, false, [], ◌∷◌, List, None, codes}
 use Rattle.laws_unwinding.specs.LogicValues.declared.kinds.Value.TheVariants as value
-use Rattle.laws_unwinding.specs.ModelTree.declared.constructs.Construct.{Construct}
 use Rattle.laws_unwinding.specs.ModelTree.declared.items.ProcessKind.TheVariants as process
 use Rattle.laws_unwinding.specs.ModelTree.declared.items.SignalKind.TheVariants as signal_kind
 use Rattle.laws_unwinding.specs.FlatDesign.declared.value_types.ValueType.TheVariants as type
@@ -50,6 +49,3 @@ runs = command.Run None ∷ []
 
 abbrev pub sets_a_time : List Command
 sets_a_time = command.Set 0 (value.Moment 0) ∷ []
-
-abbrev pub nothing_missing : Construct → Bool
-nothing_missing k = false

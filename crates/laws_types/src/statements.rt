@@ -1,6 +1,5 @@
 //! The statement in place, in a typed configuration.
 ghost use Rattle.std.specs.Prelude.{◌≡◌, ℕ, Bool, Some, IfOk};
-ghost use Rattle.laws_unwinding.specs.ModelTree.declared.constructs.Construct.{Construct};
 ghost use Rattle.laws_unwinding.specs.FlatDesign.Code.{Statement, statement_at};
 ghost use Rattle.laws_unwinding.specs.FlatDesign.Sound.{SoundDesign};
 ghost use Rattle.laws_unwinding.specs.SimModel.Residual.{next_of, statement};
@@ -16,14 +15,14 @@ ghost use Rattle.laws_types.specs.Terms.{MeetsItsTypes, NextIsTyped};
 /// type that its place asks for, or is a run fault. And in each of its expressions operators meet operands of the types that
 /// they ask for (`operands`).
 pub fn each_statement_meets_its_types()
-    ensures next { (missing : Construct → Bool) (c : Config) (p : ℕ) (i : Instance) → SoundDesign missing c.design → IsTypedConfig c → instance_at c p ≡ Some i → NextIsTyped c p i }
-    ensures operands { (missing : Construct → Bool) (c : Config) (p : ℕ) (i : Instance) → SoundDesign missing c.design → IsTypedConfig c → instance_at c p ≡ Some i → MeetsItsTypes c p i }
+    ensures next { (c : Config) (p : ℕ) (i : Instance) → SoundDesign c.design → IsTypedConfig c → instance_at c p ≡ Some i → NextIsTyped c p i }
+    ensures operands { (c : Config) (p : ℕ) (i : Instance) → SoundDesign c.design → IsTypedConfig c → instance_at c p ≡ Some i → MeetsItsTypes c p i }
 {}
 
 /// A statement of any form, where what is left of its instance stands in the bodies of the design, leaves a typed
 /// configuration typed, or is a run fault.
 pub fn each_statement_keeps_everything_typed()
-    ensures { (missing : Construct → Bool) (c : Config) (p : ℕ) (i : Instance) (n : ℕ) (s : Statement) → SoundDesign missing c.design → TypesHaveValues c.design → IsTypedConfig c
+    ensures { (c : Config) (p : ℕ) (i : Instance) (n : ℕ) (s : Statement) → SoundDesign c.design → TypesHaveValues c.design → IsTypedConfig c
         → instance_at c p ≡ Some i → IsStanding c.design i.home i.residual → next_of i.residual ≡ statement n → statement_at (code_of c.design) n ≡ Some s
         → IfOk (do_statement c p i i.residual (here c p i i.residual) n s) IsTypedConfig }
 {}

@@ -1,6 +1,5 @@
 //! The values of typed expressions, and the operands that operators meet.
 ghost use Rattle.std.specs.Prelude.{ℕ, Bool, List, IfOk};
-ghost use Rattle.laws_unwinding.specs.ModelTree.declared.constructs.Construct.{Construct};
 ghost use Rattle.laws_unwinding.specs.FlatDesign.Code.{Term};
 ghost use Rattle.laws_unwinding.specs.FlatDesign.Typed.{HasType};
 ghost use Rattle.laws_unwinding.specs.FlatDesign.Sound.{SoundDesign};
@@ -15,8 +14,8 @@ ghost use Rattle.laws_types.specs.Operands.{OperandsFit};
 /// concatenation in it is evaluated, it meets operands of the types that its table asks for. So no value that is stated
 /// for another type is ever used there.
 pub fn typed_terms_have_their_types()
-    ensures value { (missing : Construct → Bool) (h : Here) → SoundDesign missing h.config.design → (locals : List Local) → PlaceFits locals h
+    ensures value { (h : Here) → SoundDesign h.config.design → (locals : List Local) → PlaceFits locals h
         → (e : Term) (t : ValueType) → HasType (context_of locals h) e t → IfOk (val h e) (IsOf t) }
-    ensures operands { (missing : Construct → Bool) (h : Here) → SoundDesign missing h.config.design → (locals : List Local) → PlaceFits locals h
+    ensures operands { (h : Here) → SoundDesign h.config.design → (locals : List Local) → PlaceFits locals h
         → (e : Term) (t : ValueType) → HasType (context_of locals h) e t → OperandsFit h e }
 {}

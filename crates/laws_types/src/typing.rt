@@ -1,6 +1,5 @@
 //! Every configuration of every run is typed.
 ghost use Rattle.std.specs.Prelude.{◌≡◌, ℕ, Bool, List, Some};
-ghost use Rattle.laws_unwinding.specs.ModelTree.declared.constructs.Construct.{Construct};
 ghost use Rattle.laws_unwinding.specs.FlatDesign.Typed.{EachOf};
 ghost use Rattle.laws_unwinding.specs.FlatDesign.Sound.{SoundDesign};
 ghost use Rattle.laws_unwinding.specs.FlatDesign.declared.design.Design.{Design};
@@ -12,7 +11,7 @@ ghost use Rattle.laws_types.specs.Terms.{MeetsItsTypes, NextIsTyped};
 
 /// The first configuration of a sound design is typed, where the script sets only values of their signals' types.
 pub fn start_is_typed()
-    ensures { (missing : Construct → Bool) (design : Design) (script : List Command) → SoundDesign missing design → EachOf (CommandFits design) script
+    ensures { (design : Design) (script : List Command) → SoundDesign design → EachOf (CommandFits design) script
         → IsTypedConfig (start design script) }
 {}
 
@@ -22,7 +21,7 @@ pub fn start_is_typed()
 /// the answer that is kept has the type that its declaration says; each memory has as many bytes as it declares, and it and
 /// the payloads hold bytes; and each statement that is left is one of the body whose call it stands in.
 pub fn runs_are_typed()
-    ensures { (missing : Construct → Bool) (design : Design) (script : List Command) → SoundDesign missing design → TypesHaveValues design → EachOf (CommandFits design) script
+    ensures { (design : Design) (script : List Command) → SoundDesign design → TypesHaveValues design → EachOf (CommandFits design) script
         → (steps : ℕ) (choices : List ℕ) (last : Config) → after steps choices (start design script) ≡ Some last → IsTypedConfig last }
 {}
 
@@ -31,10 +30,10 @@ pub fn runs_are_typed()
 /// (`typed_terms_have_their_types`). And wherever an operator, an index, a conversion or a concatenation in one of them is
 /// evaluated, it meets operands of the types that its table asks for (`operands`).
 pub fn operators_meet_their_types()
-    ensures next { (missing : Construct → Bool) (design : Design) (script : List Command) → SoundDesign missing design → TypesHaveValues design → EachOf (CommandFits design) script
+    ensures next { (design : Design) (script : List Command) → SoundDesign design → TypesHaveValues design → EachOf (CommandFits design) script
         → (steps : ℕ) (choices : List ℕ) (last : Config) → after steps choices (start design script) ≡ Some last
         → (p : ℕ) (i : Instance) → instance_at last p ≡ Some i → NextIsTyped last p i }
-    ensures operands { (missing : Construct → Bool) (design : Design) (script : List Command) → SoundDesign missing design → TypesHaveValues design → EachOf (CommandFits design) script
+    ensures operands { (design : Design) (script : List Command) → SoundDesign design → TypesHaveValues design → EachOf (CommandFits design) script
         → (steps : ℕ) (choices : List ℕ) (last : Config) → after steps choices (start design script) ≡ Some last
         → (p : ℕ) (i : Instance) → instance_at last p ≡ Some i → MeetsItsTypes last p i }
 {}

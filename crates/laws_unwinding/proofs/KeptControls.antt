@@ -3,7 +3,6 @@ use Rattle.std.proofs.Common.{◌≡◌, ◌||◌, ◌&&◌, ℕ, Bool, true, fa
 use Rattle.std.specs.Prelude.{Result, Ok, Err}
 use Rattle.std.specs.Result.{IfOk}
 use Rattle.std.proofs.lemmas.Option.{same_Some}
-use Rattle.laws_runs.specs.ModelTree.declared.constructs.Construct.{Construct}
 use Rattle.laws_runs.specs.ModelTree.declared.statements.Control.{Control}
 use Rattle.laws_runs.specs.ModelTree.declared.statements.Control.TheVariants as control
 use Rattle.laws_runs.specs.FlatDesign.declared.faults.RunFault.{RunFault}
@@ -61,7 +60,7 @@ module _ (p : ℕ) (Q : Parts → Type 0) (kept : IsKept p Q) where
       kept.pushes (record (parts (change_instance (with_residual c q r) q (λ j. record (freed j) { kept = false; trigger = None }))) { hops = hops }) q rest top off
       (kept.same (record (parts (with_residual c q r)) { hops = hops }) q (λ j. record (freed j) { kept = false; trigger = None }) (λ j. record { kind = refl; home = refl; code = refl; residual = refl; started = refl; ended = refl }) h)
 
-  module _ (missing : Construct → Bool) (c : Config) (rest : List ℕ) (top : c.processes.stack ≡ p ∷ rest) (s : Sound missing c) (h : Q (parts c)) where
+  module _ (c : Config) (rest : List ℕ) (top : c.processes.stack ≡ p ∷ rest) (s : Sound c) (h : Q (parts c)) where
     module _ (q : ℕ) (i : Instance) (at : instance_at c q ≡ Some i) where
       flagged : Q (parts (change_instance c q (λ j. record j { suspended = true })))
       flagged = kept.same (parts c) q _ (λ j. record { kind = refl; home = refl; code = refl; residual = refl; started = refl; ended = refl }) h

@@ -13,7 +13,6 @@ use Rattle.laws_runs.specs.FifoSync.Fifos.{Queued}
 use Rattle.laws_runs.specs.TransportPhases.History.{Entry, Call, BCall, broken}
 use Rattle.laws_runs.specs.TransportPhases.declared.phases.Rule.{Rule}
 use Rattle.laws_runs.specs.QuantumKeeper.declared.keeper.Keeper.{Keeper}
-use Rattle.laws_runs.specs.ModelTree.declared.constructs.Construct.{Construct}
 use Rattle.laws_runs.specs.ModelTree.declared.statements.Control.{Control}
 use Rattle.laws_runs.specs.FlatDesign.Code as code
 use Rattle.laws_runs.specs.FlatDesign.Code.{Term, DestinationTerm, AwaitTerm, ArgumentTerm, SpawnTerm, ChannelTerm, Statement, statement_at, body_at}
@@ -69,7 +68,7 @@ module _ (p : ℕ) (Q : Parts → Type 0) (moves : IsKept p Q) where
 
   -- ---- the statement in place
 
-  module _ (missing : Construct → Bool) (c : Config) (rest : List ℕ) (top : c.processes.stack ≡ p ∷ rest) (s : Sound missing c) (kept_so_far : Kept Q c) (i : Instance) (at : instance_at c p ≡ Some i) (r : Residual) (is : i.residual ≡ r)
+  module _ (c : Config) (rest : List ℕ) (top : c.processes.stack ≡ p ∷ rest) (s : Sound c) (kept_so_far : Kept Q c) (i : Instance) (at : instance_at c p ≡ Some i) (r : Residual) (is : i.residual ≡ r)
       (tight : IsTight r) (n : ℕ) (next : next_of r ≡ statement n) where
     abbrev place : ℕ
     place = place_of c.design i.home r
@@ -174,10 +173,10 @@ module _ (p : ℕ) (Q : Parts → Type 0) (moves : IsKept p Q) where
     on_keeper_kept d x f k each = values.on_keeper_kept p Q moves d x f k each
 
     control-kept : (q : ℕ) (k : Control) → IfOk (control_call (passes c p r) q k) (Kept Q)
-    control-kept q k = controls.control-kept p Q moves missing (passes c p r) rest top (passes-sound missing c p rest top s i at r is) passed q k
+    control-kept q k = controls.control-kept p Q moves (passes c p r) rest top (passes-sound c p rest top s i at r is) passed q k
 
     throw-kept : (q e : ℕ) → IfOk (throw_call (passes c p r) q e) (Kept Q)
-    throw-kept q e = controls.throw-kept p Q moves missing (passes c p r) rest top (passes-sound missing c p rest top s i at r is) passed q e
+    throw-kept q e = controls.throw-kept p Q moves (passes c p r) rest top (passes-sound c p rest top s i at r is) passed q e
 
     module _ (unit : Unit {0}) where
       var-kept : (m : ℕ) (t : ValueType) (e : Option Term) → IfOk (do_var c p r h m t e) (Kept Q)
@@ -308,7 +307,7 @@ module _ (p : ℕ) (Q : Parts → Type 0) (moves : IsKept p Q) where
       call-kept x f arguments found = search (if-ok, called_kept x f arguments found)
 
       throw-form : (e : ℕ) → statement_at (arena c) n ≡ Some (code.throw e) → IfOk (thrown c p r e) (Kept Q)
-      throw-form e found = controls.thrown-kept p Q moves missing c rest top s kept_so_far p i at r e is (no_goal (code.throw e) found (λ b. b.1))
+      throw-form e found = controls.thrown-kept p Q moves c rest top s kept_so_far p i at r e is (no_goal (code.throw e) found (λ b. b.1))
 
       -- ---- those that block
 
@@ -356,7 +355,7 @@ module _ (p : ℕ) (Q : Parts → Type 0) (moves : IsKept p Q) where
       written_kept t y e found k v (channel.Signal m events) is_ = search (signal_kept, passed)
       written_kept t y e found k v (channel.Resolved m events) is_ = passed
       written_kept t y e found k v (channel.Fifo m events) is_ =
-          search (write_fifo_kept (no_goal (code.write t y e) found (λ b. takes-no_fifo missing c.design s.0 (denoted_at c.design place t.channel_name) k m events b.0 is_)))
+          search (write_fifo_kept (no_goal (code.write t y e) found (λ b. takes-no_fifo c.design s.0 (denoted_at c.design place t.channel_name) k m events b.0 is_)))
       written_kept t y e found k v (channel.Mutex m events) is_ = passed
       written_kept t y e found k v (channel.Semaphore m events) is_ = passed
 

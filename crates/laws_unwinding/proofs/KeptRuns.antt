@@ -1,6 +1,5 @@
 -- Every run of a sound design keeps what each of its moves keeps.
 use Rattle.std.proofs.Common.{◌≡◌, ℕ, Bool, List, Some}
-use Rattle.laws_runs.specs.ModelTree.declared.constructs.Construct.{Construct}
 use Rattle.laws_runs.specs.FlatDesign.Sound.{SoundDesign}
 use Rattle.laws_runs.specs.FlatDesign.declared.design.Design.{Design}
 use Rattle.laws_runs.specs.SimModel.Configuration.{Config, start}
@@ -20,17 +19,16 @@ both A B takes one two = tt
 both A B ended one two = tt
 
 -- a run that begins at any configuration of a sound run
-module _ (missing : Construct → Bool) where
-  pub sound-after : (n : ℕ) (choices : List ℕ) (first last : Config) → Sound missing first → after n choices first ≡ Some last → Sound missing last
-  sound-after n choices first last s reached = holds-after (Sound missing) (step-sound missing) (λ c p e now h to. taking-sound missing c p e (takes-empty c now) h to) n choices first last s reached
+pub sound-after : (n : ℕ) (choices : List ℕ) (first last : Config) → Sound first → after n choices first ≡ Some last → Sound last
+sound-after n choices first last s reached = holds-after Sound (step-sound) (λ c p e now h to. taking-sound c p e (takes-empty c now) h to) n choices first last s reached
 
-  pub sound-run : (d : Design) (script : List Command) → SoundDesign missing d → (n : ℕ) (choices : List ℕ) (last : Config) → after n choices (start d script) ≡ Some last → Sound missing last
-  sound-run d script sound n choices last reached = sound-after n choices (start d script) last (start-sound missing d script sound) reached
+pub sound-run : (d : Design) (script : List Command) → SoundDesign d → (n : ℕ) (choices : List ℕ) (last : Config) → after n choices (start d script) ≡ Some last → Sound last
+sound-run d script sound n choices last reached = sound-after n choices (start d script) last (start-sound d script sound) reached
 
-  module _ (Q : Parts → Type 0) (moves : (p : ℕ) → IsKept p Q) (settles : (p : ℕ) → IsSettled p Q) (between : IsKeptBetween Q) (taken : IsKeptByTakings Q) where
-    pub kept-after : (n : ℕ) (choices : List ℕ) (first last : Config) → Sound missing first → Kept Q first → after n choices first ≡ Some last → Kept Q last
-    kept-after n choices first last s h reached =
-        (holds-after (λ c. Sound missing c × Kept Q c)
-        (λ c k. both (Sound missing) (Kept Q) (step c) (step-sound missing c k.0) (steps.step-kept Q between missing c k.0 (λ p rest top. (moves p, settles p)) k.1))
-        (λ c p d now k to. let empty = takes-empty c now in (taking-sound missing c p d empty k.0 to, steps.taking-kept Q between taken c p d empty k.1 to))
-        n choices first last (s, h) reached).1
+module _ (Q : Parts → Type 0) (moves : (p : ℕ) → IsKept p Q) (settles : (p : ℕ) → IsSettled p Q) (between : IsKeptBetween Q) (taken : IsKeptByTakings Q) where
+  pub kept-after : (n : ℕ) (choices : List ℕ) (first last : Config) → Sound first → Kept Q first → after n choices first ≡ Some last → Kept Q last
+  kept-after n choices first last s h reached =
+      (holds-after (λ c. Sound c × Kept Q c)
+      (λ c k. both Sound (Kept Q) (step c) (step-sound c k.0) (steps.step-kept Q between c k.0 (λ p rest top. (moves p, settles p)) k.1))
+      (λ c p d now k to. let empty = takes-empty c now in (taking-sound c p d empty k.0 to, steps.taking-kept Q between taken c p d empty k.1 to))
+      n choices first last (s, h) reached).1

@@ -10,7 +10,6 @@ use Rattle.laws_runs.specs.SignalChannel.Drivers.{Driven}
 use Rattle.laws_runs.specs.SignalChannel.declared.signal.Signal.{Signal}
 use Rattle.laws_runs.specs.SignalChannel.declared.signal.Changed.{Changed}
 use Rattle.laws_runs.specs.FifoSync.Fifos.{Queued}
-use Rattle.laws_runs.specs.ModelTree.declared.constructs.Construct.{Construct}
 use Rattle.laws_runs.specs.FlatDesign.declared.design.SignalPart.{SignalPart}
 use Rattle.laws_runs.specs.FlatDesign.declared.design.ResolvedPart.{ResolvedPart}
 use Rattle.laws_runs.specs.FlatDesign.declared.design.FifoPart.{FifoPart}
@@ -164,8 +163,8 @@ module _ (Q : Parts → Type 0) (between : IsKeptBetween Q) where
   pub step-by : (c : Config) → ((p : ℕ) (rest : List ℕ) → c.processes.stack ≡ p ∷ rest → IfOk (statement_step c p) (Kept Q)) → Kept Q c → IfWent (step c) (Kept Q)
   step-by c moves s = unless_stopped c.cycle.stopped (step_in c c.cycle.phase) (phase_kept c c.cycle.phase moves s)
 
-  pub step-kept : (missing : Construct → Bool) (c : Config) → Sound missing c → ((p : ℕ) (rest : List ℕ) → c.processes.stack ≡ p ∷ rest → IsKept p Q × IsSettled p Q) → Kept Q c → IfWent (step c) (Kept Q)
-  step-kept missing c sound moves s = step-by c (λ p rest top. let m = moves p rest top in statements.statement-kept p Q m.0 missing c rest top sound m.1 s) s
+  pub step-kept : (c : Config) → Sound c → ((p : ℕ) (rest : List ℕ) → c.processes.stack ≡ p ∷ rest → IsKept p Q × IsSettled p Q) → Kept Q c → IfWent (step c) (Kept Q)
+  step-kept c sound moves s = step-by c (λ p rest top. let m = moves p rest top in statements.statement-kept p Q m.0 c rest top sound m.1 s) s
 
   -- ---- a taking, where nothing is on the stack
 

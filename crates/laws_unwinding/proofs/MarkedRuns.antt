@@ -1,7 +1,6 @@
 -- In every run of a sound design marks are nested.
 use Rattle.std.proofs.Common.{◌≡◌, ℕ, Bool, List, [], slice_get, Option, Some, None, option_map, refl, sym, ap, ◌∙◌, subst}
 use Rattle.std.proofs.lemmas.Option.{none-some, same_Some, slice_get-map}
-use Rattle.laws_runs.specs.ModelTree.declared.constructs.Construct.{Construct}
 use Rattle.laws_runs.specs.FlatDesign.Sound.{SoundDesign}
 use Rattle.laws_runs.specs.FlatDesign.declared.design.ProcessPart.{ProcessPart}
 use Rattle.laws_runs.specs.FlatDesign.declared.design.Design.{Design}
@@ -38,9 +37,9 @@ start-marked d script = record {
   numbered = none_numbered;
 }
 
-module _ (missing : Construct → Bool) (d : Design) (script : List Command) (sound : SoundDesign missing d) (n : ℕ) (choices : List ℕ) (last : Config) (reached : after n choices (start d script) ≡ Some last) where
+module _ (d : Design) (script : List Command) (sound : SoundDesign d) (n : ℕ) (choices : List ℕ) (last : Config) (reached : after n choices (start d script) ≡ Some last) where
   pub marked-after : Marked (parts last)
-  marked-after = kept-after missing Marked marked-kept marked-settled marked-between marked-taken n choices (start d script) last (start-sound missing d script sound) (start-marked d script) reached
+  marked-after = kept-after Marked marked-kept marked-settled marked-between marked-taken n choices (start d script) last (start-sound d script sound) (start-marked d script) reached
 
   pub nested-after : (p : ℕ) → after_marks p last.trace.marks [] ≡ Some (parts_at (slice_get last.processes.instances p))
   nested-after p = marked-after.nested p
@@ -54,7 +53,7 @@ module _ (missing : Construct → Bool) (d : Design) (script : List Command) (so
 
   pub clean-whole : Clean last
   clean-whole =
-      let goals = goals-after missing d script sound n choices last reached in
+      let goals = goals-after d script sound n choices last reached in
       record {
         processes = clean-after d script n choices last reached;
         guards = record {

@@ -3,7 +3,6 @@ use Rattle.std.proofs.Common.{◌≡◌, ℕ, zero, suc, Bool, true, false, List
 use Rattle.std.specs.Prelude.{Result, Ok}
 use Rattle.std.proofs.lemmas.Option.{none-some, same_Some}
 use Rattle.laws_runs.specs.LogicValues.declared.kinds.Value.{Value}
-use Rattle.laws_runs.specs.ModelTree.declared.constructs.Construct.{Construct}
 use Rattle.laws_runs.specs.FlatDesign.Code as code
 use Rattle.laws_runs.specs.FlatDesign.Code.{Arena, Term, ArgumentTerm, Statement, block_at, statement_at, body_at}
 use Rattle.laws_runs.specs.FlatDesign.Typed.{EachOf, ChannelOffers}
@@ -64,9 +63,9 @@ module _ (P : ℕ → ℕ → Type 0) (d : Design) (closed : IsClosed d P) (home
     handlers_each (P home) (code_of d) handlers (λ j c. let within = c.1 in closed.inner home n j (code.try_ b handlers) here at (suc c.0, omega (arith, within), c.2)),
   )
 
-  pub call-new : (missing : Construct → Bool) → SoundDesign missing d → (x : Option Target) (f : ℕ) (arguments : List ArgumentTerm) (args : List Value) (call : Option ℕ) → statement_at (code_of d) n ≡ Some (code.call x f arguments)
+  pub call-new : SoundDesign d → (x : Option Target) (f : ℕ) (arguments : List ArgumentTerm) (args : List Value) (call : Option ℕ) → statement_at (code_of d) n ≡ Some (code.call x f arguments)
       → IsOrdinary P d home (entered (code_of d) f args call None)
-  call-new missing sound x f arguments args call at =
+  call-new sound x f arguments args call at =
       let b = closed.of_body home n here (code.call x f arguments) at in
       let typed = sound.typed b.function b.body home (code.call x f arguments) b.found b.home_of b.stands in
       let home_of : IsHomeOf d home typed.0 = record { instance = b.home_of.instance; found = b.home_of.found; same = b.home_of.same ∙ sym typed.1.here } in
@@ -89,17 +88,17 @@ handler_new d home far n f args via hop parameters answer (Some g) at is fits e 
     let same = same_Some g f e in
     entered_over d home far f n args via hop fits.body at is (ap (body_at (code_of d)) (sym same) ∙ fits.found) fits.home_of
 
-pub blocking-new : (missing : Construct → Bool) (d : Design) → SoundDesign missing d → (home n f hop : ℕ) (args : List Value) (t : ℕ) → blocking_handler (slice_get d.hops hop) ≡ Some f
+pub blocking-new : (d : Design) → SoundDesign d → (home n f hop : ℕ) (args : List Value) (t : ℕ) → blocking_handler (slice_get d.hops hop) ≡ Some f
     → IsOrdinary (OfBody d) d home (entered (code_of d) f args (Some n) (Some (record { hop = hop; forward = true; blocking = true; payload = t })))
-blocking-new missing d sound home n f hop args t is = by (slice_get d.hops hop) refl is
+blocking-new d sound home n f hop args t is = by (slice_get d.hops hop) refl is
   where
     by : (o : Option Hop) → slice_get d.hops hop ≡ o → blocking_handler o ≡ Some f → IsOrdinary (OfBody d) d home (entered (code_of d) f args (Some n) (Some (record { hop = hop; forward = true; blocking = true; payload = t })))
     by None at e = absurd (none-some f e)
     by (Some h) at e = handler_new d home h.target_home n f args (record { hop = hop; forward = true; blocking = true; payload = t }) h _ _ h.blocking at refl (sound.hops hop h at).blocking e
 
-pub nonblocking-new : (missing : Construct → Bool) (d : Design) → SoundDesign missing d → (home n f hop : ℕ) (forward : Bool) (args : List Value) (t : ℕ) → nonblocking_handler forward (slice_get d.hops hop) ≡ Some f
+pub nonblocking-new : (d : Design) → SoundDesign d → (home n f hop : ℕ) (forward : Bool) (args : List Value) (t : ℕ) → nonblocking_handler forward (slice_get d.hops hop) ≡ Some f
     → IsOrdinary (OfBody d) d home (entered (code_of d) f args (Some n) (Some (record { hop = hop; forward = forward; blocking = false; payload = t })))
-nonblocking-new missing d sound home n f hop forward args t is = by forward (slice_get d.hops hop) refl is
+nonblocking-new d sound home n f hop forward args t is = by forward (slice_get d.hops hop) refl is
   where
     by : (b : Bool) (o : Option Hop) → slice_get d.hops hop ≡ o → nonblocking_handler b o ≡ Some f → IsOrdinary (OfBody d) d home (entered (code_of d) f args (Some n) (Some (record { hop = hop; forward = b; blocking = false; payload = t })))
     by b None at e = absurd (none-some f e)
@@ -132,21 +131,21 @@ channel_is : (cs : List ChannelId) (k : ℕ) (o : Option ChannelId) (c : Channel
 channel_is cs k None c is = cc
 channel_is cs k (Some x) c is = cc
 
-port_takes : (missing : Construct → Bool) (d : Design) → SoundDesign missing d → (m k n events : ℕ) (o : Option PortPart) → slice_get d.ports m ≡ o → ((p : PortPart) → slice_get d.ports m ≡ Some p → PortTakes p.leads_to) → port_channel o k ≡ Ok (channel.Fifo n events) → ⊥
-port_takes missing d sound m k n events None at takes is = cc
-port_takes missing d sound m k n events (Some p) at takes is =
+port_takes : (d : Design) → SoundDesign d → (m k n events : ℕ) (o : Option PortPart) → slice_get d.ports m ≡ o → ((p : PortPart) → slice_get d.ports m ≡ Some p → PortTakes p.leads_to) → port_channel o k ≡ Ok (channel.Fifo n events) → ⊥
+port_takes d sound m k n events None at takes is = cc
+port_takes d sound m k n events (Some p) at takes is =
     no_fifo_port d n events p.leads_to (each_at (λ c. ChannelFits d c × ChannelOffers d c p.leads_to) p.channels k (channel.Fifo n events) (sound.ports m p at) (channel_is p.channels k (slice_get p.channels k) (channel.Fifo n events) is)).1 (takes p at)
 
 same_channel : (x y : ChannelId) → ◌≡◌ {A = Result ChannelId RunFault} (Ok x) (Ok y) → x ≡ y
 same_channel x y e = cc
 
-pub takes-no_fifo : (missing : Construct → Bool) (d : Design) → SoundDesign missing d → (x : Denoted) (k : Option ℕ) (n events : ℕ) → Takes d x → channel_of d x k ≡ Ok (channel.Fifo n events) → ⊥
-takes-no_fifo missing d sound denoted.Nothing k n events takes is = cc
-takes-no_fifo missing d sound (denoted.Channel c) k n events takes is = no_fifo c n events (same_channel c (channel.Fifo n events) is) takes
-takes-no_fifo missing d sound (denoted.Event e) k n events takes is = cc
-takes-no_fifo missing d sound (denoted.Keeper m) k n events takes is = cc
-takes-no_fifo missing d sound (denoted.Memory m) k n events takes is = cc
-takes-no_fifo missing d sound (denoted.Variable v) k n events takes is = cc
-takes-no_fifo missing d sound (denoted.Port m) k n events takes is = port_takes missing d sound m (unwrap_or k 0) n events (slice_get d.ports m) refl takes is
-takes-no_fifo missing d sound (denoted.Process p) k n events takes is = cc
-takes-no_fifo missing d sound (denoted.Socket hop forward) k n events takes is = cc
+pub takes-no_fifo : (d : Design) → SoundDesign d → (x : Denoted) (k : Option ℕ) (n events : ℕ) → Takes d x → channel_of d x k ≡ Ok (channel.Fifo n events) → ⊥
+takes-no_fifo d sound denoted.Nothing k n events takes is = cc
+takes-no_fifo d sound (denoted.Channel c) k n events takes is = no_fifo c n events (same_channel c (channel.Fifo n events) is) takes
+takes-no_fifo d sound (denoted.Event e) k n events takes is = cc
+takes-no_fifo d sound (denoted.Keeper m) k n events takes is = cc
+takes-no_fifo d sound (denoted.Memory m) k n events takes is = cc
+takes-no_fifo d sound (denoted.Variable v) k n events takes is = cc
+takes-no_fifo d sound (denoted.Port m) k n events takes is = port_takes d sound m (unwrap_or k 0) n events (slice_get d.ports m) refl takes is
+takes-no_fifo d sound (denoted.Process p) k n events takes is = cc
+takes-no_fifo d sound (denoted.Socket hop forward) k n events takes is = cc

@@ -1,7 +1,6 @@
 -- Every run of a sound design keeps goals on the stack, and below them unwind blocks alone.
 use Rattle.std.proofs.Common.{◌≡◌, ℕ, zero, suc, List, [], ◌∷◌, Option, Some, None, refl, subst}
 use Rattle.std.proofs.lemmas.Option.{none-some, same_Some}
-use Rattle.laws_runs.specs.ModelTree.declared.constructs.Construct.{Construct}
 use Rattle.std.specs.Prelude.{Bool}
 use Rattle.laws_runs.specs.FlatDesign.Sound.{SoundDesign}
 use Rattle.laws_runs.specs.FlatDesign.declared.design.Design.{Design}
@@ -77,17 +76,16 @@ module _ (P : Config → Type 0) (steps : (c : Config) → P c → IfWent (step 
   holds-after zero (p ∷ choices) first last h reached = absurd (none-some last reached)
   holds-after (suc n) choices first last h reached = holds_on first last choices (step first) (after n) refl h (steps first h) (λ left d. holds-after n left d last) reached
 
-module _ (missing : Construct → Bool) where
-  sound_after : (d : Design) (script : List Command) → SoundDesign missing d → (n : ℕ) (choices : List ℕ) (last : Config) → after n choices (start d script) ≡ Some last → Sound missing last
-  sound_after d script sound n choices last reached =
-      holds-after (Sound missing) (step-sound missing) (λ c p e now h to. taking-sound missing c p e (takes-empty c now) h to) n choices (start d script) last (start-sound missing d script sound) reached
+sound_after : (d : Design) (script : List Command) → SoundDesign d → (n : ℕ) (choices : List ℕ) (last : Config) → after n choices (start d script) ≡ Some last → Sound last
+sound_after d script sound n choices last reached =
+    holds-after Sound (step-sound) (λ c p e now h to. taking-sound c p e (takes-empty c now) h to) n choices (start d script) last (start-sound d script sound) reached
 
-  pub goals-after : (d : Design) (script : List Command) → SoundDesign missing d → (n : ℕ) (choices : List ℕ) (last : Config) → after n choices (start d script) ≡ Some last → CleanGoals (arena last) last.processes
-  goals-after d script sound n choices last reached =
-      let s = sound_after d script sound n choices last reached in
-      record {
-        one_goal = λ p i at. let f = fine-at last.design last.processes p i at s.1 in shaped-goals i.residual (standing_shaped last.design i.home i.residual f.standing);
-        goal_is_active = λ p i at g. (fine-at last.design last.processes p i at s.1).active g;
-        below_goal = λ p i at. let f = fine-at last.design last.processes p i at s.1 in standing-below last.design i.home i.residual f.standing;
-        one_block = λ p i at. let f = fine-at last.design last.processes p i at s.1 in shaped-one i.residual (standing_shaped last.design i.home i.residual f.standing);
-      }
+pub goals-after : (d : Design) (script : List Command) → SoundDesign d → (n : ℕ) (choices : List ℕ) (last : Config) → after n choices (start d script) ≡ Some last → CleanGoals (arena last) last.processes
+goals-after d script sound n choices last reached =
+    let s = sound_after d script sound n choices last reached in
+    record {
+      one_goal = λ p i at. let f = fine-at last.design last.processes p i at s.1 in shaped-goals i.residual (standing_shaped last.design i.home i.residual f.standing);
+      goal_is_active = λ p i at g. (fine-at last.design last.processes p i at s.1).active g;
+      below_goal = λ p i at. let f = fine-at last.design last.processes p i at s.1 in standing-below last.design i.home i.residual f.standing;
+      one_block = λ p i at. let f = fine-at last.design last.processes p i at s.1 in shaped-one i.residual (standing_shaped last.design i.home i.residual f.standing);
+    }

@@ -1,6 +1,5 @@
 -- A step moves only the top of the stack.
 use Rattle.std.proofs.Common.{◌≡◌, ◌≢◌, ◌≤◌, ◌⊎◌, ℕ, Bool, List, [], ◌∷◌, drop, Some, refl, sym, ap, ◌∙◌, subst, arith, inl, inr}
-use Rattle.laws_runs.specs.ModelTree.declared.constructs.Construct.{Construct}
 use Rattle.laws_runs.specs.FlatDesign.Sound.{SoundDesign}
 use Rattle.laws_runs.specs.FlatDesign.declared.design.Design.{Design}
 use Rattle.laws_runs.specs.SimModel.Configuration.{Config, start}
@@ -91,26 +90,25 @@ module _ (p : ℕ) (rest : List ℕ) (once : times p rest ≡ 0) where
 went_is : (Q : Config → Type 0) (o : Outcome) (d : Config) → o ≡ went d → IfWent o Q → Q d
 went_is Q o d is h = subst (λ x. IfWent x Q) is h
 
-module _ (missing : Construct → Bool) where
-  step_only : (c d : Config) → Sound missing c → ((p : ℕ) → times p c.processes.stack ≤ 1) → step c ≡ went d → (stack : List ℕ) → c.processes.stack ≡ stack → OnlyTopMoves c.processes.stack d.processes.stack
-  step_only c d s once now [] is =
-      inl (went_is (Kept IsEmpty) (step c) d now (steps.step-kept IsEmpty empty-between missing c s (λ p rest top. absurd (not_empty p rest c.processes.stack top is)) is) ∙ sym is)
-  step_only c d s once now (p ∷ rest) is =
-      let one = once p in
-      let here = times-here p rest in
-      let same = ap (times p) is in
-      let none : times p rest ≡ 0 = omega (arith, one, here, same) in
-      moved_only p rest none c d is
-      (went_is (Kept (IsMoved p rest none)) (step c) d now
-      (steps.step-kept (IsMoved p rest none) (moved-between p rest none) missing c s (λ q more top. same_top q more (top_same p q rest more c.processes.stack is top) none) (inl is)))
-    where
-      top_same : (p q : ℕ) (rest more stack : List ℕ) → stack ≡ p ∷ rest → stack ≡ q ∷ more → p ≡ q
-      top_same p q rest more stack one_ two = cc
+step_only : (c d : Config) → Sound c → ((p : ℕ) → times p c.processes.stack ≤ 1) → step c ≡ went d → (stack : List ℕ) → c.processes.stack ≡ stack → OnlyTopMoves c.processes.stack d.processes.stack
+step_only c d s once now [] is =
+    inl (went_is (Kept IsEmpty) (step c) d now (steps.step-kept IsEmpty empty-between c s (λ p rest top. absurd (not_empty p rest c.processes.stack top is)) is) ∙ sym is)
+step_only c d s once now (p ∷ rest) is =
+    let one = once p in
+    let here = times-here p rest in
+    let same = ap (times p) is in
+    let none : times p rest ≡ 0 = omega (arith, one, here, same) in
+    moved_only p rest none c d is
+    (went_is (Kept (IsMoved p rest none)) (step c) d now
+    (steps.step-kept (IsMoved p rest none) (moved-between p rest none) c s (λ q more top. same_top q more (top_same p q rest more c.processes.stack is top) none) (inl is)))
+  where
+    top_same : (p q : ℕ) (rest more stack : List ℕ) → stack ≡ p ∷ rest → stack ≡ q ∷ more → p ≡ q
+    top_same p q rest more stack one_ two = cc
 
-      same_top : (q : ℕ) (more : List ℕ) → p ≡ q → (none : times p rest ≡ 0) → IsKept q (IsMoved p rest none) × IsSettled q (IsMoved p rest none)
-      same_top q more e none = subst (λ n. IsKept n (IsMoved p rest none) × IsSettled n (IsMoved p rest none)) e (moved-kept p rest none, λ x i at h. h)
+    same_top : (q : ℕ) (more : List ℕ) → p ≡ q → (none : times p rest ≡ 0) → IsKept q (IsMoved p rest none) × IsSettled q (IsMoved p rest none)
+    same_top q more e none = subst (λ n. IsKept n (IsMoved p rest none) × IsSettled n (IsMoved p rest none)) e (moved-kept p rest none, λ x i at h. h)
 
-  pub only-top : (design : Design) (script : List Command) → SoundDesign missing design → (n : ℕ) (choices : List ℕ) (c d : Config) → after n choices (start design script) ≡ Some c → step c ≡ went d → OnlyTopMoves c.processes.stack d.processes.stack
-  only-top design script sound n choices c d reached now =
-      step_only c d (sound-run missing design script sound n choices c reached)
-      (λ p. let once = (clean-after design script n choices c reached).once p in omega (arith, once)) now c.processes.stack refl
+pub only-top : (design : Design) (script : List Command) → SoundDesign design → (n : ℕ) (choices : List ℕ) (c d : Config) → after n choices (start design script) ≡ Some c → step c ≡ went d → OnlyTopMoves c.processes.stack d.processes.stack
+only-top design script sound n choices c d reached now =
+    step_only c d (sound-run design script sound n choices c reached)
+    (λ p. let once = (clean-after design script n choices c reached).once p in omega (arith, once)) now c.processes.stack refl

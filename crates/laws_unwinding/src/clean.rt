@@ -1,6 +1,5 @@
 //! Every configuration of a run of a sound design is clean.
 ghost use Rattle.std.specs.Prelude.{◌≡◌, ℕ, Bool, List, Some};
-ghost use Rattle.laws_runs.specs.ModelTree.declared.constructs.Construct.{Construct};
 ghost use Rattle.laws_runs.specs.FlatDesign.Sound.{SoundDesign};
 ghost use Rattle.laws_runs.specs.FlatDesign.declared.design.Design.{Design};
 ghost use Rattle.laws_runs.specs.SimModel.Configuration.{Config, start};
@@ -14,6 +13,6 @@ ghost use Rattle.laws_runs.specs.SimModel.declared.plain.Command.{Command};
 /// those of what is left of its body, from outside in; and each guard has one Enter, then at most one of Leave and Begin, and
 /// at most one Finish, behind its Begin (IEEE 1666-2011, 4.2.1 and 5.6.6).
 pub fn runs_are_clean()
-    ensures { (missing : Construct → Bool) (design : Design) (script : List Command) → SoundDesign missing design → (steps : ℕ) (choices : List ℕ) (last : Config)
+    ensures { (design : Design) (script : List Command) → SoundDesign design → (steps : ℕ) (choices : List ℕ) (last : Config)
         → after steps choices (start design script) ≡ Some last → Clean last }
 {}

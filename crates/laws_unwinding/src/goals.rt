@@ -1,6 +1,5 @@
 //! What is being unwound, in every run of a sound design.
 ghost use Rattle.std.specs.Prelude.{◌≡◌, ℕ, Bool, List, Some};
-ghost use Rattle.laws_runs.specs.ModelTree.declared.constructs.Construct.{Construct};
 ghost use Rattle.laws_runs.specs.FlatDesign.Sound.{SoundDesign};
 ghost use Rattle.laws_runs.specs.FlatDesign.declared.design.Design.{Design};
 ghost use Rattle.laws_runs.specs.SimModel.Configuration.{Config, arena, start};
@@ -13,6 +12,6 @@ ghost use Rattle.laws_unwinding.specs.Goals.{CleanGoals};
 /// of unwind blocks, or reached from them; at most one unwind block is begun, and those that are owed lie outside it (IEEE
 /// 1666-2011, 5.6.6).
 pub fn runs_have_clean_goals()
-    ensures { (missing : Construct → Bool) (design : Design) (script : List Command) → SoundDesign missing design → (steps : ℕ) (choices : List ℕ) (last : Config)
+    ensures { (design : Design) (script : List Command) → SoundDesign design → (steps : ℕ) (choices : List ℕ) (last : Config)
         → after steps choices (start design script) ≡ Some last → CleanGoals (arena last) last.processes }
 {}

@@ -1,6 +1,5 @@
 //! The marks of guards, in every run of a sound design.
 ghost use Rattle.std.specs.Prelude.{◌≡◌, ℕ, Bool, List, [], slice_get, Some};
-ghost use Rattle.laws_runs.specs.ModelTree.declared.constructs.Construct.{Construct};
 ghost use Rattle.laws_runs.specs.FlatDesign.Sound.{SoundDesign};
 ghost use Rattle.laws_runs.specs.FlatDesign.declared.design.Design.{Design};
 ghost use Rattle.laws_runs.specs.SimModel.Configuration.{Config, start};
@@ -13,10 +12,10 @@ ghost use Rattle.laws_unwinding.specs.Nesting.{after_marks, parts_at, numbers_en
 /// is the innermost that is open; what they leave open are the guards of what is left of its body, each with whether its
 /// unwind block has begun. And guards are entered with the numbers 0, 1, 2 and so on, each once (IEEE 1666-2011, 5.6.6).
 pub fn marks_are_nested()
-    ensures nested { (missing : Construct → Bool) (design : Design) (script : List Command) → SoundDesign missing design
+    ensures nested { (design : Design) (script : List Command) → SoundDesign design
         → (steps : ℕ) (choices : List ℕ) (last : Config) → after steps choices (start design script) ≡ Some last
         → (p : ℕ) → after_marks p last.trace.marks [] ≡ Some (parts_at (slice_get last.processes.instances p)) }
-    ensures numbers { (missing : Construct → Bool) (design : Design) (script : List Command) → SoundDesign missing design
+    ensures numbers { (design : Design) (script : List Command) → SoundDesign design
         → (steps : ℕ) (choices : List ℕ) (last : Config) → after steps choices (start design script) ≡ Some last
         → numbers_entered last.trace.marks ≡ first_numbers last.trace.next_guard }
 {}

@@ -1,6 +1,5 @@
 //! What each step makes of the stack of the active instances.
 ghost use Rattle.std.specs.Prelude.{◌≡◌, ℕ, Bool, List, [], Some};
-ghost use Rattle.laws_runs.specs.ModelTree.declared.constructs.Construct.{Construct};
 ghost use Rattle.laws_runs.specs.FlatDesign.Sound.{SoundDesign};
 ghost use Rattle.laws_runs.specs.FlatDesign.declared.design.Design.{Design};
 ghost use Rattle.laws_runs.specs.SimModel.Configuration.{Config, start};
@@ -13,7 +12,7 @@ ghost use Rattle.laws_unwinding.specs.Stacks.{OnlyTopMoves};
 /// top again. So who makes a control call makes its next step when all that came on top of it has left (IEEE 1666-2011,
 /// 5.6.6). A process is taken only where the stack is empty.
 pub fn steps_move_only_the_top()
-    ensures steps { (missing : Construct → Bool) (design : Design) (script : List Command) → SoundDesign missing design
+    ensures steps { (design : Design) (script : List Command) → SoundDesign design
         → (n : ℕ) (choices : List ℕ) (c d : Config) → after n choices (start design script) ≡ Some c → step c ≡ went d
         → OnlyTopMoves c.processes.stack d.processes.stack }
     ensures takings { (c : Config) → step c ≡ takes → c.processes.stack ≡ [] }

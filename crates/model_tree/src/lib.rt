@@ -1,7 +1,6 @@
 //! The model language as data: words, names, the tree of a text.
 #![tactic(auto)]
 
-mod constructs;
 mod expressions;
 mod faults;
 mod items;
@@ -13,7 +12,6 @@ mod types;
 mod vocabulary;
 mod whole;
 
-pub use constructs::Construct;
 pub use expressions::{BinaryOp, Conversion, Expression, NamedConstant, UnaryOp};
 pub use faults::{CheckStop, Fault, Kind, ParseStop};
 pub use items::{
@@ -54,5 +52,5 @@ pub mod plain_lists_api {
 
 /// What is passed on of sim_time.
 pub mod sim_time_api {
-    pub use sim_time::{Time, Unit};
+    pub use sim_time::{Unit};
 }

@@ -3,10 +3,7 @@ use mathlib.Core.Path.{fun_ext}
 use Rattle.std.proofs.Common.{◌≡◌, ◌≤◌, ℕ, Bool, ◌&&◌, is_some, List, [], ◌∷◌, length, position, bytes_eq, slice_get, option_map, option_and_then, Option, Some, None, inr, refl, sym, ap, ap₂, ◌∙◌, arith}
 use Rattle.std.specs.Option.{option_or}
 use Rattle.model_tree.specs.Tree as tree
-use Rattle.model_tree.specs.declared.constructs.Construct.{Construct}
-use Rattle.flat_design.specs.Constructs.{statement_constructs}
-use Rattle.flat_design.specs.Sound.{NotMissing}
-use Rattle.flat_design.specs.Typed.{EachOf}
+use Rattle.flat_design.specs.Sound.{SoundDesign}
 use Rattle.flat_design.specs.declared.objects.Objects.{Objects}
 use Rattle.flat_design.specs.declared.value_types.ValueType.{ValueType}
 use Rattle.flat_design.specs.declared.design.Design.{Design}
@@ -20,14 +17,12 @@ use Rattle.elaborate.specs.DesignRules.BindingFaults as binding
 use Rattle.elaborate.specs.DesignRules.Designs.{IsDesignOf}
 use Rattle.elaborate.specs.DesignRules.Parts.{signals_of, visible_of}
 use Rattle.elaborate.specs.Elaborated.{elaboration_fault}
-use Rattle.elaborate.specs.Sound.{IsSound}
 use Rattle.script_text.specs.SimModel.Configuration.{path_of, path_up}
 use Rattle.script_text.specs.NamedScript.{is_declared_set, signal_type, type_if, set_type, is_shown_at, is_set_at, value_at, show_named, set_valued, set_named, named_form, in_front, name_script}
 use Rattle.script_text.specs.ValueTexts.{value_read}
 use Rattle.script_text.specs.declared.forms.CommandForm.{CommandForm}
 use Rattle.script_text.specs.declared.forms.CommandForm.TheVariants as form
 use Rattle.script_text.specs.declared.forms.TextCommand.{TextCommand}
-use Rattle.whole_language.specs.Whole.{nothing_missing}
 use Rattle.run_input.specs.Judged.{CanRun}
 
 -- what two designs agree in so that a script names the same in both
@@ -98,21 +93,16 @@ second_none (Some x) p h = cc
 none_too_large : (m : tree.Model) → elaboration_fault m ≡ None → limit_fault m ≡ None
 none_too_large m whole = second_none (cycle_fault m) (limit_fault m) (first_none (instances_fault m) (binding.first_fault (objects_of m)) whole)
 
--- where nothing is missing, nothing of a list is
-each_there : (cs : List Construct) → EachOf (NotMissing nothing_missing) cs
-each_there [] = tt
-each_there (c ∷ cs) = (refl, each_there cs)
-
 -- a session can be run of a sound design of a model that is not too large
 pub can_run : (m : tree.Model) (d : Design)
     → ((n : tree.Model) (e : Design) → limit_fault n ≡ None → IsDesignOf n e → length e.processes ≤ 65536)
     → ((n : tree.Model) (e : Design) → limit_fault n ≡ None → IsDesignOf n e → e.events ≤ 196608)
-    → elaboration_fault m ≡ None → IsDesignOf m d → IsSound d → CanRun d
+    → elaboration_fault m ≡ None → IsDesignOf m d → SoundDesign d → CanRun d
 can_run m d processes events whole is sound =
     let few = none_too_large m whole in
     let count : d.events ≤ 196608 = events m d few is in
     record {
-      sound = sound nothing_missing (λ b s there. each_there (statement_constructs s)) (λ i o there. inr refl);
+      sound = sound;
       few = processes m d few is;
       events = omega arith;
     }

@@ -9,7 +9,6 @@ use Rattle.elaborate.specs.Elaborated.{elaboration_fault}
 use Rattle.flat_design.specs.Sound.{SoundDesign}
 use Rattle.flat_design.specs.declared.design.Design.{Design}
 use Rattle.instance_table.specs.declared.TheConstants.{MAX_LIVE}
-use Rattle.whole_language.specs.Whole.{nothing_missing}
 use Rattle.script_text.specs.SimModel.declared.plain.Command.{Command}
 use Rattle.script_text.specs.ScriptText.{read_script}
 use Rattle.script_text.specs.NamedScript.{name_script}
@@ -64,7 +63,7 @@ IsDesignOfText model d = (m : tree.Model) × AcceptsModel model m × IsDesignOf 
 
 -- a design that a session can be run of: it is sound, and has no more processes and events than a session takes
 pub record CanRun (d : Design) : Type 0 where
-  pub sound : SoundDesign nothing_missing d
+  pub sound : SoundDesign d
   pub few : length d.processes ≤ MAX_LIVE
   pub events : d.events < 2 ^ 32 - 1
 

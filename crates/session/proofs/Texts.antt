@@ -2,7 +2,7 @@
 use Rattle.std.proofs.Common.{◌≡◌, ◌<◌, ◌≤◌, ℕ, List, [], ◌∷◌, ◌++◌, take, drop, length, inl, inr, Option, Some, None, Result, Ok, Err, refl, sym, ap, ◌∙◌, subst, arith, append-nil, length-take, take-append-drop}
 use Rattle.std.specs.Prelude.{slice_get}
 use Rattle.std.specs.List.{flat_map}
-use Rattle.whole_language.specs.LogicValues.declared.kinds.Value.{Value}
+use Rattle.flat_design.specs.LogicValues.declared.kinds.Value.{Value}
 use Rattle.sim_io.specs.Told.{Files, AfterTold, Grows, Grew}
 use Rattle.sim_io.specs.Taken.{PieceTaken, TookOf, FileTook}
 use Rattle.sim_io.proofs.Chains.{after_told_same, grew_none}

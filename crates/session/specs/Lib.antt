@@ -5,4 +5,3 @@ pub mod Telling
 pub mod Course
 pub mod Begun
 pub mod SimIo
-pub mod WholeLanguage

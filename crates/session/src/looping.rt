@@ -2,7 +2,6 @@
 ghost use Rattle.std.specs.Prelude.{◌≡◌, ◌≤◌, ◌<◌, ◌-◌, ◌^◌, length, IfOk, IfSome};
 ghost use Rattle.flat_design.specs.Code.{arena_of};
 ghost use Rattle.flat_design.specs.Sound.{SoundDesign};
-ghost use Rattle.whole_language.specs.Whole.{nothing_missing};
 ghost use Rattle.kernel_start.specs.InstanceTable.declared.TheConstants.{MAX_LIVE};
 ghost use Rattle.vcd_trace.specs.SimModel.Configuration.{Config, start};
 ghost use Rattle.kernel_start.specs.KernelState.Kernel.{StandsFor, IsSound};
@@ -187,7 +186,7 @@ pub fn run_session<S: Shelf, O: Sink>(
     shelf: &mut S,
     out: &mut O,
 ) -> Outcome
-    requires sound { SoundDesign nothing_missing design }
+    requires sound { SoundDesign design }
     requires few { length design.processes ≤ MAX_LIVE }
     requires events { design.events < 2 ^ 32 - 1 }
     requires created { IfSome plan.vcd (S.created shelf.old) }

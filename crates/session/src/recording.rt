@@ -15,7 +15,7 @@ use sim_io::{Shelf, Sink, Trouble};
 use std::alloc::Global;
 use vcd_trace::Tracing;
 use vcd_trace::sim_model_api::{Log, Stop};
-use whole_language::sim_time_api::Time;
+use flat_design::sim_time_api::Time;
 
 /// Writes what stands before all steps: the header of the trace.
 pub(crate) fn record_begin<S: Shelf, O: Sink>(

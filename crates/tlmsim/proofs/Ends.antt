@@ -12,7 +12,6 @@ use Rattle.session.specs.SimIo.declared.outside.Trouble.{Trouble}
 use Rattle.session.specs.SimIo.declared.outside.Trouble.TheVariants as trouble
 use Rattle.flat_design.specs.Sound.{SoundDesign}
 use Rattle.flat_design.specs.declared.design.Design.{Design}
-use Rattle.session.specs.WholeLanguage.Whole.{nothing_missing}
 use Rattle.model_tree.specs.Tree as tree
 use Rattle.command_line.specs.SimModel.Configuration.{start}
 use Rattle.command_line.specs.SimModel.declared.plain.Command.{Command}
@@ -184,7 +183,7 @@ not_begun c a spared e rose = by e rose
 
 -- a simulation that was run
 pub simulated : (c : Call) (s : Simulation) → line_of c.words ≡ Some (Simulate s) → (model script : List ℕ) (replay : Option (List ℕ)) → HasTexts c (Simulate s) model script replay → (m : tree.Model) (design : Design) (commands : List Command)
-    → Accepts model script m design commands → (listed : Option (List ℕ)) → ReadsReplay replay listed → SoundDesign nothing_missing design → Orderly design commands → (plan : Plan) → PlansRun s listed plan
+    → Accepts model script m design commands → (listed : Option (List ℕ)) → ReadsReplay replay listed → SoundDesign design → Orderly design commands → (plan : Plan) → PlansRun s listed plan
     → (choices : List ℕ) (steps : ℕ) (st : Stop) → Ran (start design commands) plan choices steps st (Holds c (names_in (Simulate s))) → (st ≡ stop.WriteFault → OneRose c) → EndedSo c choices steps st
 simulated c s line model script replay texts m design commands accepts listed reads sound orderly plan planned choices steps st ran rose = by st ran rose
   where
@@ -225,7 +224,7 @@ page_cut c page part lays front short out e rose = by e rose
 
 -- a generated model that was run, behind whose report its steps were told
 pub generated_so : (c : Call) (g : Generated) → line_of c.words ≡ Some (Generate g) → (model : List ℕ) → model ≡ generated g.size → (m : tree.Model) (design : Design) (commands : List Command)
-    → Accepts model (codes "run") m design commands → SoundDesign nothing_missing design → Orderly design commands → (plan : Plan) → IsPlan (Generate g) None plan
+    → Accepts model (codes "run") m design commands → SoundDesign design → Orderly design commands → (plan : Plan) → IsPlan (Generate g) None plan
     → (run told : Outcome) (mid : Option (List ℕ)) → TellsSteps mid c.after.out run told → Ran (start design commands) plan run.choices run.steps run.stop (λ t. Grew c.before.out mid t.report)
     → AfterTold c.before.files c.after.files Same → (told.stop ≡ stop.WriteFault → OneRose c) → (IsEnd run.stop → told.stop ≡ stop.WriteFault → Rose c.before.out_faults c.after.out_faults)
     → EndedSo c told.choices told.steps told.stop

@@ -6,7 +6,6 @@ use Rattle.flat_design.specs.declared.faults.RunFault.{RunFault}
 use Rattle.model_tree.specs.Tree as tree
 use Rattle.flat_design.specs.declared.design.Design.{Design}
 use Rattle.flat_design.specs.Sound.{SoundDesign}
-use Rattle.session.specs.WholeLanguage.Whole.{nothing_missing}
 use Rattle.run_input.specs.DesignRules.Designs.{IsDesignOf}
 use Rattle.command_line.specs.SimModel.Configuration.{start}
 use Rattle.command_line.specs.SimModel.declared.plain.Command.{Command}
@@ -120,7 +119,7 @@ pub record Accepted (c : Call) : Type 0 where
   pub accepts : Accepts model script m design commands
   pub listed : Option (List ℕ)
   pub reads : ReadsReplay replay listed
-  pub sound : SoundDesign nothing_missing design
+  pub sound : SoundDesign design
 
 -- The run of a design of the source tree, which is sound, under the script, as the words ask for it, with these choices and steps,
 -- which ended so, and whose texts were taken as T says; each choice is one of the rule; and the run is orderly: what has ended is

@@ -5,7 +5,7 @@ pub returns-clause-stays : goal.returns-clause-stays
 returns-clause-stays c = ended-stays
 
 pub returns-clause-taken : goal.returns-clause-taken
-returns-clause-taken c = λ missing design script sound n choices first reached q h m more e next later to. not-taken missing design script sound n choices first reached q h m more e later next to
+returns-clause-taken c = λ design script sound n choices first reached q h m more e next later to. not-taken design script sound n choices first reached q h m more e later next to
 
 pub returns-clause-steps : goal.returns-clause-steps
-returns-clause-steps c = λ missing design script sound n choices first reached q h m more e rest later top. not-on_top missing design script sound n choices first reached q h m more e later rest top
+returns-clause-steps c = λ design script sound n choices first reached q h m more e rest later top. not-on_top design script sound n choices first reached q h m more e later rest top

@@ -3,6 +3,6 @@ use Rattle.laws_types.proofs.statements.each_statement_meets_its_types.Goals as 
 
 pub returns : goal.returns
 returns x = record {
-  next = λ missing c p i sound typed at. next-typed missing c p i at sound (typed-fits c typed);
-  operands = λ missing c p i sound typed at. meets-types missing c p i at sound (typed-fits c typed);
+  next = λ c p i sound typed at. next-typed c p i at sound (typed-fits c typed);
+  operands = λ c p i sound typed at. meets-types c p i at sound (typed-fits c typed);
 }

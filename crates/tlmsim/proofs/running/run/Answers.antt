@@ -1,4 +1,3 @@
-use Rattle.session.specs.WholeLanguage.Whole.{nothing_missing}
 use Rattle.tlmsim.proofs.running.run.Goals as goal
 
 pub returns-clause-orderly : goal.returns-clause-orderly
@@ -7,12 +6,12 @@ returns-clause-orderly g c =
     let script = c.args.script.now in
     let sound = c.requires.runs.sound in
     record {
-      clean = c.runs_are_clean.ensures nothing_missing d script sound;
+      clean = c.runs_are_clean.ensures d script sound;
       nowhere = c.nothing_names_what_has_ended.ensures d script;
-      stays = c.what_has_ended_never_runs_again.ensures.stays nothing_missing d script sound;
-      once = c.unwind_blocks_run_once.ensures.after nothing_missing d script sound;
-      before_the_caller = c.unwinding_ends_before_the_caller_goes_on.ensures.done nothing_missing d script sound;
-      lawful = c.histories_are_lawful.ensures nothing_missing d script sound;
-      exact = c.faults_of_the_protocol_are_exact.ensures.live nothing_missing d script sound;
-      exact_freed = c.faults_of_the_protocol_are_exact.ensures.freed nothing_missing d script sound;
+      stays = c.what_has_ended_never_runs_again.ensures.stays d script sound;
+      once = c.unwind_blocks_run_once.ensures.after d script sound;
+      before_the_caller = c.unwinding_ends_before_the_caller_goes_on.ensures.done d script sound;
+      lawful = c.histories_are_lawful.ensures d script sound;
+      exact = c.faults_of_the_protocol_are_exact.ensures.live d script sound;
+      exact_freed = c.faults_of_the_protocol_are_exact.ensures.freed d script sound;
     }

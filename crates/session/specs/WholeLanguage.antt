@@ -1,1 +1,0 @@
-pub use Rattle.whole_language.specs.Whole as Whole

@@ -1,1 +1,0 @@
-pub use Rattle.model_tree.specs.LogicValues.declared as declared
