@@ -52,5 +52,5 @@ pub mod plain_lists_api {
 
 /// What is passed on of sim_time.
 pub mod sim_time_api {
-    pub use sim_time::{Unit};
+    pub use sim_time::Unit;
 }
