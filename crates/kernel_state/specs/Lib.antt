@@ -1,6 +1,7 @@
 pub mod Processes
 pub mod Kernel
 pub mod Moves
+pub mod Stopping
 pub mod Spawned
 pub mod SimTime
 pub mod LogicValues

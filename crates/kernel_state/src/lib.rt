@@ -9,6 +9,7 @@ mod payloads;
 mod reading;
 mod spawning;
 mod statements;
+mod stops;
 
 pub use control::{kill, reset};
 pub use kernel::{Cycle, Kept, Kernel, Offspring, PathOf};
@@ -17,6 +18,7 @@ pub use moves::{fire, notify, pass, set_local, set_variable, settle, wait, wake}
 pub use payloads::{acquire, make, release, set_byte, set_field};
 pub use spawning::spawn;
 pub use statements::{block, store_variable, wait_so, write_fifo};
+pub use stops::StatementStop;
 
 /// What is passed on of event_core.
 pub mod event_core_api {
