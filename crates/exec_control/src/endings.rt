@@ -105,8 +105,8 @@ fn rest_by(k: &mut Kernel, p: u32, t: &Option<Trigger>) -> Result<(), AllocError
     }
 }
 
-/// The method on top has returned: it waits by its next trigger, or by its static sensitivity (IEEE 1666-2011, 5.2.11 and
-/// 5.2.18). Where memory is refused nothing changes.
+/// The method on top has returned: it waits by its next trigger, or by its static sensitivity (IEEE 1666-2011, 5.2.10 and
+/// 5.2.17). Where memory is refused nothing changes.
 fn idle(k: &mut Kernel, p: u32) -> Result<(), AllocError>
     requires sound { IsSound k.old }
     requires top { IsOnTop k.old p }

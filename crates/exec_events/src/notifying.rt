@@ -80,7 +80,7 @@ pub fn stop(k: &mut Kernel, p: u32)
     ask(k);
 }
 
-/// A method waits so after its return; the last of a turn counts (IEEE 1666-2011, 5.2.18).
+/// A method waits so after its return; the last of a turn counts (IEEE 1666-2011, 5.2.17).
 pub fn next_trigger(k: &mut Kernel, p: u32, t: Trigger)
     requires sound { IsSound k.old }
     requires lives { Lives k.old p }

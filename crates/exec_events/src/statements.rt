@@ -15,7 +15,7 @@ use kernel_view::kernel_state_api::{Kernel, top_lives, wait_so};
 use std::alloc::Global;
 
 /// `wait`: the instance on top waits for its static sensitivity, the next delta, a time, or any or all of some events, with a
-/// time-out where one is written (IEEE 1666-2011, 5.2.17).
+/// time-out where one is written (IEEE 1666-2011, 5.2.18).
 ///
 /// # Errors
 /// The first fault of what it names, or that it would end past 2^64 - 1 ps; want of memory. Then nothing changes.
@@ -38,7 +38,7 @@ pub fn wait_statement(k: &mut Kernel, alloc: Global, p: u32, how: &Await) -> Res
     }
 }
 
-/// `next_trigger`: the method will wait so after its return; the last of a turn counts (IEEE 1666-2011, 5.2.18).
+/// `next_trigger`: the method will wait so after its return; the last of a turn counts (IEEE 1666-2011, 5.2.17).
 ///
 /// # Errors
 /// The first fault of what it names, or that it would end past 2^64 - 1 ps; want of memory. Then nothing changes.

@@ -8,9 +8,9 @@ use wait_lists::event_core_api::Ev;
 /// Which events an instance waits for.
 #[derive(Drop)]
 pub enum Wait {
-    /// Any of its static sensitivity (IEEE 1666-2011, 5.2.4).
+    /// Any of its static sensitivity (IEEE 1666-2011, 5.2.14).
     Static,
-    /// Any of these (IEEE 1666-2011, 5.2.17); with none, no event ends the wait.
+    /// Any of these (IEEE 1666-2011, 5.2.18); with none, no event ends the wait.
     Any(Items<Ev>),
     /// All of these (IEEE 1666-2011, 5.8).
     All(Items<Ev>),
@@ -28,7 +28,7 @@ pub struct Trigger {
 /// What is kept of a process beside its marks: its static sensitivity, and what the caller keeps for it.
 #[derive(Drop)]
 pub struct Process<B> {
-    /// The events that it waits for where it waits for no others (IEEE 1666-2011, 5.2.4).
+    /// The events that it waits for where it waits for no others (IEEE 1666-2011, 5.2.14).
     pub sensitive: Items<Ev>,
     /// What the caller keeps.
     pub body: B,

@@ -40,7 +40,7 @@ fn put<B>(s: &mut Schedule<B>, p: u32, t: &Trigger)
     mark_wait(s, p, t);
 }
 
-/// The instance on top leaves the stack and waits so (IEEE 1666-2011, 5.2.17). Where memory is refused nothing changes.
+/// The instance on top leaves the stack and waits so (IEEE 1666-2011, 5.2.18). Where memory is refused nothing changes.
 pub fn wait<B>(s: &mut Schedule<B>, p: u32, t: &Trigger) -> Result<(), AllocError>
     requires sound { IsSound s.old }
     requires top { IsTop p s.old.stack.items }
@@ -57,7 +57,7 @@ pub fn wait<B>(s: &mut Schedule<B>, p: u32, t: &Trigger) -> Result<(), AllocErro
     Ok(())
 }
 
-/// The method on top has returned: it leaves the stack and waits so, and its body has not begun (IEEE 1666-2011, 5.2.11).
+/// The method on top has returned: it leaves the stack and waits so, and its body has not begun (IEEE 1666-2011, 5.2.10).
 /// Where memory is refused nothing changes.
 pub fn rest<B>(s: &mut Schedule<B>, p: u32, t: &Trigger) -> Result<(), AllocError>
     requires sound { IsSound s.old }

@@ -31,7 +31,7 @@ pub struct Kept {
     pub path: PathOf,
     /// Its body: the code, the first arguments and what is left.
     pub body: Body,
-    /// How it waits after its return, where a next trigger was set (IEEE 1666-2011, 5.2.18).
+    /// How it waits after its return, where a next trigger was set (IEEE 1666-2011, 5.2.17).
     pub trigger: Option<Trigger>,
 }
 

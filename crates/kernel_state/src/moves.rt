@@ -49,7 +49,7 @@ pub fn wake(k: &mut Kernel, p: u32)
     wake_process(&mut k.schedule, p);
 }
 
-/// The active instance on top waits so, and leaves the stack (IEEE 1666-2011, 5.2.17). Where memory is refused nothing
+/// The active instance on top waits so, and leaves the stack (IEEE 1666-2011, 5.2.18). Where memory is refused nothing
 /// changes.
 pub fn wait(k: &mut Kernel, p: u32, t: &Trigger) -> Result<(), AllocError>
     requires sound { IsSound k.old }

@@ -31,7 +31,7 @@ pub fn store_variable(k: &mut Kernel, p: u32, n: u32, v: Value)
     set_variable(k, n, v);
 }
 
-/// The instance on top waits so: its statement is past (IEEE 1666-2011, 5.2.17). Where memory is refused nothing changes.
+/// The instance on top waits so: its statement is past (IEEE 1666-2011, 5.2.18). Where memory is refused nothing changes.
 pub fn wait_so(k: &mut Kernel, p: u32, t: &Trigger) -> Result<(), AllocError>
     requires sound { IsSound k.old }
     requires top { IsOnTop k.old p }

@@ -18,7 +18,7 @@ use Rattle.model_rules.specs.declared.meanings.Row.TheVariants as row
 use Rattle.model_rules.specs.declared.meanings.ValueMember.{ValueMember}
 use Rattle.model_rules.specs.declared.meanings.ValueMember.TheVariants as reached
 
--- a variable has a r where it holds the handle of a process or a payload
+-- a variable has a row where it holds the handle of a process or a payload
 abbrev pub variable_row : Option ValueType → Option Row
 variable_row None = None
 variable_row (Some type.Bool) = None
@@ -30,7 +30,7 @@ variable_row (Some type.Time) = None
 variable_row (Some type.Process) = Some row.Processes
 variable_row (Some type.Payload) = Some row.Payloads
 
--- the r of a kind of object; none where it has no members
+-- the row of a kind of object; none where it has no members
 abbrev pub row_of : Meaning → Option Row
 row_of (meaning.Signal s) = Some (row.Signals s)
 row_of meaning.Resolved = Some (row.Signals (Some type.Logic))

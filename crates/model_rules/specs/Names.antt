@@ -309,7 +309,7 @@ meets need_of.Initiator m = is_initiator m
 
 -- members
 
--- a r has a member in neither column
+-- a row has a member in neither column
 abbrev pub row_lacks : Row → List ℕ → Bool
 row_lacks r name = is_none (value_member r name) && is_none (event_member r name)
 
@@ -321,7 +321,7 @@ unknown_in_row name (Some r) = name_if (row_lacks r name) name
 abbrev pub unknown_member : Option Meaning → List ℕ → Option (List ℕ)
 unknown_member m name = unknown_in_row name (option_and_then row_of m)
 
--- an object without a r is of the wrong kind itself, and a member for what the row's test says
+-- an object without a row is of the wrong kind itself, and a member for what the row's test says
 abbrev pub wrong_in_row : (Row → Bool) → List ℕ → List ℕ → Option Row → Option (List ℕ)
 wrong_in_row is_wrong of name None = Some of
 wrong_in_row is_wrong of name (Some r) = name_if (is_wrong r && not (row_lacks r name)) name
