@@ -5,7 +5,7 @@ use Rattle.std.proofs.lemmas.Bool.Decides.{nat_tests}
 use Rattle.sim_model.specs.Configuration.{Config}
 use Rattle.sim_model.specs.Waits.{holds}
 use Rattle.sim_model.specs.Steps.{Outcome, went, faulted, takes, ended, step, taken_if, taking}
-use Rattle.sim_model.specs.Runs.{after, and_then, took, Chooser, listed, chooser_of, first_of, rest_of, picked, held_then, took_as, ruled_on, RuledFrom, Ruled,, stop_taking, stop_at, stop_of}
+use Rattle.sim_model.specs.Runs.{after, and_then, took, Chooser, listed, chooser_of, first_of, rest_of, picked, held_then, took_as, ruled_on, RuledFrom, Ruled, missing, stop_taking, stop_at, stop_of}
 use Rattle.sim_model.specs.declared.plain.Rule.{Rule}
 use Rattle.sim_model.specs.declared.plain.Rule.TheVariants as rule
 use Rattle.sim_model.specs.declared.plain.Stop.TheVariants as stop
@@ -54,7 +54,7 @@ runnable c d p h = runnable-if c d p (holds c.processes.runnable p) refl h
 
 not-missing : (c : Config) (choices : List ℕ) (t p : ℕ) → slice_get choices t ≡ Some p → holds c.processes.runnable p ≡ true → stop_taking c (rule.Replay choices) t ≡ None
 not-missing c choices t p at is =
-    ap (λ o. cond (c.processes.runnable o) (Some (stop.Replay (t + 1))) None) at
+    ap (λ o. cond (missing c.processes.runnable o) (Some (stop.Replay (t + 1))) None) at
     ∙ ap (λ b. cond (not b) (Some (stop.Replay (t + 1))) None) is
 
 goes-taking : (r : Rule) (t : ℕ) (k : Chooser) (c d : Config) (p : ℕ) → HeldAfter r t k → picked k c.processes.runnable ≡ Some p → taking c p ≡ Some d → stop_taking c r t ≡ None

@@ -16,7 +16,7 @@ use Rattle.sim_model.specs.ModelTree.declared.items.ProcessKind.TheVariants as p
 use Rattle.sim_model.specs.ModelTree.declared.statements.Control.{Control}
 use Rattle.sim_model.specs.ModelTree.declared.statements.Control.TheVariants as control
 use Rattle.sim_model.specs.FlatDesign.Code as code
-use Rattle.sim_model.specs.FlatDesign.Code.{Term, DestinationTerm, SpawnTerm, ChannelTerm, Statement, statement_at}
+use Rattle.sim_model.specs.FlatDesign.Code.{Term, DestinationTerm, SpawnTerm, Statement, statement_at}
 use Rattle.sim_model.specs.FlatDesign.declared.names.NameUse.{NameUse}
 use Rattle.sim_model.specs.FlatDesign.declared.code.Store.{Store as Target}
 use Rattle.sim_model.specs.FlatDesign.declared.design.ChannelId.{ChannelId}

@@ -2,7 +2,7 @@
 -- runs, and below a goal each is one of an unwind block, or reached from there.
 use Rattle.std.specs.Prelude.{◌≡◌, ℕ, ⊤, slice_get, Option, Some, None}
 use Rattle.sim_model.specs.FlatDesign.Code as code
-use Rattle.sim_model.specs.FlatDesign.Code.{Arena, Statement, arena_of, block_at, statement_at, body_at}
+use Rattle.sim_model.specs.FlatDesign.Code.{Arena, Statement, arena_of, statement_at, body_at}
 use Rattle.sim_model.specs.FlatDesign.Typed.{EachOf}
 use Rattle.sim_model.specs.FlatDesign.Reach.{Reached, InBody}
 use Rattle.sim_model.specs.FlatDesign.Sound.{IsHomeOf}

@@ -1,5 +1,5 @@
 -- The ends of bodies and of unwindings in a sound design.
-use Rattle.std.proofs.Common.{◌≡◌, ℕ, Bool, true, false, List, ◌∷◌, Some, None, refl, sym, ap, ◌∙◌, subst}
+use Rattle.std.proofs.Common.{◌≡◌, ℕ, true, false, List, ◌∷◌, Some, None, refl, sym, ap, ◌∙◌, subst}
 use Rattle.std.proofs.lemmas.Option.{same_Some}
 use Rattle.laws_runs.specs.LogicValues.declared.kinds.Value.{Value}
 use Rattle.laws_runs.specs.EventCore.declared.event.Ev.TheVariants as ev

@@ -16,7 +16,7 @@ use Rattle.laws_runs.specs.TransportPhases.declared.phases.Rule.{Rule}
 use Rattle.laws_runs.specs.QuantumKeeper.declared.keeper.Keeper.{Keeper}
 use Rattle.laws_runs.specs.ModelTree.declared.statements.Control.{Control}
 use Rattle.laws_runs.specs.FlatDesign.Code as code
-use Rattle.laws_runs.specs.FlatDesign.Code.{Term, DestinationTerm, AwaitTerm, ArgumentTerm, SpawnTerm, ChannelTerm, Statement, statement_at, body_at}
+use Rattle.laws_runs.specs.FlatDesign.Code.{Term, DestinationTerm, AwaitTerm, ArgumentTerm, SpawnTerm, ChannelTerm, Statement, statement_at}
 use Rattle.laws_runs.specs.FlatDesign.Denotes.{denoted_at}
 use Rattle.laws_runs.specs.FlatDesign.Blocking.{DoesNotBlock, IsPlain}
 use Rattle.laws_runs.specs.FlatDesign.declared.value_types.ValueType.{ValueType}

@@ -16,7 +16,7 @@ use Rattle.laws_runs.specs.FlatDesign.declared.faults.RunFault.{RunFault}
 use Rattle.laws_runs.specs.LogicValues.declared.kinds.Value.TheVariants as value
 use Rattle.laws_runs.specs.SimModel.Values.{on_ok}
 use Rattle.laws_runs.specs.SimModel.Residual as residual
-use Rattle.laws_runs.specs.SimModel.Residual.{Residual, Frame, Next, skip, put, has_goal, next_of, reaches}
+use Rattle.laws_runs.specs.SimModel.Residual.{Residual, Frame, skip, put, has_goal, next_of, reaches}
 use Rattle.laws_runs.specs.SimModel.Configuration.{Config, Instance, change, change_instance, arena}
 use Rattle.laws_runs.specs.SimModel.Waits.{fire, leaves_stack}
 use Rattle.laws_runs.specs.SimModel.Reading.{Here, here}

@@ -1,5 +1,5 @@
 -- Every run of a sound design keeps what each of its moves keeps.
-use Rattle.std.proofs.Common.{◌≡◌, ℕ, Bool, List, Some}
+use Rattle.std.proofs.Common.{◌≡◌, ℕ, List, Some}
 use Rattle.laws_runs.specs.FlatDesign.Sound.{SoundDesign}
 use Rattle.laws_runs.specs.FlatDesign.declared.design.Design.{Design}
 use Rattle.laws_runs.specs.SimModel.Configuration.{Config, start}

@@ -1,5 +1,5 @@
 -- One step of the instance on top of the stack keeps what each of its moves keeps.
-use Rattle.std.proofs.Common.{◌≡◌, ℕ, Bool, List, ◌∷◌, Option, Some, None, refl, sym, subst}
+use Rattle.std.proofs.Common.{◌≡◌, ℕ, List, ◌∷◌, Option, Some, None, refl, sym, subst}
 use Rattle.std.specs.Result.{IfOk}
 use Rattle.laws_runs.specs.FlatDesign.Code.{Statement, statement_at}
 use Rattle.laws_runs.specs.SimModel.Residual as residual

@@ -1,5 +1,5 @@
 -- In every run of a sound design marks are nested.
-use Rattle.std.proofs.Common.{◌≡◌, ℕ, Bool, List, [], slice_get, Option, Some, None, option_map, refl, sym, ap, ◌∙◌, subst}
+use Rattle.std.proofs.Common.{◌≡◌, ℕ, List, [], slice_get, Option, Some, None, option_map, refl, sym, ap, ◌∙◌, subst}
 use Rattle.std.proofs.lemmas.Option.{none-some, same_Some, slice_get-map}
 use Rattle.laws_runs.specs.FlatDesign.Sound.{SoundDesign}
 use Rattle.laws_runs.specs.FlatDesign.declared.design.ProcessPart.{ProcessPart}

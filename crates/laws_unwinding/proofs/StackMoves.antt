@@ -1,5 +1,5 @@
 -- A step moves only the top of the stack.
-use Rattle.std.proofs.Common.{◌≡◌, ◌≢◌, ◌≤◌, ◌⊎◌, ℕ, Bool, List, [], ◌∷◌, drop, Some, refl, sym, ap, ◌∙◌, subst, arith, inl, inr}
+use Rattle.std.proofs.Common.{◌≡◌, ◌≢◌, ◌≤◌, ◌⊎◌, ℕ, List, [], ◌∷◌, drop, Some, refl, sym, ap, ◌∙◌, subst, arith, inl, inr}
 use Rattle.laws_runs.specs.FlatDesign.Sound.{SoundDesign}
 use Rattle.laws_runs.specs.FlatDesign.declared.design.Design.{Design}
 use Rattle.laws_runs.specs.SimModel.Configuration.{Config, start}

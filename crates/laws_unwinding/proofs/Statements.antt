@@ -1,12 +1,12 @@
 -- One step of the instance on top of the stack, in a sound design.
-use Rattle.std.proofs.Common.{◌≡◌, ℕ, Bool, List, ◌∷◌, Option, Some, None, refl}
+use Rattle.std.proofs.Common.{◌≡◌, ℕ, List, ◌∷◌, Option, Some, None, refl}
 use Rattle.std.specs.Prelude.{Result}
 use Rattle.std.specs.Result.{IfOk}
 use Rattle.laws_runs.specs.FlatDesign.Code as code
 use Rattle.laws_runs.specs.FlatDesign.Code.{Statement, statement_at}
 use Rattle.laws_runs.specs.FlatDesign.declared.faults.RunFault.{RunFault}
 use Rattle.laws_runs.specs.SimModel.Residual as residual
-use Rattle.laws_runs.specs.SimModel.Residual.{Residual, Frame, Next, skip, put, settle, fall, next_of}
+use Rattle.laws_runs.specs.SimModel.Residual.{Residual, Frame, Next, skip, put, settle, next_of}
 use Rattle.laws_runs.specs.SimModel.Configuration.{Config, Instance, arena, instance_at}
 use Rattle.laws_runs.specs.SimModel.Reading.{Here, here}
 use Rattle.laws_runs.specs.SimModel.Storing.{passes}

@@ -10,7 +10,7 @@ use Rattle.laws_runs.specs.SignalChannel.declared.signal.WriterConflict.{WriterC
 use Rattle.laws_runs.specs.FifoSync.Fifos.{Queued}
 use Rattle.laws_runs.specs.QuantumKeeper.declared.keeper.Keeper.{Keeper}
 use Rattle.laws_runs.specs.FlatDesign.Code as code
-use Rattle.laws_runs.specs.FlatDesign.Code.{Term, DestinationTerm, AwaitTerm, ArgumentTerm, SpawnTerm, ChannelTerm, Statement, statement_at, body_at}
+use Rattle.laws_runs.specs.FlatDesign.Code.{ArgumentTerm}
 use Rattle.laws_runs.specs.FlatDesign.declared.names.NameUse.{NameUse}
 use Rattle.laws_runs.specs.FlatDesign.declared.names.NameUse.TheVariants as name_use
 use Rattle.laws_runs.specs.FlatDesign.declared.code.Store.{Store as Target}
