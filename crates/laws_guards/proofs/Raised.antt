@@ -1,8 +1,8 @@
 -- What an exception makes of a residual: the guards inside its try are below a goal then.
-use Rattle.std.proofs.Common.{◌≡◌, ◌||◌, ℕ, Bool, true, false, cond, List, [], ◌∷◌, refl, sym, ap, ◌∙◌, true≢false}
+use Rattle.std.proofs.Common.{◌≡◌, ◌||◌, ℕ, Bool, true, false, cond, List, [], ◌∷◌, refl, sym, ◌∙◌, true≢false}
 use Rattle.laws_unwinding.specs.FlatDesign.Code.{Arena}
 use Rattle.laws_unwinding.specs.FlatDesign.declared.code.Handler.{Handler}
-use Rattle.laws_unwinding.specs.SimModel.Residual.{Residual, Frame, skip, one, seq, owing, guard, try_, frame, shell, run, goal, followed, has_goal}
+use Rattle.laws_unwinding.specs.SimModel.Residual.{Residual, skip, one, seq, owing, guard, try_, frame, shell, run, goal, followed, has_goal}
 use Rattle.laws_unwinding.specs.SimModel.Unwinding.{unw, catches, handles, handler_block, handler_of, handled, raise}
 use Rattle.laws_unwinding.specs.SimModel.Clean.{guards_of}
 use Rattle.laws_unwinding.specs.SimModel.declared.plain.Goal.{Goal}

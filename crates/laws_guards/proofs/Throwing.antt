@@ -1,11 +1,11 @@
 -- What an exception makes of the configuration.
-use Rattle.std.proofs.Common.{◌≡◌, ◌||◌, not, ℕ, Bool, true, false, cond, List, [], ◌∷◌, slice_get, Option, Some, None, refl, ap, ◌∙◌}
+use Rattle.std.proofs.Common.{◌≡◌, ◌||◌, not, ℕ, Bool, true, false, cond, slice_get, Some, None, refl, ap, ◌∙◌}
 use Rattle.std.specs.Prelude.{Result, Ok, Err}
 use Rattle.laws_unwinding.specs.ModelTree.declared.items.ProcessKind.{ProcessKind}
 use Rattle.laws_unwinding.specs.ModelTree.declared.items.ProcessKind.TheVariants as process
 use Rattle.laws_unwinding.specs.FlatDesign.declared.faults.RunFault.{RunFault}
 use Rattle.laws_unwinding.specs.FlatDesign.declared.faults.RunFault.TheVariants as fault
-use Rattle.laws_unwinding.specs.SimModel.Residual.{Residual, has_goal}
+use Rattle.laws_unwinding.specs.SimModel.Residual.{has_goal}
 use Rattle.laws_unwinding.specs.SimModel.Unwinding.{catches, raise, left_by_raise}
 use Rattle.laws_unwinding.specs.SimModel.Configuration.{Config, Instance, arena, change, instance_at, with_residual}
 use Rattle.laws_unwinding.specs.SimModel.Waits.{freed}

@@ -25,7 +25,7 @@ use Rattle.laws_unwinding.specs.FlatDesign.declared.faults.RunFault.{RunFault}
 use Rattle.laws_unwinding.specs.FlatDesign.declared.faults.RunFault.TheVariants as fault
 use Rattle.laws_unwinding.specs.SimModel.Values.{on_ok}
 use Rattle.laws_unwinding.specs.SimModel.Residual as residual
-use Rattle.laws_unwinding.specs.SimModel.Residual.{Residual, Frame, skip, put, settle, next_of}
+use Rattle.laws_unwinding.specs.SimModel.Residual.{Residual, Frame, skip, put, next_of}
 use Rattle.laws_unwinding.specs.SimModel.Payloads.{payload_of}
 use Rattle.laws_unwinding.specs.SimModel.Configuration.{Config, Instance, arena, instance_at, start}
 use Rattle.laws_unwinding.specs.SimModel.Reading.{Here, here, denotes, payload_number, live_payload}

@@ -2,7 +2,7 @@
 use Rattle.std.proofs.Common.{◌≡◌, ℕ, Bool, true, false, cond, List, [], ◌∷◌, ◌++◌, Option, Some, None, refl, sym, ap, ◌∙◌, subst, true≢false, append-nil, append_assoc}
 use Rattle.laws_unwinding.specs.LogicValues.declared.kinds.Value.{Value}
 use Rattle.laws_unwinding.specs.FlatDesign.Code as code
-use Rattle.laws_unwinding.specs.FlatDesign.Code.{Arena, Statement, block_at, body_at, statement_at}
+use Rattle.laws_unwinding.specs.FlatDesign.Code.{Arena, Statement, block_at, body_at}
 use Rattle.laws_unwinding.specs.FlatDesign.declared.code.CodeBody.{CodeBody}
 use Rattle.laws_unwinding.specs.FlatDesign.declared.code.Handler.{Handler}
 use Rattle.laws_unwinding.specs.FlatDesign.declared.design.Design.{Design}
