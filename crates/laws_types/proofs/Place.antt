@@ -1,5 +1,5 @@
 -- The statement in place is one of the body whose call is in place, among local variables of its types.
-use Rattle.std.proofs.Common.{◌≡◌, ℕ, Bool, Option, Some, None, refl, sym, ap, subst}
+use Rattle.std.proofs.Common.{◌≡◌, ℕ, Option, Some, None, refl, sym, ap, subst}
 use Rattle.laws_unwinding.specs.FlatDesign.Code.{Statement, statement_at, body_at}
 use Rattle.laws_unwinding.specs.FlatDesign.Typed.{IsTyped}
 use Rattle.laws_unwinding.specs.FlatDesign.Sound.{SoundDesign, IsHomeOf}

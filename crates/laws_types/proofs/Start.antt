@@ -1,6 +1,5 @@
 -- The first configuration of a sound design is typed.
 use Rattle.std.proofs.Common.{◌≡◌, ℕ, zero, suc, List, [], ◌∷◌, map, take, length, replicate, slice_get, Some, refl, sym, ap, subst, arith}
-use Rattle.std.specs.Prelude.{Bool}
 use Rattle.laws_unwinding.specs.FlatDesign.Typed.{EachOf}
 use Rattle.laws_unwinding.specs.FlatDesign.Sound.{SoundDesign, ProcessFits}
 use Rattle.laws_unwinding.specs.FlatDesign.declared.code.Local.{Local}

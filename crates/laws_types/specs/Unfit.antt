@@ -1,5 +1,5 @@
 -- A design by which it can be tried what the laws ask for: a bool signal, and a thread with a local variable of so many digits.
-use Rattle.std.specs.Prelude.{ℕ, Bool, false, [], ◌∷◌, List, None, codes}
+use Rattle.std.specs.Prelude.{ℕ, false, [], ◌∷◌, List, None, codes}
 use Rattle.laws_unwinding.specs.LogicValues.declared.kinds.Value.TheVariants as value
 use Rattle.laws_unwinding.specs.ModelTree.declared.items.ProcessKind.TheVariants as process
 use Rattle.laws_unwinding.specs.ModelTree.declared.items.SignalKind.TheVariants as signal_kind
