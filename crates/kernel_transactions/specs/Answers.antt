@@ -1,5 +1,5 @@
 -- What the calls of a board answer.
-use Rattle.std.specs.Prelude.{◌≡◌, ⊤, ℕ, Bool, true, false, length, Result, Ok, Err}
+use Rattle.std.specs.Prelude.{◌≡◌, ℕ, Bool, true, false, length, Result, Ok, Err, IsOk}
 use Rattle.sim_model.specs.TransportPhases.declared.phases.Rule.{Rule}
 use Rattle.sim_model.specs.TransportPhases.History.{Entry}
 use Rattle.sim_model.specs.FlatDesign.declared.faults.RunFault.{RunFault}
@@ -22,11 +22,11 @@ abbrev pub number_made : Config → ℕ → ℕ → Result ℕ RunFault
 number_made c len enables =
     on_ok (size_within 1 len) (λ x. on_ok (size_within 0 enables) (λ y. on_ok (may_make c) (λ ok. Ok (length c.transactions.pool))))
 
--- where memory is refused nothing is said
+-- where memory is refused there is no fault
 abbrev pub Makes : Result ℕ MakeStop → Result ℕ RunFault → Type 0
 Makes (Ok t) r = r ≡ Ok t
 Makes (Err (stop.Fault f)) r = r ≡ Err f
-Makes (Err stop.NoMemory) r = ⊤
+Makes (Err stop.NoMemory) r = IsOk r
 
 -- whether something was responded, as far as a payload says
 abbrev pub complete_in : Transactions → ℕ → Bool

@@ -39,7 +39,8 @@ impl TransactionBoard {
     /// before. It takes memory.
     ///
     /// There is at least one byte, there are at most 4,096 of each, and at most 16,384 payloads live at once. Its number and
-    /// the counts of holders are within the next bound then. Where it is refused nothing changes.
+    /// the counts of holders are within the next bound then. Where it is refused nothing changes; memory is refused only where
+    /// there is no fault.
     pub fn make(&mut self, len: u64, enables: u64) -> Result<u32, MakeStop>
         requires { IsWithin (2 ^ 32 - 2) self.old }
         ensures answer { (c : Config) → StandsForTransactions self.old c.transactions → Makes result (number_made c len enables) }

@@ -1,4 +1,5 @@
-use Rattle.std.proofs.Common.{◌≡◌, ◌≢◌, ◌≤◌, ◌+◌, Ok, Err, ◌∙◌, sym, ap, subst, arith}
+use Rattle.std.proofs.Common.{◌≡◌, ◌≢◌, ◌≤◌, ◌+◌, Ok, Err, refl, ◌∙◌, sym, ap, subst, arith, length}
+use Rattle.std.specs.Prelude.{IsOk}
 use Rattle.std.specs.FinMap as map
 use Rattle.sim_model.specs.PayloadPool.Payloads as pool
 use Rattle.sim_model.specs.PayloadPool.declared.pool.MakeStop.TheVariants as stop
@@ -34,3 +35,10 @@ pub returns-in-Err-TooMany-clause-answer : goal.returns-in-Err-TooMany-clause-an
 returns-in-Err-TooMany-clause-answer c = λ d stands.
     too_many d c.args.len c.args.enables _ _ (sym c.in-Ok.is ∙ c.size_within.ensures.answer) (sym c.in-Ok-size_within.is ∙ c.size_within-2.ensures.answer)
     (map.len c.args.self.now.pool.live) (live_read _ _ stands.payloads) (c.make.ensures.too_many.0 (c.in-Err-TooMany.is ∙ ap Err c.in-Err-TooMany.field-0-is))
+
+pub returns-in-Err-NoMemory-clause-answer : goal.returns-in-Err-NoMemory-clause-answer
+returns-in-Err-NoMemory-clause-answer c = λ d stands.
+    let few : map.len c.args.self.now.pool.live ≤ 16384 = c.requires.live in
+    let room : map.len c.args.self.now.pool.live ≢ 16384 = λ full. let no : Err stop.NoMemory ≡ Err stop.TooMany = sym (c.in-Err-NoMemory.is ∙ ap Err c.in-Err-NoMemory.field-0-is) ∙ c.make.ensures.too_many.1 full in cc in
+    subst IsOk (sym (number_given d c.args.len c.args.enables _ _ (sym c.in-Ok.is ∙ c.size_within.ensures.answer) (sym c.in-Ok-size_within.is ∙ c.size_within-2.ensures.answer)
+    (map.len c.args.self.now.pool.live) (live_read _ _ stands.payloads) (omega arith) (length d.transactions.pool) refl)) refl
