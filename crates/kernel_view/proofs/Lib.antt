@@ -1,4 +1,5 @@
 pub mod Shown
+pub mod Stopped
 pub mod KernelBodies
 pub mod KernelProcesses
 pub mod KernelTransactions

@@ -49,9 +49,9 @@ pub mod kernel_processes_api {
 /// What is passed on of kernel_state.
 pub mod kernel_state_api {
     pub use kernel_state::{
-        Kept, Kernel, Offspring, acquire, block, fire, kill, notify, pass, release, reset,
-        set_byte, set_field, set_local, set_variable, settle, spawn, store_variable, top_lives,
-        wait_so, write_fifo,
+        Kept, Kernel, Offspring, StatementStop, acquire, block, fire, kill, notify, pass, release,
+        reset, set_byte, set_field, set_local, set_variable, settle, spawn, store_variable,
+        top_lives, wait_so, write_fifo,
     };
 }
 
