@@ -97,7 +97,7 @@ is_timed (at_time t) = true
 module _ (k : Kernel) (c : Config) (h : StandsFor k c) where
   -- an instance with a time is shown with it
   shown_by : (o : Option Instance) (b : Option Kept) (i : Instance) (e : Bool) (t : ℕ) → i.ended ≡ e → i.deadline ≡ at_time t → TellsBy (Shows (whole_design k) k.program) e o b i → o ≡ Some (bare i)
-  shown_by o b i true t is at gone = absurd (true≢false (sym (ap is_timed (sym gone.1.1.0 ∙ at))))
+  shown_by o b i true t is at gone = absurd (true≢false (sym (ap is_timed (sym gone.1.1 ∙ at))))
   shown_by o b i false t is at lives = lives.shown
 
   shown_with : (q t : ℕ) → At c.processes.instances q t → (i : Instance) × ((shown_at k.schedule q ≡ Some i) × (i.deadline ≡ at_time t))

@@ -50,7 +50,7 @@ same_without h same true i = same i
 same_without h same false i = refl
 
 over_without : (b : Bool) (i : Instance) → Rests i → Rests (if b then record i { deadline = no_deadline } else i)
-over_without true i rests = (rests.0, (refl, rests.1.1))
+over_without true i rests = (rests.0, refl, rests.2)
 over_without false i rests = rests
 
 module _ {B : Type 0} (Shows : B → Beside → Type 0) (test : Deadline → Bool) (none : test no_deadline ≡ false) (s t : Schedule B) (takes : TakesDue test s t) (x : Processes) (stands : StandsForProcesses Shows s x) where
@@ -72,7 +72,7 @@ module _ {B : Type 0} (Shows : B → Beside → Type 0) (test : Deadline → Boo
   }
 
   shown_due : (o : Option Instance) (b : Option B) (i : Instance) (e : Bool) → i.ended ≡ e → TellsBy Shows e o b i → if_there (λ j. test j.deadline) o ≡ test i.deadline
-  shown_due o b i true is gone = ap (if_there (λ j. test j.deadline)) gone.0 ∙ sym (ap test gone.1.1.0 ∙ none)
+  shown_due o b i true is gone = ap (if_there (λ j. test j.deadline)) gone.0 ∙ sym (ap test gone.1.1 ∙ none)
   shown_due o b i false is lives = ap (if_there (λ j. test j.deadline)) lives.shown
 
   told_due : (o : Option Instance) (b : Option B) (i : Option Instance) → Tells Shows o b i → if_there (λ j. test j.deadline) o ≡ if_there (λ j. test j.deadline) i
