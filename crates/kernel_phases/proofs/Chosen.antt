@@ -42,10 +42,11 @@ seeded_chosen g s = ap (λ n. at_place (rising s) ((pcg32 g).0 % n)) (sym (lengt
 
 -- ---- from a list in any order
 
+pub in_any_order : (k : Chooser) (xs : List ℕ) → ((q : ℕ) → times q xs ≤ 1) → picked k xs ≡ picked k (in_order xs)
+in_any_order least xs once = sym (any_order xs once 0)
+in_any_order greatest xs once = ap (λ n. at_place xs (n - 1)) (sym (same_length xs once)) ∙ sym (any_order xs once (length (in_order xs) - 1))
+in_any_order (seeded g) xs once = ap (λ n. at_place xs ((pcg32 g).0 % n)) (sym (same_length xs once)) ∙ sym (any_order xs once ((pcg32 g).0 % length (in_order xs)))
+in_any_order (listed choices) xs once = refl
+
 pub alike : (k : Chooser) (s : set.FinSet nat_cmp) (xs : List ℕ) → ((q : ℕ) → set.contains s q ≡ holds xs q) → ((q : ℕ) → times q xs ≤ 1) → picked k xs ≡ picked k (rising s)
-alike least s xs same once = sym (any_order xs once 0) ∙ ap (λ ys. at_place ys 0) (same_order s xs same)
-alike greatest s xs same once =
-    ap (λ n. at_place xs (n - 1)) (sym (same_length xs once)) ∙ sym (any_order xs once (length (in_order xs) - 1)) ∙ ap (λ ys. at_place ys (length ys - 1)) (same_order s xs same)
-alike (seeded g) s xs same once =
-    ap (λ n. at_place xs ((pcg32 g).0 % n)) (sym (same_length xs once)) ∙ sym (any_order xs once ((pcg32 g).0 % length (in_order xs))) ∙ ap (λ ys. at_place ys ((pcg32 g).0 % length ys)) (same_order s xs same)
-alike (listed choices) s xs same once = refl
+alike k s xs same once = in_any_order k xs once ∙ ap (picked k) (same_order s xs same)

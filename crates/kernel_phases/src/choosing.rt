@@ -6,6 +6,7 @@ ghost use Rattle.kernel_state.specs.SimModel.Runs.{chooser_of, picked, held_then
 ghost use Rattle.kernel_phases.specs.Holding.{chooser_in};
 ghost use Rattle.std.specs.FinSet as set;
 
+use crate::chooser::Chooser;
 use crate::listed::Listed;
 use kernel_state::ready_set_api::ReadySet;
 use kernel_state::sim_model_api::Rule;
@@ -82,16 +83,19 @@ impl Choosing {
         };
         Choosing { held }
     }
+}
 
-    /// The serial that the rule picks for the next taking, from those that are runnable. It takes no memory.
-    ///
-    /// A seeded rule takes one word of its generator, and a replayed list its next choice, in each call. There is none
-    /// where nothing is runnable, unless the rule is a list: its next choice comes whether it is runnable or not, and
-    /// there is none where no choice is left.
-    pub fn choose(&mut self, ready: &ReadySet) -> Option<u32>
-        ensures answer { result ≡ picked self.old (rising ready.now.members) }
-        ensures held { self.new ≡ held_then self.old }
-    {
+/// A rule picks by `picked`, and holds `held_then` behind it.
+///
+/// A seeded rule takes one word of its generator, and a replayed list its next choice, in each call. There is none
+/// where nothing is runnable, unless the rule is a list: its next choice comes whether it is runnable or not, and
+/// there is none where no choice is left.
+impl Chooser for Choosing {
+    ghost picks = { picked };
+
+    ghost later = { λ held _. held_then held };
+
+    fn choose(&mut self, ready: &ReadySet) -> Option<u32> {
         chosen(&mut self.held, ready)
     }
 }

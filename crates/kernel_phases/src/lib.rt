@@ -1,9 +1,10 @@
-//! The one place where a process is chosen: what a rule of choices holds, and which of the runnable serials it picks
-//! (IEEE 1666-2011, 4.2.1.2 leaves the choice open).
+//! What a chooser of processes is, and the choosers of the rules of choices: what each holds, and which of the runnable serials
+//! it picks (IEEE 1666-2011, 4.2.1.2 leaves the choice open).
 //!
 //! The kernel's phases and commands: updates, what a delta and a time set off, turns, and what a script asks for.
 #![tactic(auto)]
 
+mod chooser;
 mod choosing;
 mod commands;
 mod due;
@@ -14,6 +15,7 @@ mod times;
 mod turns;
 mod updates;
 
+pub use chooser::Chooser;
 pub use choosing::Choosing;
 pub use commands::{begin_run, set_signal};
 pub use due::delta;
@@ -45,7 +47,7 @@ pub mod logic_values_api {
 
 /// What is passed on of ready_set.
 pub mod ready_set_api {
-    pub use kernel_state::ready_set_api::least_of_a_set;
+    pub use kernel_state::ready_set_api::{ReadySet, least_of_a_set};
 }
 
 /// What is passed on of sim_model.
