@@ -6,7 +6,7 @@ use Rattle.std.specs.Option.{option_map_or}
 use Rattle.std.specs.Borrow.{Bor}
 use Rattle.std.specs.Str.Lines.{strip_carriage_return}
 use Rattle.std.proofs.lemmas.List.Splits.{length-slice_split}
-use Rattle.script_text.specs.ScriptText.{line_number}
+use Rattle.text_lines.specs.Lines.{line_number}
 use Rattle.script_text.specs.ChoiceList.{end_line, without_empty_end, list_lines, serial_read, serial_in_front, serials_from}
 use Rattle.script_text.specs.ChoiceProgress.{list_lines_left, behind_serials, SerialGoesOn}
 

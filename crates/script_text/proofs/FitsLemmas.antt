@@ -13,14 +13,14 @@ use Rattle.sim_model.specs.FlatDesign.declared.value_types.ValueType.{ValueType}
 use Rattle.sim_model.specs.FlatDesign.declared.value_types.ValueType.TheVariants as type
 use Rattle.sim_model.specs.FlatDesign.declared.design.Design.{Design}
 use Rattle.sim_model.specs.FlatDesign.ValueTypes.{type_of_value}
-use Rattle.model_lexer.specs.Forms.{is_logic_byte}
-use Rattle.model_lexer.specs.Meanings.{logic_digit, logic_digits}
-use Rattle.model_lexer.specs.ModelTree.declared.faults.Fault.{Fault}
+use Rattle.text_lines.specs.ModelLexer.Forms.{is_logic_byte}
+use Rattle.text_lines.specs.ModelLexer.Meanings.{logic_digit, logic_digits}
+use Rattle.text_lines.specs.ModelTree.declared.faults.Fault.{Fault}
 use Rattle.sim_model.specs.declared.plain.Command.{Command}
 use Rattle.script_text.specs.declared.forms.CommandForm.{CommandForm}
 use Rattle.script_text.specs.declared.forms.CommandForm.TheVariants as form
 use Rattle.script_text.specs.declared.forms.TextCommand.{TextCommand}
-use Rattle.script_text.specs.ScriptText.{decimal_read}
+use Rattle.text_lines.specs.Lines.{decimal_read}
 use Rattle.script_text.specs.ValueTexts.{is_width, int_from_zero, int_below_zero, int_read, uint_within, uint_read, logic_read, vector_of, vector_read, value_read}
 use Rattle.script_text.specs.NamedScript.{is_shown_at, is_set_at, set_type, show_named, set_valued, set_named, value_at, named_form, named, in_front, name_script}
 use Rattle.script_text.specs.Fits.{Fits, IsOfTypeAt}

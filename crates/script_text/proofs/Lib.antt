@@ -1,4 +1,3 @@
-mod CutLemmas
 mod ProgressLemmas
 mod RangeLemmas
 mod FitsLemmas

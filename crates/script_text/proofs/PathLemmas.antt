@@ -5,7 +5,7 @@ use Rattle.std.proofs.lemmas.List.{append_cancel_right}
 use Rattle.std.proofs.lemmas.Slice.Eq.{bytes_eq-Decides}
 use Rattle.sim_model.specs.FlatDesign.declared.objects.Object.{Object}
 use Rattle.sim_model.specs.Configuration.{below, path_up, name_of, is_own_parent, parent_of}
-use Rattle.script_text.proofs.CutLemmas.{parts}
+use Rattle.text_lines.proofs.CutLemmas.{parts}
 
 -- a byte behind others, and what is behind it
 at_end : (front behind : List ℕ) (b : ℕ) → get_or (front ++ b ∷ behind) (length front) 0 ≡ b

@@ -2,14 +2,15 @@
 use Rattle.std.proofs.Common.{◌≡◌, ℕ, zero, suc, ◌+◌, ◌-◌, ◌≤◌, List, [], ◌∷◌, ◌++◌, length, Option, Some, None, Result, Ok, Err, refl, ap, arith, slice_get, IfSome, IfErr}
 use Rattle.std.proofs.lemmas.Option.{slice_get_past}
 use Rattle.std.proofs.lemmas.Grind.{common_steps}
-use Rattle.model_lexer.specs.ModelTree.declared.faults.ParseStop.{ParseStop}
-use Rattle.model_lexer.specs.ModelTree.declared.faults.ParseStop.TheVariants as parse
-use Rattle.model_lexer.specs.ModelTree.Stops.{IfSyntax}
+use Rattle.text_lines.specs.ModelTree.declared.faults.ParseStop.{ParseStop}
+use Rattle.text_lines.specs.ModelTree.declared.faults.ParseStop.TheVariants as parse
+use Rattle.text_lines.specs.ModelTree.Stops.{IfSyntax}
+use Rattle.text_lines.specs.Lines.{line_number}
 use Rattle.script_text.specs.declared.forms.CommandForm.{CommandForm}
 use Rattle.script_text.specs.declared.forms.LineForm.{LineForm}
 use Rattle.script_text.specs.declared.forms.LineForm.TheVariants as line
 use Rattle.script_text.specs.declared.forms.TextCommand.{TextCommand}
-use Rattle.script_text.specs.ScriptText.{line_form, line_number, with_command, commands_from, unreadable_at, unreadable_from, line_of_command, earlier, unless}
+use Rattle.script_text.specs.ScriptText.{line_form, with_command, commands_from, unreadable_at, unreadable_from, line_of_command, earlier, unless}
 use Rattle.script_text.specs.Progress.{reads_on}
 
 behind : (xs ys : List TextCommand) (k j : ℕ) → length xs + j ≡ k → slice_get (xs ++ ys) k ≡ slice_get ys j

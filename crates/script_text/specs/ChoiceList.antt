@@ -2,7 +2,7 @@
 use Rattle.std.specs.Prelude.{ℕ, suc, ◌^◌, ◌==◌, nat_lt, if◌then◌else◌, List, [], ◌∷◌, map, Option, Some, None, option_and_then, Result, Ok, Err}
 use Rattle.std.specs.List.{slice_split}
 use Rattle.std.specs.Str.Lines.{strip_carriage_return}
-use Rattle.script_text.specs.ScriptText.{decimal_read, line_number}
+use Rattle.text_lines.specs.Lines.{decimal_read, line_number}
 
 -- what is behind the last line end is a line only where it is not empty
 abbrev pub end_line : List ℕ → List (List ℕ)

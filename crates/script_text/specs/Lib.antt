@@ -1,5 +1,4 @@
 pub mod ScriptText
-pub mod Pieces
 pub mod Progress
 pub mod ValueTexts
 pub mod NamedScript

@@ -1,1 +1,1 @@
-pub use Rattle.model_lexer.specs.Reads as Reads
+pub use Rattle.text_lines.specs.ModelLexer.Reads as Reads

@@ -1,9 +1,9 @@
 -- What the commands of a script name in a design, or the first of them that cannot be carried out.
 use Rattle.std.specs.Prelude.{ℕ, Bool, true, false, ◌&&◌, is_some, List, [], ◌∷◌, slice_get, position, bytes_eq, Option, Some, None, option_map, option_and_then, Result, Ok, Err}
 use Rattle.sim_model.specs.LogicValues.declared.kinds.Value.{Value}
-use Rattle.model_lexer.specs.ModelTree.declared.faults.Fault.{Fault}
-use Rattle.model_lexer.specs.ModelTree.declared.faults.Kind.{Kind}
-use Rattle.model_lexer.specs.ModelTree.declared.faults.Kind.TheVariants as kind
+use Rattle.text_lines.specs.ModelTree.declared.faults.Fault.{Fault}
+use Rattle.text_lines.specs.ModelTree.declared.faults.Kind.{Kind}
+use Rattle.text_lines.specs.ModelTree.declared.faults.Kind.TheVariants as kind
 use Rattle.sim_model.specs.FlatDesign.declared.objects.Object.{Object}
 use Rattle.sim_model.specs.FlatDesign.declared.objects.ObjectForm.{ObjectForm}
 use Rattle.sim_model.specs.FlatDesign.declared.objects.ObjectForm.TheVariants as object

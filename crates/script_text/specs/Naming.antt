@@ -1,9 +1,9 @@
 -- An answer that is a definition's, but where it is out of memory.
 use Rattle.std.specs.Prelude.{◌≡◌, List, ◌++◌, Result, Ok, Err}
-use Rattle.model_lexer.specs.ModelTree.declared.faults.Fault.{Fault}
-use Rattle.model_lexer.specs.ModelTree.declared.faults.CheckStop.{CheckStop}
+use Rattle.text_lines.specs.ModelTree.declared.faults.Fault.{Fault}
+use Rattle.text_lines.specs.ModelTree.declared.faults.CheckStop.{CheckStop}
 use Rattle.sim_model.specs.declared.plain.Command.{Command}
-use Rattle.model_lexer.specs.ModelTree.Stops.{IfRefused}
+use Rattle.text_lines.specs.ModelTree.Stops.{IfRefused}
 
 -- a value or a refusal is the defined one
 abbrev pub IsNamedAs : {T : Type 0} → Result T CheckStop → Result T Fault → Type 0

@@ -1,13 +1,7 @@
 -- A text that is being read: the commands so far, and the lines that are left.
-use Rattle.std.specs.Prelude.{ℕ, suc, ◌≡◌, List, [], ◌∷◌, ◌++◌, Option, Result, Err}
-use Rattle.std.specs.Option.{option_map_or}
-use Rattle.std.specs.Borrow.{Bor}
+use Rattle.std.specs.Prelude.{ℕ, suc, ◌≡◌, List, ◌∷◌, ◌++◌, Result, Err}
 use Rattle.script_text.specs.declared.forms.TextCommand.{TextCommand}
-use Rattle.script_text.specs.ScriptText.{line_of_command, earlier, unless, unreadable_from, commands_from, lines}
-
--- the lines of what is left of a text, where something is
-abbrev pub lines_left : Option (Bor (List ℕ)) → List (List ℕ)
-lines_left rest = option_map_or (λ bytes. lines bytes.now) rest []
+use Rattle.script_text.specs.ScriptText.{line_of_command, earlier, unless, unreadable_from, commands_from}
 
 -- what the whole text reads as, where lines numbered from n are left behind these commands
 abbrev pub reads_on : List TextCommand → ℕ → List (List ℕ) → Result (List TextCommand) ℕ

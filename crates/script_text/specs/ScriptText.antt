@@ -1,40 +1,15 @@
 -- What a script text says: the commands of its lines in order, or the first line at which it says none.
-use Rattle.std.specs.Prelude.{ℕ, suc, ◌-◌, ◌*◌, ◌^◌, min, Bool, true, false, not, ◌==◌, nat_lt, if◌then◌else◌, List, [], ◌∷◌, map, filter, length, drop, slice_get, bytes_eq, codes, Option, Some, None, option_map, option_and_then, Result, Ok, Err}
-use Rattle.std.specs.List.{slice_split}
-use Rattle.std.specs.Str.Lines.{strip_carriage_return}
-use Rattle.std.specs.Str.Parse.{digits_value}
+use Rattle.std.specs.Prelude.{ℕ, suc, ◌*◌, min, Bool, true, false, nat_lt, if◌then◌else◌, List, [], ◌∷◌, slice_get, bytes_eq, codes, Option, Some, None, option_map, option_and_then, Result, Ok, Err}
 use Rattle.sim_model.specs.SimTime.declared.moments.Time.{Time}
 use Rattle.sim_model.specs.SimTime.declared.moments.Unit.{Unit as TimeUnit}
 use Rattle.sim_model.specs.SimTime.Times.{time_of, picoseconds_in}
-use Rattle.model_lexer.specs.ModelGrammar.Expressions.{unit_of}
-use Rattle.model_lexer.specs.Forms.{is_decimal, is_hexadecimal}
-use Rattle.model_lexer.specs.Meanings.{number_within}
+use Rattle.text_lines.specs.ModelGrammar.Expressions.{unit_of}
+use Rattle.text_lines.specs.Lines.{lines, words, is_comment, number_read, line_number}
 use Rattle.script_text.specs.declared.forms.CommandForm.{CommandForm}
 use Rattle.script_text.specs.declared.forms.CommandForm.TheVariants as form
 use Rattle.script_text.specs.declared.forms.LineForm.{LineForm}
 use Rattle.script_text.specs.declared.forms.LineForm.TheVariants as line
 use Rattle.script_text.specs.declared.forms.TextCommand.{TextCommand}
-
--- the lines of a text: byte 10 ends a line, the last line may lack it, and one byte 13 at the end of a line is ignored
-abbrev pub lines : List ℕ → List (List ℕ)
-lines text = map strip_carriage_return (slice_split (λ b. b == 10) text)
-
--- the words of a line: what stands between spaces
-abbrev pub words : List ℕ → List (List ℕ)
-words bytes = filter (λ word. not (length word == 0)) (slice_split (λ b. b == 32) bytes)
-
--- a comment has `#` in its first column
-abbrev pub is_comment : List ℕ → Bool
-is_comment [] = false
-is_comment (first ∷ rest) = first == 35
-
--- the number that bytes write in decimal, where it is below 2^64
-abbrev pub decimal_read : List ℕ → Option ℕ
-decimal_read bytes = if is_decimal bytes then number_within (digits_value 10 bytes) else None
-
--- the number that bytes write as a number of a model does: in hexadecimal behind `0x`, or in decimal
-abbrev pub number_read : List ℕ → Option ℕ
-number_read bytes = if is_hexadecimal bytes then number_within (digits_value 16 (drop 2 bytes)) else decimal_read bytes
 
 -- a time from 1 ps up
 abbrev pub positive : Time → Option Time
@@ -74,10 +49,6 @@ words_form (word ∷ second ∷ third ∷ fourth ∷ more) = line.Unreadable
 -- what a line says
 abbrev pub line_form : List ℕ → LineForm
 line_form bytes = if is_comment bytes then line.Blank else words_form (words bytes)
-
--- lines count from 1, and a number past 32 bits stands at the greatest one
-abbrev pub line_number : ℕ → ℕ
-line_number n = min n (2 ^ 32 - 1)
 
 -- the commands of lines numbered from n, each with its line
 abbrev pub with_command : ℕ → LineForm → List TextCommand → List TextCommand

@@ -7,9 +7,9 @@ use Rattle.sim_model.specs.LogicValues.declared.kinds.Value.TheVariants as value
 use Rattle.sim_model.specs.LogicValues.Planes.{lv_of}
 use Rattle.sim_model.specs.FlatDesign.declared.value_types.ValueType.{ValueType}
 use Rattle.sim_model.specs.FlatDesign.declared.value_types.ValueType.TheVariants as type
-use Rattle.model_lexer.specs.Forms.{is_logic_byte}
-use Rattle.model_lexer.specs.Meanings.{logic_digit, logic_within}
-use Rattle.script_text.specs.ScriptText.{decimal_read}
+use Rattle.text_lines.specs.ModelLexer.Forms.{is_logic_byte}
+use Rattle.text_lines.specs.ModelLexer.Meanings.{logic_digit, logic_within}
+use Rattle.text_lines.specs.Lines.{decimal_read}
 
 -- widths are from 1 to 64
 abbrev pub is_width : ℕ → Bool

@@ -1,16 +1,14 @@
 ghost use Rattle.std.specs.Prelude.{◌≡◌, ◌<◌, [], ◌∷◌, ◌++◌, length, Ok, Err, OnOk, IfOk, IfErr, IfSome};
-ghost use Rattle.model_lexer.specs.ModelTree.Stops.{IfSyntax};
+ghost use Rattle.text_lines.specs.ModelTree.Stops.{IfSyntax};
 ghost use Rattle.script_text.specs.ChoiceList as spec;
 ghost use Rattle.script_text.specs.ChoiceList.{read_choices};
 ghost use Rattle.script_text.specs.ChoiceProgress.{list_lines_left, SerialGoesOn, SerialStopsAt};
 
-use super::cuts::{cut, without_return};
-use super::numbers::decimal_read;
-use super::reading::line_number;
-use model_lexer::model_tree_api::ParseStop;
 use sim_model::flat_design_api::Choices;
 use sim_model::plain_lists_api::Items;
 use std::alloc::Global;
+use text_lines::model_tree_api::ParseStop;
+use text_lines::{cut, decimal_read, line_number, without_return};
 
 fn serial_read(line: &[u8]) -> Option<u32>
     ensures { result ≡ spec.serial_read line.now }

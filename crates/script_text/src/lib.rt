@@ -2,10 +2,8 @@
 #![tactic(auto)]
 
 mod choices;
-mod cuts;
 mod forms;
 mod naming;
-mod numbers;
 mod paths;
 mod reading;
 mod values;

@@ -1,5 +1,5 @@
 ghost use Rattle.std.specs.Prelude.{◌≡◌, position, All, IfOk, IfErr};
-ghost use Rattle.model_lexer.specs.ModelTree.Stops.{IfRefused};
+ghost use Rattle.text_lines.specs.ModelTree.Stops.{IfRefused};
 ghost use Rattle.script_text.specs.NamedScript as spec;
 ghost use Rattle.script_text.specs.NamedScript.{name_script};
 ghost use Rattle.script_text.specs.Fits.{Fits};
@@ -9,12 +9,12 @@ use super::forms::{CommandForm, TextCommand};
 use super::paths::is_path_of;
 use super::reading::Commands;
 use super::values::value_read;
-use model_lexer::model_tree_api::{CheckStop, Fault, Kind};
 use sim_model::Command;
 use sim_model::flat_design_api::{Design, ObjectForm, ValueType, Visible, VisibleId};
 use sim_model::logic_values_api::{Text, Value};
 use sim_model::plain_lists_api::Items;
 use std::alloc::Global;
+use text_lines::model_tree_api::{CheckStop, Fault, Kind};
 
 /// The commands of a script over a design, in order. Contracts see the list of them.
 pub type Script = Items<Command>;

@@ -1,18 +1,18 @@
 ghost use Rattle.std.specs.Prelude.{◌≡◌, ◌≤◌, [], ◌∷◌, ◌++◌, length, bytes_eq, codes, IfOk, IfErr, OnOk};
-ghost use Rattle.model_lexer.specs.ModelTree.Stops.{IfSyntax};
-ghost use Rattle.model_lexer.specs.ModelGrammar.Expressions as grammar;
+ghost use Rattle.text_lines.specs.ModelTree.Stops.{IfSyntax};
+ghost use Rattle.text_lines.specs.ModelGrammar.Expressions as grammar;
 ghost use Rattle.script_text.specs.ScriptText as spec;
-ghost use Rattle.script_text.specs.ScriptText.{words, read_script};
+ghost use Rattle.text_lines.specs.Lines.{words, line_number};
+ghost use Rattle.script_text.specs.ScriptText.{read_script};
 ghost use Rattle.script_text.specs.Progress.{GoesOn, StopsAt};
 
-use super::cuts::{cut, is_comment, next_word, without_return};
 use super::forms::{CommandForm, LineForm, TextCommand};
-use super::numbers::number_read;
-use model_lexer::model_tree_api::ParseStop;
 use sim_model::logic_values_api::Text;
 use sim_model::plain_lists_api::Items;
 use sim_model::sim_time_api::{Time, Unit, of_unit};
 use std::alloc::{AllocError, Global};
+use text_lines::model_tree_api::ParseStop;
+use text_lines::{cut, is_comment, line_number, next_word, number_read, without_return};
 
 /// The greatest number of commands of a script.
 pub const COMMAND_LIMIT: usize = 4096;
@@ -149,19 +149,12 @@ fn line_form(alloc: Global, line: &[u8]) -> Result<LineForm, AllocError>
     words_form(alloc, line)
 }
 
-/// The number of a line in 32 bits.
-pub(crate) fn line_number(number: u64) -> u32
-    ensures { result ≡ spec.line_number number }
-{
-    u32::try_from(number).unwrap_or(u32::MAX)
-}
-
 /// Adds a command to those before it, where one more may stand.
 fn add(list: &mut Commands, number: u64, form: CommandForm) -> Result<(), ParseStop>
     requires { length list.old ≤ COMMAND_LIMIT }
     ensures within { OnOk result (length list.new ≤ COMMAND_LIMIT) }
-    ensures ok { OnOk result (list.new ≡ list.old ++ (record { line = spec.line_number number; form = form }) ∷ []) }
-    ensures syntax { IfErr result (λ stop. IfSyntax stop (λ line. (length list.old ≡ COMMAND_LIMIT) × (line ≡ spec.line_number number))) }
+    ensures ok { OnOk result (list.new ≡ list.old ++ (record { line = line_number number; form = form }) ∷ []) }
+    ensures syntax { IfErr result (λ stop. IfSyntax stop (λ line. (length list.old ≡ COMMAND_LIMIT) × (line ≡ line_number number))) }
 {
     let line = line_number(number);
     if list.as_slice().len() == COMMAND_LIMIT {

@@ -1,13 +1,13 @@
 ghost use Rattle.std.specs.Prelude.{◌≡◌, ◌+◌, ◌-◌, ◌^◌, ◌≤◌, option_map};
 ghost use Rattle.std.specs.List.{list_all};
 ghost use Rattle.sim_model.specs.LogicValues.Digits.{digits};
-ghost use Rattle.model_lexer.specs.Forms as forms;
-ghost use Rattle.model_lexer.specs.Meanings as meanings;
+ghost use Rattle.text_lines.specs.ModelLexer.Forms as forms;
+ghost use Rattle.text_lines.specs.ModelLexer.Meanings as meanings;
 ghost use Rattle.script_text.specs.ValueTexts as spec;
 
-use super::numbers::decimal_read;
 use sim_model::flat_design_api::ValueType;
 use sim_model::logic_values_api::{Digit, Lv, Value, concat, vector_of_digits};
+use text_lines::decimal_read;
 
 fn truth_read(text: &[u8]) -> Option<Value>
     ensures { result ≡ spec.truth_read text.now }

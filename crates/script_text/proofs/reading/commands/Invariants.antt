@@ -1,7 +1,8 @@
 use Rattle.std.proofs.Common.{◌≡◌, ◌+◌, ◌≤◌, length}
 use Rattle.std.specs.Option.{option_map_or}
 use Rattle.script_text.specs.ScriptText.{read_script}
-use Rattle.script_text.specs.Progress.{lines_left, reads_on}
+use Rattle.text_lines.specs.Pieces.{lines_left}
+use Rattle.script_text.specs.Progress.{reads_on}
 use Rattle.script_text.proofs.reading.commands.Given as goal
 
 abbrev pub invariant-lines : goal.invariant-lines

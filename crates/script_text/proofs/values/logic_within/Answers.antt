@@ -2,8 +2,8 @@ use Rattle.std.proofs.Common.{◌≡◌, ℕ, ◌+◌, ◌<◌, List, [], ◌∷
 use Rattle.std.proofs.Math.Seq.{take-length}
 use Rattle.sim_model.specs.LogicValues.declared.kinds.Digit.{Digit}
 use Rattle.sim_model.specs.LogicValues.Digits.{digits}
-use Rattle.model_lexer.specs.Meanings.{logic_digit, logic_digits}
-use Rattle.model_lexer.proofs.LogicDigits.{digits_more, digits_within, behind_within, behind_all, behind_at}
+use Rattle.text_lines.specs.ModelLexer.Meanings.{logic_digit, logic_digits}
+use Rattle.text_lines.proofs.ModelLexer.LogicDigits.{digits_more, digits_within, behind_within, behind_all, behind_at}
 use Rattle.script_text.proofs.values.logic_within.Goals as goal
 
 pub loop-byte-init : goal.loop-byte-init

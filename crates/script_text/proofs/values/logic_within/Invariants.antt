@@ -1,6 +1,6 @@
 use Rattle.std.proofs.Common.{◌≡◌, ◌+◌, take}
 use Rattle.sim_model.specs.LogicValues.Digits.{digits}
-use Rattle.model_lexer.specs.Meanings.{logic_digits}
+use Rattle.text_lines.specs.ModelLexer.Meanings.{logic_digits}
 use Rattle.script_text.proofs.values.logic_within.Given as goal
 
 -- the vector is the digits read so far

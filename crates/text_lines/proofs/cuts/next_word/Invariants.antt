@@ -1,7 +1,7 @@
 use Rattle.std.proofs.Common.{◌≡◌, ◌+◌, length}
 use Rattle.std.specs.Option.{option_map_or}
-use Rattle.script_text.specs.Pieces.{words_left}
-use Rattle.script_text.proofs.cuts.next_word.Given as goal
+use Rattle.text_lines.specs.Pieces.{words_left}
+use Rattle.text_lines.proofs.cuts.next_word.Given as goal
 
 abbrev pub invariant-loop-rest : goal.invariant-loop-rest
 invariant-loop-rest l = words_left l.rest ≡ words_left l.fn.line

@@ -4,7 +4,7 @@ ghost use Rattle.std.specs.Char.{digit_value};
 ghost use Rattle.std.specs.Str.Parse.{digits_value};
 ghost use Rattle.model_lexer.specs.Forms as forms;
 ghost use Rattle.model_lexer.specs.Meanings.{number_within};
-ghost use Rattle.script_text.specs.ScriptText as spec;
+ghost use Rattle.text_lines.specs.Lines as spec;
 
 fn all_digits(bytes: &[u8]) -> bool
     ensures { result ≡ list_all forms.is_digit bytes.now }
@@ -12,7 +12,8 @@ fn all_digits(bytes: &[u8]) -> bool
     bytes.iter().all(|byte| byte.is_ascii_digit())
 }
 
-fn all_hex_digits(bytes: &[u8]) -> bool
+/// Whether these bytes are hexadecimal digits.
+pub fn all_hex_digits(bytes: &[u8]) -> bool
     ensures { result ≡ list_all forms.is_hex_digit bytes.now }
 {
     bytes.iter().all(|byte| byte.is_ascii_hexdigit())
@@ -61,7 +62,7 @@ fn number_within(base: u64, digits: &[u8]) -> Option<u64>
 }
 
 /// The number that bytes write in decimal, if it is below 2^64.
-pub(crate) fn decimal_read(bytes: &[u8]) -> Option<u64>
+pub fn decimal_read(bytes: &[u8]) -> Option<u64>
     ensures { result ≡ spec.decimal_read bytes.now }
 {
     if is_decimal(bytes) {
@@ -72,7 +73,7 @@ pub(crate) fn decimal_read(bytes: &[u8]) -> Option<u64>
 }
 
 /// The number that bytes write as a number of a model does, in decimal or in hexadecimal behind `0x`.
-pub(crate) fn number_read(bytes: &[u8]) -> Option<u64>
+pub fn number_read(bytes: &[u8]) -> Option<u64>
     ensures { result ≡ spec.number_read bytes.now }
 {
     if is_hexadecimal(bytes) {
@@ -80,4 +81,11 @@ pub(crate) fn number_read(bytes: &[u8]) -> Option<u64>
     } else {
         decimal_read(bytes)
     }
+}
+
+/// The number of a line in 32 bits.
+pub fn line_number(number: u64) -> u32
+    ensures { result ≡ spec.line_number number }
+{
+    u32::try_from(number).unwrap_or(u32::MAX)
 }

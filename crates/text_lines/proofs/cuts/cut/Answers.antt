@@ -4,8 +4,8 @@ use Rattle.std.proofs.lemmas.List.{take_all}
 use Rattle.std.proofs.lemmas.List.Elements.{All-more}
 use Rattle.std.proofs.lemmas.List.Splits.{slice_split_none}
 use Rattle.std.proofs.lemmas.Grind.{common_steps}
-use Rattle.script_text.proofs.CutLemmas.{slice_split_there}
-use Rattle.script_text.proofs.cuts.cut.Goals as goal
+use Rattle.text_lines.proofs.CutLemmas.{slice_split_there}
+use Rattle.text_lines.proofs.cuts.cut.Goals as goal
 
 pub returns-then-byte-at-clause-split : goal.returns-then-byte-at-clause-split
 returns-then-byte-at-clause-split c =

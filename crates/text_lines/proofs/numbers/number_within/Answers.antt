@@ -1,7 +1,7 @@
 use Rattle.std.proofs.Common.{ℕ, ◌+◌, ◌^◌, ◌<◌, ◌∙◌, sym, subst}
 use Rattle.std.specs.Str.Parse.{digits_value}
 use Rattle.model_lexer.proofs.Numbers.{past_product, past_sum, all_read}
-use Rattle.script_text.proofs.numbers.number_within.Goals as goal
+use Rattle.text_lines.proofs.numbers.number_within.Goals as goal
 
 pub returns-in_err-checked_mul : goal.returns-in_err-checked_mul
 returns-in_err-checked_mul c =

@@ -1,6 +1,6 @@
 use Rattle.std.proofs.Common.{◌≡◌, ◌^◌, ◌<◌, drop}
 use Rattle.std.specs.Str.Parse.{digits_value, digits_value_after}
-use Rattle.script_text.proofs.numbers.number_within.Given as goal
+use Rattle.text_lines.proofs.numbers.number_within.Given as goal
 
 -- the digits that are left, behind those read, write the number of all
 abbrev pub invariant-loop-digit : goal.invariant-loop-digit

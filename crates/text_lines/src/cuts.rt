@@ -2,11 +2,11 @@ ghost use Rattle.std.specs.Prelude.{◌≡◌, ◌<◌, ◌==◌, List, [], ◌�
 ghost use Rattle.std.specs.Option.{option_map_or};
 ghost use Rattle.std.specs.List.{slice_split};
 ghost use Rattle.std.specs.Str.Lines.{strip_carriage_return};
-ghost use Rattle.script_text.specs.ScriptText as spec;
-ghost use Rattle.script_text.specs.Pieces.{words_left, words_after};
+ghost use Rattle.text_lines.specs.Lines as spec;
+ghost use Rattle.text_lines.specs.Pieces.{words_left, words_after};
 
 /// The bytes before the first byte `at`, and those behind it where there is one.
-pub(crate) fn cut(text: &[u8], at: u8) -> (&[u8], Option<&[u8]>)
+pub fn cut(text: &[u8], at: u8) -> (&[u8], Option<&[u8]>)
     ensures shorter { IfSome result.1 (λ rest. length rest.now < length text.now) }
     ensures whole { IsNone result.1 → result.0.now ≡ text.now }
     ensures split { slice_split (λ b. b == at) text.now
@@ -21,7 +21,7 @@ pub(crate) fn cut(text: &[u8], at: u8) -> (&[u8], Option<&[u8]>)
 }
 
 /// The first word of what is left of a line, and what is left behind it.
-pub(crate) fn next_word(line: Option<&[u8]>) -> Option<(&[u8], Option<&[u8]>)>
+pub fn next_word(line: Option<&[u8]>) -> Option<(&[u8], Option<&[u8]>)>
     ensures { words_left line.entry ≡ words_after result }
 {
     let mut rest = line;
@@ -36,7 +36,7 @@ pub(crate) fn next_word(line: Option<&[u8]>) -> Option<(&[u8], Option<&[u8]>)>
 }
 
 /// The line without a byte 13 at its end.
-pub(crate) fn without_return(line: &[u8]) -> &[u8]
+pub fn without_return(line: &[u8]) -> &[u8]
     ensures { result.now ≡ strip_carriage_return line.now }
 {
     match line {
@@ -46,7 +46,7 @@ pub(crate) fn without_return(line: &[u8]) -> &[u8]
 }
 
 /// Whether the line is a comment.
-pub(crate) fn is_comment(line: &[u8]) -> bool
+pub fn is_comment(line: &[u8]) -> bool
     ensures { result ≡ spec.is_comment line.now }
 {
     matches!(line, [b'#', ..])

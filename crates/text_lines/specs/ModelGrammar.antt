@@ -1,0 +1,1 @@
+pub use Rattle.model_lexer.specs.ModelGrammar.Expressions as Expressions

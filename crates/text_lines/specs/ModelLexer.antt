@@ -1,0 +1,3 @@
+pub use Rattle.model_lexer.specs.Forms as Forms
+pub use Rattle.model_lexer.specs.Meanings as Meanings
+pub use Rattle.model_lexer.specs.Reads as Reads
