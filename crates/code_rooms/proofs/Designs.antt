@@ -14,7 +14,7 @@ use Rattle.code_rooms.specs.Rooms.{DiffersInRooms, HasRooms}
 use Rattle.code_rooms.specs.RoomFields.{IsTypedCode, HopsFit}
 use Rattle.code_rooms.proofs.Still.{differs_back, body_still, stands_still, holds_so, reached_still, nested_still}
 use Rattle.code_rooms.proofs.Suffices.{waits, calls}
-use Rattle.code_rooms.specs.DesignFields.{ProcessesFit, MethodsDoNotBlock, HandlersDoNotBlock, UnwindingIsPlain, ThreadsSetNoTrigger, NothingIsMissing}
+use Rattle.code_rooms.specs.DesignFields.{ProcessesFit, MethodsDoNotBlock, HandlersDoNotBlock, UnwindingIsPlain, ThreadsSetNoTrigger}
 
 module _ (d : Design) (after : Code) (differs : DiffersInRooms d.code after) where
   abbrev new : Design
