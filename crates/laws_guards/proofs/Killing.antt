@@ -1,5 +1,5 @@
 -- What a kill and a reset make of their target.
-use Rattle.std.proofs.Common.{◌≡◌, ◌&&◌, ℕ, Bool, true, false, cond, slice_get, Some, None, refl, ap, ◌∙◌}
+use Rattle.std.proofs.Common.{◌≡◌, ◌&&◌, ℕ, Bool, true, false, cond, ◌∷◌, slice_get, Some, None, refl, sym, ap, ◌∙◌}
 use Rattle.std.specs.Prelude.{Result, Ok, Err}
 use Rattle.laws_unwinding.specs.ModelTree.declared.statements.Control.{Control}
 use Rattle.laws_unwinding.specs.ModelTree.declared.statements.Control.TheVariants as control
@@ -19,6 +19,7 @@ use Rattle.laws_unwinding.proofs.LawsRuns.Stacks.{top-is}
 use Rattle.laws_unwinding.proofs.Parts.{Parts}
 use Rattle.laws_unwinding.proofs.KeptControls.{left-parts}
 use Rattle.laws_guards.specs.Once.{guards_below, IsOnTop, UnwindsAll}
+use Rattle.laws_guards.specs.Tops.{topped_by}
 
 module _ (c : Config) (q : ℕ) (i : Instance) (at : instance_at c q ≡ Some i) (k : Goal) where
   abbrev unwound_in : Config
@@ -33,15 +34,17 @@ module _ (c : Config) (q : ℕ) (i : Instance) (at : instance_at c q ≡ Some i)
     unwound : then.residual ≡ goal (unw i.residual) k
     marks : d.trace.marks ≡ c.trace.marks
     top : IsOnTop q d
+    stack : d.processes.stack ≡ topped_by q c
 
   placed_if : (b : Bool) → is_top c q ≡ b → Placed (cond b unwound_in (pushed unwound_in q))
-  placed_if true is = record { then = record i { residual = goal (unw i.residual) k }; is = there; unwound = refl; marks = refl; top = top-is c q is }
+  placed_if true is = record { then = record i { residual = goal (unw i.residual) k }; is = there; unwound = refl; marks = refl; top = top-is c q is; stack = ap (λ b. cond b c.processes.stack (q ∷ c.processes.stack)) (sym is) }
   placed_if false is = record {
     then = record (freed (record i { residual = goal (unw i.residual) k })) { kept = false; trigger = None };
     is = change-here (change c.processes.instances q (λ j. record j { residual = goal (unw i.residual) k })) q (λ j. record (freed j) { kept = false; trigger = None }) (record i { residual = goal (unw i.residual) k }) there;
     unwound = refl;
     marks = refl;
     top = (c.processes.stack, refl);
+    stack = ap (λ b. cond b c.processes.stack (q ∷ c.processes.stack)) (sym is);
   }
 
   left_in_place : (d : Config) → Placed d → UnwindsAll c (with_left d (left_by_unw i.residual)) q i k
@@ -54,6 +57,7 @@ module _ (c : Config) (q : ℕ) (i : Instance) (at : instance_at c q ≡ Some i)
         guards = ap guards_below p.unwound ∙ guards-unwound i.residual;
         marks = ap (λ (x : Parts). x.marks) same ∙ p.marks;
         top = (p.top.0, ap (λ (x : Parts). x.stack) same ∙ p.top.1);
+        stack = ap (λ (x : Parts). x.stack) same ∙ p.stack;
       }
 
   unwinds_all : UnwindsAll c (unwinds c q i k) q i k

@@ -10,3 +10,6 @@ pub mod Stays
 pub mod Names
 pub mod Raised
 pub mod Throwing
+pub mod Pasts
+pub mod Unwound
+pub mod Ending

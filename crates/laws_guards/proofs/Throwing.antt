@@ -1,5 +1,5 @@
 -- What an exception makes of the configuration.
-use Rattle.std.proofs.Common.{◌≡◌, ◌||◌, not, ℕ, Bool, true, false, cond, slice_get, Some, None, refl, ap, ◌∙◌}
+use Rattle.std.proofs.Common.{◌≡◌, ◌||◌, not, ℕ, Bool, true, false, cond, [], ◌∷◌, slice_get, Some, None, refl, sym, ap, ◌∙◌, eq-eqb}
 use Rattle.std.specs.Prelude.{Result, Ok, Err}
 use Rattle.laws_unwinding.specs.ModelTree.declared.items.ProcessKind.{ProcessKind}
 use Rattle.laws_unwinding.specs.ModelTree.declared.items.ProcessKind.TheVariants as process
@@ -8,10 +8,10 @@ use Rattle.laws_unwinding.specs.FlatDesign.declared.faults.RunFault.TheVariants 
 use Rattle.laws_unwinding.specs.SimModel.Residual.{has_goal}
 use Rattle.laws_unwinding.specs.SimModel.Unwinding.{catches, raise, left_by_raise}
 use Rattle.laws_unwinding.specs.SimModel.Configuration.{Config, Instance, arena, change, instance_at, with_residual}
-use Rattle.laws_unwinding.specs.SimModel.Waits.{freed}
+use Rattle.laws_unwinding.specs.SimModel.Waits.{holds, freed}
 use Rattle.laws_unwinding.specs.SimModel.Clean.{guards_of}
 use Rattle.laws_unwinding.specs.SimModel.Calls.{with_left, thrown}
-use Rattle.laws_unwinding.specs.SimModel.Control.{is_top, is_below_top, is_thread, pushed, injected, throws_at, unless_ended, throw_call}
+use Rattle.laws_unwinding.specs.SimModel.Control.{top_of, is_top, is_below_top, is_thread, pushed, injected, throws_at, unless_ended, throw_call}
 use Rattle.laws_unwinding.specs.SimModel.declared.plain.Goal.{Goal}
 use Rattle.laws_unwinding.specs.SimModel.declared.plain.Goal.TheVariants as goal_of
 use Rattle.laws_unwinding.proofs.LawsRuns.GuardLemmas.{guards-raise}
@@ -19,8 +19,15 @@ use Rattle.laws_unwinding.proofs.LawsRuns.Changes.{change-here}
 use Rattle.laws_unwinding.proofs.Parts.{Parts}
 use Rattle.laws_unwinding.proofs.KeptControls.{left-parts}
 use Rattle.laws_guards.specs.Once.{guards_below, IsOnTop}
+use Rattle.laws_guards.specs.Tops.{topped_by}
 use Rattle.laws_guards.specs.Throws.{UnwindsInTry}
 use Rattle.laws_guards.proofs.Raised.{raise-below, raise-goal}
+
+is_itself : (q : ℕ) → holds (q ∷ []) q ≡ true
+is_itself q = ap (λ b. b || false) (eq-eqb q q refl)
+
+pub is-top : (c : Config) (q : ℕ) → IsOnTop q c → is_top c q ≡ true
+is-top c q top = ap (λ s. holds (top_of s) q) top.1 ∙ is_itself q
 
 module _ (c : Config) (q : ℕ) (i : Instance) (e : ℕ) (at : instance_at c q ≡ Some i) (caught : catches i.residual e ≡ true) (none : has_goal i.residual ≡ false) where
   abbrev raised_in : Goal → Config
@@ -30,8 +37,8 @@ module _ (c : Config) (q : ℕ) (i : Instance) (e : ℕ) (at : instance_at c q �
   there k = change-here c.processes.instances q (λ j. record j { residual = raise (arena c) i.residual e k }) i at
 
   -- entries of calls that are left change nothing of it
-  left_in_place : (d : Config) (k : Goal) (j : Instance) → instance_at d q ≡ Some j → j.residual ≡ raise (arena c) i.residual e k → d.trace.marks ≡ c.trace.marks → IsOnTop q d → UnwindsInTry c (with_left d (left_by_raise i.residual e)) q i e
-  left_in_place d k j is same marks top =
+  left_in_place : (d : Config) (k : Goal) (j : Instance) → instance_at d q ≡ Some j → j.residual ≡ raise (arena c) i.residual e k → d.trace.marks ≡ c.trace.marks → IsOnTop q d → d.processes.stack ≡ topped_by q c → UnwindsInTry c (with_left d (left_by_raise i.residual e)) q i e
+  left_in_place d k j is same marks top stack =
       let alike = left-parts (left_by_raise i.residual e) d in
       record {
         instance = j;
@@ -41,13 +48,14 @@ module _ (c : Config) (q : ℕ) (i : Instance) (e : ℕ) (at : instance_at c q �
         all = ap guards_of same ∙ guards-raise (arena c) e k i.residual;
         marks = ap (λ (x : Parts). x.marks) alike ∙ marks;
         top = (top.0, ap (λ (x : Parts). x.stack) alike ∙ top.1);
+        stack = ap (λ (x : Parts). x.stack) alike ∙ stack;
       }
 
   pub own-throw : IsOnTop q c → (d : Config) × (thrown c q i.residual e ≡ Ok d) × UnwindsInTry c d q i e
   own-throw top = (
     with_left (raised_in goal_of.Thrown) (left_by_raise i.residual e),
     ap (λ b. cond {A = Result Config RunFault} b (Ok (with_left (raised_in goal_of.Thrown) (left_by_raise i.residual e))) (Err (fault.Uncaught e))) caught,
-    left_in_place (raised_in goal_of.Thrown) goal_of.Thrown (record i { residual = raise (arena c) i.residual e goal_of.Thrown }) (there goal_of.Thrown) refl refl top,
+    left_in_place (raised_in goal_of.Thrown) goal_of.Thrown (record i { residual = raise (arena c) i.residual e goal_of.Thrown }) (there goal_of.Thrown) refl refl top (ap (λ b. cond b c.processes.stack (q ∷ c.processes.stack)) (sym (is-top c q top))),
   )
 
   abbrev pushed_in : Config
@@ -77,5 +85,5 @@ module _ (c : Config) (q : ℕ) (i : Instance) (e : ℕ) (at : instance_at c q �
     left_in_place pushed_in goal_of.Injected (record (freed (record i { residual = raise (arena c) i.residual e goal_of.Injected })) { kept = false; trigger = None })
         (change-here (change c.processes.instances q (λ j. record j { residual = raise (arena c) i.residual e goal_of.Injected })) q (λ j. record (freed j) { kept = false; trigger = None }) (record i { residual = raise (arena c) i.residual e goal_of.Injected })
         (there goal_of.Injected))
-        refl refl (c.processes.stack, refl),
+        refl refl (c.processes.stack, refl) (ap (λ b. cond b c.processes.stack (q ∷ c.processes.stack)) (sym off)),
   )

@@ -1,3 +1,5 @@
+pub mod Tops
 pub mod Once
 pub mod Nowhere
 pub mod Throws
+pub mod Calls

@@ -8,6 +8,7 @@ use Rattle.laws_unwinding.specs.SimModel.Runs.{after}
 use Rattle.laws_unwinding.specs.SimModel.Waits.{holds}
 use Rattle.laws_unwinding.specs.SimModel.Clean.{guards_of}
 use Rattle.laws_unwinding.specs.SimModel.declared.plain.Goal.{Goal}
+use Rattle.laws_guards.specs.Tops.{topped_by}
 
 -- the guards below a goal, from outside in: all of a body that is killed or reset, and those inside its try of an exception
 abbrev pub guards_below : Residual → List ℕ
@@ -77,3 +78,4 @@ pub record UnwindsAll (c d : Config) (q : ℕ) (i : Instance) (k : Goal) : Type 
   pub guards : guards_below then.residual ≡ guards_of i.residual
   pub marks : d.trace.marks ≡ c.trace.marks
   pub top : IsOnTop q d
+  pub stack : d.processes.stack ≡ topped_by q c

@@ -5,6 +5,7 @@ use Rattle.laws_unwinding.specs.SimModel.Unwinding.{catches, handles}
 use Rattle.laws_unwinding.specs.SimModel.Configuration.{Config, Instance, instance_at}
 use Rattle.laws_unwinding.specs.SimModel.Clean.{guards_of}
 use Rattle.laws_guards.specs.Once.{guards_below, IsOnTop}
+use Rattle.laws_guards.specs.Tops.{topped_by}
 
 -- the guards inside the innermost try that has a handler for the exception, from outside in
 abbrev pub guards_in_try : Residual → ℕ → List ℕ
@@ -29,3 +30,4 @@ pub record UnwindsInTry (c d : Config) (q : ℕ) (i : Instance) (e : ℕ) : Type
   pub all : guards_of instance.residual ≡ guards_of i.residual
   pub marks : d.trace.marks ≡ c.trace.marks
   pub top : IsOnTop q d
+  pub stack : d.processes.stack ≡ topped_by q c

@@ -5,12 +5,14 @@
 //! Laws on exceptions, as functions that do nothing and whose clauses are the laws.
 #![tactic(auto)]
 
+mod calls;
 mod ended;
 mod kills;
 mod left;
 mod once;
 mod throws;
 
+pub use calls::{all_guards_stand_below_an_end, calls_unwind_what_is_entered};
 pub use ended::{nothing_names_what_has_ended, what_has_ended_never_runs_again};
 pub use kills::a_kill_unwinds_all_guards;
 pub use left::a_guard_that_was_left_never_runs_its_unwind_block;
