@@ -4,9 +4,9 @@ pub mod Stored
 pub mod Entering
 pub mod Memories
 pub mod Asking
-pub mod Stopped
 pub mod Fitting
 pub mod KernelBodies
 pub mod KernelProcesses
 pub mod KernelTransactions
 pub mod KernelState
+pub mod KernelView

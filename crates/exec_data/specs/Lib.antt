@@ -1,7 +1,6 @@
 pub mod Told
 pub mod Variables
 pub mod Entered
-pub mod Stopping
 pub mod Written
 pub mod Answered
 pub mod LogicValues

@@ -12,7 +12,6 @@ mod blocks;
 mod elements;
 mod prints;
 mod returns;
-mod stops;
 mod stored_assignments;
 mod stored_returns;
 mod storing;
@@ -25,7 +24,6 @@ pub use blocks::{if_then, while_do};
 pub use elements::assign_element;
 pub use prints::print;
 pub use returns::return_nothing;
-pub use stops::StatementStop;
 pub use stored_assignments::assign;
 pub use stored_returns::return_value;
 pub use storing::{store, variable_number};
@@ -63,8 +61,8 @@ pub mod kernel_processes_api {
 /// What is passed on of kernel_state.
 pub mod kernel_state_api {
     pub use kernel_view::kernel_state_api::{
-        Kept, Kernel, Offspring, acquire, fire, kill, pass, release, reset, set_variable, settle,
-        spawn, top_lives,
+        Kept, Kernel, Offspring, StatementStop, acquire, fire, kill, pass, release, reset,
+        set_variable, settle, spawn, top_lives,
     };
 }
 

@@ -8,15 +8,14 @@ ghost use Rattle.kernel_view.specs.SimModel.Channels.{do_write};
 ghost use Rattle.kernel_view.specs.SimModel.Reading.{here};
 ghost use Rattle.kernel_view.specs.KernelState.Kernel.{IsSound, whole_design};
 ghost use Rattle.kernel_view.specs.KernelState.Moves.{Moves, Steps, Lives, HasStatement, IsOnTop};
+ghost use Rattle.kernel_view.specs.KernelState.Stopping.{DoesOrStops};
 ghost use Rattle.kernel_view.specs.Standings.{Everywhere};
-ghost use Rattle.exec_data.specs.Stopping.{DoesOrStops};
 ghost use Rattle.exec_data.specs.Written.{NamesFit, to_write};
 
-use crate::stops::StatementStop;
 use crate::updates::{drive, write_signal};
 use flat_design::{ChannelId, ChannelUse, Expr, RunFault, ValueType};
 use kernel_view::expr_eval_api::cut_to;
-use kernel_view::kernel_state_api::{Kernel, pass, top_lives, write_fifo};
+use kernel_view::kernel_state_api::{Kernel, StatementStop, pass, top_lives, write_fifo};
 use kernel_view::logic_values_api::Value;
 use kernel_view::{channel_at, eval_at, eval_place_at};
 use std::alloc::{AllocError, Global};

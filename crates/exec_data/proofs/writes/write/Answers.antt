@@ -5,19 +5,19 @@ use Rattle.kernel_view.specs.SimModel.Configuration.{arena}
 use Rattle.kernel_view.specs.SimModel.Statements.{settled_in}
 use Rattle.kernel_view.specs.SimModel.Channels.{write_channel}
 use Rattle.kernel_view.specs.KernelState.Kernel.{whole_design}
+use Rattle.kernel_view.specs.KernelState.Stopping.{FollowsBut, NoFault}
+use Rattle.kernel_view.specs.KernelState.declared.stops.StatementStop.TheVariants as stop
 use Rattle.kernel_view.specs.Standings.{next_here}
-use Rattle.exec_data.specs.Stopping.{FollowsOrStops}
 use Rattle.exec_data.specs.Written.{to_write}
-use Rattle.exec_data.specs.declared.stops.StatementStop.TheVariants as stop
-use Rattle.exec_data.proofs.Stopped.{evaluated, at_fault}
+use Rattle.kernel_view.proofs.Stopped.{evaluated, at_fault}
 use Rattle.exec_data.proofs.Fitting.{write_fits, write_is}
 use Rattle.exec_data.proofs.writes.write.Goals as goal
 
 pub returns-in-Ok-clause-does : goal.returns-in-Ok-clause-does
 returns-in-Ok-clause-does c = λ d i h there.
-    subst (FollowsOrStops c.write_channel.new.k c.write_channel.result d)
+    subst (FollowsBut NoFault c.write_channel.new.k c.write_channel.result d)
     (sym (write_is (next_here d c.args.p i) (channel_term c.args.to.now) c.args.t (term_of c.args.e.now) (settled_in d c.args.p i.residual) c.args.p (settle (arena d) i.residual)))
-    (evaluated c.args.k.now c.args.p c.what_is_written.result (λ y. to_write y (channel_term c.args.to.now) c.args.t (term_of c.args.e.now)) c.what_is_written.ensures (λ b q j r x. write_channel b q r x.value x.channel)
+    (evaluated NoFault c.args.k.now c.args.p c.what_is_written.result (λ y. to_write y (channel_term c.args.to.now) c.args.t (term_of c.args.e.now)) c.what_is_written.ensures (λ b q j r x. write_channel b q r x.value x.channel)
     c.write_channel.new.k c.write_channel.result c.in-Ok.x c.in-Ok.is
     (λ b j stands at. c.write_channel.ensures.does
     (write_fits (next_here b c.args.p j) (channel_term c.args.to.now) c.args.t (term_of c.args.e.now) (whole_design c.args.k.now) c.requires.names stands.design c.in-Ok.x (sym (c.what_is_written.ensures b j stands at) ∙ c.in-Ok.is))
@@ -25,7 +25,7 @@ returns-in-Ok-clause-does c = λ d i h there.
 
 pub returns-in-Err-clause-does : goal.returns-in-Err-clause-does
 returns-in-Err-clause-does c = λ d i h there.
-    subst (FollowsOrStops c.args.k.now (Err (stop.Fault c.in-Err.fault)) d)
+    subst (FollowsBut NoFault c.args.k.now (Err (stop.Fault c.in-Err.fault)) d)
     (sym (write_is (next_here d c.args.p i) (channel_term c.args.to.now) c.args.t (term_of c.args.e.now) (settled_in d c.args.p i.residual) c.args.p (settle (arena d) i.residual)))
-    (at_fault c.args.k.now c.args.p c.what_is_written.result (λ y. to_write y (channel_term c.args.to.now) c.args.t (term_of c.args.e.now)) c.what_is_written.ensures (λ b q j r x. write_channel b q r x.value x.channel)
+    (at_fault NoFault c.args.k.now c.args.p c.what_is_written.result (λ y. to_write y (channel_term c.args.to.now) c.args.t (term_of c.args.e.now)) c.what_is_written.ensures (λ b q j r x. write_channel b q r x.value x.channel)
     c.in-Err.fault c.in-Err.is d i h there)

@@ -5,10 +5,10 @@ use Rattle.kernel_view.specs.SimModel.Configuration.{arena}
 use Rattle.kernel_view.specs.SimModel.Channels.{write_channel}
 use Rattle.kernel_view.specs.SimModel.Statements.{settled_in}
 use Rattle.kernel_view.specs.KernelState.Kernel.{whole_design}
-use Rattle.exec_data.specs.Stopping.{FollowsOrStops}
+use Rattle.kernel_view.specs.KernelState.Stopping.{FollowsBut, NoFault}
 use Rattle.exec_data.proofs.writes.write_channel.Goals as goal
 
 pub returns-in-Ok-put_in_fifo-clause-does : goal.returns-in-Ok-put_in_fifo-clause-does
 returns-in-Ok-put_in_fifo-clause-does c = λ fits d i h there.
-    subst (λ ch. FollowsOrStops c.put_in_fifo.new.k (Ok tt) d (write_channel (settled_in d c.args.p i.residual) c.args.p (settle (arena d) i.residual) c.args.v ch)) (sym c.in-Fifo.is)
+    subst (λ ch. FollowsBut NoFault c.put_in_fifo.new.k (Ok tt) d (write_channel (settled_in d c.args.p i.residual) c.args.p (settle (arena d) i.residual) c.args.v ch)) (sym c.in-Fifo.is)
     (c.in-Ok-put_in_fifo.ensures.steps (subst (ChannelFits (whole_design c.args.k.now)) c.in-Fifo.is fits).3 d i h there)

@@ -1,0 +1,1 @@
+pub use Rattle.kernel_view.proofs.Stopped as Stopped
