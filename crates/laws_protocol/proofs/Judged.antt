@@ -51,13 +51,13 @@ use Rattle.laws_protocol.proofs.Runs.{protocol-after}
 
 -- ---- the step as what the instance on top does
 
-phase_is : (c : Config) (p : ℕ) (i : Instance) → IsNext c p i → step c ≡ as_outcome (step_of (settled_in c p i.residual) p i (left_of c i))
-phase_is c p i n =
+pub phase-is : (c : Config) (p : ℕ) (i : Instance) → IsNext c p i → step c ≡ as_outcome (step_of (settled_in c p i.residual) p i (left_of c i))
+phase-is c p i n =
     ap (λ b. cond b ended (step_in c c.cycle.phase)) n.runs ∙ ap (step_in c) n.evaluates
     ∙ ap (λ s. evaluate c s c.processes.runnable) n.top ∙ ap (λ o. as_outcome (step_by c p o)) n.at
 
-on_is : {A : Type 0} (m : Result A RunFault) (x : A) (f : A → Result Config RunFault) → m ≡ Ok x → on_ok m f ≡ f x
-on_is m x f is = ap (λ z. on_ok z f) is
+pub on-is : {A : Type 0} (m : Result A RunFault) (x : A) (f : A → Result Config RunFault) → m ≡ Ok x → on_ok m f ≡ f x
+on-is m x f is = ap (λ z. on_ok z f) is
 
 -- ---- what is left alone by what follows
 
@@ -159,18 +159,18 @@ module _ (design : Design) (script : List Command) (sound : SoundDesign design) 
         → step c ≡ as_outcome (on_ok (judged d hop (BCall t (is_some (blocking_handler (slice_get c.design.hops hop)))) t)
         (λ y. Ok (enters_handler y p r s (blocking_handler (slice_get c.design.hops hop)) (value.Pay (Some t) ∷ value_named h delay ∷ []) (record { hop = hop; forward = true; blocking = true; payload = t }))))
     b_call_is s socket m delay hop forward t q next found end number live frames =
-        phase_is c p i n ∙ ap as_outcome (
+        phase-is c p i n ∙ ap as_outcome (
         ap (do_next d p j r) next ∙ ap (on_statement d p j r s) found ∙ ap (b_transport_on d p r h s m delay) end
-        ∙ on_is (payload_number h m) t _ number ∙ on_is (live_payload d t) q _ live ∙ on_is (may_enter_handler r (blocking_handler (slice_get c.design.hops hop))) tt _ frames)
+        ∙ on-is (payload_number h m) t _ number ∙ on-is (live_payload d t) q _ live ∙ on-is (may_enter_handler r (blocking_handler (slice_get c.design.hops hop))) tt _ frames)
 
     nb_call_is : (s socket : ℕ) (y : Option Target) (m ph delay : NameUse) (hop : ℕ) (forward : Bool) (t : ℕ) (q : Payload) → next_of r ≡ residual.statement s → statement_at (arena c) s ≡ Some (code.nb_transport y socket m ph delay)
         → socket_of (denotes h socket) ≡ Some (hop, forward) → payload_number h m ≡ Ok t → live_payload c t ≡ Ok q → may_enter_handler r (nonblocking_handler forward (slice_get c.design.hops hop)) ≡ Ok tt
         → step c ≡ as_outcome (on_ok (judged d hop (Call t (path_of_call forward) (int_of (value_named h ph)) (is_complete q) (is_some (nonblocking_handler forward (slice_get c.design.hops hop)))) t)
         (λ z. Ok (enters_handler z p r s (nonblocking_handler forward (slice_get c.design.hops hop)) (value.Pay (Some t) ∷ value_named h ph ∷ value_named h delay ∷ []) (record { hop = hop; forward = forward; blocking = false; payload = t }))))
     nb_call_is s socket y m ph delay hop forward t q next found end number live frames =
-        phase_is c p i n ∙ ap as_outcome (
+        phase-is c p i n ∙ ap as_outcome (
         ap (do_next d p j r) next ∙ ap (on_statement d p j r s) found ∙ ap (nb_transport_on d p r h s m ph delay) end
-        ∙ on_is (payload_number h m) t _ number ∙ on_is (live_payload d t) q _ live ∙ on_is (may_enter_handler r (nonblocking_handler forward (slice_get c.design.hops hop))) tt _ frames)
+        ∙ on-is (payload_number h m) t _ number ∙ on-is (live_payload d t) q _ live ∙ on-is (may_enter_handler r (nonblocking_handler forward (slice_get c.design.hops hop))) tt _ frames)
 
     -- ---- returns
 
@@ -202,14 +202,14 @@ module _ (design : Design) (script : List Command) (sound : SoundDesign design) 
       b_return_is : (socket : ℕ) (m delay : NameUse) → statement_at (arena c) s ≡ Some (code.b_transport socket m delay)
           → step c ≡ as_outcome (b_transport_ends (passes d p r) p b x via delay)
       b_return_is socket m delay found =
-          phase_is c p i n ∙ ap as_outcome (
+          phase-is c p i n ∙ ap as_outcome (
           ap (do_next d p j r) next ∙ ap (λ o. handed_back (passes d p r) p b x (calling_statement (passes d p r) o)) call ∙ ap (handed_back (passes d p r) p b x) found
           ∙ ap (λ o. via_ends (passes d p r) o (λ w. b_transport_ends (passes d p r) p b x w delay)) over)
 
       nb_return_is : (socket : ℕ) (y : Option Target) (m ph delay : NameUse) → statement_at (arena c) s ≡ Some (code.nb_transport y socket m ph delay)
           → step c ≡ as_outcome (nb_transport_ends (passes d p r) p b x via y ph delay)
       nb_return_is socket y m ph delay found =
-          phase_is c p i n ∙ ap as_outcome (
+          phase-is c p i n ∙ ap as_outcome (
           ap (do_next d p j r) next ∙ ap (λ o. handed_back (passes d p r) p b x (calling_statement (passes d p r) o)) call ∙ ap (handed_back (passes d p r) p b x) found
           ∙ ap (λ o. via_ends (passes d p r) o (λ w. nb_transport_ends (passes d p r) p b x w y ph delay)) over)
 

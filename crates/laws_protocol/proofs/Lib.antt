@@ -4,3 +4,5 @@ pub mod Vias
 pub mod Kept
 pub mod Runs
 pub mod Judged
+pub mod Faults
+pub mod Blamed

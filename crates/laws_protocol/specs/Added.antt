@@ -1,5 +1,5 @@
 -- Which entry a step is about to add to the history of a hop, and how it is judged.
-use Rattle.std.specs.Prelude.{None, ◌≡◌, ℕ, Bool, false, List, [], ◌∷◌, ◌++◌, slice_get, Option, Some, is_some, Ok}
+use Rattle.std.specs.Prelude.{None, ◌≡◌, ◌⊎◌, ℕ, Bool, false, List, [], ◌∷◌, ◌++◌, slice_get, Option, Some, is_some, Ok}
 use Rattle.laws_unwinding.specs.LogicValues.declared.kinds.Value.TheVariants as value
 use Rattle.laws_unwinding.specs.PayloadPool.declared.payload.Payload.{Payload}
 use Rattle.laws_unwinding.specs.TransportPhases.History.{Entry, Call, Return, BCall, BReturn, broken}
@@ -94,3 +94,22 @@ fault_if_freed rule_of.P10 hop t = fault.Protocol 10 hop t
 pub record IsJudgedFreed (c : Config) (hop t : ℕ) (e : Entry) (o : Outcome) : Type 0 where
   pub lawful : Lawful (history c hop ++ e ∷ []) → (d : Config) × (o ≡ went d) × (history d hop ≡ history c hop ++ e ∷ [])
   pub unlawful : (Lawful (history c hop ++ e ∷ []) → ⊥) → (rule : Rule) × (broken (history c hop) e ≡ Some rule) × (o ≡ faulted (fault_if_freed rule hop t))
+
+-- The step comes to a call over a hop that names a payload which is freed.
+pub data NamesFreed (c : Config) : ℕ → Type 0 where
+  b_named : (p : ℕ) (i : Instance) (s socket : ℕ) (n d : NameUse) (hop : ℕ) (forward : Bool) (t : ℕ) → IsNext c p i
+      → next_of (left_of c i) ≡ residual.statement s → statement_at (arena c) s ≡ Some (code.b_transport socket n d)
+      → socket_of (denotes (place_of c p i) socket) ≡ Some (hop, forward) → payload_number (place_of c p i) n ≡ Ok t → payload_of c.transactions.pool t ≡ None
+      → NamesFreed c t
+  nb_named : (p : ℕ) (i : Instance) (s socket : ℕ) (y : Option Target) (n ph d : NameUse) (hop : ℕ) (forward : Bool) (t : ℕ) → IsNext c p i
+      → next_of (left_of c i) ≡ residual.statement s → statement_at (arena c) s ≡ Some (code.nb_transport y socket n ph d)
+      → socket_of (denotes (place_of c p i) socket) ≡ Some (hop, forward) → payload_number (place_of c p i) n ≡ Ok t → payload_of c.transactions.pool t ≡ None
+      → NamesFreed c t
+
+-- the step comes to an entry of this hop and this payload, and the first rule that the entry breaks has this number
+pub record BreaksRule (c : Config) (number hop t : ℕ) : Type 0 where
+  pub entry : Entry
+  pub comes : WouldAdd c hop t entry ⊎ WouldAddFreed c hop t entry
+  pub rule : Rule
+  pub is_first : broken (history c hop) entry ≡ Some rule
+  pub has_number : rule_number rule ≡ number

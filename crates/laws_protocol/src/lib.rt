@@ -4,5 +4,8 @@
 mod exact;
 mod lawful;
 
-pub use exact::faults_of_the_protocol_are_exact;
+pub use exact::{
+    a_freed_payload_comes_first, faults_of_the_protocol_are_exact,
+    protocol_faults_come_with_entries,
+};
 pub use lawful::{histories_are_lawful, open_calls_are_of_instances};
