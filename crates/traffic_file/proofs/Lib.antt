@@ -1,0 +1,3 @@
+pub mod FormRanges
+pub mod Runnable
+pub mod Answered

@@ -1,13 +1,26 @@
 //! Traffic through a router: the targets and initiators that there are, their accesses in order, and what takes grants away.
 #![tactic(auto)]
 
+mod forms;
+mod judging;
+mod lines;
+mod numbers;
+mod reading;
+mod stops;
+mod worked;
+
 use address_map::AddressMap;
-use logic_values::Text;
-use logic_values::plain_lists_api::Items;
+use model_tree::logic_values_api::Text;
+use model_tree::plain_lists_api::Items;
+pub use reading::read_bus;
+pub use stops::{BusKind, BusStop};
+pub use worked::{
+    faults_have_their_order, forms_come_before_faults, limits_are_counted, lines_are_read,
+};
 
 /// What is passed on of plain_lists.
 pub mod plain_lists_api {
-    pub use logic_values::plain_lists_api::Items;
+    pub use model_tree::plain_lists_api::Items;
 }
 
 /// A memory of `size` bytes that takes `latency` for each access. Where it begins stands in the map alone.
