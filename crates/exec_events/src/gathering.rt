@@ -1,16 +1,19 @@
 //! The events of a wait or a next trigger, in the order in which they are named.
-ghost use Rattle.std.specs.Prelude.{◌≡◌, [], Ok, OnOk};
-ghost use Rattle.flat_design.specs.Code.{event_terms};
+ghost use Rattle.std.specs.Prelude.{◌≡◌, List, Ok, IfOk, OnOk, option_map};
+ghost use Rattle.flat_design.specs.Code.{event_terms, term_of};
+ghost use Rattle.kernel_view.specs.EventCore.declared.event.Ev.{Ev as Happening};
+ghost use Rattle.kernel_view.specs.SimModel.Reading.{place_in};
+ghost use Rattle.kernel_view.specs.SimModel.Values.{on_ok};
+ghost use Rattle.kernel_view.specs.SimModel.Waiting.{event_of, events_at, places_in};
 ghost use Rattle.kernel_view.specs.SimModel.Waits.{is_among};
 ghost use Rattle.kernel_view.specs.KernelState.Kernel.{whole_design};
 ghost use Rattle.kernel_view.specs.KernelState.Moves.{Lives};
 ghost use Rattle.kernel_view.specs.Standings.{Everywhere};
-ghost use Rattle.exec_events.specs.Named.{with_event, gathered, gathered_in, found};
+ghost use Rattle.exec_events.specs.Asked.{wait_for, waiting_for};
+ghost use Rattle.exec_events.specs.Named.{with_event, events_named, fault_of, first_fault};
 ghost use Rattle.exec_events.specs.Numbers.{NumbersEvents};
-ghost use Rattle.exec_events.specs.Asked.{Gives};
 
 use crate::events::event_at;
-use crate::stops::AwaitStop;
 use flat_design::{EventUse, RunFault};
 use kernel_view::eval_place_at;
 use kernel_view::event_core_api::{Ev, same_event};
@@ -18,13 +21,55 @@ use kernel_view::kernel_state_api::Kernel;
 use kernel_view::plain_lists_api::Items;
 use std::alloc::{AllocError, Global};
 
-/// Events as they are looked up one after another, with the first fault of one.
-#[derive(Drop)]
-pub(crate) struct Named {
-    /// The events before the first fault.
-    pub(crate) events: Items<Ev>,
-    /// The first fault of an event.
-    pub(crate) fault: Option<RunFault>,
+/// The first of two faults, where there is one.
+fn first_of(fault: Option<RunFault>, e: Result<Ev, RunFault>) -> Option<RunFault>
+    ensures { result ≡ first_fault fault (fault_of e) }
+{
+    match fault {
+        Some(_) => fault,
+        None => match e {
+            Ok(_) => None,
+            Err(fault) => Some(fault),
+        },
+    }
+}
+
+/// The first fault of the events that a statement names where it stands, if there is one; all their places are evaluated
+/// before them, in order. It takes no memory.
+///
+/// # Errors
+/// The first fault of a place.
+pub(crate) fn first_event_fault(
+    k: &Kernel,
+    p: u32,
+    events: &[EventUse],
+) -> Result<Option<RunFault>, RunFault>
+    requires lives { Lives k.now p }
+    requires numbers { NumbersEvents (whole_design k.now) }
+    ensures { Everywhere k.now p (λ h. result ≡ on_ok (places_in h (event_terms events.now)) (λ ks. Ok (fault_of (events_at h (event_terms events.now) ks)))) }
+{
+    let mut fault = None;
+    for event in events {
+        let place = match eval_place_at(k, p, &event.place) {
+            Ok(place) => place,
+            Err(first) => return Err(first),
+        };
+        fault = first_of(fault, event_at(k, p, event.name, place, event.event));
+    }
+    Ok(fault)
+}
+
+/// The event that a statement names where it stands.
+///
+/// # Errors
+/// The fault of its place; its own.
+fn event_used(k: &Kernel, p: u32, event: &EventUse) -> Result<Ev, RunFault>
+    requires lives { Lives k.now p }
+    requires numbers { NumbersEvents (whole_design k.now) }
+    ensures { Everywhere k.now p (λ h. result ≡ on_ok (place_in h (option_map term_of event.now.place)) (λ n. event_of h event.now.name n event.now.event)) }
+{
+    let place = eval_place_at(k, p, &event.place)?;
+    event_at(k, p, event.name, place, event.event)
 }
 
 /// Whether an event is among these.
@@ -47,48 +92,37 @@ fn add_event(events: &mut Items<Ev>, all: bool, e: Ev) -> Result<(), AllocError>
     }
 }
 
-/// Adds an event, or the fault of one. After the first fault nothing is added.
-fn add(named: &mut Named, all: bool, e: Result<Ev, RunFault>) -> Result<(), AllocError>
-    ensures { OnOk result (found named.new ≡ gathered all (found named.old) e) }
+/// Adds an event that is not at fault.
+fn add_named(events: &mut Items<Ev>, all: bool, e: Result<Ev, RunFault>) -> Result<(), AllocError>
+    ensures { OnOk result (IfOk e (λ x. events.new ≡ with_event all events.old x)) }
 {
-    match named.fault {
-        Some(_) => Ok(()),
-        None => match e {
-            Ok(e) => add_event(&mut named.events, all, e),
-            Err(fault) => {
-                named.fault = Some(fault);
-                Ok(())
-            }
-        },
+    match e {
+        Ok(e) => add_event(events, all, e),
+        Err(_) => Ok(()),
     }
 }
 
-/// The events that a statement names where it stands, with the first fault of one of them. All places are evaluated, in order.
+/// The events that a statement names where it stands, none of which is at fault.
 ///
 /// # Errors
-/// The first fault of a place; want of memory.
-pub(crate) fn name_events(
+/// Want of memory.
+pub(crate) fn gather(
     k: &Kernel,
     alloc: Global,
     p: u32,
     all: bool,
     events: &[EventUse],
-) -> Result<Named, AwaitStop>
+) -> Result<Items<Ev>, AllocError>
     requires lives { Lives k.now p }
     requires numbers { NumbersEvents (whole_design k.now) }
-    ensures { Everywhere k.now p (λ h. Gives found result (gathered_in all h (Ok []) (event_terms events.now))) }
+    ensures { IfOk result (λ found. Everywhere k.now p (λ h. (xs : List Happening) → events_named h (event_terms events.now) ≡ Ok xs → waiting_for all found ≡ wait_for all xs)) }
 {
-    let mut named = Named {
-        events: Items::new(alloc),
-        fault: None,
-    };
+    let mut found = Items::new(alloc);
     for event in events {
-        let place = eval_place_at(k, p, &event.place)?;
-        add(
-            &mut named,
-            all,
-            event_at(k, p, event.name, place, event.event),
-        )?;
+        match add_named(&mut found, all, event_used(k, p, event)) {
+            Ok(()) => {}
+            Err(_) => return Err(AllocError),
+        }
     }
-    Ok(named)
+    Ok(found)
 }

@@ -12,7 +12,6 @@ mod laws;
 mod notifications;
 mod notifying;
 mod statements;
-mod stops;
 mod triggers;
 
 pub use events::{event_offset, first_event};
@@ -20,4 +19,3 @@ pub use laws::sound_designs_number_events;
 pub use notifications::{cancel_named, notify_after, notify_delta, notify_named};
 pub use notifying::{cancel, next_trigger, notify, notify_now, stop};
 pub use statements::{trigger_statement, wait_statement};
-pub use stops::AwaitStop;

@@ -4,61 +4,77 @@ ghost use Rattle.kernel_view.specs.SimModel.Reading.{here};
 ghost use Rattle.kernel_view.specs.SimModel.Waiting as waiting;
 ghost use Rattle.kernel_view.specs.KernelState.Kernel.{IsSound, whole_design};
 ghost use Rattle.kernel_view.specs.KernelState.Moves.{Lives, HasStatement, IsOnTop};
-ghost use Rattle.exec_events.specs.Asked.{DoesOr};
+ghost use Rattle.kernel_view.specs.KernelState.Stopping.{DoesOrStops};
 ghost use Rattle.exec_events.specs.Numbers.{NumbersEvents};
 
 use crate::next_trigger;
-use crate::stops::AwaitStop;
-use crate::triggers::awaited;
+use crate::triggers::{end_of, wait_of};
 use flat_design::Await;
-use kernel_view::kernel_state_api::{Kernel, top_lives, wait_so};
+use kernel_view::kernel_processes_api::Trigger;
+use kernel_view::kernel_state_api::{Kernel, StatementStop, top_lives, wait_so};
 use std::alloc::Global;
 
 /// `wait`: the instance on top waits for its static sensitivity, the next delta, a time, or any or all of some events, with a
 /// time-out where one is written (IEEE 1666-2011, 5.2.18).
 ///
 /// # Errors
-/// The first fault of what it names, or that it would end past 2^64 - 1 ps; want of memory. Then nothing changes.
-pub fn wait_statement(k: &mut Kernel, alloc: Global, p: u32, how: &Await) -> Result<(), AwaitStop>
+/// The first fault of what it names, or that it would end past 2^64 - 1 ps; want of memory, where there is no fault. Then nothing
+/// changes.
+pub fn wait_statement(
+    k: &mut Kernel,
+    alloc: Global,
+    p: u32,
+    how: &Await,
+) -> Result<(), StatementStop>
     requires sound { IsSound k.old }
     requires top { IsOnTop k.old p }
     requires statement { HasStatement k.old p }
     requires numbers { NumbersEvents (whole_design k.old) }
-    ensures does { DoesOr k.old k.new result p (λ c q i r. waiting.do_wait c q r (here c q i r) (await_term how.now)) }
+    ensures does { DoesOrStops k.old k.new result p (λ c q i r. waiting.do_wait c q r (here c q i r) (await_term how.now)) }
     ensures sound { IsSound k.new }
 {
     top_lives(k, p);
-    let trigger = match awaited(k, alloc, p, how) {
-        Ok(trigger) => trigger,
-        Err(stop) => return Err(stop),
+    let deadline = match end_of(k, p, how) {
+        Ok(deadline) => deadline,
+        Err(fault) => return Err(StatementStop::Fault(fault)),
     };
-    match wait_so(k, p, &trigger) {
+    let wait = match wait_of(k, alloc, p, how) {
+        Ok(wait) => wait,
+        Err(_) => return Err(StatementStop::NoMemory),
+    };
+    match wait_so(k, p, &Trigger { wait, deadline }) {
         Ok(()) => Ok(()),
-        Err(_) => Err(AwaitStop::NoMemory),
+        Err(_) => Err(StatementStop::NoMemory),
     }
 }
 
 /// `next_trigger`: the method will wait so after its return; the last of a turn counts (IEEE 1666-2011, 5.2.17).
 ///
 /// # Errors
-/// The first fault of what it names, or that it would end past 2^64 - 1 ps; want of memory. Then nothing changes.
+/// The first fault of what it names, or that it would end past 2^64 - 1 ps; want of memory, where there is no fault. Then nothing
+/// changes.
 pub fn trigger_statement(
     k: &mut Kernel,
     alloc: Global,
     p: u32,
     how: &Await,
-) -> Result<(), AwaitStop>
+) -> Result<(), StatementStop>
     requires sound { IsSound k.old }
     requires lives { Lives k.old p }
     requires statement { HasStatement k.old p }
     requires numbers { NumbersEvents (whole_design k.old) }
-    ensures does { DoesOr k.old k.new result p (λ c q i r. waiting.do_next_trigger c q r (here c q i r) (await_term how.now)) }
+    ensures does { DoesOrStops k.old k.new result p (λ c q i r. waiting.do_next_trigger c q r (here c q i r) (await_term how.now)) }
     ensures sound { IsSound k.new }
 {
-    let trigger = match awaited(k, alloc, p, how) {
-        Ok(trigger) => trigger,
-        Err(stop) => return Err(stop),
+    let deadline = match end_of(k, p, how) {
+        Ok(deadline) => deadline,
+        Err(fault) => return Err(StatementStop::Fault(fault)),
     };
-    next_trigger(k, p, trigger);
-    Ok(())
+    match wait_of(k, alloc, p, how) {
+        Ok(wait) => {
+            next_trigger(k, p, Trigger { wait, deadline });
+            Ok(())
+        }
+        Err(_) => Err(StatementStop::NoMemory),
+    }
 }
