@@ -27,7 +27,5 @@ pub use throws::{catches, raise_at, throw};
 
 /// What is passed on of exec_data.
 pub mod exec_data_api {
-    pub use exec_data::{
-        StatementStop, assign, if_then, print, return_value, var, while_do, write,
-    };
+    pub use exec_data::{assign, if_then, print, return_value, var, while_do, write};
 }
