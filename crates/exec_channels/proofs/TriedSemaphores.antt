@@ -1,6 +1,7 @@
 -- A semaphore that is tried.
 use Rattle.std.proofs.Common.{◌≡◌, ◌+◌, ◌-◌, ◌^◌, ℕ, not, Bool, true, false, List, slice_get, Option, Some, None, option_map, Result, Ok, Err, refl, sym, ap, ◌∙◌, subst, true≢false, arith}
 use Rattle.std.specs.Prelude.{◌↔◌, is_some, unwrap_or, if◌then◌else◌}
+use Rattle.std.specs.Result.{is_err}
 use Rattle.std.proofs.lemmas.Bool.Decides.{nat_tests}
 use Rattle.kernel_view.specs.EventCore.declared.event.Ev.{Ev}
 use Rattle.kernel_view.specs.FifoSync.Locks.{is_used_up}
@@ -19,6 +20,8 @@ use Rattle.kernel_view.specs.SimModel.Channels.{with_channels, blocks, element, 
 use Rattle.kernel_view.specs.KernelState.Kernel.{StandsFor}
 use Rattle.kernel_view.specs.KernelState.Moves.{Moves, Steps}
 use Rattle.kernel_view.specs.KernelState.declared.kernel.Kernel.{Kernel}
+use Rattle.kernel_view.specs.KernelState.declared.stops.StatementStop.{StatementStop}
+use Rattle.kernel_view.specs.KernelState.declared.stops.StatementStop.TheVariants as stop
 use Rattle.kernel_view.proofs.KernelState.Fifos.{negated}
 use Rattle.kernel_view.specs.Standings.{next_here, Everywhere}
 use Rattle.exec_channels.specs.Tried.{used_here, changed_in, value_posted, posted_value}
@@ -180,6 +183,13 @@ module _ (k : Kernel) (p : ℕ) (at : ChannelTerm) (answer : Result ChannelId Ru
       (sym (ap (λ y. element y.semaphores (semaphore_of ch)) h.channels) ∙ ap (value_posted (next_here c p i).config) (sym is ∙ gives c i h there)) full
 
   -- there is none
-  pub never_full : (b : Bool) → b ≡ false → (f : RunFault) → answer ≡ Err f → Everywhere k p (λ h. (b ≡ true) ↔ (posted_value h at ≡ Some (2 ^ 64 - 1)))
-  never_full b not_so f is c i h there =
-      ((λ full. absurd (true≢false (sym full ∙ not_so))), (λ full. absurd (true≢false (ap is_some (sym full ∙ ap (value_posted (next_here c p i).config) (sym (gives c i h there) ∙ is))))))
+  pub never_full : (P : Type 0) → (P → ⊥) → (f : RunFault) → answer ≡ Err f → Everywhere k p (λ h. P ↔ (posted_value h at ≡ Some (2 ^ 64 - 1)))
+  never_full P not_so f is c i h there =
+      ((λ full. absurd (not_so full)), (λ full. absurd (true≢false (ap is_some (sym full ∙ ap (value_posted (next_here c p i).config) (sym (gives c i h there) ∙ is))))))
+
+-- that there is no room is told as want of memory
+pub full_told : (P : Type 0) → (true ≡ true) ↔ P → (let told : Result Unit StatementStop = Err stop.NoMemory in told ≡ Err stop.NoMemory) ↔ P
+full_told P full = ((λ same. full.0 refl), (λ so. refl))
+
+pub room_told : (P : Type 0) → (false ≡ true) ↔ P → (let told : Result Unit StatementStop = Ok tt in told ≡ Err stop.NoMemory) ↔ P
+room_told P full = ((λ same. full.0 (ap is_err same)), (λ so. absurd (true≢false (sym (full.1 so)))))

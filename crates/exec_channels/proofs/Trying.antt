@@ -13,8 +13,12 @@ use Rattle.kernel_view.specs.SimModel.Storing.{passes}
 use Rattle.kernel_view.specs.SimModel.Channels.{with_channels, channel_in, element}
 use Rattle.kernel_view.specs.KernelState.Kernel.{StandsFor}
 use Rattle.kernel_view.specs.KernelState.Moves.{Moves, Steps, Follows, Does}
+use Rattle.kernel_view.specs.KernelState.Stopping.{FollowsBut, DoesOrStops, NoFault}
+use Rattle.kernel_view.specs.KernelState.declared.stops.StatementStop.{StatementStop}
+use Rattle.kernel_view.specs.KernelState.declared.stops.StatementStop.TheVariants as stop
 use Rattle.kernel_view.specs.KernelState.declared.kernel.Kernel.{Kernel}
 use Rattle.kernel_view.proofs.KernelState.Frames.{channels_move}
+use Rattle.kernel_view.proofs.Stopped as stopped
 use Rattle.kernel_view.specs.Standings.{next_here, Everywhere}
 use Rattle.exec_channels.specs.Tried.{used_here, changed_in}
 
@@ -112,3 +116,17 @@ module _ (k : Kernel) (p : ℕ) (at : ChannelTerm) (answer : Result ChannelId Ru
       subst (Follows k (Err e) c)
       (sym (used_is (next_here c p i) at (λ x. Ok (g x (settled_in c p i.residual) p (record i { residual = settle (arena c) i.residual }) (settle (arena c) i.residual)))))
       (faulted k p answer (λ y. used_here y at) gives (λ d q j r x. Ok (g x d q j r)) e is c i h there)
+
+  -- the same of a statement that may take memory
+  pub stops_for : (l : Kernel) (done : Result Unit StatementStop) (ch : ChannelId) → answer ≡ Ok ch → DoesOrStops k l done p (λ c q i r. Ok (g ch c q i r))
+      → DoesOrStops k l done p (λ c q i r. on_ok (place_in (here c q i r) at.place) (λ n. on_ok (channel_in (here c q i r) at n) (λ x. Ok (g x c q i r))))
+  stops_for l done ch is does c i h there =
+      subst (FollowsBut NoFault l done c)
+      (sym (used_is (next_here c p i) at (λ x. Ok (g x (settled_in c p i.residual) p (record i { residual = settle (arena c) i.residual }) (settle (arena c) i.residual)))))
+      (stopped.evaluated NoFault k p answer (λ y. used_here y at) gives (λ d q j r x. Ok (g x d q j r)) l done ch is does c i h there)
+
+  pub stops_at : (e : RunFault) → answer ≡ Err e → DoesOrStops k k (Err (stop.Fault e)) p (λ c q i r. on_ok (place_in (here c q i r) at.place) (λ n. on_ok (channel_in (here c q i r) at n) (λ x. Ok (g x c q i r))))
+  stops_at e is c i h there =
+      subst (FollowsBut NoFault k (Err (stop.Fault e)) c)
+      (sym (used_is (next_here c p i) at (λ x. Ok (g x (settled_in c p i.residual) p (record i { residual = settle (arena c) i.residual }) (settle (arena c) i.residual)))))
+      (stopped.at_fault NoFault k p answer (λ y. used_here y at) gives (λ d q j r x. Ok (g x d q j r)) e is c i h there)

@@ -1,4 +1,5 @@
 pub use Rattle.kernel_view.specs.KernelState.Kernel as Kernel
 pub use Rattle.kernel_view.specs.KernelState.Moves as Moves
 pub use Rattle.kernel_view.specs.KernelState.Processes as Processes
+pub use Rattle.kernel_view.specs.KernelState.Stopping as Stopping
 pub use Rattle.kernel_view.specs.KernelState.declared as declared

@@ -1,5 +1,5 @@
 //! Statements on fifos (IEEE 1666-2011, 6.23).
-ghost use Rattle.std.specs.Prelude.{◌≡◌, ◌==◌, IfOk, OnOk, OnErr, not, option_map};
+ghost use Rattle.std.specs.Prelude.{◌≡◌, ◌==◌, OnOk, OnErr, not, option_map};
 ghost use Rattle.kernel_view.specs.FifoSync.Fifos as fifos;
 ghost use Rattle.flat_design.specs.Code.{channel_term, term_of};
 ghost use Rattle.kernel_view.specs.SimModel.Channels as channels;
@@ -8,6 +8,7 @@ ghost use Rattle.kernel_view.specs.SimModel.Reading.{here};
 ghost use Rattle.kernel_view.specs.SimModel.Storing.{passes};
 ghost use Rattle.kernel_view.specs.KernelState.Kernel.{IsSound};
 ghost use Rattle.kernel_view.specs.KernelState.Moves.{Moves, Steps, Does, HasStatement, IsOnTop};
+ghost use Rattle.kernel_view.specs.KernelState.Stopping.{DoesOrStops};
 ghost use Rattle.exec_channels.specs.Tried.{changed_in};
 
 use crate::slots::{past, put, slot_at};
@@ -15,7 +16,7 @@ use crate::uses::{fifo_number, first_event, used_at};
 use flat_design::{ChannelId, ChannelUse, Expr, RunFault, Store, ValueType};
 use kernel_view::expr_eval_api::cut_to;
 use kernel_view::kernel_channels_api::ChannelBoard;
-use kernel_view::kernel_state_api::{Kernel, block, pass, top_lives};
+use kernel_view::kernel_state_api::{Kernel, StatementStop, block, pass, top_lives};
 use kernel_view::logic_values_api::Value;
 use kernel_view::{channel_at, eval_at, eval_place_at};
 use std::alloc::{AllocError, Global};
@@ -175,31 +176,30 @@ fn read_channel(
 }
 
 /// `read`: the oldest value of a fifo is read, or the instance on top is blocked till one is written, and tries again then.
-/// The fifo is named, or is that of a port at a place. The answer tells whether the statement is at fault, and then nothing
-/// changes: the fault of its place; a place past the last channel of a port.
+/// The fifo is named, or is that of a port at a place.
 ///
 /// # Errors
-/// The instance would be blocked, and there is no memory for that; then nothing changes.
+/// The fault of its place; a place past the last channel of a port; the instance would be blocked, and there is no memory for
+/// that. Then nothing changes.
 pub fn read(
     k: &mut Kernel,
     alloc: Global,
     p: u32,
     target: Option<Store>,
     at: &ChannelUse,
-) -> Result<Result<(), RunFault>, AllocError>
+) -> Result<(), StatementStop>
     requires sound { IsSound k.old }
     requires top { IsOnTop k.old p }
     requires statement { HasStatement k.old p }
-    ensures does { IfOk result (λ answer. Does k.old k.new answer p (λ c q i r. do_read c q r (here c q i r) target (channel_term at.now))) }
-    ensures stays { OnErr result (Moves k.old k.new (λ c. c)) }
+    ensures does { DoesOrStops k.old k.new result p (λ c q i r. do_read c q r (here c q i r) target (channel_term at.now)) }
     ensures sound { IsSound k.new }
 {
     top_lives(k, p);
     match used_at(k, p, at) {
         Ok(channel) => match read_channel(k, alloc, p, target, channel) {
-            Ok(()) => Ok(Ok(())),
-            Err(_) => Err(AllocError),
+            Ok(()) => Ok(()),
+            Err(_) => Err(StatementStop::NoMemory),
         },
-        Err(fault) => Ok(Err(fault)),
+        Err(fault) => Err(StatementStop::Fault(fault)),
     }
 }

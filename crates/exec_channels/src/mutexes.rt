@@ -1,5 +1,5 @@
 //! Statements on mutexes (IEEE 1666-2011, 6.27).
-ghost use Rattle.std.specs.Prelude.{◌≡◌, IfOk, OnOk, OnErr, option_map};
+ghost use Rattle.std.specs.Prelude.{◌≡◌, OnOk, OnErr, option_map};
 ghost use Rattle.kernel_view.specs.FifoSync.Locks.{is_owner, is_unlocked, locked_by, unlocked_by};
 ghost use Rattle.flat_design.specs.Code.{channel_term};
 ghost use Rattle.kernel_view.specs.SimModel.Channels as channels;
@@ -8,13 +8,14 @@ ghost use Rattle.kernel_view.specs.SimModel.Reading.{here};
 ghost use Rattle.kernel_view.specs.SimModel.Storing.{passes};
 ghost use Rattle.kernel_view.specs.KernelState.Kernel.{IsSound};
 ghost use Rattle.kernel_view.specs.KernelState.Moves.{Moves, Steps, Does, HasStatement, IsOnTop};
+ghost use Rattle.kernel_view.specs.KernelState.Stopping.{DoesOrStops};
 ghost use Rattle.exec_channels.specs.Tried.{changed_in};
 
 use crate::slots::{past, slot_at, tell};
 use crate::uses::{first_event, mutex_number, used_at};
 use flat_design::{ChannelId, ChannelUse, RunFault, Store};
 use kernel_view::kernel_channels_api::ChannelBoard;
-use kernel_view::kernel_state_api::{Kernel, block, fire, pass, top_lives};
+use kernel_view::kernel_state_api::{Kernel, StatementStop, block, fire, pass, top_lives};
 use std::alloc::{AllocError, Global};
 
 /// Locks a mutex for an instance, if nobody owns it: says whether it did, where the channel is a mutex.
@@ -159,30 +160,24 @@ fn lock_channel(k: &mut Kernel, alloc: Global, p: u32, channel: ChannelId) -> Re
 }
 
 /// `lock`: a mutex is locked for the instance on top, or it is blocked till the mutex is unlocked, and tries again then
-/// (IEEE 1666-2011, 6.27.3.3). The channel is named, or is that of a port at a place. The answer tells whether the statement
-/// is at fault, and then nothing changes: the fault of its place; a place past the last channel of a port.
+/// (IEEE 1666-2011, 6.27.3.3). The channel is named, or is that of a port at a place.
 ///
 /// # Errors
-/// The instance would be blocked, and there is no memory for that; then nothing changes.
-pub fn lock(
-    k: &mut Kernel,
-    alloc: Global,
-    p: u32,
-    at: &ChannelUse,
-) -> Result<Result<(), RunFault>, AllocError>
+/// The fault of its place; a place past the last channel of a port; the instance would be blocked, and there is no memory for
+/// that. Then nothing changes.
+pub fn lock(k: &mut Kernel, alloc: Global, p: u32, at: &ChannelUse) -> Result<(), StatementStop>
     requires sound { IsSound k.old }
     requires top { IsOnTop k.old p }
     requires statement { HasStatement k.old p }
-    ensures does { IfOk result (λ answer. Does k.old k.new answer p (λ c q i r. do_lock c q r (here c q i r) (channel_term at.now))) }
-    ensures stays { OnErr result (Moves k.old k.new (λ c. c)) }
+    ensures does { DoesOrStops k.old k.new result p (λ c q i r. do_lock c q r (here c q i r) (channel_term at.now)) }
     ensures sound { IsSound k.new }
 {
     top_lives(k, p);
     match used_at(k, p, at) {
         Ok(channel) => match lock_channel(k, alloc, p, channel) {
-            Ok(()) => Ok(Ok(())),
-            Err(_) => Err(AllocError),
+            Ok(()) => Ok(()),
+            Err(_) => Err(StatementStop::NoMemory),
         },
-        Err(fault) => Ok(Err(fault)),
+        Err(fault) => Err(StatementStop::Fault(fault)),
     }
 }

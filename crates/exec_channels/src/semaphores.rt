@@ -1,5 +1,5 @@
 //! Statements on semaphores (IEEE 1666-2011, 6.29).
-ghost use Rattle.std.specs.Prelude.{◌≡◌, ◌↔◌, ◌+◌, ◌-◌, ◌^◌, Some, IsErr, IfOk, OnOk, OnErr, is_some, not, option_map};
+ghost use Rattle.std.specs.Prelude.{◌≡◌, ◌↔◌, ◌+◌, ◌-◌, ◌^◌, Some, Err, IsErr, IfOk, OnOk, OnErr, is_some, not, option_map};
 ghost use Rattle.kernel_view.specs.FifoSync.Locks.{is_used_up};
 ghost use Rattle.flat_design.specs.Code.{channel_term};
 ghost use Rattle.kernel_view.specs.SimModel.Channels as channels;
@@ -8,6 +8,7 @@ ghost use Rattle.kernel_view.specs.SimModel.Reading.{here};
 ghost use Rattle.kernel_view.specs.SimModel.Storing.{passes};
 ghost use Rattle.kernel_view.specs.KernelState.Kernel.{IsSound};
 ghost use Rattle.kernel_view.specs.KernelState.Moves.{Moves, Steps, Does, HasStatement, IsOnTop};
+ghost use Rattle.kernel_view.specs.KernelState.Stopping.{DoesOrStops};
 ghost use Rattle.kernel_view.specs.Standings.{Everywhere};
 ghost use Rattle.exec_channels.specs.Tried.{changed_in, posted_value};
 
@@ -15,7 +16,7 @@ use crate::slots::{past, slot_at, tell};
 use crate::uses::{first_event, semaphore_number, used_at};
 use flat_design::{ChannelId, ChannelUse, RunFault, Store};
 use kernel_view::kernel_channels_api::ChannelBoard;
-use kernel_view::kernel_state_api::{Kernel, block, fire, pass, top_lives};
+use kernel_view::kernel_state_api::{Kernel, StatementStop, block, fire, pass, top_lives};
 use std::alloc::{AllocError, Global};
 
 /// Takes one of the value of a semaphore, if it is not used up: says whether it did, where the channel is a semaphore.
@@ -79,28 +80,26 @@ fn post_channel(k: &mut Kernel, p: u32, channel: ChannelId) -> Result<(), AllocE
 }
 
 /// `post`: the value of a semaphore rises by one, which wakes all who wait for it (IEEE 1666-2011, 6.29.3.5). The channel is
-/// named, or is that of a port at a place. The answer tells whether the statement is at fault, and then nothing changes: the
-/// fault of its place; a place past the last channel of a port. It takes no memory of the allocator.
+/// named, or is that of a port at a place. It takes no memory of the allocator.
 ///
 /// # Errors
-/// The value of the semaphore is 2^64 - 1, the greatest that the kernel can hold: there is no room for a greater one, and
-/// nothing changes.
-pub fn post(k: &mut Kernel, p: u32, at: &ChannelUse) -> Result<Result<(), RunFault>, AllocError>
+/// The fault of its place; a place past the last channel of a port; no memory, where the value of the semaphore is 2^64 - 1, the
+/// greatest that the kernel can hold: there is no room for a greater one. Then nothing changes.
+pub fn post(k: &mut Kernel, p: u32, at: &ChannelUse) -> Result<(), StatementStop>
     requires sound { IsSound k.old }
     requires top { IsOnTop k.old p }
     requires statement { HasStatement k.old p }
-    ensures does { IfOk result (λ answer. Does k.old k.new answer p (λ c q i r. do_post c q r (here c q i r) (channel_term at.now))) }
-    ensures full { Everywhere k.old p (λ h. IsErr result ↔ (posted_value h (channel_term at.now) ≡ Some (2 ^ 64 - 1))) }
-    ensures stays { OnErr result (Moves k.old k.new (λ c. c)) }
+    ensures does { DoesOrStops k.old k.new result p (λ c q i r. do_post c q r (here c q i r) (channel_term at.now)) }
+    ensures full { Everywhere k.old p (λ h. (result ≡ Err StatementStop.NoMemory) ↔ (posted_value h (channel_term at.now) ≡ Some (2 ^ 64 - 1))) }
     ensures sound { IsSound k.new }
 {
     top_lives(k, p);
     match used_at(k, p, at) {
         Ok(channel) => match post_channel(k, p, channel) {
-            Ok(()) => Ok(Ok(())),
-            Err(_) => Err(AllocError),
+            Ok(()) => Ok(()),
+            Err(_) => Err(StatementStop::NoMemory),
         },
-        Err(fault) => Ok(Err(fault)),
+        Err(fault) => Err(StatementStop::Fault(fault)),
     }
 }
 
@@ -175,30 +174,24 @@ fn wait_channel(k: &mut Kernel, alloc: Global, p: u32, channel: ChannelId) -> Re
 }
 
 /// `sem_wait`: the value of a semaphore falls by one, or the instance on top is blocked till one is posted, and tries again
-/// then (IEEE 1666-2011, 6.29.3.3). The channel is named, or is that of a port at a place. The answer tells whether the
-/// statement is at fault, and then nothing changes: the fault of its place; a place past the last channel of a port.
+/// then (IEEE 1666-2011, 6.29.3.3). The channel is named, or is that of a port at a place.
 ///
 /// # Errors
-/// The instance would be blocked, and there is no memory for that; then nothing changes.
-pub fn sem_wait(
-    k: &mut Kernel,
-    alloc: Global,
-    p: u32,
-    at: &ChannelUse,
-) -> Result<Result<(), RunFault>, AllocError>
+/// The fault of its place; a place past the last channel of a port; the instance would be blocked, and there is no memory for
+/// that. Then nothing changes.
+pub fn sem_wait(k: &mut Kernel, alloc: Global, p: u32, at: &ChannelUse) -> Result<(), StatementStop>
     requires sound { IsSound k.old }
     requires top { IsOnTop k.old p }
     requires statement { HasStatement k.old p }
-    ensures does { IfOk result (λ answer. Does k.old k.new answer p (λ c q i r. do_sem_wait c q r (here c q i r) (channel_term at.now))) }
-    ensures stays { OnErr result (Moves k.old k.new (λ c. c)) }
+    ensures does { DoesOrStops k.old k.new result p (λ c q i r. do_sem_wait c q r (here c q i r) (channel_term at.now)) }
     ensures sound { IsSound k.new }
 {
     top_lives(k, p);
     match used_at(k, p, at) {
         Ok(channel) => match wait_channel(k, alloc, p, channel) {
-            Ok(()) => Ok(Ok(())),
-            Err(_) => Err(AllocError),
+            Ok(()) => Ok(()),
+            Err(_) => Err(StatementStop::NoMemory),
         },
-        Err(fault) => Ok(Err(fault)),
+        Err(fault) => Err(StatementStop::Fault(fault)),
     }
 }

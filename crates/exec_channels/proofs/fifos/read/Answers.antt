@@ -1,11 +1,16 @@
+use Rattle.std.proofs.Common.{Ok, Err}
 use Rattle.flat_design.specs.Code.{channel_term}
 use Rattle.kernel_view.specs.SimModel.Reading.{here}
 use Rattle.kernel_view.specs.SimModel.Channels.{read_fifo, fifo_here}
-use Rattle.exec_channels.proofs.Trying.{does_for, at_fault}
+use Rattle.kernel_view.specs.KernelState.declared.stops.StatementStop.TheVariants as stop
+use Rattle.exec_channels.proofs.Trying.{stops_for, stops_at}
 use Rattle.exec_channels.proofs.fifos.read.Goals as goal
 
 pub returns-in-Ok-read_channel-clause-does : goal.returns-in-Ok-read_channel-clause-does
-returns-in-Ok-read_channel-clause-does c = does_for c.args.k.now c.args.p (channel_term c.args.at.now) c.used_at.result c.used_at.ensures (λ ch d q i r. read_fifo d q r (here d q i r) c.args.target ch (fifo_here d ch)) c.read_channel.new.k c.in-Ok.channel c.in-Ok.is c.in-Ok-read_channel.ensures.steps
+returns-in-Ok-read_channel-clause-does c = stops_for c.args.k.now c.args.p (channel_term c.args.at.now) c.used_at.result c.used_at.ensures (λ ch d q i r. read_fifo d q r (here d q i r) c.args.target ch (fifo_here d ch)) c.read_channel.new.k (Ok tt) c.in-Ok.channel c.in-Ok.is c.in-Ok-read_channel.ensures.steps
+
+pub returns-in-Err-read_channel-clause-does : goal.returns-in-Err-read_channel-clause-does
+returns-in-Err-read_channel-clause-does c = stops_for c.args.k.now c.args.p (channel_term c.args.at.now) c.used_at.result c.used_at.ensures (λ ch d q i r. read_fifo d q r (here d q i r) c.args.target ch (fifo_here d ch)) c.read_channel.new.k (Err stop.NoMemory) c.in-Ok.channel c.in-Ok.is (λ d i h there. c.in-Err-read_channel.ensures.stays d h)
 
 pub returns-in-Err-clause-does : goal.returns-in-Err-clause-does
-returns-in-Err-clause-does c = at_fault c.args.k.now c.args.p (channel_term c.args.at.now) c.used_at.result c.used_at.ensures (λ ch d q i r. read_fifo d q r (here d q i r) c.args.target ch (fifo_here d ch)) c.in-Err.fault c.in-Err.is
+returns-in-Err-clause-does c = stops_at c.args.k.now c.args.p (channel_term c.args.at.now) c.used_at.result c.used_at.ensures (λ ch d q i r. read_fifo d q r (here d q i r) c.args.target ch (fifo_here d ch)) c.in-Err.fault c.in-Err.is
