@@ -1,6 +1,7 @@
 -- One first argument more.
 use Rattle.std.proofs.Common.{◌≡◌, ◌≤◌, ◌<◌, ◌+◌, ℕ, suc, List, [], ◌∷◌, ◌++◌, map, length, get_or, drop, drop-cons, add-one, append_assoc, append-nil, Result, Ok, Err, refl, sym, ap, ◌∙◌}
 use Rattle.std.proofs.Math.ListN.{drop_of_length-le}
+use Rattle.std.specs.Prelude.{IfOk}
 use Rattle.exec_data.specs.LogicValues.declared.kinds.Value.{Value}
 use Rattle.flat_design.specs.Code.{term_of}
 use Rattle.flat_design.specs.declared.code.Local.{Local}
@@ -48,3 +49,35 @@ module _ (h : Here) (ls : List Local) (es : List Expr) (i : ℕ) where
   -- all are given
   pub all_given : (old : List Value) → length es ≤ i → Ok old ≡ on_ok (first_arguments h ls i (map term_of (drop i es))) (λ vs. Ok (old ++ vs))
   all_given old past = ap Ok (sym (append-nil old)) ∙ ap (λ (xs : List Expr). on_ok (first_arguments h ls i (map term_of xs)) (λ vs. Ok (old ++ vs))) (sym (drop_of_length-le es past))
+
+  -- the same of their faults alone
+  abbrev pub judged : Result (List Value) RunFault → Result Unit RunFault
+  judged r = on_ok r (λ vs. Ok tt)
+
+  judged_with : (old : List Value) (r : Result (List Value) RunFault) → judged (on_ok r (λ vs. Ok (old ++ vs))) ≡ judged r
+  judged_with old (Ok vs) = refl
+  judged_with old (Err f) = refl
+
+  abbrev from_place : ℕ → List Expr → Result (List Value) RunFault
+  from_place n xs = first_arguments h ls n (map term_of xs)
+
+  pub one_judged : (e : Expr) → i < length es → e ≡ get_or es i e → (v : Value) → Ok v ≡ val h (term_of e) → judged (from_place (i + 1) (drop (i + 1) es)) ≡ judged (from_place i (drop i es))
+  one_judged e within is v value =
+      sym (judged_with (for_parameter ls i v ∷ []) (from_place (i + 1) (drop (i + 1) es)))
+      ∙ ap judged (one_given e within is [] (for_parameter ls i v ∷ []) v (for_parameter ls i v) value refl refl)
+      ∙ judged_with [] (from_place i (drop i es))
+
+  pub one_stops : (e : Expr) → i < length es → e ≡ get_or es i e → (f : RunFault) → Err f ≡ val h (term_of e) → Err f ≡ judged (from_place i (drop i es))
+  one_stops e within is f value = ap judged (one_at_fault e within is [] f value) ∙ judged_with [] (from_place i (drop i es))
+
+  pub all_judged : length es ≤ i → Ok tt ≡ judged (from_place i (drop i es))
+  all_judged past = ap judged (all_given [] past) ∙ judged_with [] (from_place i (drop i es))
+
+  -- a value is added where there is no fault
+  pub one_joins : (e : Expr) → i < length es → e ≡ get_or es i e → (old total : List Value) → on_ok (from_place i (drop i es)) (λ vs. Ok (old ++ vs)) ≡ Ok total → (x : Result Value RunFault) (new : List Value) → x ≡ val h (term_of e)
+      → IfOk x (λ v. new ≡ old ++ for_parameter ls i v ∷ []) → on_ok (from_place (i + 1) (drop (i + 1) es)) (λ vs. Ok (new ++ vs)) ≡ Ok total
+  one_joins e within is old total left (Ok v) new value added = one_given e within is old new v (for_parameter ls i v) value refl added ∙ left
+  one_joins e within is old total left (Err f) new value added = absurd (let so : Err f ≡ Ok total = one_at_fault e within is old f value ∙ left in let no : ⊥ = cc in no)
+
+pub given_from : (old total : List Value) (r : Result (List Value) RunFault) → old ≡ [] → r ≡ Ok total → on_ok r (λ vs. Ok (old ++ vs)) ≡ Ok total
+given_from old total r none is = ap (λ us. on_ok r (λ vs. Ok (us ++ vs))) none ∙ ap (λ o. on_ok o (λ vs. Ok ([] ++ vs))) is

@@ -2,6 +2,8 @@ pub mod OneBody
 pub mod Ends
 pub mod Homes
 pub mod Values
+pub mod Judging
+pub mod Living
 pub mod Handing
 pub mod Going
 pub mod Gathering
@@ -11,4 +13,5 @@ pub mod SpawnHanding
 pub mod KernelBodies
 pub mod KernelProcesses
 pub mod KernelState
+pub mod KernelView
 pub mod ExecData

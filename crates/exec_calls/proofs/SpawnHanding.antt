@@ -1,6 +1,6 @@
 -- A new instance, and then the statement past and its handle in a variable.
 use Rattle.std.proofs.Common.{◌≡◌, ℕ, zero, suc, Bool, true, false, List, [], ◌∷◌, ◌++◌, length, slice_get, slice_set, Option, Some, None, option_map, Result, Ok, Err, refl, sym, ap, ◌∙◌, subst, true≢false}
-use Rattle.std.specs.Prelude.{is_some, IfOk, OnErr, if◌then◌else◌}
+use Rattle.std.specs.Prelude.{is_some, OnOk, if◌then◌else◌}
 use Rattle.std.specs.Fmt.{decimal}
 use Rattle.exec_data.specs.LogicValues.declared.kinds.Value.{Value}
 use Rattle.exec_data.specs.LogicValues.declared.kinds.Value.TheVariants as value
@@ -12,9 +12,6 @@ use Rattle.flat_design.specs.declared.design.Design.{Design}
 use Rattle.flat_design.specs.declared.names.NameUse.{NameUse}
 use Rattle.flat_design.specs.declared.names.NameUse.TheVariants as name_use
 use Rattle.flat_design.specs.declared.faults.RunFault.{RunFault}
-use Rattle.flat_design.specs.declared.faults.RunFault.TheVariants as fault
-use Rattle.exec_data.specs.InstanceTable.declared.SpawnStop.{SpawnStop}
-use Rattle.exec_data.specs.InstanceTable.declared.SpawnStop.TheVariants as spawn_stop
 use Rattle.exec_data.specs.SimModel.Values.{on_ok}
 use Rattle.exec_data.specs.SimModel.Residual.{Residual, settle, skip, put}
 use Rattle.exec_data.specs.SimModel.Configuration as model
@@ -22,16 +19,21 @@ use Rattle.exec_data.specs.SimModel.Configuration.{Config, Instance, changed_at,
 use Rattle.exec_data.specs.SimModel.Statements.{settled_in}
 use Rattle.exec_data.specs.SimModel.Reading.{Here, here}
 use Rattle.exec_data.specs.SimModel.Storing.{passes, set_name, set_denoted}
-use Rattle.exec_data.specs.SimModel.Calls.{body_name, home_path, static_events, new_instance, added, runnable_unless, handle_stored, may_spawn, spawns}
+use Rattle.exec_data.specs.SimModel.Calls.{body_name, home_path, locals_in, static_events, new_instance, added, runnable_unless, handle_stored, may_spawn, spawns, first_arguments, do_spawn}
 use Rattle.exec_data.proofs.KernelProcesses.Wakes.{change-here, change-length}
 use Rattle.exec_data.specs.KernelProcesses.Seen.{kind_of}
 use Rattle.exec_data.specs.KernelState.Kernel.{StandsFor}
-use Rattle.exec_data.specs.KernelState.Moves.{Moves, Steps, Follows, Does}
-use Rattle.exec_data.specs.KernelState.Spawned.{AnswersMay, offspring_in, with_offspring}
+use Rattle.exec_data.specs.KernelState.Moves.{Moves, Steps}
+use Rattle.exec_data.specs.KernelState.Stopping.{FollowsBut, DoesOrStops, NoFault}
+use Rattle.exec_data.specs.KernelState.declared.stops.StatementStop.TheVariants as stop
+use Rattle.exec_data.specs.KernelState.Spawned.{offspring_in, with_offspring}
 use Rattle.exec_data.specs.KernelState.declared.kernel.Kernel.{Kernel}
 use Rattle.exec_data.specs.KernelState.declared.kernel.Offspring.{Offspring}
 use Rattle.exec_data.specs.KernelView.Standings.{next_here}
+use Rattle.exec_data.proofs.KernelView.Stopped.{at_fault, refused}
 use Rattle.exec_calls.specs.Born.{brought_forth}
+use Rattle.exec_calls.specs.Valued.{JudgesFirst, AreFirst}
+use Rattle.exec_calls.proofs.Judging.{fault_known, value_known}
 use Rattle.exec_data.proofs.KernelState.Counting.{settled_may}
 
 -- ---- one more at the end of a list
@@ -86,37 +88,20 @@ same_handle d p g h (Some n) q design home = same_name d p g h n (value.Handle (
 -- ---- in a kernel
 
 module _ (k l : Kernel) (p : ℕ) (handle : Option NameUse) (o : Offspring) where
-  module _ (n : ℕ) (number : (c : Config) → StandsFor k c → n ≡ length c.processes.instances) (spawned : Moves k l (λ c. with_offspring c n o)) (may : (c : Config) → StandsFor k c → may_spawn c ≡ Ok tt)
+  module _ (n : ℕ) (number : (c : Config) → StandsFor k c → n ≡ length c.processes.instances) (spawned : Moves k l (λ c. with_offspring c n o))
       (m : Kernel) (next : Steps l m p (λ c q i r. handle_stored (passes c q r) q (here c q i r) handle n)) where
-    pub offspring_does : Does k m (Ok tt) p (λ c q i r. on_ok (may_spawn c) (λ ok. Ok (brought_forth (passes c q r) q (here c q i r) handle o)))
-    offspring_does c i h there =
+    pub offspring_steps : Steps k m p (λ c q i r. brought_forth (passes c q r) q (here c q i r) handle o)
+    offspring_steps c i h there =
         let r = settle (arena c) i.residual in
         let e = passes (settled_in c p i.residual) p r in
         let j = offspring_in c.design n o in
         let d = bred o.waits n c j in
         let count = λ (x : ℕ). handle_stored (runnable_unless o.waits x (added e (offspring_in c.design x o))) p (next_here c p i) handle x in
-        subst (Follows m (Ok tt) c) (sym (ap (λ (x : Result Unit RunFault). on_ok x (λ ok. Ok (brought_forth e p (next_here c p i) handle o))) (settled_may c p i.residual ∙ may c h)))
-        (subst (StandsFor m)
+        subst (StandsFor m)
         (same_handle (passes (settled_in d p i.residual) p r) p (next_here d p i) (next_here c p i) handle n refl refl
         ∙ ap (λ (x : Config). handle_stored x p (next_here c p i) handle n) (passes_bred o.waits n c j p i there i.residual r ∙ sym (bred_is o.waits n e j))
         ∙ ap count (number c h ∙ sym (change-length (change c.processes.instances p (λ x. record x { residual = r })) p (λ x. record x { residual = put r skip }) ∙ change-length c.processes.instances p (λ x. record x { residual = r }))))
-        (next d i (subst (StandsFor l) (bred_is o.waits n c j) (spawned c h)) (get-push c.processes.instances (j ∷ []) p i there)))
-
-  module _ (stays : Moves k l (λ c. c)) where
-    pub refused_does : {E : Type 0} (s : SpawnStop) (a : Result (Result Unit RunFault) E) → IfOk a (λ answer. (s ≡ spawn_stop.TooMany) × (answer ≡ Err fault.TooManyInstances)) → ((c : Config) → StandsFor k c → AnswersMay (Err s) (may_spawn c))
-        → IfOk a (λ answer. Does k l answer p (λ c q i r. on_ok (may_spawn c) (λ ok. Ok (brought_forth (passes c q r) q (here c q i r) handle o))))
-    refused_does s (Ok answer) is may = λ c i h there.
-        subst (λ y. Follows l y c (on_ok (may_spawn (settled_in c p i.residual)) (λ ok. Ok (brought_forth (passes (settled_in c p i.residual) p (settle (arena c) i.residual)) p (next_here c p i) handle o)))) (sym is.1)
-        (subst (Follows l (Err fault.TooManyInstances) c)
-        (sym (ap (λ (x : Result Unit RunFault). on_ok x (λ ok. Ok (brought_forth (passes (settled_in c p i.residual) p (settle (arena c) i.residual)) p (next_here c p i) handle o)))
-        (settled_may c p i.residual ∙ subst (λ x. AnswersMay (Err x) (may_spawn c)) is.0 (may c h))))
-        (refl, stays c h))
-    refused_does s (Err e) is may = tt
-
--- what holds whatever is answered
-pub whatever : {A E : Type 0} (P : Type 0) (o : Result A E) → P → OnErr o P
-whatever P (Ok a) has = tt
-whatever P (Err e) has = has
+        (next d i (subst (StandsFor l) (bred_is o.waits n c j) (spawned c h)) (get-push c.processes.instances (j ∷ []) p i there))
 
 -- ---- the new instance as the statement writes it
 
@@ -158,7 +143,60 @@ module _ (d : Config) (p : ℕ) (h : Here) (s : SpawnTerm) (args : List Value) (
       ap (λ (x : Instance). handle_stored (runnable_unless o.waits serial (added d x)) p h s.handle serial) as_written
       ∙ ap (λ (x : Bool). handle_stored (runnable_unless x serial (added d (new_instance d h s args))) p h s.handle serial) waits
 
--- what follows where there was memory
-pub if_ok : {A B : Type 0} (P Q : A → Type 0) (o : Result A B) → IfOk o P → ((a : A) → P a → Q a) → IfOk o Q
-if_ok P Q (Ok a) has f = f a has
-if_ok P Q (Err e) has f = has
+-- what follows where it was done
+pub where_done : {A E : Type 0} (P Q : Type 0) (o : Result A E) → OnOk o P → (P → Q) → OnOk o Q
+where_done P Q (Ok a) has f = f has
+where_done P Q (Err e) has f = has
+
+-- ---- the statement, whose faults are judged before it takes memory
+
+module _ (k : Kernel) (p : ℕ) (s : SpawnTerm) where
+  abbrev spawns_it : Config → ℕ → Instance → Residual → Result Config RunFault
+  spawns_it c q i r = do_spawn c q r (here c q i r) s
+
+  abbrev spawning : Config → ℕ → Instance → Residual → List Value → Result Config RunFault
+  spawning c q i r values = on_ok (may_spawn c) (λ ok. Ok (spawns (passes c q r) q (here c q i r) s values))
+
+  -- an argument is at fault
+  pub argument_at_fault : (e : RunFault) → JudgesFirst k p (Err e) s.arguments → DoesOrStops k k (Err (stop.Fault e)) p spawns_it
+  argument_at_fault e judges =
+      at_fault NoFault k p (Err e) (λ h. first_arguments h (locals_in (body_at (arena h.config) s.function)) 0 s.arguments)
+      (λ c i h there. fault_known (first_arguments (next_here c p i) (locals_in (body_at (arena c) s.function)) 0 s.arguments) e (judges (locals_in (body_at (arena c) s.function)) c i h there))
+      spawning e refl
+
+  module _ (judges : JudgesFirst k p (Ok tt) s.arguments) where
+    given : (c : Config) (i : Instance) → StandsFor k c → instance_at c p ≡ Some i → (vs : List Value) × (first_arguments (next_here c p i) (locals_in (body_at (arena c) s.function)) 0 s.arguments ≡ Ok vs)
+    given c i h there = value_known (first_arguments (next_here c p i) (locals_in (body_at (arena c) s.function)) 0 s.arguments) (judges (locals_in (body_at (arena c) s.function)) c i h there)
+
+    -- as many live as may
+    pub too_many : (e : RunFault) → ((c : Config) → StandsFor k c → Err e ≡ may_spawn c) → DoesOrStops k k (Err (stop.Fault e)) p spawns_it
+    too_many e many c i h there =
+        let d = settled_in c p i.residual in
+        let r = settle (arena c) i.residual in
+        let vs = given c i h there in
+        subst (λ o. FollowsBut NoFault k (Err (stop.Fault e)) c (on_ok o (spawning d p (record i { residual = r }) r))) (sym vs.1)
+        (subst (λ o. FollowsBut NoFault k (Err (stop.Fault e)) c (on_ok o (λ ok. Ok (spawns (passes d p r) p (next_here c p i) s vs.0)))) (many c h ∙ sym (settled_may c p i.residual)) (refl, h))
+
+    module _ (may : (c : Config) → StandsFor k c → Ok tt ≡ may_spawn c) where
+      may_be : (c : Config) (i : Instance) (h : StandsFor k c) (there : instance_at c p ≡ Some i)
+          → spawns_it (settled_in c p i.residual) p (record i { residual = settle (arena c) i.residual }) (settle (arena c) i.residual) ≡ Ok (spawns (passes (settled_in c p i.residual) p (settle (arena c) i.residual)) p (next_here c p i) s (given c i h there).0)
+      may_be c i h there =
+          let d = settled_in c p i.residual in
+          let r = settle (arena c) i.residual in
+          let vs = given c i h there in
+          ap (λ o. on_ok o (spawning d p (record i { residual = r }) r)) vs.1
+          ∙ ap (λ o. on_ok o (λ ok. let e : Config = spawns (passes d p r) p (next_here c p i) s vs.0 in let done : Result Config RunFault = Ok e in done)) (settled_may c p i.residual ∙ sym (may c h))
+
+      -- there is no memory
+      pub lacks : (l : Kernel) → Moves k l (λ c. c) → DoesOrStops k l (Err stop.NoMemory) p spawns_it
+      lacks l stays c i h there =
+          refused NoFault l c (spawns (passes (settled_in c p i.residual) p (settle (arena c) i.residual)) p (next_here c p i) s (given c i h there).0)
+          (spawns_it (settled_in c p i.residual) p (record i { residual = settle (arena c) i.residual }) (settle (arena c) i.residual))
+          (may_be c i h there) (stays c h)
+
+      -- it is spawned with these first arguments
+      pub spawned_with : (l : Kernel) (values : List Value) → AreFirst k p values s.function s.arguments → Steps k l p (λ c q i r. spawns (passes c q r) q (here c q i r) s values) → DoesOrStops k l (Ok tt) p spawns_it
+      spawned_with l values are steps c i h there =
+          let vs = given c i h there in
+          subst (FollowsBut NoFault l (Ok tt) c) (sym (may_be c i h there))
+          (subst (λ ws. StandsFor l (spawns (passes (settled_in c p i.residual) p (settle (arena c) i.residual)) p (next_here c p i) s ws)) (are c i h there vs.0 vs.1) (steps c i h there))

@@ -1,12 +1,14 @@
 //! Arguments of calls.
-ghost use Rattle.std.specs.Prelude.{◌≡◌, [], map, IfOk};
+ghost use Rattle.std.specs.Prelude.{◌≡◌, [], ◌∷◌, ◌++◌, map, IfOk, OnOk};
 ghost use Rattle.flat_design.specs.Code.{arena_of, argument_term, body_at};
 ghost use Rattle.exec_data.specs.SimModel.Calls as calls;
 ghost use Rattle.exec_data.specs.KernelBodies.Depths.{locals_at};
 ghost use Rattle.exec_data.specs.KernelState.Moves.{Lives};
 ghost use Rattle.exec_data.specs.KernelView.Standings.{Everywhere};
-ghost use Rattle.exec_calls.specs.Valued.{GivesValues, listed, these};
+ghost use Rattle.exec_calls.specs.Calling.{HasRoomIn};
+ghost use Rattle.exec_calls.specs.Valued.{JudgesArguments, AreValues};
 
+use crate::reserve_locals;
 use exec_data::expr_eval_api::cut_to;
 use exec_data::kernel_bodies_api::locals_in;
 use exec_data::kernel_state_api::Kernel;
@@ -26,6 +28,25 @@ fn argument_value(k: &Kernel, p: u32, argument: &Argument) -> Result<Value, RunF
     }
 }
 
+/// Evaluates the arguments of a call from the left to the right, for their first fault alone. It takes no memory.
+///
+/// # Errors
+/// The first fault of an argument.
+pub(crate) fn judge_arguments(k: &Kernel, p: u32, arguments: &[Argument]) -> Result<(), RunFault>
+    requires { Lives k.now p }
+    ensures { JudgesArguments k.now p result (map argument_term arguments.now) }
+{
+    for argument in arguments {
+        match argument_value(k, p, argument) {
+            Ok(v) => {
+                let _ = v;
+            }
+            Err(fault) => return Err(fault),
+        }
+    }
+    Ok(())
+}
+
 /// The value of an argument, cut to its parameter's type.
 fn for_parameter(locals: &[Local], i: usize, v: Value) -> Value
     ensures { result ≡ calls.for_parameter locals.now i v }
@@ -36,48 +57,74 @@ fn for_parameter(locals: &[Local], i: usize, v: Value) -> Value
     }
 }
 
-/// Adds the values of arguments, each cut to its parameter's type, up to the first fault.
+/// Adds the value of an argument that has no fault, cut to its parameter's type.
+fn add_value(
+    values: &mut Vec<Value>,
+    locals: &[Local],
+    i: usize,
+    v: Result<Value, RunFault>,
+) -> Result<(), AllocError>
+    ensures { OnOk result (IfOk v (λ x. values.new.items ≡ values.old.items ++ calls.for_parameter locals.now i x ∷ [])) }
+{
+    match v {
+        Ok(v) => match values.push(for_parameter(locals, i, v)) {
+            Ok(()) => Ok(()),
+            Err(_) => Err(AllocError),
+        },
+        Err(_) => Ok(()),
+    }
+}
+
+/// Adds the values of arguments that have no fault, each cut to its parameter's type.
+///
+/// # Errors
+/// There is no memory for them.
 fn add_values(
     k: &Kernel,
     p: u32,
     locals: &[Local],
     arguments: &[Argument],
     values: &mut Vec<Value>,
-) -> Result<Result<(), RunFault>, AllocError>
+) -> Result<(), AllocError>
     requires lives { Lives k.now p }
     requires empty { values.old.items ≡ [] }
-    ensures { IfOk result (λ done. GivesValues k.now p (these done values.new.items) locals.now (map argument_term arguments.now)) }
+    ensures { OnOk result (AreValues k.now p values.new.items locals.now (map argument_term arguments.now)) }
 {
     for (i, argument) in arguments.iter().enumerate() {
-        match argument_value(k, p, argument) {
-            Ok(v) => match values.push(for_parameter(locals, i, v)) {
-                Ok(()) => {}
-                Err(_) => return Err(AllocError),
-            },
-            Err(fault) => return Ok(Err(fault)),
+        match add_value(values, locals, i, argument_value(k, p, argument)) {
+            Ok(()) => {}
+            Err(_) => return Err(AllocError),
         }
     }
-    Ok(Ok(()))
+    Ok(())
 }
 
-/// The values of the arguments of a call of this code, or the first fault, in a vector that has room for its local variables.
+/// The values of the arguments of a call of this code, which have no fault, in a vector that has room for its local variables.
+///
+/// # Errors
+/// There is no memory for it.
 pub(crate) fn argument_values(
     k: &Kernel,
     alloc: Global,
     p: u32,
     f: CodeId,
     arguments: &[Argument],
-) -> Result<Result<Vec<Value>, RunFault>, AllocError>
+) -> Result<Vec<Value>, AllocError>
     requires { Lives k.now p }
-    ensures { IfOk result (λ values. GivesValues k.now p (listed values) (locals_at (arena_of k.now.program.code) f) (map argument_term arguments.now)) }
+    ensures values { IfOk result (λ values. AreValues k.now p values.items (locals_at (arena_of k.now.program.code) f) (map argument_term arguments.now)) }
+    ensures room { IfOk result (HasRoomIn k.now.program f) }
 {
     let locals = locals_in(&k.program, f);
-    match Vec::with_capacity(alloc, locals.len().max(arguments.len())) {
-        Ok(mut values) => match add_values(k, p, locals, arguments, &mut values) {
-            Ok(Ok(())) => Ok(Ok(values)),
-            Ok(Err(fault)) => Ok(Err(fault)),
-            Err(_) => Err(AllocError),
-        },
+    let mut values = match Vec::with_capacity(alloc, locals.len().max(arguments.len())) {
+        Ok(values) => values,
+        Err(_) => return Err(AllocError),
+    };
+    match add_values(k, p, locals, arguments, &mut values) {
+        Ok(()) => {}
+        Err(_) => return Err(AllocError),
+    }
+    match reserve_locals(&k.program, f, &mut values) {
+        Ok(()) => Ok(values),
         Err(_) => Err(AllocError),
     }
 }

@@ -1,23 +1,24 @@
 //! Calls.
-ghost use Rattle.std.specs.Prelude.{◌≡◌, map, IfOk, OnErr};
+ghost use Rattle.std.specs.Prelude.{◌≡◌, map};
 ghost use Rattle.flat_design.specs.Code.{argument_term};
 ghost use Rattle.exec_data.specs.SimModel.Reading.{here};
 ghost use Rattle.exec_data.specs.SimModel.Calls.{do_call};
 ghost use Rattle.exec_data.specs.KernelState.Kernel.{IsSound};
-ghost use Rattle.exec_data.specs.KernelState.Moves.{Moves, Does, Lives, HasStatement};
+ghost use Rattle.exec_data.specs.KernelState.Moves.{Lives, HasStatement};
+ghost use Rattle.exec_data.specs.KernelState.Stopping.{DoesOrStops};
 ghost use Rattle.exec_data.specs.Entered.{Shows};
 
-use crate::arguments::argument_values;
-use crate::{EnterStop, enter_call};
-use exec_data::kernel_state_api::Kernel;
+use crate::arguments::{argument_values, judge_arguments};
+use crate::{EnterStop, enter_ready_call, reserve_call};
+use exec_data::kernel_state_api::{Kernel, StatementStop};
 use flat_design::{Argument, CodeId, RunFault, StmtId};
-use std::alloc::{AllocError, Global};
+use std::alloc::Global;
 
 /// A call of a function: its arguments are evaluated from the left to the right, each cut to its parameter's type, and then its
 /// body comes in the place of the statement.
 ///
 /// # Errors
-/// The first fault of its arguments; as many calls are open as may be. Then nothing changes, nor where memory is refused.
+/// The first fault of its arguments; as many calls are open as may be; no memory, where there is no fault. Then nothing changes.
 pub fn call(
     k: &mut Kernel,
     alloc: Global,
@@ -25,23 +26,29 @@ pub fn call(
     s: StmtId,
     f: CodeId,
     arguments: &[Argument],
-) -> Result<Result<(), RunFault>, AllocError>
+) -> Result<(), StatementStop>
     requires sound { IsSound k.old }
     requires lives { Lives k.old p }
     requires statement { HasStatement k.old p }
     requires next { Shows k.old p s }
-    ensures does { IfOk result (λ done. Does k.old k.new done p (λ c q i r. do_call c q r (here c q i r) s f (map argument_term arguments.now))) }
-    ensures stays { OnErr result (Moves k.old k.new (λ c. c)) }
+    ensures does { DoesOrStops k.old k.new result p (λ c q i r. do_call c q r (here c q i r) s f (map argument_term arguments.now)) }
     ensures sound { IsSound k.new }
 {
     let _ = s;
+    match judge_arguments(k, p, arguments) {
+        Ok(()) => {}
+        Err(fault) => return Err(StatementStop::Fault(fault)),
+    }
+    match reserve_call(k, p, f) {
+        Ok(()) => {}
+        Err(EnterStop::TooDeep) => return Err(StatementStop::Fault(RunFault::FrameDepth)),
+        Err(EnterStop::NoMemory) => return Err(StatementStop::NoMemory),
+    }
     match argument_values(k, alloc, p, f, arguments) {
-        Ok(Ok(values)) => match enter_call(k, p, f, values, None) {
-            Ok(()) => Ok(Ok(())),
-            Err(EnterStop::TooDeep) => Ok(Err(RunFault::FrameDepth)),
-            Err(EnterStop::NoMemory) => Err(AllocError),
-        },
-        Ok(Err(fault)) => Ok(Err(fault)),
-        Err(_) => Err(AllocError),
+        Ok(values) => {
+            enter_ready_call(k, p, f, values, None);
+            Ok(())
+        }
+        Err(_) => Err(StatementStop::NoMemory),
     }
 }

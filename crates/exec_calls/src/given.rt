@@ -1,11 +1,10 @@
 //! The first arguments of a new instance.
-ghost use Rattle.std.specs.Prelude.{◌≡◌, IfOk, map};
+ghost use Rattle.std.specs.Prelude.{◌≡◌, [], ◌∷◌, ◌++◌, IfOk, OnOk, map};
 ghost use Rattle.flat_design.specs.Code.{arena_of, body_at, term_of};
 ghost use Rattle.exec_data.specs.SimModel.Calls as calls;
 ghost use Rattle.exec_data.specs.SimModel.Calls.{locals_in};
-ghost use Rattle.exec_data.specs.SimModel.Configuration.{arena};
 ghost use Rattle.exec_data.specs.KernelState.Moves.{Lives};
-ghost use Rattle.exec_data.specs.KernelView.Standings.{Everywhere};
+ghost use Rattle.exec_calls.specs.Valued.{JudgesFirst, AreFirst};
 
 use exec_data::expr_eval_api::cut_to;
 use exec_data::kernel_bodies_api::Program;
@@ -36,8 +35,46 @@ fn for_parameter(locals: &[Local], place: usize, v: Value) -> Value
     }
 }
 
-/// The first arguments of a body, evaluated in order where the next statement of an instance stands, and each cut to its
-/// parameter's type; or the first fault of one.
+/// Evaluates the first arguments of a body in order, where the next statement of an instance stands, for their first fault
+/// alone. It takes no memory.
+///
+/// # Errors
+/// The first fault of an argument.
+pub(crate) fn judge_first_arguments(k: &Kernel, p: u32, arguments: &[Expr]) -> Result<(), RunFault>
+    requires { Lives k.now p }
+    ensures { JudgesFirst k.now p result (map term_of arguments.now) }
+{
+    for argument in arguments {
+        match eval_at(k, p, argument) {
+            Ok(v) => {
+                let _ = v;
+            }
+            Err(fault) => return Err(fault),
+        }
+    }
+    Ok(())
+}
+
+/// Adds a first argument that has no fault, cut to its parameter's type.
+fn add_argument(
+    values: &mut Items<Value>,
+    locals: &[Local],
+    place: usize,
+    v: Result<Value, RunFault>,
+) -> Result<(), AllocError>
+    ensures { OnOk result (IfOk v (λ x. values.new ≡ values.old ++ calls.for_parameter locals.now place x ∷ [])) }
+{
+    match v {
+        Ok(v) => match values.push(for_parameter(locals, place, v)) {
+            Ok(()) => Ok(()),
+            Err(_) => Err(AllocError),
+        },
+        Err(_) => Ok(()),
+    }
+}
+
+/// The first arguments of a body, where the next statement of an instance stands and none is at fault, each cut to its
+/// parameter's type.
 ///
 /// # Errors
 /// There is no memory for them.
@@ -47,20 +84,17 @@ pub(crate) fn first_arguments(
     p: u32,
     function: CodeId,
     arguments: &[Expr],
-) -> Result<Result<Items<Value>, RunFault>, AllocError>
+) -> Result<Items<Value>, AllocError>
     requires { Lives k.now p }
-    ensures { IfOk result (λ answer. Everywhere k.now p (λ h. answer ≡ calls.first_arguments h (locals_in (body_at (arena h.config) function)) 0 (map term_of arguments.now))) }
+    ensures { IfOk result (λ values. AreFirst k.now p values function (map term_of arguments.now)) }
 {
     let locals = locals_of(&k.program, function);
     let mut values = Items::new(alloc);
     for (place, argument) in arguments.iter().enumerate() {
-        match eval_at(k, p, argument) {
-            Ok(v) => match values.push(for_parameter(locals, place, v)) {
-                Ok(()) => {}
-                Err(_) => return Err(AllocError),
-            },
-            Err(fault) => return Ok(Err(fault)),
+        match add_argument(&mut values, locals, place, eval_at(k, p, argument)) {
+            Ok(()) => {}
+            Err(_) => return Err(AllocError),
         }
     }
-    Ok(Ok(values))
+    Ok(values)
 }

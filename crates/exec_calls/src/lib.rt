@@ -32,13 +32,13 @@ pub use storing::{store_if_in, store_in};
 
 /// What is passed on of exec_data.
 pub mod exec_data_api {
-    pub use exec_data::{StatementStop, store};
+    pub use exec_data::store;
 }
 
 /// What is passed on of exec_events.
 pub mod exec_events_api {
     pub use exec_events::{
-        AwaitStop, cancel_named, notify_after, notify_delta, notify_named, stop, trigger_statement,
+        cancel_named, notify_after, notify_delta, notify_named, stop, trigger_statement,
         wait_statement,
     };
 }
@@ -55,7 +55,9 @@ pub mod kernel_bodies_api {
 
 /// What is passed on of kernel_state.
 pub mod kernel_state_api {
-    pub use exec_data::kernel_state_api::{Kernel, acquire, pass, release, settle, top_lives};
+    pub use exec_data::kernel_state_api::{
+        Kernel, StatementStop, acquire, pass, release, settle, top_lives,
+    };
 }
 
 /// What is passed on of kernel_transactions.

@@ -1,25 +1,17 @@
-use Rattle.std.proofs.Common.{◌+◌, ◌∷◌, [], ◌++◌, drop, map, sym, ap, ◌∙◌}
-use Rattle.flat_design.specs.Code.{argument_term}
-use Rattle.exec_data.specs.SimModel.Calls.{argument_values}
+use Rattle.std.proofs.Common.{◌≡◌, Ok, sym, ◌∙◌}
 use Rattle.exec_data.specs.KernelView.Standings.{next_here}
-use Rattle.exec_calls.proofs.Values.{behind}
-use Rattle.exec_calls.proofs.Going.{value_next, value_stops, values_all}
+use Rattle.exec_calls.proofs.Going.{value_joins, values_all, values_given}
 use Rattle.exec_calls.proofs.arguments.add_values.Goals as goal
 
-pub loop-i-preserved : goal.loop-i-preserved
-loop-i-preserved c = λ d i h there.
-    let stands = next_here d c.args.p i in
-    let rest = argument_values stands c.args.locals.now (c.loop-i.i + 1) (map argument_term (drop (c.loop-i.i + 1) c.args.arguments.now)) in
-    c.loop-i.invariant d i h there
-    ∙ value_next c.args.arguments.now c.loop-i.i c.index-arguments-i.result c.loop-i-test.true c.index-arguments-i.is stands c.args.locals.now c.loop-i.values.items c.in-Ok.v (sym c.in-Ok.is ∙ c.argument_value.ensures d i h there)
-    ∙ sym (ap (λ vs. behind vs rest) (c.in-Ok-push.ensures.items ∙ ap (λ v. c.loop-i.values.items ++ v ∷ []) c.for_parameter.ensures))
+pub loop-i-init : goal.loop-i-init
+loop-i-init c = λ d i h there vs is. values_given c.args.values.now.items vs _ c.requires.empty is
 
-pub returns-in-Err : goal.returns-in-Err
-returns-in-Err c = λ d i h there.
-    sym (c.loop-i.invariant d i h there
-    ∙ value_stops c.args.arguments.now c.loop-i.i c.index-arguments-i.result c.loop-i-test.true c.index-arguments-i.is (next_here d c.args.p i) c.args.locals.now c.loop-i.values.items c.in-Err.fault
-    (sym c.in-Err.is ∙ c.argument_value.ensures d i h there))
+pub loop-i-preserved : goal.loop-i-preserved
+loop-i-preserved c = λ d i h there vs is.
+    value_joins c.args.arguments.now c.loop-i.i (next_here d c.args.p i) c.args.locals.now c.index-arguments-i.result c.loop-i-test.true c.index-arguments-i.is c.loop-i.values.items vs (c.loop-i.invariant d i h there vs is)
+    c.argument_value.result c.add_value.new.values.items (c.argument_value.ensures d i h there) c.in-Ok.ensures
 
 pub returns : goal.returns
-returns c = λ d i h there.
-    sym (c.loop-i.invariant d i h there ∙ values_all c.args.arguments.now c.loop-i.i c.loop-i-test.false (next_here d c.args.p i) c.args.locals.now c.loop-i.values.items)
+returns c = λ d i h there vs is.
+    let all : Ok c.loop-i.values.items ≡ Ok vs = sym (values_all c.args.arguments.now c.loop-i.i c.loop-i-test.false (next_here d c.args.p i) c.args.locals.now c.loop-i.values.items) ∙ c.loop-i.invariant d i h there vs is in
+    cc

@@ -1,0 +1,1 @@
+pub use Rattle.exec_data.proofs.KernelView.Stopped as Stopped
