@@ -2,3 +2,11 @@ pub mod Orders
 pub mod Grants
 pub mod Sofar
 pub mod OneTable
+pub mod Next
+pub mod Made
+pub mod Queues
+pub mod Bounds
+pub mod Begins
+pub mod Serves
+pub mod Held
+pub mod Plans

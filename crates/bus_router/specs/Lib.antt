@@ -1,2 +1,5 @@
 pub mod Times
 pub mod Sofar
+pub mod Making
+pub mod Holding
+pub mod TrafficFile

@@ -40,10 +40,9 @@ pub record TimedSofar (bus : Bus) (done : ℕ → Type 0) (table : Table) : Type
   pub behind : (home j k : ℕ) → IsAtSofar bus done table home k → IsBeforeSofar bus done table home j k → (table k).s ≡ max (table k).a (table j).e
   pub served : (home k : ℕ) → IsAtSofar bus done table home k → IsServed bus.delay (target_at bus home).latency (table k)
 
--- the row of k has the times of the bus, where k is the next that is done: what went through the router so far came before it
-pub record IsNext (bus : Bus) (done : ℕ → Type 0) (table : Table) (k : ℕ) : Type 0 where
+-- the same of one row, whether it is done or the next
+pub record Fits (bus : Bus) (done : ℕ → Type 0) (table : Table) (k : ℕ) : Type 0 where
   pub closed : (j : ℕ) → j < k → initiator_of bus j ≡ initiator_of bus k → done j
-  pub later : (m : ℕ) → done m → (table m).direct ≡ false → (table k).direct ≡ false → Earlier table m k
   pub rises : Rises (table k)
   pub begins : IsFirst bus k → (table k).b ≡ (line_at bus k).time
   pub goes_on : (j : ℕ) → IsBefore bus j k → (table k).b ≡ max (line_at bus k).time (table j).r

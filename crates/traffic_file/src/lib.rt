@@ -18,6 +18,11 @@ pub use worked::{
     faults_have_their_order, forms_come_before_faults, limits_are_counted, lines_are_read,
 };
 
+/// What is passed on of address_map.
+pub mod address_map_api {
+    pub use address_map::TargetRange;
+}
+
 /// What is passed on of plain_lists.
 pub mod plain_lists_api {
     pub use model_tree::plain_lists_api::Items;
