@@ -9,13 +9,13 @@ use crate::plans::Outcome;
 use crate::tellings::{tell, tell_end, tell_turn};
 use crate::traces::{begin_trace, end_trace, list_choices, trace_step};
 use flat_design::Choices;
+use flat_design::sim_time_api::Time;
 use kernel_runs::Telling;
 use kernel_start::kernel_state_api::Kernel;
 use sim_io::{Shelf, Sink, Trouble};
 use std::alloc::Global;
 use vcd_trace::Tracing;
 use vcd_trace::sim_model_api::{Log, Stop};
-use flat_design::sim_time_api::Time;
 
 /// Writes what stands before all steps: the header of the trace.
 pub(crate) fn record_begin<S: Shelf, O: Sink>(

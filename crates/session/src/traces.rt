@@ -6,11 +6,11 @@ ghost use Rattle.session.specs.Outputs.{FileGrew};
 ghost use Rattle.session.specs.Telling.{Into, TextFor, HeaderOf, PointOf, LastPointOf, IsListOf};
 
 use flat_design::Choices;
+use flat_design::sim_time_api::Time;
 use kernel_start::kernel_state_api::Kernel;
 use sim_io::{Shelf, Trouble, write_file};
 use std::alloc::Global;
 use vcd_trace::{Tracing, choices_text, header_text};
-use flat_design::sim_time_api::Time;
 
 /// Writes the header of the trace, where there is one.
 pub(crate) fn begin_trace<S: Shelf>(
