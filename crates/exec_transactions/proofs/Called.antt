@@ -27,41 +27,25 @@ use Rattle.exec_calls.specs.KernelState.Moves.{Moves, Steps}
 use Rattle.exec_calls.specs.KernelState.declared.kernel.Kernel.{Kernel}
 use Rattle.exec_calls.proofs.KernelState.Frames.{transactions_move, change-twice}
 use Rattle.exec_calls.specs.KernelView.Standings.{Everywhere}
-use Rattle.exec_calls.specs.ExecData.declared.stops.StatementStop.{StatementStop}
-use Rattle.exec_calls.specs.ExecData.declared.stops.StatementStop.TheVariants as stop
+use Rattle.exec_calls.specs.KernelState.declared.stops.StatementStop.{StatementStop}
+use Rattle.exec_calls.specs.KernelState.declared.stops.StatementStop.TheVariants as stop
 use Rattle.exec_transactions.specs.Entries.{entry_of, JudgesOrLacks}
-use Rattle.exec_transactions.specs.Calling.{FollowsOrLacks, CallsOver}
-
--- ---- a part that was evaluated
-
--- the part gives this answer wherever the statement stands, and the rest f goes on with its value
-module _ {A : Type 0} (k : Kernel) (p : ℕ) (answer : Result A RunFault) (part : Here → Result A RunFault) (gives : Everywhere k p (λ h. answer ≡ part h))
-    (f : Config → ℕ → Instance → Residual → A → Result Config RunFault) where
-  -- it has a value
-  pub evaluated : (l : Kernel) (done : Result Unit StatementStop) (a : A) → answer ≡ Ok a → CallsOver k l done p (λ c q i r. f c q i r a) → CallsOver k l done p (λ c q i r. on_ok (part (here c q i r)) (f c q i r))
-  evaluated l done a is does c i h there =
-      subst (λ o. FollowsOrLacks l done c (on_ok o (f (settled_in c p i.residual) p (record i { residual = settle (arena c) i.residual }) (settle (arena c) i.residual))))
-      (sym is ∙ gives c i h there) (does c i h there)
-
-  -- it is at fault
-  pub at_fault : (e : RunFault) → answer ≡ Err e → CallsOver k k (Err (stop.Fault e)) p (λ c q i r. on_ok (part (here c q i r)) (f c q i r))
-  at_fault e is c i h there =
-      subst (λ o. FollowsOrLacks k (Err (stop.Fault e)) c (on_ok o (f (settled_in c p i.residual) p (record i { residual = settle (arena c) i.residual }) (settle (arena c) i.residual))))
-      (sym is ∙ gives c i h there) (refl, h)
+use Rattle.exec_calls.specs.KernelState.Stopping.{FollowsBut, DoesBut}
+use Rattle.exec_transactions.specs.Calling.{IsOfProtocol}
 
 -- ---- the judgement
 
 -- where memory is refused, the judgement that is left can be at fault by the protocol alone
 module _ (l : Kernel) (c d : Config) (hop t : ℕ) (e : Entry) (g : Config → Config) (stands : StandsFor l c) where
-  lacks_by : (o : Option Rule) → FollowsOrLacks l (Err stop.NoMemory) c (on_ok (judged_by d hop e t o) (λ x. Ok (g x)))
+  lacks_by : (o : Option Rule) → FollowsBut IsOfProtocol l (Err stop.NoMemory) c (on_ok (judged_by d hop e t o) (λ x. Ok (g x)))
   lacks_by None = stands
   lacks_by (Some p) = (tt, stands)
 
-  pub lacks : FollowsOrLacks l (Err stop.NoMemory) c (on_ok (judged d hop e t) (λ x. Ok (g x)))
+  pub lacks : FollowsBut IsOfProtocol l (Err stop.NoMemory) c (on_ok (judged d hop e t) (λ x. Ok (g x)))
   lacks = lacks_by (broken (history d hop) e)
 
-  pub refused : (s : StatementStop) → JudgesOrLacks (Err s) d hop e t → FollowsOrLacks l (Err s) c (on_ok (judged d hop e t) (λ x. Ok (g x)))
-  refused (stop.Fault f) is = subst (λ o. FollowsOrLacks l (Err (stop.Fault f)) c (on_ok o (λ x. Ok (g x)))) (sym is) (refl, stands)
+  pub refused : (s : StatementStop) → JudgesOrLacks (Err s) d hop e t → FollowsBut IsOfProtocol l (Err s) c (on_ok (judged d hop e t) (λ x. Ok (g x)))
+  refused (stop.Fault f) is = subst (λ o. FollowsBut IsOfProtocol l (Err (stop.Fault f)) c (on_ok o (λ x. Ok (g x)))) (sym is) (refl, stands)
   refused stop.NoMemory is = lacks
 
 -- a board that stands for the transactions of what a kernel stands for
@@ -92,26 +76,26 @@ module _ (k : Kernel) (p s f : ℕ) (via : Via) (phase : Value) (values : List V
   module _ (l : Kernel) (answer : Result Unit StatementStop) (c : Config) (i : Instance) where
     -- it may be entered
     pub entered_by : may_enter (settle (arena c) i.residual) ≡ Ok tt
-        → FollowsOrLacks l answer c (entering (settled_in c p i.residual) p (record i { residual = settle (arena c) i.residual }) (settle (arena c) i.residual))
-        → FollowsOrLacks l answer c (on_ok (may_enter (settle (arena c) i.residual)) (λ ok. entering (settled_in c p i.residual) p (record i { residual = settle (arena c) i.residual }) (settle (arena c) i.residual)))
-    entered_by may = subst (λ o. FollowsOrLacks l answer c (on_ok o (λ ok. entering (settled_in c p i.residual) p (record i { residual = settle (arena c) i.residual }) (settle (arena c) i.residual)))) (sym may)
+        → FollowsBut IsOfProtocol l answer c (entering (settled_in c p i.residual) p (record i { residual = settle (arena c) i.residual }) (settle (arena c) i.residual))
+        → FollowsBut IsOfProtocol l answer c (on_ok (may_enter (settle (arena c) i.residual)) (λ ok. entering (settled_in c p i.residual) p (record i { residual = settle (arena c) i.residual }) (settle (arena c) i.residual)))
+    entered_by may = subst (λ o. FollowsBut IsOfProtocol l answer c (on_ok o (λ ok. entering (settled_in c p i.residual) p (record i { residual = settle (arena c) i.residual }) (settle (arena c) i.residual)))) (sym may)
 
     -- as many calls are open as may be
     pub too_deep : may_enter (settle (arena c) i.residual) ≡ Err fault.FrameDepth → StandsFor l c
-        → FollowsOrLacks l (Err (stop.Fault fault.FrameDepth)) c (on_ok (may_enter (settle (arena c) i.residual)) (λ ok. entering (settled_in c p i.residual) p (record i { residual = settle (arena c) i.residual }) (settle (arena c) i.residual)))
-    too_deep may stands = subst (λ o. FollowsOrLacks l (Err (stop.Fault fault.FrameDepth)) c (on_ok o (λ ok. entering (settled_in c p i.residual) p (record i { residual = settle (arena c) i.residual }) (settle (arena c) i.residual)))) (sym may) (refl, stands)
+        → FollowsBut IsOfProtocol l (Err (stop.Fault fault.FrameDepth)) c (on_ok (may_enter (settle (arena c) i.residual)) (λ ok. entering (settled_in c p i.residual) p (record i { residual = settle (arena c) i.residual }) (settle (arena c) i.residual)))
+    too_deep may stands = subst (λ o. FollowsBut IsOfProtocol l (Err (stop.Fault fault.FrameDepth)) c (on_ok o (λ ok. entering (settled_in c p i.residual) p (record i { residual = settle (arena c) i.residual }) (settle (arena c) i.residual)))) (sym may) (refl, stands)
 
   -- the hop took the call into its history, and then the handler began with these arguments
   pub entered_then : (b : TransactionBoard) → board.Moves k.transactions b (λ x. entered x via.hop (entry_of via phase (complete_in x via.payload) true)) → SameQuantum k.transactions b
       → (args : List Value) → args ≡ values → (l : Kernel) → Steps (record k { transactions = b }) l p (λ c q i r. enters c q r s f args (Some via))
       → (c : Config) (i : Instance) → StandsFor k c → instance_at c p ≡ Some i
       → judged (settled_in c p i.residual) via.hop (entry_of via phase (complete_in c.transactions via.payload) true) via.payload ≡ Ok (with_entry (settled_in c p i.residual) via.hop (entry_of via phase (complete_in c.transactions via.payload) true))
-      → FollowsOrLacks l (Ok tt) c (entering (settled_in c p i.residual) p (record i { residual = settle (arena c) i.residual }) (settle (arena c) i.residual))
+      → FollowsBut IsOfProtocol l (Ok tt) c (entering (settled_in c p i.residual) p (record i { residual = settle (arena c) i.residual }) (settle (arena c) i.residual))
   entered_then b moves same args are l next c i h there is =
       let e = entry_of via phase (complete_in c.transactions via.payload) true in
       let first = settled_in c p i.residual in
       let left = settle (arena c) i.residual in
-      subst (λ o. FollowsOrLacks l (Ok tt) c (on_ok o (λ x. Ok (enters x p left s f values (Some via))))) (sym is)
+      subst (λ o. FollowsBut IsOfProtocol l (Ok tt) c (on_ok o (λ x. Ok (enters x p left s f values (Some via))))) (sym is)
       (subst (λ vs. StandsFor l (enters (with_entry first via.hop e) p left s f vs (Some via))) are
       (next (with_entry c via.hop e) i (board_enters k b via.hop (λ x. entry_of via phase (complete_in x via.payload) true) moves same c h) there))
 
@@ -122,12 +106,12 @@ module _ (k : Kernel) (p : ℕ) (via : Via) (phase : Value) where
       → (l : Kernel) → Steps (record k { transactions = b }) l p (λ c q i r. with_residual c q r)
       → (c : Config) (i : Instance) → StandsFor k c → instance_at c p ≡ Some i
       → judged (settled_in c p i.residual) via.hop (entry_of via phase (complete_in c.transactions via.payload) false) via.payload ≡ Ok (with_entry (settled_in c p i.residual) via.hop (entry_of via phase (complete_in c.transactions via.payload) false))
-      → FollowsOrLacks l (Ok tt) c (on_ok (judged (settled_in c p i.residual) via.hop (entry_of via phase (complete_in c.transactions via.payload) false) via.payload) (λ x. Ok x))
+      → FollowsBut IsOfProtocol l (Ok tt) c (on_ok (judged (settled_in c p i.residual) via.hop (entry_of via phase (complete_in c.transactions via.payload) false) via.payload) (λ x. Ok x))
   unhandled_then b moves same l next c i h there is =
       let e = entry_of via phase (complete_in c.transactions via.payload) false in
       let first = settled_in c p i.residual in
       let left = settle (arena c) i.residual in
-      subst (λ o. FollowsOrLacks l (Ok tt) c (on_ok o (λ x. Ok x))) (sym is)
+      subst (λ o. FollowsBut IsOfProtocol l (Ok tt) c (on_ok o (λ x. Ok x))) (sym is)
       (subst (λ is. StandsFor l (record (with_entry first via.hop e) { processes = record c.processes { instances = is } }))
       (change-twice c.processes.instances p (λ j. record j { residual = left }) (λ j. record j { residual = left }))
       (next (with_entry c via.hop e) i (board_enters k b via.hop (λ x. entry_of via phase (complete_in x via.payload) false) moves same c h) there))
@@ -153,20 +137,20 @@ module _ (k : Kernel) (p s : ℕ) (handler : Option ℕ) (via : Via) (phase : Va
   on_payload c q i r = on_ok (live_payload c via.payload) (λ x. on_live (is_complete x) c q i r)
 
   pub live_calls : StatusIsRead → (is_live : Bool) → ((x : Transactions) → StandsForTransactions k.transactions x → is_live ≡ is_some (payload_of x.pool via.payload)) → is_live ≡ true
-      → (l : Kernel) (answer : Result Unit StatementStop) → CallsOver k l answer p (λ c q i r. on_live (complete_in c.transactions via.payload) c q i r) → CallsOver k l answer p on_payload
+      → (l : Kernel) (answer : Result Unit StatementStop) → DoesBut IsOfProtocol k l answer p (λ c q i r. on_live (complete_in c.transactions via.payload) c q i r) → DoesBut IsOfProtocol k l answer p on_payload
   live_calls read is_live tells live_is l answer calls c i h there =
       let first = settled_in c p i.residual in
       let left = settle (arena c) i.residual in
       let live = live_by via.payload (payload_of c.transactions.pool via.payload) (sym (tells c.transactions h.transactions) ∙ live_is) in
-      subst (λ o. FollowsOrLacks l answer c (on_ok o (λ x. on_live (is_complete x) first p (record i { residual = left }) left))) (sym live.1)
-      (subst (λ b. FollowsOrLacks l answer c (on_live b first p (record i { residual = left }) left)) (sym (read first via.payload live.0 live.1)) (calls c i h there))
+      subst (λ o. FollowsBut IsOfProtocol l answer c (on_ok o (λ x. on_live (is_complete x) first p (record i { residual = left }) left))) (sym live.1)
+      (subst (λ b. FollowsBut IsOfProtocol l answer c (on_live b first p (record i { residual = left }) left)) (sym (read first via.payload live.0 live.1)) (calls c i h there))
 
   pub freed_calls : (is_live : Bool) → ((x : Transactions) → StandsForTransactions k.transactions x → is_live ≡ is_some (payload_of x.pool via.payload)) → is_live ≡ false
-      → CallsOver k k (Err (stop.Fault (fault.PayloadFreed via.payload))) p on_payload
+      → DoesBut IsOfProtocol k k (Err (stop.Fault (fault.PayloadFreed via.payload))) p on_payload
   freed_calls is_live tells live_is c i h there =
       let first = settled_in c p i.residual in
       let left = settle (arena c) i.residual in
-      subst (λ o. FollowsOrLacks k (Err (stop.Fault (fault.PayloadFreed via.payload))) c (on_ok o (λ x. on_live (is_complete x) first p (record i { residual = left }) left)))
+      subst (λ o. FollowsBut IsOfProtocol k (Err (stop.Fault (fault.PayloadFreed via.payload))) c (on_ok o (λ x. on_live (is_complete x) first p (record i { residual = left }) left)))
       (sym (freed_by via.payload (payload_of c.transactions.pool via.payload) (sym (tells c.transactions h.transactions) ∙ live_is))) (refl, h)
 
 -- ---- the statements, once the payload is known

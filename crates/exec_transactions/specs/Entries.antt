@@ -6,8 +6,8 @@ use Rattle.exec_calls.specs.SimModel.declared.plain.Via.{Via}
 use Rattle.exec_calls.specs.SimModel.Configuration.{Config}
 use Rattle.exec_calls.specs.SimModel.Calls.{with_entry}
 use Rattle.exec_calls.specs.SimModel.Transport.{path_of_call, int_of, judged}
-use Rattle.exec_calls.specs.ExecData.declared.stops.StatementStop.{StatementStop}
-use Rattle.exec_calls.specs.ExecData.declared.stops.StatementStop.TheVariants as stop
+use Rattle.exec_calls.specs.KernelState.declared.stops.StatementStop.{StatementStop}
+use Rattle.exec_calls.specs.KernelState.declared.stops.StatementStop.TheVariants as stop
 
 -- the entry of a call: a blocking one has no phase
 abbrev pub entry_by : Bool → Via → Value → Bool → Bool → Entry

@@ -1,10 +1,12 @@
 -- A payload of sizes that are known.
-use Rattle.std.specs.Prelude.{◌≡◌, ℕ, Some, Result, Ok, Err, length}
+use Rattle.std.specs.Prelude.{ℕ, Some, Result, Ok, length}
 use Rattle.exec_calls.specs.LogicValues.declared.kinds.Value.TheVariants as value
 use Rattle.flat_design.specs.declared.names.NameUse.{NameUse}
 use Rattle.flat_design.specs.declared.faults.RunFault.{RunFault}
 use Rattle.exec_calls.specs.KernelTransactions.declared.payloads.MakeStop.{MakeStop}
-use Rattle.exec_calls.specs.KernelTransactions.declared.payloads.MakeStop.TheVariants as stop
+use Rattle.exec_calls.specs.KernelTransactions.declared.payloads.MakeStop.TheVariants as made
+use Rattle.exec_calls.specs.KernelState.declared.stops.StatementStop.{StatementStop}
+use Rattle.exec_calls.specs.KernelState.declared.stops.StatementStop.TheVariants as stop
 use Rattle.exec_calls.specs.SimModel.Values.{on_ok}
 use Rattle.exec_calls.specs.SimModel.Residual.{Residual}
 use Rattle.exec_calls.specs.SimModel.Payloads.{with_made}
@@ -22,7 +24,7 @@ abbrev pub makes_sized : Config → ℕ → Residual → Here → NameUse → �
 makes_sized c p r h n len enables =
     on_ok (size_within 1 len) (λ x. on_ok (size_within 0 enables) (λ y. on_ok (may_make c) (λ ok. Ok (made_into c p r h n x y))))
 
--- no payload is made, and this is the answer then
-abbrev pub Refuses : MakeStop → Result Unit RunFault → Type 0
-Refuses (stop.Fault f) answer = answer ≡ Err f
-Refuses stop.NoMemory answer = ⊥
+-- why no payload is made is told as it is
+abbrev pub stop_as : MakeStop → StatementStop
+stop_as (made.Fault f) = stop.Fault f
+stop_as made.NoMemory = stop.NoMemory

@@ -10,12 +10,12 @@ ghost use Rattle.exec_calls.specs.KernelState.Moves.{Lives, HasStatement};
 ghost use Rattle.exec_calls.specs.ExecData.Entered.{Shows};
 ghost use Rattle.exec_calls.specs.Calling.{HasRoomIn};
 ghost use Rattle.exec_transactions.specs.Entries.{entry_of};
-ghost use Rattle.exec_transactions.specs.Calling.{CallsOver};
+ghost use Rattle.exec_calls.specs.KernelState.Stopping.{DoesBut};
+ghost use Rattle.exec_transactions.specs.Calling.{IsOfProtocol};
 
 use crate::judging::{Asked, judge};
-use exec_calls::exec_data_api::StatementStop;
 use exec_calls::kernel_bodies_api::Program;
-use exec_calls::kernel_state_api::{Kernel, settle};
+use exec_calls::kernel_state_api::{Kernel, StatementStop, settle};
 use exec_calls::kernel_transactions_api::live_payloads_are_used;
 use exec_calls::logic_values_api::Value;
 use exec_calls::{EnterStop, enter_ready_call, reserve_call, reserve_locals};
@@ -67,7 +67,7 @@ fn enter(
     requires sound { IsSound k.old }
     requires lives { Lives k.old p }
     requires next { Shows k.old p s }
-    ensures calls { CallsOver k.old k.new result p (λ c q i r. on_ok (may_enter r) (λ ok. on_ok (judged c asked.via.hop (entry_of asked.via asked.phase (complete_in c.transactions asked.via.payload) true) asked.via.payload) (λ x. Ok (enters x q r s f values.now (Some asked.via))))) }
+    ensures calls { DoesBut IsOfProtocol k.old k.new result p (λ c q i r. on_ok (may_enter r) (λ ok. on_ok (judged c asked.via.hop (entry_of asked.via asked.phase (complete_in c.transactions asked.via.payload) true) asked.via.payload) (λ x. Ok (enters x q r s f values.now (Some asked.via))))) }
     ensures sound { IsSound k.new }
 {
     has_statement(k, p, s);
@@ -96,7 +96,7 @@ fn enter(
 fn unhandled(k: &mut Kernel, p: u32, asked: Asked) -> Result<(), StatementStop>
     requires sound { IsSound k.old }
     requires lives { Lives k.old p }
-    ensures calls { CallsOver k.old k.new result p (λ c q i r. on_ok (judged c asked.via.hop (entry_of asked.via asked.phase (complete_in c.transactions asked.via.payload) false) asked.via.payload) (λ x. Ok x)) }
+    ensures calls { DoesBut IsOfProtocol k.old k.new result p (λ c q i r. on_ok (judged c asked.via.hop (entry_of asked.via asked.phase (complete_in c.transactions asked.via.payload) false) asked.via.payload) (λ x. Ok x)) }
     ensures sound { IsSound k.new }
 {
     match judge(&mut k.transactions, asked, false) {
@@ -125,7 +125,7 @@ fn call_other_end(
     requires sound { IsSound k.old }
     requires lives { Lives k.old p }
     requires next { Shows k.old p s }
-    ensures calls { CallsOver k.old k.new result p (λ c q i r. on_ok (may_enter_handler r handler) (λ ok. on_ok (judged c asked.via.hop (entry_of asked.via asked.phase (complete_in c.transactions asked.via.payload) (is_some handler)) asked.via.payload) (λ x. Ok (enters_handler x q r s handler values.now asked.via)))) }
+    ensures calls { DoesBut IsOfProtocol k.old k.new result p (λ c q i r. on_ok (may_enter_handler r handler) (λ ok. on_ok (judged c asked.via.hop (entry_of asked.via asked.phase (complete_in c.transactions asked.via.payload) (is_some handler)) asked.via.payload) (λ x. Ok (enters_handler x q r s handler values.now asked.via)))) }
     ensures sound { IsSound k.new }
 {
     match handler {
@@ -151,7 +151,7 @@ pub(crate) fn call(
     requires sound { IsSound k.old }
     requires lives { Lives k.old p }
     requires next { Shows k.old p s }
-    ensures calls { CallsOver k.old k.new result p (λ c q i r. on_ok (live_payload c asked.via.payload) (λ x. on_ok (may_enter_handler r handler) (λ ok. on_ok (judged c asked.via.hop (entry_of asked.via asked.phase (is_complete x) (is_some handler)) asked.via.payload) (λ y. Ok (enters_handler y q r s handler values.now asked.via))))) }
+    ensures calls { DoesBut IsOfProtocol k.old k.new result p (λ c q i r. on_ok (live_payload c asked.via.payload) (λ x. on_ok (may_enter_handler r handler) (λ ok. on_ok (judged c asked.via.hop (entry_of asked.via asked.phase (is_complete x) (is_some handler)) asked.via.payload) (λ y. Ok (enters_handler y q r s handler values.now asked.via))))) }
     ensures sound { IsSound k.new }
 {
     live_payloads_are_used();

@@ -9,8 +9,8 @@ ghost use Rattle.exec_calls.specs.KernelTransactions.Answers.{complete_in, Judge
 ghost use Rattle.exec_transactions.specs.Entries.{entry_of, JudgesOrLacks};
 
 use crate::sockets::path_of_call;
-use exec_calls::exec_data_api::StatementStop;
 use exec_calls::expr_eval_api::bits;
+use exec_calls::kernel_state_api::StatementStop;
 use exec_calls::kernel_transactions_api::TransactionBoard;
 use exec_calls::logic_values_api::Value;
 use exec_calls::sim_model_api::Via;

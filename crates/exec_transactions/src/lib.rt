@@ -30,7 +30,7 @@ pub mod exec_calls_api {
 /// What is passed on of exec_events.
 pub mod exec_events_api {
     pub use exec_calls::exec_events_api::{
-        AwaitStop, cancel_named, notify_after, notify_delta, notify_named, stop, trigger_statement,
+        cancel_named, notify_after, notify_delta, notify_named, stop, trigger_statement,
         wait_statement,
     };
 }

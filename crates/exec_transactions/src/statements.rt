@@ -6,14 +6,14 @@ ghost use Rattle.exec_calls.specs.SimModel.Transport.{do_b_transport, do_nb_tran
 ghost use Rattle.exec_calls.specs.KernelState.Kernel.{IsSound};
 ghost use Rattle.exec_calls.specs.KernelState.Moves.{Lives};
 ghost use Rattle.exec_calls.specs.ExecData.Entered.{Shows};
-ghost use Rattle.exec_transactions.specs.Calling.{CallsOver};
+ghost use Rattle.exec_calls.specs.KernelState.Stopping.{DoesBut};
+ghost use Rattle.exec_transactions.specs.Calling.{IsOfProtocol};
 
 use crate::entering::{call, has_statement};
 use crate::judging::Asked;
 use crate::sockets::{blocking_handler, nonblocking_handler, socket_of};
 use crate::values::value_at;
-use exec_calls::exec_data_api::StatementStop;
-use exec_calls::kernel_state_api::{Kernel, pass};
+use exec_calls::kernel_state_api::{Kernel, StatementStop, pass};
 use exec_calls::kernel_view_api::{denoted_at, payload_at};
 use exec_calls::logic_values_api::Value;
 use exec_calls::sim_model_api::Via;
@@ -33,7 +33,7 @@ fn b_transport_on(
     requires sound { IsSound k.old }
     requires lives { Lives k.old p }
     requires next { Shows k.old p s }
-    ensures calls { CallsOver k.old k.new result p (λ c q i r. transport.b_transport_on c q r (here c q i r) s n d (Some end)) }
+    ensures calls { DoesBut IsOfProtocol k.old k.new result p (λ c q i r. transport.b_transport_on c q r (here c q i r) s n d (Some end)) }
     ensures sound { IsSound k.new }
 {
     let payload = match payload_at(k, p, n) {
@@ -73,7 +73,7 @@ pub fn b_transport(
     requires sound { IsSound k.old }
     requires lives { Lives k.old p }
     requires next { Shows k.old p s }
-    ensures calls { CallsOver k.old k.new result p (λ c q i r. do_b_transport c q r (here c q i r) s socket n d) }
+    ensures calls { DoesBut IsOfProtocol k.old k.new result p (λ c q i r. do_b_transport c q r (here c q i r) s socket n d) }
     ensures sound { IsSound k.new }
 {
     match socket_of(denoted_at(k, p, socket)) {
@@ -100,7 +100,7 @@ fn nb_transport_on(
     requires sound { IsSound k.old }
     requires lives { Lives k.old p }
     requires next { Shows k.old p s }
-    ensures calls { CallsOver k.old k.new result p (λ c q i r. transport.nb_transport_on c q r (here c q i r) s n phase d (Some end)) }
+    ensures calls { DoesBut IsOfProtocol k.old k.new result p (λ c q i r. transport.nb_transport_on c q r (here c q i r) s n phase d (Some end)) }
     ensures sound { IsSound k.new }
 {
     let payload = match payload_at(k, p, n) {
@@ -142,7 +142,7 @@ pub fn nb_transport(
     requires sound { IsSound k.old }
     requires lives { Lives k.old p }
     requires next { Shows k.old p s }
-    ensures calls { CallsOver k.old k.new result p (λ c q i r. do_nb_transport c q r (here c q i r) s socket n phase d) }
+    ensures calls { DoesBut IsOfProtocol k.old k.new result p (λ c q i r. do_nb_transport c q r (here c q i r) s socket n phase d) }
     ensures sound { IsSound k.new }
 {
     match socket_of(denoted_at(k, p, socket)) {

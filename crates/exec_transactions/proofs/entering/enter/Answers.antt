@@ -5,7 +5,7 @@ use Rattle.exec_calls.specs.SimModel.Statements.{settled_in}
 use Rattle.exec_calls.specs.SimModel.Calls.{enters, may_enter}
 use Rattle.exec_calls.specs.KernelTransactions.Answers.{complete_in}
 use Rattle.exec_calls.specs.Calling.{TellsDepth}
-use Rattle.exec_calls.specs.ExecData.declared.stops.StatementStop.TheVariants as stop
+use Rattle.exec_calls.specs.KernelState.declared.stops.StatementStop.TheVariants as stop
 use Rattle.exec_transactions.specs.Entries.{entry_of}
 use Rattle.exec_transactions.proofs.Called.{lacks, refused, board_stays, board_sound, too_deep, entered_by, entered_then}
 use Rattle.exec_transactions.proofs.entering.enter.Goals as goal

@@ -7,8 +7,10 @@ use Rattle.exec_calls.specs.SimModel.Statements.{settled_in}
 use Rattle.exec_calls.specs.SimModel.Reading.{payload_number}
 use Rattle.exec_calls.specs.SimModel.Transport.{nonblocking_handler, value_named}
 use Rattle.exec_calls.specs.SimModel.declared.plain.Via.{Via}
-use Rattle.exec_transactions.specs.Calling.{FollowsOrLacks}
-use Rattle.exec_transactions.proofs.Called.{evaluated, at_fault, on_payload, nb_call}
+use Rattle.exec_calls.specs.KernelState.Stopping.{FollowsBut}
+use Rattle.exec_transactions.specs.Calling.{IsOfProtocol}
+use Rattle.exec_calls.proofs.KernelView.Stopped.{evaluated, at_fault}
+use Rattle.exec_transactions.proofs.Called.{on_payload, nb_call}
 use Rattle.exec_calls.specs.KernelView.Standings.{next_here}
 use Rattle.exec_transactions.proofs.statements.nb_transport_on.Goals as goal
 
@@ -19,17 +21,17 @@ returns-clause-calls c =
     let s = c.args.s in
     let hop = c.args.end.0 in
     let forward = c.args.end.1 in
-    evaluated k p c.payload_at.result (λ h. payload_number h c.args.n) c.payload_at.ensures (nb_call s hop forward c.args.phase c.args.d) c.call.new.k c.call.result c.in-Ok.t c.in-Ok.is
+    evaluated IsOfProtocol k p c.payload_at.result (λ h. payload_number h c.args.n) c.payload_at.ensures (nb_call s hop forward c.args.phase c.args.d) c.call.new.k c.call.result c.in-Ok.t c.in-Ok.is
     (λ d i h there.
     let first = settled_in d p i.residual in
     let left = settle (arena d) i.residual in
     let via : Via = record { hop = hop; forward = forward; blocking = false; payload = c.in-Ok.t } in
-    subst (λ v. FollowsOrLacks c.call.new.k c.call.result d (on_payload k p s (nonblocking_handler forward (slice_get d.design.hops hop)) via v (value.Pay (Some c.in-Ok.t) ∷ v ∷ value_named (next_here d p i) c.args.d ∷ []) first p (record i { residual = left }) left))
+    subst (λ v. FollowsBut IsOfProtocol c.call.new.k c.call.result d (on_payload k p s (nonblocking_handler forward (slice_get d.design.hops hop)) via v (value.Pay (Some c.in-Ok.t) ∷ v ∷ value_named (next_here d p i) c.args.d ∷ []) first p (record i { residual = left }) left))
     (c.value_at-step.ensures d i h there)
-    (subst (λ v. FollowsOrLacks c.call.new.k c.call.result d (on_payload k p s (nonblocking_handler forward (slice_get d.design.hops hop)) via c.value_at-step.result (value.Pay (Some c.in-Ok.t) ∷ c.value_at-step.result ∷ v ∷ []) first p (record i { residual = left }) left))
+    (subst (λ v. FollowsBut IsOfProtocol c.call.new.k c.call.result d (on_payload k p s (nonblocking_handler forward (slice_get d.design.hops hop)) via c.value_at-step.result (value.Pay (Some c.in-Ok.t) ∷ c.value_at-step.result ∷ v ∷ []) first p (record i { residual = left }) left))
     (c.value_at-delay.ensures d i h there)
-    (subst (λ o. FollowsOrLacks c.call.new.k c.call.result d (on_payload k p s o via c.value_at-step.result (value.Pay (Some c.in-Ok.t) ∷ c.value_at-step.result ∷ c.value_at-delay.result ∷ []) first p (record i { residual = left }) left))
+    (subst (λ o. FollowsBut IsOfProtocol c.call.new.k c.call.result d (on_payload k p s o via c.value_at-step.result (value.Pay (Some c.in-Ok.t) ∷ c.value_at-step.result ∷ c.value_at-delay.result ∷ []) first p (record i { residual = left }) left))
     (c.nonblocking_handler-handler.ensures ∙ ap (λ e. nonblocking_handler forward (slice_get e.hops hop)) (sym h.design)) (c.call.ensures.calls d i h there))))
 
 pub returns-in-Err-clause-calls : goal.returns-in-Err-clause-calls
-returns-in-Err-clause-calls c = at_fault c.args.k.now c.args.p c.payload_at.result (λ h. payload_number h c.args.n) c.payload_at.ensures (nb_call c.args.s c.args.end.0 c.args.end.1 c.args.phase c.args.d) c.in-Err.fault c.in-Err.is
+returns-in-Err-clause-calls c = at_fault IsOfProtocol c.args.k.now c.args.p c.payload_at.result (λ h. payload_number h c.args.n) c.payload_at.ensures (nb_call c.args.s c.args.end.0 c.args.end.1 c.args.phase c.args.d) c.in-Err.fault c.in-Err.is
