@@ -83,7 +83,7 @@ module _ (k new : Kernel) where
     told_made (answer.Fault g) (Ok d) t = absurd t
     told_made (answer.Fault g) (Err f) t = t
     told_made answer.NoMemory (Ok d) t = t
-    told_made answer.NoMemory (Err f) t = t
+    told_made answer.NoMemory (Err f) t = t.1
 
   pub top_made : (p : ℕ) (a : StepAnswer) → IsSound k → IsOnTop k p → MakesStep k new a p → Makes k new (made_of a) (λ c. evaluate c c.processes.stack c.processes.runnable)
   top_made p a sound top makes c h once =

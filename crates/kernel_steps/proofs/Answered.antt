@@ -1,6 +1,5 @@
 -- What a step answers, from what its statement answers.
 use Rattle.std.proofs.Common.{◌≡◌, ℕ, false, List, Some, Result, Ok, Err, refl, sym, ap, ◌∙◌, subst}
-use Rattle.std.specs.Prelude.{IfOk, OnErr}
 use Rattle.flat_design.specs.Code.{arena_of, statement_at, statement_of}
 use Rattle.flat_design.specs.declared.code.Handler.{Handler}
 use Rattle.flat_design.specs.declared.code.Statement.TheVariants as kept
@@ -12,17 +11,14 @@ use Rattle.exec_channels.specs.SimModel.Reading.{here}
 use Rattle.exec_channels.specs.SimModel.Residual.{Residual, settle}
 use Rattle.exec_channels.specs.SimModel.Configuration.{Config, Instance, arena}
 use Rattle.exec_channels.specs.SimModel.Statements.{settled_in, do_statement}
-use Rattle.exec_channels.specs.KernelState.Moves.{Moves, Does, Follows}
+use Rattle.exec_channels.specs.KernelState.Moves.{Does, Follows}
+use Rattle.exec_channels.specs.KernelState.Stopping.{FollowsBut, DoesBut, DoesOrStops, NoFault}
+use Rattle.exec_channels.specs.KernelState.declared.stops.StatementStop.{StatementStop}
+use Rattle.exec_channels.specs.KernelState.declared.stops.StatementStop.TheVariants as stop
 use Rattle.exec_channels.specs.KernelState.declared.kernel.Kernel.{Kernel}
-use Rattle.exec_transactions.specs.ExecEvents.Asked.{DoesOr}
-use Rattle.exec_transactions.specs.ExecEvents.declared.stops.AwaitStop.{AwaitStop}
-use Rattle.exec_transactions.specs.ExecEvents.declared.stops.AwaitStop.TheVariants as await_stop
-use Rattle.exec_control.specs.ExecData.Stopping.{FollowsOrStops, DoesOrStops}
-use Rattle.exec_control.specs.ExecData.declared.stops.StatementStop.{StatementStop}
-use Rattle.exec_control.specs.ExecData.declared.stops.StatementStop.TheVariants as statement_stop
-use Rattle.exec_transactions.specs.Calling.{FollowsOrLacks, CallsOver}
+use Rattle.exec_transactions.specs.Calling.{IsOfProtocol}
 use Rattle.kernel_steps.specs.Kept.{QuietIfOk, is_print}
-use Rattle.kernel_steps.specs.Told.{Tells, TellsAll, Makes, Carries, CarriesAll, plain_answer, await_answer, store_answer, block_answer}
+use Rattle.kernel_steps.specs.Told.{Tells, TellsAll, Makes, Carries, CarriesAll, plain_answer, taking_answer}
 use Rattle.kernel_steps.specs.declared.answers.StepAnswer.TheVariants as answer
 use Rattle.kernel_steps.proofs.Silent.{statement_quiet}
 use Rattle.kernel_steps.specs.declared.answers.StepAnswer.{StepAnswer}
@@ -32,52 +28,28 @@ module _ (old new : Kernel) (p : ℕ) (f : Config → ℕ → Instance → Resid
   by_plain (Ok u) does = does
   by_plain (Err e) does = does
 
-  by_await : (done : Result Unit AwaitStop) → DoesOr old new done p f → Makes old new (await_answer done) p f
-  by_await (Ok u) does = does
-  by_await (Err (await_stop.Fault e)) does = does
-  by_await (Err await_stop.NoMemory) does = does
+  -- the faults that are judged behind the memory are those of the protocol
+  module _ (IsBehind : RunFault → Type 0) (within : (e : RunFault) → IsBehind e → IsOfProtocol e) where
+    taking_tells : (c : Config) (i : Instance) (done : Result Unit StatementStop) (r : Result Config RunFault) → FollowsBut IsBehind new done c r → Tells new (taking_answer done) c i r
+    taking_tells c i (Ok u) (Ok d) follows = follows
+    taking_tells c i (Ok u) (Err e) follows = follows
+    taking_tells c i (Err (stop.Fault g)) (Ok d) follows = follows
+    taking_tells c i (Err (stop.Fault g)) (Err e) follows = follows
+    taking_tells c i (Err stop.NoMemory) (Ok d) follows = follows
+    taking_tells c i (Err stop.NoMemory) (Err e) follows = (within e follows.0, follows.1)
 
-  stored_tells : (c : Config) (i : Instance) (done : Result Unit StatementStop) (r : Result Config RunFault) → FollowsOrStops new done c r → Tells new (store_answer done) c i r
-  stored_tells c i (Ok u) (Ok d) follows = follows
-  stored_tells c i (Ok u) (Err e) follows = follows
-  stored_tells c i (Err (statement_stop.Fault g)) (Ok d) follows = follows
-  stored_tells c i (Err (statement_stop.Fault g)) (Err e) follows = follows
-  stored_tells c i (Err statement_stop.NoMemory) (Ok d) follows = follows
-  stored_tells c i (Err statement_stop.NoMemory) (Err e) follows = absurd follows
-
-  by_store : (done : Result Unit StatementStop) → DoesOrStops old new done p f → Makes old new (store_answer done) p f
-  by_store done does c i h there = stored_tells c i done (f (settled_in c p i.residual) p (record i { residual = settle (arena c) i.residual }) (settle (arena c) i.residual)) (does c i h there)
-
-  sent_tells : (c : Config) (i : Instance) (done : Result Unit StatementStop) (r : Result Config RunFault) → FollowsOrLacks new done c r → Tells new (store_answer done) c i r
-  sent_tells c i (Ok u) (Ok d) follows = follows
-  sent_tells c i (Ok u) (Err e) follows = follows
-  sent_tells c i (Err (statement_stop.Fault g)) (Ok d) follows = follows
-  sent_tells c i (Err (statement_stop.Fault g)) (Err e) follows = follows
-  sent_tells c i (Err statement_stop.NoMemory) (Ok d) follows = follows
-  sent_tells c i (Err statement_stop.NoMemory) (Err e) follows = follows.1
-
-  by_send : (done : Result Unit StatementStop) → CallsOver old new done p f → Makes old new (store_answer done) p f
-  by_send done calls c i h there = sent_tells c i done (f (settled_in c p i.residual) p (record i { residual = settle (arena c) i.residual }) (settle (arena c) i.residual)) (calls c i h there)
-
-  by_block : {E : Type 0} (done : Result (Result Unit RunFault) E) → IfOk done (λ a. Does old new a p f) → OnErr done (Moves old new (λ c. c)) → Makes old new (block_answer done) p f
-  by_block (Ok done) does stays = by_plain done does
-  by_block (Err e) does stays = λ c i h there. stays c h
+    by_taking : (done : Result Unit StatementStop) → DoesBut IsBehind old new done p f → Makes old new (taking_answer done) p f
+    by_taking done does c i h there = taking_tells c i done (f (settled_in c p i.residual) p (record i { residual = settle (arena c) i.residual }) (settle (arena c) i.residual)) (does c i h there)
 
   module _ (a : StepAnswer) where
     pub plain_made : (done : Result Unit RunFault) → a ≡ plain_answer done → Does old new done p f → Makes old new a p f
     plain_made done is does = subst (λ b. Makes old new b p f) (sym is) (by_plain done does)
 
-    pub await_made : (done : Result Unit AwaitStop) → a ≡ await_answer done → DoesOr old new done p f → Makes old new a p f
-    await_made done is does = subst (λ b. Makes old new b p f) (sym is) (by_await done does)
+    pub taking_made : (done : Result Unit StatementStop) → a ≡ taking_answer done → DoesOrStops old new done p f → Makes old new a p f
+    taking_made done is does = subst (λ b. Makes old new b p f) (sym is) (by_taking NoFault (λ e no. absurd no) done does)
 
-    pub store_made : (done : Result Unit StatementStop) → a ≡ store_answer done → DoesOrStops old new done p f → Makes old new a p f
-    store_made done is does = subst (λ b. Makes old new b p f) (sym is) (by_store done does)
-
-    pub send_made : (done : Result Unit StatementStop) → a ≡ store_answer done → CallsOver old new done p f → Makes old new a p f
-    send_made done is calls = subst (λ b. Makes old new b p f) (sym is) (by_send done calls)
-
-    pub block_made : {E : Type 0} (done : Result (Result Unit RunFault) E) → a ≡ block_answer done → IfOk done (λ b. Does old new b p f) → OnErr done (Moves old new (λ c. c)) → Makes old new a p f
-    block_made done is does stays = subst (λ b. Makes old new b p f) (sym is) (by_block done does stays)
+    pub sending_made : (done : Result Unit StatementStop) → a ≡ taking_answer done → DoesBut IsOfProtocol old new done p f → Makes old new a p f
+    sending_made done is does = subst (λ b. Makes old new b p f) (sym is) (by_taking IsOfProtocol (λ e behind. behind) done does)
 
 -- the form of the statement is known: it is a print, or tells nothing
 module _ (new : Kernel) (c : Config) (i : Instance) where
@@ -87,7 +59,8 @@ module _ (new : Kernel) (c : Config) (i : Instance) where
   all_told (answer.Printed q s v) (Ok d) quiet tells = (tells.0, (ap (λ x. x.design) quiet, ap (λ x. x.script) quiet), tells.1)
   all_told (answer.Printed q s v) (Err f) quiet tells = tells
   all_told (answer.Fault f) r quiet tells = tells
-  all_told answer.NoMemory r quiet tells = tells
+  all_told answer.NoMemory (Ok d) quiet tells = tells
+  all_told answer.NoMemory (Err f) quiet tells = tells
 
   left_tells : (done : Result Unit RunFault) (r : Result Config RunFault) → Follows new done c r → Tells new (plain_answer done) c i r
   left_tells (Ok u) r follows = follows
@@ -109,21 +82,13 @@ module _ (old new : Kernel) (a : StepAnswer) (p s : ℕ) (x y : Kept) (is : x �
       → Does old new done p (λ c q i r. do_statement c q i r (here c q i r) s (statement_of y)) → CarriesAll old new a p s (statement_of x)
   plain_carried other done by does = carried other (plain_made old new p (λ c q i r. do_statement c q i r (here c q i r) s (statement_of y)) a done by does)
 
-  pub await_carried : is_print (statement_of y) ≡ false → (done : Result Unit AwaitStop) → a ≡ await_answer done
-      → DoesOr old new done p (λ c q i r. do_statement c q i r (here c q i r) s (statement_of y)) → CarriesAll old new a p s (statement_of x)
-  await_carried other done by does = carried other (await_made old new p (λ c q i r. do_statement c q i r (here c q i r) s (statement_of y)) a done by does)
-
-  pub store_carried : is_print (statement_of y) ≡ false → (done : Result Unit StatementStop) → a ≡ store_answer done
+  pub taking_carried : is_print (statement_of y) ≡ false → (done : Result Unit StatementStop) → a ≡ taking_answer done
       → DoesOrStops old new done p (λ c q i r. do_statement c q i r (here c q i r) s (statement_of y)) → CarriesAll old new a p s (statement_of x)
-  store_carried other done by does = carried other (store_made old new p (λ c q i r. do_statement c q i r (here c q i r) s (statement_of y)) a done by does)
+  taking_carried other done by does = carried other (taking_made old new p (λ c q i r. do_statement c q i r (here c q i r) s (statement_of y)) a done by does)
 
-  pub send_carried : is_print (statement_of y) ≡ false → (done : Result Unit StatementStop) → a ≡ store_answer done
-      → CallsOver old new done p (λ c q i r. do_statement c q i r (here c q i r) s (statement_of y)) → CarriesAll old new a p s (statement_of x)
-  send_carried other done by calls = carried other (send_made old new p (λ c q i r. do_statement c q i r (here c q i r) s (statement_of y)) a done by calls)
-
-  pub block_carried : {E : Type 0} → is_print (statement_of y) ≡ false → (done : Result (Result Unit RunFault) E) → a ≡ block_answer done
-      → IfOk done (λ b. Does old new b p (λ c q i r. do_statement c q i r (here c q i r) s (statement_of y))) → OnErr done (Moves old new (λ c. c)) → CarriesAll old new a p s (statement_of x)
-  block_carried other done by does stays = carried other (block_made old new p (λ c q i r. do_statement c q i r (here c q i r) s (statement_of y)) a done by does stays)
+  pub sending_carried : is_print (statement_of y) ≡ false → (done : Result Unit StatementStop) → a ≡ taking_answer done
+      → DoesBut IsOfProtocol old new done p (λ c q i r. do_statement c q i r (here c q i r) s (statement_of y)) → CarriesAll old new a p s (statement_of x)
+  sending_carried other done by does = carried other (sending_made old new p (λ c q i r. do_statement c q i r (here c q i r) s (statement_of y)) a done by does)
 
 -- a try has the handlers of its statement
 pub try_carried : (old new : Kernel) (p s b : ℕ) (x : Kept) (handlers : List Handler) → x ≡ kept.Try b handlers → statement_at (arena_of old.program.code) s ≡ Some (statement_of x)

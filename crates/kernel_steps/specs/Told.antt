@@ -12,10 +12,9 @@ use Rattle.exec_channels.specs.SimModel.Storing.{print_line}
 use Rattle.exec_channels.specs.KernelState.Kernel.{StandsFor}
 use Rattle.exec_channels.specs.KernelState.Moves.{Follows}
 use Rattle.exec_channels.specs.KernelState.declared.kernel.Kernel.{Kernel}
-use Rattle.exec_transactions.specs.ExecEvents.declared.stops.AwaitStop.{AwaitStop}
-use Rattle.exec_transactions.specs.ExecEvents.declared.stops.AwaitStop.TheVariants as await_stop
-use Rattle.exec_control.specs.ExecData.declared.stops.StatementStop.{StatementStop}
-use Rattle.exec_control.specs.ExecData.declared.stops.StatementStop.TheVariants as statement_stop
+use Rattle.exec_channels.specs.KernelState.declared.stops.StatementStop.{StatementStop}
+use Rattle.exec_channels.specs.KernelState.declared.stops.StatementStop.TheVariants as stop
+use Rattle.exec_transactions.specs.Calling.{IsOfProtocol}
 use Rattle.kernel_steps.specs.declared.answers.StepAnswer.{StepAnswer}
 use Rattle.kernel_steps.specs.declared.answers.StepAnswer.TheVariants as answer
 use Rattle.kernel_steps.specs.Kept.{Quiet, Keeps}
@@ -32,13 +31,14 @@ pub record AddsLine (c d : Config) (p s : ℕ) (v : Option Value) : Type 0 where
   pub told : d.trace.told ≡ c.trace.told ++ line (print_line d.cycle.now teller.path text v) ∷ []
 
 -- A step that was made follows the definition. A run fault is answered as it is, and changes nothing, nor does a refusal of
--- memory.
+-- memory, which comes only where there is no fault but one of the base protocol.
 abbrev pub Tells : Kernel → StepAnswer → Config → Instance → Result Config RunFault → Type 0
 Tells new answer.Went c i r = Follows new (Ok tt) c r
 Tells new (answer.Printed p s v) c i (Ok d) = StandsFor new d × AddsLine c d p s v
 Tells new (answer.Printed p s v) c i (Err f) = ⊥
 Tells new (answer.Fault f) c i r = Follows new (Err f) c r
-Tells new answer.NoMemory c i r = StandsFor new c
+Tells new answer.NoMemory c i (Ok d) = StandsFor new c
+Tells new answer.NoMemory c i (Err f) = IsOfProtocol f × StandsFor new c
 
 -- The same, and the design and the script's rest stay, and nothing is told but the line of a print.
 abbrev pub TellsAll : Kernel → StepAnswer → Config → Instance → Result Config RunFault → Type 0
@@ -47,7 +47,8 @@ TellsAll new answer.Went c i (Err f) = ⊥
 TellsAll new (answer.Printed p s v) c i (Ok d) = StandsFor new d × Keeps c d × AddsLine c d p s v
 TellsAll new (answer.Printed p s v) c i (Err f) = ⊥
 TellsAll new (answer.Fault f) c i r = Follows new (Err f) c r
-TellsAll new answer.NoMemory c i r = StandsFor new c
+TellsAll new answer.NoMemory c i (Ok d) = StandsFor new c
+TellsAll new answer.NoMemory c i (Err f) = IsOfProtocol f × StandsFor new c
 
 -- a step of instance p, by its first move and then by f
 abbrev pub Makes : Kernel → Kernel → StepAnswer → ℕ → (Config → ℕ → Instance → Residual → Result Config RunFault) → Type 0
@@ -69,22 +70,12 @@ CarriesAll old new answer p s x = MakesAll old new answer p (λ c q i r. do_stat
 abbrev pub MakesStep : Kernel → Kernel → StepAnswer → ℕ → Type 0
 MakesStep old new answer p = (c : Config) (i : Instance) → StandsFor old c → instance_at c p ≡ Some i → TellsAll new answer c i (statement_step c p)
 
--- the answers of statements as that of the step: of those that take no memory, of waits and next triggers, of writes, and of
--- those that may block
+-- the answers of statements as that of the step: of those that take no memory, and of those that may
 abbrev pub plain_answer : Result Unit RunFault → StepAnswer
 plain_answer (Ok u) = answer.Went
 plain_answer (Err f) = answer.Fault f
 
-abbrev pub await_answer : Result Unit AwaitStop → StepAnswer
-await_answer (Ok u) = answer.Went
-await_answer (Err (await_stop.Fault f)) = answer.Fault f
-await_answer (Err await_stop.NoMemory) = answer.NoMemory
-
-abbrev pub store_answer : Result Unit StatementStop → StepAnswer
-store_answer (Ok u) = answer.Went
-store_answer (Err (statement_stop.Fault f)) = answer.Fault f
-store_answer (Err statement_stop.NoMemory) = answer.NoMemory
-
-abbrev pub block_answer : {E : Type 0} → Result (Result Unit RunFault) E → StepAnswer
-block_answer (Ok done) = plain_answer done
-block_answer (Err e) = answer.NoMemory
+abbrev pub taking_answer : Result Unit StatementStop → StepAnswer
+taking_answer (Ok u) = answer.Went
+taking_answer (Err (stop.Fault f)) = answer.Fault f
+taking_answer (Err stop.NoMemory) = answer.NoMemory

@@ -1,12 +1,10 @@
 //! What a step of an instance answers.
 ghost use Rattle.std.specs.Prelude.{◌≡◌};
-ghost use Rattle.kernel_steps.specs.Told.{await_answer, block_answer, plain_answer, store_answer};
+ghost use Rattle.kernel_steps.specs.Told.{plain_answer, taking_answer};
 
+use exec_channels::kernel_state_api::StatementStop;
 use exec_channels::logic_values_api::Value;
-use exec_control::exec_data_api::StatementStop;
-use exec_transactions::exec_events_api::AwaitStop;
 use flat_design::{RunFault, StmtId};
-use std::alloc::AllocError;
 
 /// What a step of an instance answers.
 #[derive(Clone, Copy)]
@@ -17,7 +15,7 @@ pub enum StepAnswer {
     Printed(u32, StmtId, Option<Value>),
     /// The run is at fault, and nothing changed.
     Fault(RunFault),
-    /// There is no memory, and nothing changed.
+    /// There is no memory, and nothing changed; there was no fault, but one of the base protocol.
     NoMemory,
 }
 
@@ -31,34 +29,13 @@ pub(crate) fn plain(done: Result<(), RunFault>) -> StepAnswer
     }
 }
 
-/// That of a wait or a next trigger.
-pub(crate) fn awaiting(done: Result<(), AwaitStop>) -> StepAnswer
-    ensures { result ≡ await_answer done }
-{
-    match done {
-        Ok(()) => StepAnswer::Went,
-        Err(AwaitStop::Fault(fault)) => StepAnswer::Fault(fault),
-        Err(AwaitStop::NoMemory) => StepAnswer::NoMemory,
-    }
-}
-
-/// That of a write.
-pub(crate) fn storing(done: Result<(), StatementStop>) -> StepAnswer
-    ensures { result ≡ store_answer done }
+/// That of a statement that may take memory.
+pub(crate) fn taking(done: Result<(), StatementStop>) -> StepAnswer
+    ensures { result ≡ taking_answer done }
 {
     match done {
         Ok(()) => StepAnswer::Went,
         Err(StatementStop::Fault(fault)) => StepAnswer::Fault(fault),
         Err(StatementStop::NoMemory) => StepAnswer::NoMemory,
-    }
-}
-
-/// That of a statement that may block the instance.
-pub(crate) fn blocking(done: Result<Result<(), RunFault>, AllocError>) -> StepAnswer
-    ensures { result ≡ block_answer done }
-{
-    match done {
-        Ok(done) => plain(done),
-        Err(_) => StepAnswer::NoMemory,
     }
 }

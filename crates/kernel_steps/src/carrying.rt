@@ -10,7 +10,7 @@ ghost use Rattle.exec_control.specs.Thrown.{OthersHaveNoGoal};
 ghost use Rattle.exec_control.specs.Unwound.{ThrowsFree};
 ghost use Rattle.kernel_steps.specs.Told.{CarriesAll};
 
-use crate::answers::{StepAnswer, awaiting, blocking, plain, storing};
+use crate::answers::{StepAnswer, plain, taking};
 use crate::data::{if_step, print_step, var_step, while_step};
 use exec_channels::kernel_state_api::{Kernel, top_lives};
 use exec_channels::{lock, nb_read, nb_write, post, read, sem_trywait, sem_wait, trylock, unlock};
@@ -60,18 +60,18 @@ pub(crate) fn carry_out(
         Statement::Var(n, t, e) => var_step(k, p, s, *n, *t, e),
         Statement::Assign(to, e) => plain(assign(k, p, to, e)),
         Statement::Call(_, f, arguments) => {
-            blocking(call(k, alloc, p, s, *f, arguments.as_slice()))
+            taking(call(k, alloc, p, s, *f, arguments.as_slice()))
         }
-        Statement::Read(target, at) => blocking(read(k, alloc, p, *target, at)),
+        Statement::Read(target, at) => taking(read(k, alloc, p, *target, at)),
         Statement::NbRead(target, at, to) => plain(nb_read(k, p, *target, at, *to)),
         Statement::NbWrite(target, at, t, e) => plain(nb_write(k, p, *target, at, *t, e)),
         Statement::Trylock(target, at) => plain(trylock(k, p, *target, at)),
         Statement::Unlock(target, at) => plain(unlock(k, p, *target, at)),
         Statement::SemTrywait(target, at) => plain(sem_trywait(k, p, *target, at)),
         Statement::NbTransport(_, socket, n, phase, d) => {
-            storing(nb_transport(k, alloc, p, s, *socket, *n, *phase, *d))
+            taking(nb_transport(k, alloc, p, s, *socket, *n, *phase, *d))
         }
-        Statement::Write(to, t, e) => storing(write(k, alloc, p, to, *t, e)),
+        Statement::Write(to, t, e) => taking(write(k, alloc, p, to, *t, e)),
         Statement::Print(text, e) => print_step(k, p, s, text, e),
         Statement::Notify(n) => {
             notify_named(k, p, *n);
@@ -86,23 +86,23 @@ pub(crate) fn carry_out(
             cancel_named(k, p, *n);
             StepAnswer::Went
         }
-        Statement::Wait(how) => awaiting(wait_statement(k, alloc, p, how)),
-        Statement::NextTrigger(how) => awaiting(trigger_statement(k, alloc, p, how)),
-        Statement::Lock(at) => blocking(lock(k, alloc, p, at)),
-        Statement::SemWait(at) => blocking(sem_wait(k, alloc, p, at)),
-        Statement::Post(at) => blocking(post(k, p, at)),
-        Statement::Make(n, e, more) => blocking(make(k, p, *n, e, more)),
+        Statement::Wait(how) => taking(wait_statement(k, alloc, p, how)),
+        Statement::NextTrigger(how) => taking(trigger_statement(k, alloc, p, how)),
+        Statement::Lock(at) => taking(lock(k, alloc, p, at)),
+        Statement::SemWait(at) => taking(sem_wait(k, alloc, p, at)),
+        Statement::Post(at) => taking(post(k, p, at)),
+        Statement::Make(n, e, more) => taking(make(k, p, *n, e, more)),
         Statement::Acquire(n) => plain(acquire(k, p, *n)),
         Statement::Release(n) => plain(release(k, p, *n)),
         Statement::Carry(n, m) => plain(carry(k, alloc, p, *n, *m)),
         Statement::BTransport(socket, n, d) => {
-            storing(b_transport(k, alloc, p, s, *socket, *n, *d))
+            taking(b_transport(k, alloc, p, s, *socket, *n, *d))
         }
         Statement::QkGlobal(e) => plain(qk_global(k, p, e)),
         Statement::QkInc(n, e) => plain(qk_inc(k, p, *n, e)),
         Statement::QkSet(n, e) => plain(qk_set(k, p, *n, e)),
         Statement::QkReset(n) => plain(qk_reset(k, p, *n)),
-        Statement::Spawn(form) => blocking(spawn(k, alloc, p, form)),
+        Statement::Spawn(form) => taking(spawn(k, alloc, p, form)),
         Statement::Control(order, who) => plain(control(k, p, *order, *who)),
         Statement::ThrowIt(who, e) => plain(throw_it(k, p, *who, *e)),
         Statement::Throw(e) => plain(throw(k, p, *e)),

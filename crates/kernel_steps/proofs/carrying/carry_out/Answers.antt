@@ -1,15 +1,15 @@
 use Rattle.std.proofs.Common.{map, ◌∷◌, [], Some, refl, sym, ap, ◌∙◌, subst}
-use Rattle.std.specs.Prelude.{Contains, IfOk}
+use Rattle.std.specs.Prelude.{Contains}
 use Rattle.flat_design.specs.Code.{statement_of, argument_term}
 use Rattle.exec_channels.specs.SimModel.Reading.{here}
 use Rattle.exec_channels.specs.SimModel.Calls.{do_call}
-use Rattle.exec_channels.specs.KernelState.Moves.{Does}
+use Rattle.exec_channels.specs.KernelState.Stopping.{DoesOrStops}
 use Rattle.exec_channels.specs.KernelBodies.Around.{around_if}
 use Rattle.exec_channels.specs.KernelBodies.Depths.{blocks_in}
 use Rattle.kernel_steps.specs.Told.{CarriesAll}
 use Rattle.kernel_steps.specs.declared.answers.StepAnswer.TheVariants as answer
 use Rattle.kernel_steps.proofs.Blocks.{is_first}
-use Rattle.kernel_steps.proofs.Answered.{carried, plain_carried, await_carried, store_carried, send_carried, block_carried, try_carried}
+use Rattle.kernel_steps.proofs.Answered.{carried, plain_carried, taking_carried, sending_carried, try_carried}
 use Rattle.kernel_steps.proofs.carrying.carry_out.Goals as goal
 
 pub returns-in-Var-clause-carries : goal.returns-in-Var-clause-carries
@@ -19,11 +19,11 @@ pub returns-in-Assign-clause-carries : goal.returns-in-Assign-clause-carries
 returns-in-Assign-clause-carries c = plain_carried c.args.k.now c.assign.new.k c.plain.result c.args.p c.args.s c.args.statement.now _ c.in-Assign.is refl c.assign.result c.plain.ensures c.assign.ensures.does
 
 pub returns-in-Call-clause-carries : goal.returns-in-Call-clause-carries
-returns-in-Call-clause-carries c = block_carried c.args.k.now c.call.new.k c.blocking.result c.args.p c.args.s c.args.statement.now _ c.in-Call.is refl c.call.result c.blocking.ensures
-    (subst (λ xs. IfOk c.call.result (λ done. Does c.args.k.now c.call.new.k done c.args.p (λ d q i r. do_call d q r (here d q i r) c.args.s c.in-Call.f (map argument_term xs)))) c.as_slice.ensures.value c.call.ensures.does) c.call.ensures.stays
+returns-in-Call-clause-carries c = taking_carried c.args.k.now c.call.new.k c.taking.result c.args.p c.args.s c.args.statement.now _ c.in-Call.is refl c.call.result c.taking.ensures
+    (subst (λ xs. DoesOrStops c.args.k.now c.call.new.k c.call.result c.args.p (λ d q i r. do_call d q r (here d q i r) c.args.s c.in-Call.f (map argument_term xs))) c.as_slice.ensures.value c.call.ensures.does)
 
 pub returns-in-Read-clause-carries : goal.returns-in-Read-clause-carries
-returns-in-Read-clause-carries c = block_carried c.args.k.now c.read.new.k c.blocking-in-Read.result c.args.p c.args.s c.args.statement.now _ c.in-Read.is refl c.read.result c.blocking-in-Read.ensures c.read.ensures.does c.read.ensures.stays
+returns-in-Read-clause-carries c = taking_carried c.args.k.now c.read.new.k c.taking-in-Read.result c.args.p c.args.s c.args.statement.now _ c.in-Read.is refl c.read.result c.taking-in-Read.ensures c.read.ensures.does
 
 pub returns-in-NbRead-clause-carries : goal.returns-in-NbRead-clause-carries
 returns-in-NbRead-clause-carries c = plain_carried c.args.k.now c.nb_read.new.k c.plain-in-NbRead.result c.args.p c.args.s c.args.statement.now _ c.in-NbRead.is refl c.nb_read.result c.plain-in-NbRead.ensures c.nb_read.ensures.does
@@ -41,7 +41,7 @@ pub returns-in-SemTrywait-clause-carries : goal.returns-in-SemTrywait-clause-car
 returns-in-SemTrywait-clause-carries c = plain_carried c.args.k.now c.sem_trywait.new.k c.plain-in-SemTrywait.result c.args.p c.args.s c.args.statement.now _ c.in-SemTrywait.is refl c.sem_trywait.result c.plain-in-SemTrywait.ensures c.sem_trywait.ensures.does
 
 pub returns-in-Write-clause-carries : goal.returns-in-Write-clause-carries
-returns-in-Write-clause-carries c = store_carried c.args.k.now c.write.new.k c.storing-in-Write.result c.args.p c.args.s c.args.statement.now _ c.in-Write.is refl c.write.result c.storing-in-Write.ensures c.write.ensures.does
+returns-in-Write-clause-carries c = taking_carried c.args.k.now c.write.new.k c.taking-in-Write.result c.args.p c.args.s c.args.statement.now _ c.in-Write.is refl c.write.result c.taking-in-Write.ensures c.write.ensures.does
 
 pub print_step-requires-clause-there : goal.print_step-requires-clause-there
 print_step-requires-clause-there c = c.requires.there ∙ ap (λ z. Some (statement_of z)) c.in-Print.is
@@ -62,22 +62,22 @@ pub returns-in-Cancel-clause-carries : goal.returns-in-Cancel-clause-carries
 returns-in-Cancel-clause-carries c = carried c.args.k.now c.cancel_named.new.k answer.Went c.args.p c.args.s c.args.statement.now _ c.in-Cancel.is refl c.cancel_named.ensures.does
 
 pub returns-in-Wait-clause-carries : goal.returns-in-Wait-clause-carries
-returns-in-Wait-clause-carries c = await_carried c.args.k.now c.wait_statement.new.k c.awaiting.result c.args.p c.args.s c.args.statement.now _ c.in-Wait.is refl c.wait_statement.result c.awaiting.ensures c.wait_statement.ensures.does
+returns-in-Wait-clause-carries c = taking_carried c.args.k.now c.wait_statement.new.k c.taking-in-Wait.result c.args.p c.args.s c.args.statement.now _ c.in-Wait.is refl c.wait_statement.result c.taking-in-Wait.ensures c.wait_statement.ensures.does
 
 pub returns-in-NextTrigger-clause-carries : goal.returns-in-NextTrigger-clause-carries
-returns-in-NextTrigger-clause-carries c = await_carried c.args.k.now c.trigger_statement.new.k c.awaiting-in-NextTrigger.result c.args.p c.args.s c.args.statement.now _ c.in-NextTrigger.is refl c.trigger_statement.result c.awaiting-in-NextTrigger.ensures c.trigger_statement.ensures.does
+returns-in-NextTrigger-clause-carries c = taking_carried c.args.k.now c.trigger_statement.new.k c.taking-in-NextTrigger.result c.args.p c.args.s c.args.statement.now _ c.in-NextTrigger.is refl c.trigger_statement.result c.taking-in-NextTrigger.ensures c.trigger_statement.ensures.does
 
 pub returns-in-Lock-clause-carries : goal.returns-in-Lock-clause-carries
-returns-in-Lock-clause-carries c = block_carried c.args.k.now c.lock.new.k c.blocking-in-Lock.result c.args.p c.args.s c.args.statement.now _ c.in-Lock.is refl c.lock.result c.blocking-in-Lock.ensures c.lock.ensures.does c.lock.ensures.stays
+returns-in-Lock-clause-carries c = taking_carried c.args.k.now c.lock.new.k c.taking-in-Lock.result c.args.p c.args.s c.args.statement.now _ c.in-Lock.is refl c.lock.result c.taking-in-Lock.ensures c.lock.ensures.does
 
 pub returns-in-SemWait-clause-carries : goal.returns-in-SemWait-clause-carries
-returns-in-SemWait-clause-carries c = block_carried c.args.k.now c.sem_wait.new.k c.blocking-in-SemWait.result c.args.p c.args.s c.args.statement.now _ c.in-SemWait.is refl c.sem_wait.result c.blocking-in-SemWait.ensures c.sem_wait.ensures.does c.sem_wait.ensures.stays
+returns-in-SemWait-clause-carries c = taking_carried c.args.k.now c.sem_wait.new.k c.taking-in-SemWait.result c.args.p c.args.s c.args.statement.now _ c.in-SemWait.is refl c.sem_wait.result c.taking-in-SemWait.ensures c.sem_wait.ensures.does
 
 pub returns-in-Post-clause-carries : goal.returns-in-Post-clause-carries
-returns-in-Post-clause-carries c = block_carried c.args.k.now c.post.new.k c.blocking-in-Post.result c.args.p c.args.s c.args.statement.now _ c.in-Post.is refl c.post.result c.blocking-in-Post.ensures c.post.ensures.does c.post.ensures.stays
+returns-in-Post-clause-carries c = taking_carried c.args.k.now c.post.new.k c.taking-in-Post.result c.args.p c.args.s c.args.statement.now _ c.in-Post.is refl c.post.result c.taking-in-Post.ensures c.post.ensures.does
 
 pub returns-in-Spawn-clause-carries : goal.returns-in-Spawn-clause-carries
-returns-in-Spawn-clause-carries c = block_carried c.args.k.now c.spawn.new.k c.blocking-in-Spawn.result c.args.p c.args.s c.args.statement.now _ c.in-Spawn.is refl c.spawn.result c.blocking-in-Spawn.ensures c.spawn.ensures.does c.spawn.ensures.stays
+returns-in-Spawn-clause-carries c = taking_carried c.args.k.now c.spawn.new.k c.taking-in-Spawn.result c.args.p c.args.s c.args.statement.now _ c.in-Spawn.is refl c.spawn.result c.taking-in-Spawn.ensures c.spawn.ensures.does
 
 pub throw-requires-clause-free : goal.throw-requires-clause-free
 throw-requires-clause-free c = c.requires.free c.in-Throw.e (ap statement_of c.in-Throw.is)
@@ -122,7 +122,7 @@ pub returns-in-Try-clause-carries : goal.returns-in-Try-clause-carries
 returns-in-Try-clause-carries c = try_carried c.args.k.now c.begin_try.new.k c.args.p c.args.s c.in-Try.b c.args.statement.now _ c.in-Try.is c.requires.there c.begin_try.ensures.does
 
 pub returns-in-Make-clause-carries : goal.returns-in-Make-clause-carries
-returns-in-Make-clause-carries c = block_carried c.args.k.now c.make.new.k c.blocking-in-Make.result c.args.p c.args.s c.args.statement.now _ c.in-Make.is refl c.make.result c.blocking-in-Make.ensures c.make.ensures.does c.make.ensures.stays
+returns-in-Make-clause-carries c = taking_carried c.args.k.now c.make.new.k c.taking-in-Make.result c.args.p c.args.s c.args.statement.now _ c.in-Make.is refl c.make.result c.taking-in-Make.ensures c.make.ensures.does
 
 pub returns-in-Acquire-clause-carries : goal.returns-in-Acquire-clause-carries
 returns-in-Acquire-clause-carries c = plain_carried c.args.k.now c.acquire.new.k c.plain-in-Acquire.result c.args.p c.args.s c.args.statement.now _ c.in-Acquire.is refl c.acquire.result c.plain-in-Acquire.ensures c.acquire.ensures.does
@@ -152,7 +152,7 @@ pub returns-in-ThrowIt-clause-carries : goal.returns-in-ThrowIt-clause-carries
 returns-in-ThrowIt-clause-carries c = plain_carried c.args.k.now c.throw_it.new.k c.plain-in-ThrowIt.result c.args.p c.args.s c.args.statement.now _ c.in-ThrowIt.is refl c.throw_it.result c.plain-in-ThrowIt.ensures c.throw_it.ensures.does
 
 pub returns-in-NbTransport-clause-carries : goal.returns-in-NbTransport-clause-carries
-returns-in-NbTransport-clause-carries c = send_carried c.args.k.now c.nb_transport.new.k c.storing.result c.args.p c.args.s c.args.statement.now _ c.in-NbTransport.is refl c.nb_transport.result c.storing.ensures c.nb_transport.ensures.calls
+returns-in-NbTransport-clause-carries c = sending_carried c.args.k.now c.nb_transport.new.k c.taking-in-NbTransport.result c.args.p c.args.s c.args.statement.now _ c.in-NbTransport.is refl c.nb_transport.result c.taking-in-NbTransport.ensures c.nb_transport.ensures.calls
 
 pub returns-in-BTransport-clause-carries : goal.returns-in-BTransport-clause-carries
-returns-in-BTransport-clause-carries c = send_carried c.args.k.now c.b_transport.new.k c.storing-in-BTransport.result c.args.p c.args.s c.args.statement.now _ c.in-BTransport.is refl c.b_transport.result c.storing-in-BTransport.ensures c.b_transport.ensures.calls
+returns-in-BTransport-clause-carries c = sending_carried c.args.k.now c.b_transport.new.k c.taking-in-BTransport.result c.args.p c.args.s c.args.statement.now _ c.in-BTransport.is refl c.b_transport.result c.taking-in-BTransport.ensures c.b_transport.ensures.calls
