@@ -1,6 +1,6 @@
 -- A step of the evaluation phase.
 use Rattle.std.proofs.Common.{◌≡◌, ◌||◌, ℕ, Bool, true, false, List, [], ◌∷◌, reverse, Option, Some, None, Result, Ok, Err, refl, sym, ap, ◌∙◌, subst, true≢false, eq-eqb}
-use Rattle.std.specs.Prelude.{is_some, IsSomeAnd}
+use Rattle.std.specs.Prelude.{is_some, if◌then◌else◌}
 use Rattle.std.proofs.lemmas.List.{reverse-append}
 use Rattle.std.specs.FinSet as set
 use Rattle.flat_design.specs.declared.faults.RunFault.{RunFault}
@@ -8,16 +8,15 @@ use Rattle.kernel_phases.specs.SimModel.Configuration.{Config, Instance, instanc
 use Rattle.kernel_phases.specs.SimModel.Waits.{holds}
 use Rattle.kernel_phases.specs.SimModel.Statements.{statement_step}
 use Rattle.kernel_phases.specs.SimModel.Phases.{update_step}
-use Rattle.kernel_phases.specs.SimModel.Steps.{takes, as_outcome, evaluate, taken_if, taking}
-use Rattle.kernel_phases.specs.SimModel.Runs.{Chooser, picked, held_then}
+use Rattle.kernel_phases.specs.SimModel.Steps.{went, takes, as_outcome, evaluate, taken_if, taking}
+use Rattle.kernel_phases.specs.ReadySet.Ready.{rising, in_order}
 use Rattle.std.specs.FinMap as map
 use Rattle.kernel_phases.specs.InstanceTable.declared.instances.Instance.{Instance as Entry}
 use Rattle.kernel_phases.specs.KernelProcesses.Seen.{Seen, seen, shown_at}
 use Rattle.kernel_phases.specs.KernelProcesses.Seen.{body_at as kept_at}
 use Rattle.kernel_phases.specs.KernelProcesses.Sound.{IsNobody, FitsAs, Fits}
 use Rattle.kernel_phases.specs.KernelProcesses.declared.parts.Process.{Process}
-use Rattle.kernel_phases.proofs.Chosen.{alike}
-use Rattle.kernel_phases.proofs.Sure.{sure}
+use Rattle.kernel_phases.proofs.Orders.{same_order}
 use Rattle.kernel_phases.specs.KernelState.Processes.{Tells}
 use Rattle.kernel_phases.specs.KernelState.Kernel.{Shows, StandsFor, IsSound, whole_design}
 use Rattle.kernel_phases.specs.KernelState.Moves.{Moves, IsOnTop, Lives}
@@ -29,11 +28,13 @@ use Rattle.kernel_steps.specs.declared.answers.StepAnswer.{StepAnswer}
 use Rattle.kernel_steps.specs.declared.answers.StepAnswer.TheVariants as answer
 use Rattle.kernel_steps.proofs.Prints.{lives_still}
 use Rattle.kernel_runs.specs.Taken.{taking_of, FollowsTaking, Takes}
-use Rattle.kernel_runs.specs.Made.{MadeAs, Makes, TookIt, RuledAs, Rules, PickedNone, made_of}
+use Rattle.kernel_runs.specs.Made.{MadeAs, Makes, TookIt, AskedAs, Asks, made_of, taken_as}
 use Rattle.kernel_runs.specs.declared.answers.Telling.TheVariants as telling
+use Rattle.kernel_runs.specs.declared.answers.Made.{Made}
 use Rattle.kernel_runs.specs.declared.answers.Made.TheVariants as made
 use Rattle.kernel_runs.proofs.Quiet.{quiet_goes, update_quiet}
 use Rattle.kernel_runs.proofs.Turns.{taking_tells}
+use Rattle.kernel_runs.proofs.Choices.{not_asked}
 
 -- an instance that has not ended is there
 pub lives_there : (k : Kernel) (c : Config) (p : ℕ) → StandsFor k c → Lives k p → is_some (instance_at c p) ≡ true
@@ -60,12 +61,6 @@ taking_runs c d p taken = by (holds c.processes.runnable p) refl taken
     by true is e = is
     by false is e = cc
 
-taken_is_some : (c : Config) (p : ℕ) → holds c.processes.runnable p ≡ true → taking c p ≡ None → ⊥
-taken_is_some c p runs none = by (ap (taken_if c p) (sym runs) ∙ none)
-  where
-    by : taken_if c p true ≡ None → ⊥
-    by e = cc
-
 -- what is there is something
 there_when : (o : Option Instance) → is_some o ≡ true → (i : Instance) × (o ≡ Some i)
 there_when None is = absurd (true≢false (sym is))
@@ -85,20 +80,17 @@ module _ (k new : Kernel) where
     told_made answer.NoMemory (Ok d) t = t
     told_made answer.NoMemory (Err f) t = t.1
 
-  pub top_made : (p : ℕ) (a : StepAnswer) → IsSound k → IsOnTop k p → MakesStep k new a p → Makes k new (made_of a) (λ c. evaluate c c.processes.stack c.processes.runnable)
-  top_made p a sound top makes c h once =
-      let there = there_when (instance_at c p) (lives_there k c p h (lives_on_top k p sound top)) in
-      let is : c.processes.stack ≡ p ∷ reverse top.0 = h.processes.stack ∙ ap reverse top.1 ∙ reverse-append top.0 (p ∷ []) in
-      subst (λ xs. MadeAs new c (evaluate c xs c.processes.runnable) (made_of a)) (sym is) (told_made c there.0 a (statement_step c p) (makes c there.0 h there.1))
+  module _ (p : ℕ) (top : IsOnTop k p) where
+    stack_on : (c : Config) → StandsFor k c → c.processes.stack ≡ p ∷ reverse top.0
+    stack_on c h = h.processes.stack ∙ ap reverse top.1 ∙ reverse-append top.0 (p ∷ [])
 
-  top_asks : (held : Chooser) (c : Config) (a : StepAnswer) → RuledAs held held c (made_of a)
-  top_asks held c answer.Went = refl
-  top_asks held c (answer.Printed p s v) = refl
-  top_asks held c (answer.Fault g) = refl
-  top_asks held c answer.NoMemory = refl
+    pub top_made : (a : StepAnswer) → IsSound k → MakesStep k new a p → Makes k new (made_of a) (λ c. evaluate c c.processes.stack c.processes.runnable)
+    top_made a sound makes c h =
+        let there = there_when (instance_at c p) (lives_there k c p h (lives_on_top k p sound top)) in
+        subst (λ xs. MadeAs new c (evaluate c xs c.processes.runnable) (made_of a)) (sym (stack_on c h)) (told_made c there.0 a (statement_step c p) (makes c there.0 h there.1))
 
-  pub top_rules : (held : Chooser) (a : StepAnswer) → Rules k held held (made_of a)
-  top_rules held a c h once = top_asks held c a
+    pub top_asks : {C : Type 0} (picks : C → List ℕ → Option ℕ) (later : C → List ℕ → C) (held : C) (m : Made) → Asks picks later k held held m (λ c. evaluate c c.processes.stack c.processes.runnable)
+    top_asks picks later held m c h = subst (λ xs. AskedAs picks later held held c m (evaluate c xs c.processes.runnable)) (sym (stack_on c h)) (not_asked picks later held m c (statement_step c p))
 
 -- ---- with no instance active
 
@@ -111,11 +103,17 @@ none_runs (x ∷ xs) each = absurd (true≢false (sym (ap (λ b. b || holds xs x
 
 module _ (k : Kernel) (nobody : k.schedule.stack.items ≡ []) where
   -- nobody is runnable: the update phase follows
-  pub update_made : (new : Kernel) → ((q : ℕ) → set.contains k.schedule.ready.members q ≡ false) → Moves k new update_step → Makes k new (made.Went telling.Nothing) (λ c. evaluate c c.processes.stack c.processes.runnable)
-  update_made new none moves c h once =
-      let empty : c.processes.runnable ≡ [] = none_runs c.processes.runnable (λ q. sym (h.processes.ready q) ∙ none q) in
-      subst (λ xs. MadeAs new c (evaluate c xs c.processes.runnable) (made.Went telling.Nothing)) (sym (stack_is k c h nobody))
-      (subst (λ xs. MadeAs new c (evaluate c [] xs) (made.Went telling.Nothing)) (sym empty) (quiet_goes new c (update_step c) (update_quiet c) (moves c h)))
+  module _ (none : (q : ℕ) → set.contains k.schedule.ready.members q ≡ false) where
+    is_update : (c : Config) → StandsFor k c → evaluate c c.processes.stack c.processes.runnable ≡ went (update_step c)
+    is_update c h =
+        ap (λ xs. evaluate c xs c.processes.runnable) (stack_is k c h nobody)
+        ∙ ap (evaluate c []) (none_runs c.processes.runnable (λ q. sym (h.processes.ready q) ∙ none q))
+
+    pub update_made : (new : Kernel) → Moves k new update_step → Makes k new (made.Went telling.Nothing) (λ c. evaluate c c.processes.stack c.processes.runnable)
+    update_made new moves c h = subst (λ o. MadeAs new c o (made.Went telling.Nothing)) (sym (is_update c h)) (quiet_goes new c (update_step c) (update_quiet c) (moves c h))
+
+    pub update_asks : {C : Type 0} (picks : C → List ℕ → Option ℕ) (later : C → List ℕ → C) (held : C) (m : Made) → Asks picks later k held held m (λ c. evaluate c c.processes.stack c.processes.runnable)
+    update_asks picks later held m c h = subst (AskedAs picks later held held c m) (sym (is_update c h)) refl
 
   -- somebody is: the step is a taking
   module _ (r : ℕ) (runs : set.contains k.schedule.ready.members r ≡ true) where
@@ -126,42 +124,60 @@ module _ (k : Kernel) (nobody : k.schedule.stack.items ≡ []) where
     is_taking : (c : Config) → StandsFor k c → evaluate c c.processes.stack c.processes.runnable ≡ takes
     is_taking c h = ap (λ xs. evaluate c xs c.processes.runnable) (stack_is k c h nobody) ∙ takes_one c c.processes.runnable (sym (h.processes.ready r) ∙ runs)
 
-    module _ (sound : IsSound k) (new : Kernel) (held : Chooser) where
-      took : (c : Config) (p : ℕ) (o : Option ℕ) (t : Option Config) → StandsFor k c → taking_of c o ≡ t → FollowsTaking k new (Some p) o t → (o ≡ Some p) × TookIt new p c
-      took c p o None h is follows = absurd follows
-      took c p o (Some d) h is follows =
+    module _ (new : Kernel) (o : Option ℕ) where
+      took : IsSound k → (c : Config) (p : ℕ) (t : Option Config) → StandsFor k c → taking_of c o ≡ t → FollowsTaking k new (Some p) o t → TookIt new p c
+      took sound c p None h is follows = absurd follows
+      took sound c p (Some d) h is follows =
           let taken : taking c p ≡ Some d = ap (taking_of c) (sym follows.0) ∙ is in
           let lives = ready_lives k p sound (h.processes.ready p ∙ taking_runs c d p taken) in
           let there = there_when (instance_at c p) (lives_there k c p h lives) in
           let tells = taking_tells c d p there.0 there.1 (lives_still k c p there.0 h there.1 lives) taken in
-          (follows.0, record { to = d; taken = taken; stands = follows.1; script = tells.0; turn = tells.1 })
+          record { to = d; taken = taken; stands = follows.1; script = tells.0; turn = tells.1 }
 
-      untaken : (c : Config) (o : Option ℕ) (t : Option Config) → taking_of c o ≡ t → FollowsTaking k new None o t → (new ≡ k) × PickedNone c o
-      untaken c None None is follows = (follows, tt)
-      untaken c (Some p) None is follows = (follows, is)
-      untaken c o (Some d) is follows = absurd follows
+      pub took_made : IsSound k → (p : ℕ) → Takes k new o (Some p) → Makes k new (made.Took p) (λ c. evaluate c c.processes.stack c.processes.runnable)
+      took_made sound p follows c h = subst (λ x. MadeAs new c x (made.Took p)) (sym (is_taking c h)) (took sound c p (taking_of c o) h refl (follows c h))
 
-      pub took_made : (p : ℕ) → Takes k new held (Some p) → Makes k new (made.Took p) (λ c. evaluate c c.processes.stack c.processes.runnable)
-      took_made p follows c h once =
-          subst (λ o. MadeAs new c o (made.Took p)) (sym (is_taking c h)) (took c p (picked held c.processes.runnable) (taking_of c (picked held c.processes.runnable)) h refl (follows c h once)).1
+      as_before : (t : Option Config) → FollowsTaking k new None o t → new ≡ k
+      as_before None follows = follows
+      as_before (Some d) follows = absurd follows
 
-      pub took_rules : (p : ℕ) → Takes k new held (Some p) → Rules k held (held_then held) (made.Took p)
-      took_rules p follows c h once = ((took c p (picked held c.processes.runnable) (taking_of c (picked held c.processes.runnable)) h refl (follows c h once)).0, refl)
+      pub untaken_made : Takes k new o None → Makes k new made.NotReady (λ c. evaluate c c.processes.stack c.processes.runnable)
+      untaken_made follows c h = subst (λ x. MadeAs new c x made.NotReady) (sym (is_taking c h)) (subst (λ l. StandsFor l c) (sym (as_before (taking_of c o) (follows c h))) h)
 
-      pub untaken_made : Takes k new held None → Makes k new made.NotReady (λ c. evaluate c c.processes.stack c.processes.runnable)
-      untaken_made follows c h once =
-          subst (λ o. MadeAs new c o made.NotReady) (sym (is_taking c h))
-          (subst (λ l. StandsFor l c) (sym (untaken c (picked held c.processes.runnable) (taking_of c (picked held c.processes.runnable)) refl (follows c h once)).0) h)
+    -- the chooser is asked for it
+    answer_if : ℕ → Bool → Made
+    answer_if p b = if b then made.Took p else made.NotReady
 
-      -- a rule that chooses itself picks one of the runnable ones, whose taking there is
-      never_none : (c : Config) → StandsFor k c → (o : Option ℕ) → IsSomeAnd o (λ p. set.contains k.schedule.ready.members p ≡ true) → PickedNone c o → ⊥
-      never_none c h None member none = member
-      never_none c h (Some p) member none = taken_is_some c p (sym (h.processes.ready p) ∙ member) none
+    took_as : (new : Kernel) (c : Config) (p : ℕ) (o : Option ℕ) (t : Option Config) → taking_of c o ≡ t → FollowsTaking k new (Some p) o t → made.Took p ≡ taken_as c o
+    unfolding answer_if
+    took_as new c p o None is follows = absurd follows
+    took_as new c p o (Some d) is follows =
+        sym (ap (taken_as c) follows.0 ∙ ap (answer_if p) (taking_runs c d p (ap (taking_of c) (sym follows.0) ∙ is)))
 
-      pub untaken_rules : (after : Chooser) → Takes k new held None → Rules k held after made.NotReady
-      untaken_rules after follows c h once =
-          let none = (untaken c (picked held c.processes.runnable) (taking_of c (picked held c.processes.runnable)) refl (follows c h once)).1 in (
-            none,
-            λ own. never_none c h (picked held c.processes.runnable)
-                (subst (λ o. IsSomeAnd o (λ p. set.contains k.schedule.ready.members p ≡ true)) (sym (alike held k.schedule.ready.members c.processes.runnable (λ q. h.processes.ready q) once)) (sure held k.schedule.ready.members r own runs)) none,
-          )
+    untaken_as : (new : Kernel) (c : Config) (o : Option ℕ) (t : Option Config) → taking_of c o ≡ t → FollowsTaking k new None o t → made.NotReady ≡ taken_as c o
+    unfolding answer_if
+    untaken_as new c None t is follows = refl
+    untaken_as new c (Some p) (Some d) is follows = absurd follows
+    untaken_as new c (Some p) None is follows = by (holds c.processes.runnable p) is
+      where
+        by : (b : Bool) → taken_if c p b ≡ None → made.NotReady ≡ answer_if p b
+        by true none = cc
+        by false none = refl
+
+    module _ {C : Type 0} (picks : C → List ℕ → Option ℕ) (later : C → List ℕ → C) (held : C) where
+      shown : (c : Config) → StandsFor k c → rising k.schedule.ready.members ≡ in_order c.processes.runnable
+      shown c h = sym (same_order k.schedule.ready.members c.processes.runnable (λ q. h.processes.ready q))
+
+      asked : (m : Made) (c : Config) → StandsFor k c → m ≡ taken_as c (picks held (rising k.schedule.ready.members))
+          → AskedAs picks later held (later held (rising k.schedule.ready.members)) c m (evaluate c c.processes.stack c.processes.runnable)
+      asked m c h is =
+          subst (AskedAs picks later held (later held (rising k.schedule.ready.members)) c m) (sym (is_taking c h))
+          (is ∙ ap (λ xs. taken_as c (picks held xs)) (shown c h), ap (later held) (shown c h))
+
+      pub took_asks : (new : Kernel) (p : ℕ) → Takes k new (picks held (rising k.schedule.ready.members)) (Some p)
+          → Asks picks later k held (later held (rising k.schedule.ready.members)) (made.Took p) (λ c. evaluate c c.processes.stack c.processes.runnable)
+      took_asks new p follows c h = let o = picks held (rising k.schedule.ready.members) in asked (made.Took p) c h (took_as new c p o (taking_of c o) refl (follows c h))
+
+      pub untaken_asks : (new : Kernel) → Takes k new (picks held (rising k.schedule.ready.members)) None
+          → Asks picks later k held (later held (rising k.schedule.ready.members)) made.NotReady (λ c. evaluate c c.processes.stack c.processes.runnable)
+      untaken_asks new follows c h = let o = picks held (rising k.schedule.ready.members) in asked made.NotReady c h (untaken_as new c o (taking_of c o) refl (follows c h))

@@ -1,14 +1,14 @@
 -- What a step of a session has to be.
-use Rattle.std.specs.Prelude.{◌≡◌, ◌≤◌, ℕ, false, List, [], ◌∷◌, ◌++◌, slice_get, Option, Some, None}
+use Rattle.std.specs.Prelude.{◌≡◌, ◌≤◌, ℕ, false, List, [], ◌∷◌, ◌++◌, slice_get, Option, Some, None, if◌then◌else◌}
 use Rattle.flat_design.specs.declared.design.Visible.{Visible}
 use Rattle.flat_design.specs.declared.faults.RunFault.{RunFault}
+use Rattle.kernel_phases.specs.ReadySet.Ready.{in_order}
 use Rattle.kernel_phases.specs.SimModel.Clean.{times}
 use Rattle.kernel_phases.specs.SimModel.Configuration.{Config, Instance, Told, line, turn, instance_at, path_of}
 use Rattle.kernel_phases.specs.SimModel.Phases.{visible_value}
 use Rattle.kernel_phases.specs.SimModel.Steps.{Outcome, went, faulted, takes, ended, show_line, turn_line, taking}
-use Rattle.kernel_phases.specs.SimModel.Runs.{Chooser, picked, held_then}
+use Rattle.kernel_phases.specs.SimModel.Waits.{holds}
 use Rattle.kernel_phases.specs.SimModel.declared.plain.Command.{Command}
-use Rattle.kernel_phases.specs.Own.{ChoosesItself}
 use Rattle.kernel_phases.specs.KernelState.Kernel.{StandsFor}
 use Rattle.kernel_phases.specs.KernelState.declared.kernel.Kernel.{Kernel}
 use Rattle.kernel_steps.specs.Told.{AddsLine}
@@ -95,12 +95,9 @@ MadeAs new c outcome (made.Fault f) = IsFault new f c outcome
 MadeAs new c outcome made.NotReady = IsUntaken new c outcome
 MadeAs new c outcome made.NoMemory = StandsFor new c
 
--- whatever configuration the kernel stood for, in whose runnable list nothing stands twice
-abbrev pub NoDoubles : Config → Type 0
-NoDoubles c = (q : ℕ) → times q c.processes.runnable ≤ 1
-
+-- whatever configuration the kernel stood for
 abbrev pub Makes : Kernel → Kernel → Made → (Config → Outcome) → Type 0
-Makes old new result f = (c : Config) → StandsFor old c → NoDoubles c → MadeAs new c (f c) result
+Makes old new result f = (c : Config) → StandsFor old c → MadeAs new c (f c) result
 
 -- the same of a step that may take a command off the script, whose rest is then this
 abbrev pub StepAs : Kernel → List Command → Config → Outcome → Made → Type 0
@@ -113,26 +110,31 @@ StepAs new script c outcome made.NoMemory = StandsFor new c × (script ≡ c.scr
 
 abbrev pub StepsOn : Kernel → Kernel → List Command → List Command → Made → (Config → Outcome) → Type 0
 StepsOn old new before after result f =
-    (c : Config) → StandsFor old c → NoDoubles c → c.script ≡ before → StepAs new after c (f c) result
+    (c : Config) → StandsFor old c → c.script ≡ before → StepAs new after c (f c) result
 
--- The rule is asked once in a taking step, and in no other: the process that was taken is what it picked, and it holds then what
--- it holds after that. Where none was taken, it picked none that is runnable.
-abbrev pub PickedNone : Config → Option ℕ → Type 0
-PickedNone c None = Unit {0}
-PickedNone c (Some p) = taking c p ≡ None
+-- what a step that takes a process answers where this is picked: there is no taking where none is picked, or one that is not
+-- runnable
+abbrev pub taken_as : Config → Option ℕ → Made
+taken_as c None = made.NotReady
+taken_as c (Some p) = if holds c.processes.runnable p then made.Took p else made.NotReady
 
-abbrev pub RuledAs : Chooser → Chooser → Config → Made → Type 0
-RuledAs before after c (made.Went t) = after ≡ before
-RuledAs before after c (made.Took p) = (picked before c.processes.runnable ≡ Some p) × (after ≡ held_then before)
-RuledAs before after c made.Ended = after ≡ before
-RuledAs before after c (made.Fault f) = after ≡ before
-RuledAs before after c made.NotReady = PickedNone c (picked before c.processes.runnable) × (ChoosesItself before → ⊥)
-RuledAs before after c made.NoMemory = after ≡ before
+-- A chooser is asked once in a step that takes a process, with the runnable serials in rising order, and the step answers by what
+-- it picks; in every other step it is as before.
+module _ {C : Type 0} (picks : C → List ℕ → Option ℕ) (later : C → List ℕ → C) where
+  abbrev pub AskedAs : C → C → Config → Made → Outcome → Type 0
+  AskedAs before after c m (went d) = after ≡ before
+  AskedAs before after c m (faulted f) = after ≡ before
+  AskedAs before after c m takes = (m ≡ taken_as c (picks before (in_order c.processes.runnable))) × (after ≡ later before (in_order c.processes.runnable))
+  AskedAs before after c m ended = after ≡ before
 
-abbrev pub Rules : Kernel → Chooser → Chooser → Made → Type 0
-Rules old before after result = (c : Config) → StandsFor old c → NoDoubles c → RuledAs before after c result
+  abbrev pub Asks : Kernel → C → C → Made → (Config → Outcome) → Type 0
+  Asks old before after result f = (c : Config) → StandsFor old c → AskedAs before after c result (f c)
 
--- a step that asks no rule
+-- in its runnable list nothing stands twice, as in every run
+abbrev pub NoDoubles : Config → Type 0
+NoDoubles c = (q : ℕ) → times q c.processes.runnable ≤ 1
+
+-- a step that takes no process
 abbrev pub IsPlain : Made → Type 0
 IsPlain (made.Went t) = Unit {0}
 IsPlain (made.Took p) = ⊥

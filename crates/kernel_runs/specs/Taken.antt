@@ -1,9 +1,7 @@
 -- What the taking of the process that is picked makes of a kernel.
-use Rattle.std.specs.Prelude.{◌≡◌, ◌≤◌, ℕ, Option, Some, None}
-use Rattle.kernel_phases.specs.SimModel.Clean.{times}
+use Rattle.std.specs.Prelude.{◌≡◌, ℕ, Option, Some, None}
 use Rattle.kernel_phases.specs.SimModel.Configuration.{Config}
 use Rattle.kernel_phases.specs.SimModel.Steps.{taking}
-use Rattle.kernel_phases.specs.SimModel.Runs.{Chooser, picked}
 use Rattle.kernel_phases.specs.KernelState.Kernel.{StandsFor}
 use Rattle.kernel_phases.specs.KernelState.declared.kernel.Kernel.{Kernel}
 
@@ -20,7 +18,6 @@ FollowsTaking old new (Some p) picks None = ⊥
 FollowsTaking old new None picks (Some d) = ⊥
 FollowsTaking old new None picks None = new ≡ old
 
--- the taking of what a rule picks from the runnable list, which has no doubles
-abbrev pub Takes : Kernel → Kernel → Chooser → Option ℕ → Type 0
-Takes old new k answer = (c : Config) → StandsFor old c → ((q : ℕ) → times q c.processes.runnable ≤ 1)
-    → FollowsTaking old new answer (picked k c.processes.runnable) (taking_of c (picked k c.processes.runnable))
+-- for every configuration that the kernel stood for
+abbrev pub Takes : Kernel → Kernel → Option ℕ → Option ℕ → Type 0
+Takes old new picks answer = (c : Config) → StandsFor old c → FollowsTaking old new answer picks (taking_of c picks)

@@ -28,7 +28,7 @@ pub enum Made {
     Ended,
     /// The step is a run fault; nothing has changed.
     Fault(RunFault),
-    /// The step takes a process, and the rule picked none that is runnable; of the kernel nothing has changed.
+    /// The step takes a process, and the chooser picked none that is runnable; of the kernel nothing has changed.
     NotReady,
     /// Memory was refused; nothing has changed.
     NoMemory,

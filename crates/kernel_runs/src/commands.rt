@@ -34,7 +34,6 @@ pub(crate) fn next_command(k: &mut Kernel, script: &[Command], place: &mut usize
     requires sound { IsSound k.old }
     requires within { place.old ≤ length script.now }
     ensures steps { StepsOn k.old k.new (drop place.old script.now) (drop place.new script.now) result (λ c. spec.next_command c c.script) }
-    ensures plain { IsPlain result }
     ensures sound { IsSound k.new }
     ensures within { place.new ≤ length script.now }
 {

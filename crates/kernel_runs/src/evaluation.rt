@@ -1,11 +1,10 @@
 //! The evaluation phase.
 ghost use Rattle.std.specs.Prelude.{◌≡◌, []};
 ghost use Rattle.kernel_phases.specs.SimModel.Steps.{evaluate};
-ghost use Rattle.kernel_phases.specs.SimModel.Runs.{Chooser};
 ghost use Rattle.kernel_phases.specs.KernelState.Kernel.{IsSound};
 ghost use Rattle.kernel_phases.specs.KernelState.Moves.{IsOnTop};
 ghost use Rattle.kernel_runs.specs.Asked.{MayStep};
-ghost use Rattle.kernel_runs.specs.Made.{Makes, Rules};
+ghost use Rattle.kernel_runs.specs.Made.{Makes, Asks};
 
 use crate::answers::{Made, Telling, of_instance};
 use crate::takings::take_next;
@@ -13,16 +12,16 @@ use kernel_phases::kernel_bodies_api::Program;
 use kernel_phases::kernel_processes_api::top;
 use kernel_phases::kernel_state_api::Kernel;
 use kernel_phases::ready_set_api::least_of_a_set;
-use kernel_phases::{Choosing, update};
+use kernel_phases::{Chooser, update};
 use kernel_steps::step_statement;
 use std::alloc::Global;
 
-/// With no instance active, the rule picks a runnable one, which is taken; with none runnable either the update phase follows.
-fn evaluate_next(k: &mut Kernel, choosing: &mut Choosing) -> Made
+/// With no instance active, the chooser picks a runnable one, which is taken; with none runnable either the update phase follows.
+fn evaluate_next<C: Chooser>(k: &mut Kernel, chooser: &mut C) -> Made
     requires sound { IsSound k.old }
     requires nobody { k.old.schedule.stack.items ≡ [] }
     ensures makes { Makes k.old k.new result (λ c. evaluate c c.processes.stack c.processes.runnable) }
-    ensures rules { Rules k.old choosing.old choosing.new result }
+    ensures asks { Asks C.picks C.later k.old chooser.old chooser.new result (λ c. evaluate c c.processes.stack c.processes.runnable) }
     ensures sound { IsSound k.new }
 {
     least_of_a_set();
@@ -31,7 +30,7 @@ fn evaluate_next(k: &mut Kernel, choosing: &mut Choosing) -> Made
             update(k);
             Made::Went(Telling::Nothing)
         }
-        Some(_) => match take_next(k, choosing) {
+        Some(_) => match take_next(k, chooser) {
             Some(p) => Made::Took(p),
             None => Made::NotReady,
         },
@@ -48,7 +47,6 @@ fn step_of_top(k: &mut Kernel, program: &Program, alloc: Global, p: u32) -> Made
     requires asked { MayStep k.old program.now }
     requires top { IsOnTop k.old p }
     ensures makes { Makes k.old k.new result (λ c. evaluate c c.processes.stack c.processes.runnable) }
-    ensures rules { (held : Chooser) → Rules k.old held held result }
     ensures sound { IsSound k.new }
 {
     if k.made > MOST_MADE {
@@ -58,21 +56,21 @@ fn step_of_top(k: &mut Kernel, program: &Program, alloc: Global, p: u32) -> Made
 }
 
 /// A step of the evaluation phase (IEEE 1666-2011, 4.2.1.2): one of the instance on top; with none active, the taking of the
-/// runnable one that the rule picks; with none runnable either, the update phase.
-pub(crate) fn evaluate(
+/// runnable one that the chooser picks; with none runnable either, the update phase.
+pub(crate) fn evaluate<C: Chooser>(
     k: &mut Kernel,
     program: &Program,
     alloc: Global,
-    choosing: &mut Choosing,
+    chooser: &mut C,
 ) -> Made
     requires sound { IsSound k.old }
     requires asked { MayStep k.old program.now }
     ensures makes { Makes k.old k.new result (λ c. evaluate c c.processes.stack c.processes.runnable) }
-    ensures rules { Rules k.old choosing.old choosing.new result }
+    ensures asks { Asks C.picks C.later k.old chooser.old chooser.new result (λ c. evaluate c c.processes.stack c.processes.runnable) }
     ensures sound { IsSound k.new }
 {
     match top(&k.schedule) {
         Some(p) => step_of_top(k, program, alloc, p),
-        None => evaluate_next(k, choosing),
+        None => evaluate_next(k, chooser),
     }
 }

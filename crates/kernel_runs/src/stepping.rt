@@ -7,7 +7,7 @@ ghost use Rattle.kernel_phases.specs.KernelState.Kernel.{IsSound};
 ghost use Rattle.kernel_phases.specs.Due.{HasRoom};
 ghost use Rattle.kernel_phases.specs.Fresh.{IsFresh};
 ghost use Rattle.kernel_runs.specs.Asked.{MayStep};
-ghost use Rattle.kernel_runs.specs.Made.{Makes, StepsOn, Rules, IsPlain};
+ghost use Rattle.kernel_runs.specs.Made.{Makes, StepsOn, Asks};
 
 use crate::answers::{Made, Telling};
 use crate::commands::next_command;
@@ -15,7 +15,7 @@ use crate::evaluation::evaluate;
 use kernel_phases::kernel_bodies_api::Program;
 use kernel_phases::kernel_state_api::Kernel;
 use kernel_phases::sim_model_api::{Command, Phase};
-use kernel_phases::{Choosing, delta, initialize, timed};
+use kernel_phases::{Chooser, delta, initialize, timed};
 use std::alloc::{AllocError, Global};
 
 /// Room for all events in a list without members.
@@ -33,7 +33,6 @@ fn start(k: &mut Kernel, events: &mut Vec<u32>) -> Made
     requires fresh { IsFresh k.old }
     requires none { events.old.items ≡ [] }
     ensures makes { Makes k.old k.new result (λ c. spec.went (phases.initialization c)) }
-    ensures plain { IsPlain result }
     ensures none { events.new.items ≡ [] }
     ensures sound { IsSound k.new }
 {
@@ -51,7 +50,6 @@ fn notify(k: &mut Kernel, events: &mut Vec<u32>) -> Made
     requires sound { IsSound k.old }
     requires none { events.old.items ≡ [] }
     ensures makes { Makes k.old k.new result (λ c. spec.went (phases.delta_step c)) }
-    ensures plain { IsPlain result }
     ensures none { events.new.items ≡ [] }
     ensures sound { IsSound k.new }
 {
@@ -69,7 +67,6 @@ fn go_to_next_time(k: &mut Kernel, events: &mut Vec<u32>) -> Made
     requires sound { IsSound k.old }
     requires none { events.old.items ≡ [] }
     ensures makes { Makes k.old k.new result (λ c. spec.went (phases.timed_step c)) }
-    ensures plain { IsPlain result }
     ensures none { events.new.items ≡ [] }
     ensures sound { IsSound k.new }
 {
@@ -83,11 +80,11 @@ fn go_to_next_time(k: &mut Kernel, events: &mut Vec<u32>) -> Made
 }
 
 /// The step of the phase.
-fn go_on(
+fn go_on<C: Chooser>(
     k: &mut Kernel,
     program: &Program,
     alloc: Global,
-    choosing: &mut Choosing,
+    chooser: &mut C,
     events: &mut Vec<u32>,
 ) -> Made
     requires sound { IsSound k.old }
@@ -96,30 +93,30 @@ fn go_on(
     requires going { k.old.cycle.stopped ≡ false }
     requires none { events.old.items ≡ [] }
     ensures makes { Makes k.old k.new result spec.step }
-    ensures rules { Rules k.old choosing.old choosing.new result }
+    ensures asks { Asks C.picks C.later k.old chooser.old chooser.new result spec.step }
     ensures none { events.new.items ≡ [] }
     ensures sound { IsSound k.new }
 {
     match k.cycle.phase {
         Phase::Idle => unreachable!(),
         Phase::Start => start(k, events),
-        Phase::Evaluate => evaluate(k, program, alloc, choosing),
+        Phase::Evaluate => evaluate(k, program, alloc, chooser),
         Phase::Notify => notify(k, events),
         Phase::Timed => go_to_next_time(k, events),
     }
 }
 
-/// Makes the next step of a session: the next command of the script where the kernel is idle, else the step of its phase, in
-/// which the rule is asked for the process where one is to be taken (IEEE 1666-2011, 4.2.1). `place` counts the commands that
-/// were carried out; `events` is a list without members, whose room is used again. The program is the kernel's own, held
-/// apart, so that no statement is copied.
-pub fn make_step(
+/// Makes the next step of a session: the next command of the script where the kernel is idle, else the step of its phase
+/// (IEEE 1666-2011, 4.2.1). The chooser is asked once where the step takes a process, and in no other step. `place` counts the
+/// commands that were carried out; `events` is a list without members, whose room is used again. The program is the kernel's own,
+/// held apart, so that no statement is copied.
+pub fn make_step<C: Chooser>(
     k: &mut Kernel,
     program: &Program,
     alloc: Global,
     script: &[Command],
     place: &mut usize,
-    choosing: &mut Choosing,
+    chooser: &mut C,
     events: &mut Vec<u32>,
 ) -> Made
     requires sound { IsSound k.old }
@@ -127,7 +124,7 @@ pub fn make_step(
     requires within { place.old ≤ length script.now }
     requires none { events.old.items ≡ [] }
     ensures steps { StepsOn k.old k.new (drop place.old script.now) (drop place.new script.now) result spec.step }
-    ensures rules { Rules k.old choosing.old choosing.new result }
+    ensures asks { Asks C.picks C.later k.old chooser.old chooser.new result spec.step }
     ensures sound { IsSound k.new }
     ensures within { place.new ≤ length script.now }
     ensures none { events.new.items ≡ [] }
@@ -137,6 +134,6 @@ pub fn make_step(
     }
     match k.cycle.phase {
         Phase::Idle => next_command(k, script, place),
-        _ => go_on(k, program, alloc, choosing, events),
+        _ => go_on(k, program, alloc, chooser, events),
     }
 }
