@@ -1,5 +1,5 @@
 -- A session as far as it has come, and how it may end there.
-use Rattle.std.proofs.Common.{◌≡◌, ◌<◌, ◌≤◌, ◌+◌, ℕ, zero, suc, Bool, true, false, not, nat_le, List, [], ◌∷◌, ◌++◌, length, drop, Option, Some, None, Result, Ok, Err, refl, sym, ◌∙◌, ap, subst, arith, append_assoc, append-nil}
+use Rattle.std.proofs.Common.{◌≡◌, ◌<◌, ◌≤◌, ◌+◌, ℕ, zero, suc, true, false, nat_le, List, [], ◌∷◌, ◌++◌, length, drop, Option, Some, None, Result, Ok, Err, refl, sym, ◌∙◌, ap, subst, arith, append_assoc, append-nil}
 use Rattle.std.specs.Prelude.{slice_get, if◌then◌else◌}
 use Rattle.std.specs.List.{flat_map}
 use Rattle.std.proofs.lemmas.Bool.Decides.{nat_tests}
@@ -9,8 +9,7 @@ use Rattle.flat_design.specs.declared.faults.RunFault.{RunFault}
 use Rattle.flat_design.specs.declared.design.Design.{Design}
 use Rattle.flat_design.specs.declared.design.Visible.{Visible}
 use Rattle.vcd_trace.specs.SimModel.Configuration.{Config, Snapshot, Told}
-use Rattle.vcd_trace.specs.SimModel.Waits.{holds}
-use Rattle.vcd_trace.specs.SimModel.Steps.{Outcome, went, faulted, takes, ended, step, taken_if}
+use Rattle.vcd_trace.specs.SimModel.Steps.{Outcome, went, faulted, takes, ended, step}
 use Rattle.vcd_trace.specs.SimModel.Runs.{Chooser, least, greatest, seeded, listed, chooser_of, picked, held_then, first_of, rest_of, missing, stop_at, stop_taking, stop_within}
 use Rattle.vcd_trace.specs.SimModel.Texts.{shown, closing, choice_text}
 use Rattle.vcd_trace.specs.SimModel.Trace.{header, all_values, each_later, first_values, later_values, trace_text}
@@ -27,10 +26,11 @@ use Rattle.laws_reached.specs.Reached.{IsReached}
 use Rattle.vcd_trace.specs.LawsRuns.Added.{added}
 use Rattle.vcd_trace.specs.Traced.{trace_so_far, Keeps}
 use Rattle.vcd_trace.specs.declared.tracing.Tracing.{Tracing}
-use Rattle.kernel_runs.specs.Made.{StepsOn, Rules, PickedNone, GoesTo, TookTo, TookIt, IsFault, IsUntaken, IsOver, TellsOf, told_by_show}
+use Rattle.kernel_runs.specs.Made.{StepsOn, GoesTo, TookTo, TookIt, IsFault, IsUntaken, IsOver, TellsOf, told_by_show}
 use Rattle.kernel_runs.specs.declared.answers.Telling.{Telling}
 use Rattle.kernel_runs.specs.declared.answers.Telling.TheVariants as telling
 use Rattle.kernel_runs.specs.declared.answers.Made.TheVariants as made
+use Rattle.kernel_runs.proofs.Ruled.{AskedRule, AsksRule, rule_picked, rule_missed, only_lists_miss}
 use Rattle.session.specs.Cut.{cut_by}
 use Rattle.session.specs.Outputs.{Texts, behind, no_texts, Outer, Names, Took, IsFront, AreFronts, text_for}
 use Rattle.session.specs.Telling.{text_so_far, TextOf, TextOfTurn, TextFor, KeepsIf, HeaderOf, PointOf, LastPointOf, IsClosing, IsListOf, Recorded, Nothing, Finishes, stopped_by}
@@ -160,7 +160,7 @@ pub record Advanced (plan : Plan) (first : Config) (held : Chooser) (choices : L
 module _ (goes_on : GoesOn) (plan : Plan) (first : Config) (held : Chooser) (choices : List ℕ) (steps : ℕ) (k k' : Kernel) (script script' : List Command) (before after : Tracing) (AreNamed : Names → Type 0) (old mid : Outer) (g : Going plan first held choices steps k script before AreNamed old mid) where
   pub went_on : (t : Telling) (time : ℕ) → ((c : Config) → StandsFor k c → time ≡ c.cycle.now) → StepsOn k k' script script' (made.Went t) step
       → Advanced plan first held choices (steps + 1) g.at k' script' after (TextOf k' t) (TextFor plan.vcd (PointOf k' time before after))
-  went_on t time now moves = from (step g.at) refl (moves g.at g.stands (goes_on.once g.at g.sound) g.left)
+  went_on t time now moves = from (step g.at) refl (moves g.at g.stands g.left)
     where
       from : (o : Outcome) → step g.at ≡ o → GoesTo k' t (record g.at { script = script' }) o → Advanced plan first held choices (steps + 1) g.at k' script' after (TextOf k' t) (TextFor plan.vcd (PointOf k' time before after))
       from (went d) e h = record {
@@ -179,25 +179,34 @@ module _ (goes_on : GoesOn) (plan : Plan) (first : Config) (held : Chooser) (cho
       from takes e h = absurd h
       from ended e h = absurd h
 
-  pub took_one : (p : ℕ) (next : Chooser) → StepsOn k k' script script' (made.Took p) step → Rules k held next (made.Took p)
-      → Advanced plan first next (choices ++ p ∷ []) (steps + 1) g.at k' script' before (TextOfTurn k' plan.log p) Nothing
-  took_one p next moves rules = from (step g.at) refl (moves g.at g.stands (goes_on.once g.at g.sound) g.left)
+  -- the rule was not asked
+  pub as_before : (t : Telling) (next : Chooser) → StepsOn k k' script script' (made.Went t) step → AsksRule k held next (made.Went t) → next ≡ held
+  as_before t next moves asks = from (step g.at) (moves g.at g.stands g.left) (asks g.at g.stands)
     where
-      picks : (picked held g.at.processes.runnable ≡ Some p) × (next ≡ held_then held)
-      picks = rules g.at g.stands (goes_on.once g.at g.sound)
+      from : (o : Outcome) → GoesTo k' t (record g.at { script = script' }) o → AskedRule held next g.at (made.Went t) o → next ≡ held
+      from (went d) h asked = asked
+      from (faulted f) h asked = absurd h
+      from takes h asked = absurd h
+      from ended h asked = absurd h
 
+  pub took_one : (p : ℕ) (next : Chooser) → StepsOn k k' script script' (made.Took p) step → AsksRule k held next (made.Took p)
+      → Advanced plan first next (choices ++ p ∷ []) (steps + 1) g.at k' script' before (TextOfTurn k' plan.log p) Nothing
+  took_one p next moves asks = from (step g.at) refl (moves g.at g.stands g.left)
+    where
       from : (o : Outcome) → step g.at ≡ o → TookTo k' p g.at o × (script' ≡ g.at.script) → Advanced plan first next (choices ++ p ∷ []) (steps + 1) g.at k' script' before (TextOfTurn k' plan.log p) Nothing
       from (went d) e h = absurd h.0
       from (faulted f) e h = absurd h.0
       from takes e h =
           let took : TookIt k' p g.at = h.0 in
+          let asked = subst (AskedRule held next g.at (made.Took p)) e (asks g.at g.stands) in
+          let picks : picked held g.at.processes.runnable ≡ Some p = rule_picked g.at (goes_on.once g.at g.sound) held p asked.0 in
           let same : took.to.design ≡ g.at.design = goes_on.takings_keep g.at took.to p g.sound e took.taken in
           let seen : took.to.trace.snapshots ≡ g.at.trace.snapshots = goes_on.takings_see g.at took.to p took.taken in
           record {
             to = took.to;
             stands = took.stands;
             left = took.script ∙ sym h.1;
-            reached = subst (λ x. Reached plan.rule first x (choices ++ p ∷ []) (steps + 1) took.to) (sym picks.1) (by_taking plan.rule first held choices steps g.at took.to p g.reached e took.taken picks.0);
+            reached = subst (λ x. Reached plan.rule first x (choices ++ p ∷ []) (steps + 1) took.to) (sym asked.1) (by_taking plan.rule first held choices steps g.at took.to p g.reached e took.taken picks);
             sound = goes_on.takings g.at took.to p g.sound e took.taken;
             design = same;
             grown = longer_by_one plan.log g.at took.to _ took.turn.told;
@@ -323,21 +332,13 @@ first_dropped zero (x ∷ xs) = refl
 first_dropped (suc n) [] = refl
 first_dropped (suc n) (x ∷ xs) = first_dropped n xs
 
-is_missing : (c : Config) (o : Option ℕ) → PickedNone c o → missing c.processes.runnable o ≡ true
-is_missing c None none = refl
-is_missing c (Some p) none = by (holds c.processes.runnable p) none
-  where
-    by : (b : Bool) → taken_if c p b ≡ None → not b ≡ true
-    by true none = cc
-    by false none = refl
-
-not_taken : (rule : Rule) (n : ℕ) (c : Config) (held : Chooser) → held ≡ held_after n (chooser_of rule) → PickedNone c (picked held c.processes.runnable) → (ChoosesItself held → ⊥) → stop_taking c rule n ≡ Some (stop.Replay (n + 1))
+not_taken : (rule : Rule) (n : ℕ) (c : Config) (held : Chooser) → held ≡ held_after n (chooser_of rule) → missing c.processes.runnable (picked held c.processes.runnable) ≡ true → (ChoosesItself held → ⊥) → stop_taking c rule n ≡ Some (stop.Replay (n + 1))
 not_taken rule_of.First n c held same none other = absurd (other (subst ChoosesItself (sym same) (own_after n least tt)))
 not_taken rule_of.Last n c held same none other = absurd (other (subst ChoosesItself (sym same) (own_after n greatest tt)))
 not_taken (rule_of.Seed seed) n c held same none other = absurd (other (subst ChoosesItself (sym same) (own_after n (chooser_of (rule_of.Seed seed)) tt)))
 not_taken (rule_of.Replay choices) n c held same none other =
     let picks : picked held c.processes.runnable ≡ slice_get choices n = ap (λ x. picked x c.processes.runnable) (same ∙ listed_after n choices) ∙ first_dropped n choices in
-    ap (λ b. if b then Some (stop.Replay (n + 1)) else None) (is_missing c (slice_get choices n) (subst (PickedNone c) picks none))
+    ap (λ b. if b then Some (stop.Replay (n + 1)) else None) (ap (missing c.processes.runnable) (sym picks) ∙ none)
 
 -- ---- ends
 
@@ -451,7 +452,7 @@ module _ (plan : Plan) (first : Config) (held : Chooser) (choices : List ℕ) (s
     pub ended_run : (s : Stop) → IsEnd s → StepsOn k k' script script' made.Ended step → steps < plan.budget → IsEndedAs k' s
         → Finishes (Recorded (IsClosing k' s) (TextFor plan.vcd (LastPointOf k' tracing)) (TextFor plan.choices (IsListOf choices)) AreNamed mid now) s s' → Ran first plan choices steps s' (Took AreNamed old now)
     unfolding Ends
-    ended_run s end over below how closes = from (step g.at) refl (over g.at g.stands (goes_on.once g.at g.sound) g.left)
+    ended_run s end over below how closes = from (step g.at) refl (over g.at g.stands g.left)
       where
         from : (o : Outcome) → step g.at ≡ o → IsOver k' g.at o × (script' ≡ g.at.script) → Ran first plan choices steps s' (Took AreNamed old now)
         from (went d) e h = absurd h.0
@@ -466,7 +467,7 @@ module _ (plan : Plan) (first : Config) (held : Chooser) (choices : List ℕ) (s
     pub faulted_run : (f : RunFault) → StepsOn k k' script script' (made.Fault f) step → steps < plan.budget
         → Finishes (Recorded (IsClosing k' (stop.Fault f)) (TextFor plan.vcd (LastPointOf k' tracing)) (TextFor plan.choices (IsListOf choices)) AreNamed mid now) (stop.Fault f) s' → Ran first plan choices steps s' (Took AreNamed old now)
     unfolding Ends
-    faulted_run f fault below closes = from (step g.at) refl (fault g.at g.stands (goes_on.once g.at g.sound) g.left)
+    faulted_run f fault below closes = from (step g.at) refl (fault g.at g.stands g.left)
       where
         from : (o : Outcome) → step g.at ≡ o → IsFault k' f g.at o × (script' ≡ g.at.script) → Ran first plan choices steps s' (Took AreNamed old now)
         from (went d) e h = absurd h.0
@@ -478,16 +479,16 @@ module _ (plan : Plan) (first : Config) (held : Chooser) (choices : List ℕ) (s
         from ended e h = absurd h.0
 
     -- a listed choice is missing or not runnable
-    pub unready_run : (place : ℕ) (next : Chooser) → place ≡ length choices + 1 → StepsOn k k' script script' made.NotReady step → Rules k held next made.NotReady → steps < plan.budget
+    pub unready_run : (place : ℕ) (next : Chooser) → place ≡ length choices + 1 → StepsOn k k' script script' made.NotReady step → AsksRule k held next made.NotReady → steps < plan.budget
         → Finishes (Recorded (IsClosing k' (stop.Replay place)) (TextFor plan.vcd (LastPointOf k' tracing)) (TextFor plan.choices (IsListOf choices)) AreNamed mid now) (stop.Replay place) s' → Ran first plan choices steps s' (Took AreNamed old now)
     unfolding Ends
-    unready_run place next at_place none rules below closes = from (step g.at) refl (none g.at g.stands (goes_on.once g.at g.sound) g.left)
+    unready_run place next at_place none asks below closes = from (step g.at) refl (none g.at g.stands g.left)
       where
-        asked : PickedNone g.at (picked held g.at.processes.runnable) × (ChoosesItself held → ⊥)
-        asked = rules g.at g.stands (goes_on.once g.at g.sound)
+        missed : step g.at ≡ takes → missing g.at.processes.runnable (picked held g.at.processes.runnable) ≡ true
+        missed e = rule_missed g.at (goes_on.once g.at g.sound) held (subst (AskedRule held next g.at made.NotReady) e (asks g.at g.stands)).0
 
-        ending : stop_taking g.at plan.rule (length choices) ≡ Some (stop.Replay (length choices + 1))
-        ending = not_taken plan.rule (length choices) g.at held g.reached.holds asked.0 asked.1
+        ending : step g.at ≡ takes → stop_taking g.at plan.rule (length choices) ≡ Some (stop.Replay (length choices + 1))
+        ending e = not_taken plan.rule (length choices) g.at held g.reached.holds (missed e) (only_lists_miss g.at (goes_on.once g.at g.sound) held k g.stands e (missed e))
 
         from : (o : Outcome) → step g.at ≡ o → IsUntaken k' g.at o × (script' ≡ g.at.script) → Ran first plan choices steps s' (Took AreNamed old now)
         from (went d) e h = absurd h.0
@@ -495,7 +496,7 @@ module _ (plan : Plan) (first : Config) (held : Chooser) (choices : List ℕ) (s
         from takes e h =
             ends_so (stop.Replay place) tt h.0 h.1 below
             (ap (λ b. stop_within g.at plan.rule (length choices) b (step g.at)) (not_used_up steps plan.budget below) ∙ ap (stop_at g.at plan.rule (length choices)) e
-            ∙ ending ∙ ap (λ n. Some (stop.Replay n)) (sym at_place)) closes
+            ∙ ending e ∙ ap (λ n. Some (stop.Replay n)) (sym at_place)) closes
         from ended e h = absurd h.0
 
   -- the budget is used up

@@ -45,7 +45,7 @@ loop-steps-preserved-in-Ok-record_step g c = record {
   kept = write_keeps_on _ _ _ _ _ _ _ _ c.loop-steps.invariant.kept c.in-Ok-record_step.ensures.kept;
   going = λ first h s r.
       told_on c.sound_runs_go_on.ensures c.args.plan first _ _ _ _ _ _ _ _ _ (AreNames g.S.Shelf.stands c.args.shelf.now c.args.plan.vcd c.args.plan.choices) _ _ _ (c.loop-steps.invariant.going first h s r)
-      c.in-Went.told c.now-time.result.0 c.now-time.ensures c.in-Went.ensures.steps _ c.in-Went.ensures.rules
+      c.in-Went.told c.now-time.result.0 c.now-time.ensures c.in-Went.ensures.steps _ c.in-Went.ensures.asks
       (recorded_from g.S.Shelf.stands c.args.shelf.now c.loop-steps.shelf c.args.plan.vcd c.args.plan.choices c.loop-steps.invariant.kept.ids.stands _ _ _ _ _ _ (c.in-Ok-record_step.ensures.records c.args.plan.choices));
 }
 
@@ -70,14 +70,14 @@ loop-steps-preserved g c = record {
   kept = c.loop-steps.invariant.kept;
   going = λ first h s r.
       took_on c.sound_runs_go_on.ensures c.args.plan first _ _ _ _ _ _ _ _ c.loop-steps.tracing (AreNames g.S.Shelf.stands c.args.shelf.now c.args.plan.vcd c.args.plan.choices) _ _ _ (c.loop-steps.invariant.going first h s r)
-      c.in-Took.serial _ _ c.in-Ok-push.ensures.ok c.in-Took.ensures.steps c.in-Took.ensures.rules
+      c.in-Took.serial _ _ c.in-Ok-push.ensures.ok c.in-Took.ensures.steps c.in-Took.ensures.asks
       (recorded_from g.S.Shelf.stands c.args.shelf.now c.loop-steps.shelf c.args.plan.vcd c.args.plan.choices c.loop-steps.invariant.kept.ids.stands _ _ _ _ _ _ (c.in-Ok-record_turn.ensures.records c.args.plan.vcd c.args.plan.choices));
 }
 
 pub returns-in-Err-record_turn-clause-ran : goal.returns-in-Err-record_turn-clause-ran
 returns-in-Err-record_turn-clause-ran g c = λ first h s r. rw c.cut-in-Err-record_turn.ensures
     (took_cut c.sound_runs_go_on.ensures c.args.plan first _ _ _ _ _ _ _ _ c.loop-steps.tracing (AreNames g.S.Shelf.stands c.args.shelf.now c.args.plan.vcd c.args.plan.choices) _ _ _ (c.loop-steps.invariant.going first h s r)
-    c.in-Took.serial _ _ c.in-Ok-push.ensures.ok c.in-Took.ensures.steps c.in-Took.ensures.rules c.in-Err-record_turn.trouble (omega arith)
+    c.in-Took.serial _ _ c.in-Ok-push.ensures.ok c.in-Took.ensures.steps c.in-Took.ensures.asks c.in-Err-record_turn.trouble (omega arith)
     (recorded_from g.S.Shelf.stands c.args.shelf.now c.loop-steps.shelf c.args.plan.vcd c.args.plan.choices c.loop-steps.invariant.kept.ids.stands _ _ _ _ _ _ (c.in-Err-record_turn.ensures.records c.args.plan.vcd c.args.plan.choices)))
 
 pub returns-in-Ended-clause-ran : goal.returns-in-Ended-clause-ran
@@ -95,7 +95,7 @@ returns-in-Fault-clause-ran g c = λ first h s r. rw (c.finish-in-Fault.ensures.
 pub returns-in-NotReady-clause-ran : goal.returns-in-NotReady-clause-ran
 returns-in-NotReady-clause-ran g c = λ first h s r. rw (c.finish-in-NotReady.ensures.choices, c.finish-in-NotReady.ensures.steps)
     (unready_run c.args.plan first _ _ _ (AreNames g.S.Shelf.stands c.args.shelf.now c.args.plan.vcd c.args.plan.choices) _ c.sound_runs_go_on.ensures _ _ _ _ _ _ _ _ (c.loop-steps.invariant.going first h s r)
-    (length c.loop-steps.choices + 1) c.make_step.new.choosing refl c.in-NotReady.ensures.steps c.in-NotReady.ensures.rules c.loop-steps-test.true
+    (length c.loop-steps.choices + 1) c.make_step.new.chooser refl c.in-NotReady.ensures.steps c.in-NotReady.ensures.asks c.loop-steps-test.true
     (finishes_from g.S.Shelf.stands c.args.shelf.now c.loop-steps.shelf c.args.plan.vcd c.args.plan.choices c.loop-steps.invariant.kept.ids.stands _ _ _ _ _ _ _ (rw c.not_ready-ending.ensures.place at c.finish-in-NotReady.ensures.finishes)))
 
 pub returns-in-NoMemory-clause-ran : goal.returns-in-NoMemory-clause-ran
