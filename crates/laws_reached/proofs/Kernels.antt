@@ -17,4 +17,4 @@ pub kernel-names : (k : Kernel) (c : Config) → StandsFor k c → IsReached c �
 kernel-names k c h r = let s = kernel-design k c h r in record { names = s.names; ports = s.ports }
 
 pub kernel-numbers : (k : Kernel) (c : Config) → StandsFor k c → IsReached c → k.design.events < 2 ^ 32 - 1 → NumbersEvents (whole_design k)
-kernel-numbers k c h r few = sound_numbers (λ x. false) (whole_design k) (kernel-design k c h r) few
+kernel-numbers k c h r few = sound_numbers (whole_design k) (kernel-design k c h r) few
