@@ -15,6 +15,6 @@ pub use plans::{Outcome, Plan};
 /// What is passed on of sim_io.
 pub mod sim_io_api {
     pub use sim_io::{
-        HostShelf, HostSink, MemoryShelf, MemorySink, Shelf, Sink, Trouble, write_all,
+        HostShelf, HostSink, MemoryShelf, MemorySink, Shelf, Sink, SoundShelf, Trouble, write_all,
     };
 }
