@@ -1,0 +1,4 @@
+pub mod Leads
+pub mod Complete
+pub mod Sound
+pub mod Stops

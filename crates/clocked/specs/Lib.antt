@@ -1,0 +1,5 @@
+pub mod Words
+pub mod Parts
+pub mod Expanded
+pub mod Turns
+pub mod Worked
