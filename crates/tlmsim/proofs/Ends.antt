@@ -39,9 +39,9 @@ use Rattle.run_input.specs.declared.judging.JudgeStop.TheVariants as judge_stop
 use Rattle.run_input.specs.declared.judging.ModelStop.{ModelStop}
 use Rattle.run_input.specs.declared.judging.ModelStop.TheVariants as model_stop
 use Rattle.tlmsim.specs.Asked.{HasModel, HasTexts, IsPlan, PlansRun, replay_of}
-use Rattle.tlmsim.specs.Call.{Call, IsNamed, NamesOne, OnlyThese, names_if, names_in, no_names}
+use Rattle.tlmsim.specs.Call.{Call, OnlyThese, names_in, no_names}
 use Rattle.tlmsim.specs.Headline.{Accepted, Ended, EndedShort, IsCut, LaysOut, OneRose, Session}
-use Rattle.tlmsim.specs.Orderly.{HadNoEnd, Orderly}
+use Rattle.tlmsim.specs.Orderly.{Orderly}
 use Rattle.tlmsim.specs.Taken.{Spared, Holds, TakesAll, TakesShort, steps_line}
 use Rattle.tlmsim.specs.Worked.{CutNow, EndedSo, TellsBy, TellsSteps, Unmoved, Works, unfit, unformed, unread}
 use Rattle.tlmsim.proofs.Courses.{ran_with}
@@ -167,37 +167,15 @@ unfit_generated c g line model is judge_stop.NoMemory fault unmoved = unmoved
 
 -- ---- ends
 
--- the count of the shelf rose where the words name a file for writing
-shelf_rose : (c : Call) (mode : Mode) → line_of c.words ≡ Some mode → NamesOne (names_in mode) → Rose c.before.writes c.after.writes → OneRose c
-shelf_rose c mode line named rose = inr (subst (λ o. NamesOne (names_if o)) (sym line) named, rose)
-
--- which count it was: without a file it is that of `out`
-rose_named : (names : Names) (trace choices : Option ℕ) → Together names.trace trace (λ name id. ⊤) → Together names.choices choices (λ name id. ⊤) → (A B : Type 0) → A ⊎ B → (trace ≡ None → choices ≡ None → A) → A ⊎ (NamesOne names × B)
-rose_named names trace choices first second A B rose alone = by names.trace refl names.choices refl
-  where
-    none : (name : Option (List ℕ)) (id : Option ℕ) → name ≡ None → Together name id (λ n i. ⊤) → id ≡ None
-    none None None is each = refl
-    none None (Some id) is each = absurd each
-    none (Some name) id is each = cc
-
-    by : (a : Option (List ℕ)) → names.trace ≡ a → (b : Option (List ℕ)) → names.choices ≡ b → A ⊎ (NamesOne names × B)
-    by None is None at = inl (alone (none names.trace trace is first) (none names.choices choices at second))
-    by (Some a) is b at = ⊎_elim (λ x. inl x) (λ y. inr (inl (subst IsNamed (sym is) tt), y)) rose
-    by None is (Some b) at = ⊎_elim (λ x. inl x) (λ y. inr (inr (subst IsNamed (sym at) tt), y)) rose
-
--- a count that is 0 for ever does not rise
-pub never_rose : Rose 0 0 → ⊥
-never_rose rose = omega (arith, rose)
-
 -- files that were not created
-pub not_begun : (c : Call) (a : Accepted c) → NamesOne (names_in a.mode) → Spared c a.mode → (e : Trouble) → (e ≡ trouble.Failed → Rose c.before.writes c.after.writes) → EndedSo c [] 0 (cut_by e)
-not_begun c a named spared e rose = by e rose
+pub not_begun : (c : Call) (a : Accepted c) → Spared c a.mode → (e : Trouble) → (e ≡ trouble.Failed → Rose c.before.writes c.after.writes) → EndedSo c [] 0 (cut_by e)
+not_begun c a spared e rose = by e rose
   where
     begun : (x : Stop) → (x ≡ stop.WriteFault → Rose c.before.writes c.after.writes) → IsCut c [] 0 x
-    begun x r = inr (inr (inr (record { accepted = a; named = named; spared = spared; rose = r; no_run = record { no_choices = refl; no_steps = refl } })))
+    begun x r = inr (inr (inr (record { accepted = a; spared = spared; rose = r; no_run = record { no_choices = refl; no_steps = refl } })))
 
     by : (x : Trouble) → (x ≡ trouble.Failed → Rose c.before.writes c.after.writes) → EndedSo c [] 0 (cut_by x)
-    by trouble.Failed r = (begun stop.WriteFault (λ is. r refl), shelf_rose c a.mode a.line named (r refl))
+    by trouble.Failed r = (begun stop.WriteFault (λ is. r refl), inr (r refl))
     by trouble.NoMemory r = begun stop.NoMemory (λ is. absurd (differ is))
       where
         differ : stop.NoMemory ≡ stop.WriteFault → ⊥
@@ -206,21 +184,17 @@ not_begun c a named spared e rose = by e rose
 -- a simulation that was run
 pub simulated : (c : Call) (s : Simulation) → line_of c.words ≡ Some (Simulate s) → (model script : List ℕ) (replay : Option (List ℕ)) → HasTexts c (Simulate s) model script replay → (m : tree.Model) (design : Design) (commands : List Command)
     → Accepts model script m design commands → (listed : Option (List ℕ)) → ReadsReplay replay listed → SoundDesign design → Orderly design commands → (plan : Plan) → PlansRun s listed plan
-    → (choices : List ℕ) (steps : ℕ) (st : Stop) → Ran (start design commands) plan choices steps st (Holds c (names_in (Simulate s))) → HadNoEnd (start design commands) plan choices steps
-    → (st ≡ stop.WriteFault → Rose c.before.out_faults c.after.out_faults ⊎ Rose c.before.writes c.after.writes) → (plan.vcd ≡ None → plan.choices ≡ None → st ≡ stop.WriteFault → Rose c.before.out_faults c.after.out_faults)
-    → EndedSo c choices steps st
-simulated c s line model script replay texts m design commands accepts listed reads sound orderly plan planned choices steps st ran none rose unfiled =
-    by st ran (λ is. ⊎_elim (λ x. inl x) (λ y. shelf_rose c (Simulate s) line y.0 y.1)
-    (rose_named (names_in (Simulate s)) plan.vcd plan.choices planned.vcd_is planned.choices_are (Rose c.before.out_faults c.after.out_faults) (Rose c.before.writes c.after.writes) (rose is) (λ untraced unlisted. unfiled untraced unlisted is)))
+    → (choices : List ℕ) (steps : ℕ) (st : Stop) → Ran (start design commands) plan choices steps st (Holds c (names_in (Simulate s))) → (st ≡ stop.WriteFault → OneRose c) → EndedSo c choices steps st
+simulated c s line model script replay texts m design commands accepts listed reads sound orderly plan planned choices steps st ran rose = by st ran rose
   where
     accepted : Accepted c
     accepted = record { mode = Simulate s; line = line; model = model; script = script; replay = replay; texts = texts; m = m; design = design; commands = commands; accepts = accepts; listed = listed; reads = reads; sound = sound }
 
     whole : (x : Stop) → Ran (start design commands) plan choices steps x (Holds c (names_in (Simulate s))) → Ended c choices steps x
-    whole x r = record { accepted = accepted; orderly = orderly; plan = plan; planned = planned; ran = r; no_end_before = none }
+    whole x r = record { accepted = accepted; orderly = orderly; plan = plan; planned = planned; ran = r }
 
     part : (x : Stop) → Ran (start design commands) plan choices steps x (Holds c (names_in (Simulate s))) → IsCut c choices steps x
-    part x r = inl (record { accepted = accepted; orderly = orderly; plan = plan; planned = planned; ran = r; no_end_before = none })
+    part x r = inl (record { accepted = accepted; orderly = orderly; plan = plan; planned = planned; ran = r })
 
     by : (x : Stop) → Ran (start design commands) plan choices steps x (Holds c (names_in (Simulate s))) → (x ≡ stop.WriteFault → OneRose c) → EndedSo c choices steps x
     by stop.Done r rose = inl (whole stop.Done r)
@@ -252,16 +226,16 @@ page_cut c page part lays front short out e rose = by e rose
 pub generated_so : (c : Call) (g : Generated) → line_of c.words ≡ Some (Generate g) → (model : List ℕ) → model ≡ generated g.size → (m : tree.Model) (design : Design) (commands : List Command)
     → Accepts model (codes "run") m design commands → SoundDesign design → Orderly design commands → (plan : Plan) → IsPlan (Generate g) None plan
     → (run told : Outcome) (mid : Option (List ℕ)) → TellsSteps mid c.after.out run told → Ran (start design commands) plan run.choices run.steps run.stop (λ t. Grew c.before.out mid t.report)
-    → HadNoEnd (start design commands) plan run.choices run.steps → AfterTold c.before.files c.after.files Same → (told.stop ≡ stop.WriteFault → Rose c.before.out_faults c.after.out_faults)
+    → AfterTold c.before.files c.after.files Same → (told.stop ≡ stop.WriteFault → OneRose c) → (IsEnd run.stop → told.stop ≡ stop.WriteFault → Rose c.before.out_faults c.after.out_faults)
     → EndedSo c told.choices told.steps told.stop
-generated_so c g line model is m design commands accepts sound orderly plan planned run told mid tells ran none same rose =
+generated_so c g line model is m design commands accepts sound orderly plan planned run told mid tells ran same rose out_rose =
     subst (λ n. EndedSo c told.choices n told.stop) (sym tells.steps) (subst (λ cs. EndedSo c cs run.steps told.stop) (sym tells.choices) (by run.stop refl))
   where
     accepted : Accepted c
     accepted = record { mode = Generate g; line = line; model = model; script = codes "run"; replay = None; texts = (is, refl, refl); m = m; design = design; commands = commands; accepts = accepts; listed = None; reads = tt; sound = sound }
 
     session : (x : Stop) (T : Mode → Texts → Type 0) → Ran (start design commands) plan run.choices run.steps x (T (Generate g)) → Session c run.choices run.steps x T
-    session x T r = record { accepted = accepted; orderly = orderly; plan = plan; planned = planned; ran = r; no_end_before = none }
+    session x T r = record { accepted = accepted; orderly = orderly; plan = plan; planned = planned; ran = r }
 
     hold : (t : Texts) → AfterTold c.before.files c.after.files (FilesHold no_names t)
     hold t = held c.before.files c.after.files same
@@ -304,7 +278,7 @@ generated_so c g line model is m design commands accepts sound orderly plan plan
     told_by x (stop.Fault f) is end (same, grew) rose = whole (stop.Fault f) (is ∙ sym same) grew
 
     ended_by : (x : Stop) → run.stop ≡ x → IsEnd x → EndedSo c run.choices run.steps told.stop
-    ended_by x is end = told_by x told.stop is end (subst (λ y. TellsBy mid c.after.out (steps_line run.steps) y told.stop) is (tells.ended (subst IsEnd (sym is) end))) rose
+    ended_by x is end = told_by x told.stop is end (subst (λ y. TellsBy mid c.after.out (steps_line run.steps) y told.stop) is (tells.ended (subst IsEnd (sym is) end))) (out_rose (subst IsEnd (sym is) end))
 
     cut_at : (x : Stop) → run.stop ≡ x → (IsEnd x → ⊥) → (told.stop ≡ x) × (c.after.out ≡ mid)
     cut_at x is none = let (same, kept) = tells.cut (λ end. none (subst IsEnd is end)) in (same ∙ is, kept)
@@ -315,7 +289,7 @@ generated_so c g line model is m design commands accepts sound orderly plan plan
     by stop.Budget is = ended_by stop.Budget is tt
     by (stop.Replay place) is = ended_by (stop.Replay place) is tt
     by (stop.Fault f) is = ended_by (stop.Fault f) is tt
-    by stop.WriteFault is = let (same, kept) = cut_at stop.WriteFault is (λ end. end) in subst (EndedSo c run.choices run.steps) (sym same) (alone stop.WriteFault is kept, inl (rose same))
+    by stop.WriteFault is = let (same, kept) = cut_at stop.WriteFault is (λ end. end) in subst (EndedSo c run.choices run.steps) (sym same) (alone stop.WriteFault is kept, rose same)
     by stop.NoMemory is = let (same, kept) = cut_at stop.NoMemory is (λ end. end) in subst (EndedSo c run.choices run.steps) (sym same) (alone stop.NoMemory is kept)
 
 -- ---- the line of the steps, and the laid-out text
@@ -376,10 +350,13 @@ end_or_cut (stop.Fault f) = inl tt
 end_or_cut stop.WriteFault = inr (λ end. end)
 end_or_cut stop.NoMemory = inr (λ end. end)
 
-pub steps_rose : (old new : Option (List ℕ)) (run told : Outcome) (f0 f1 f2 : ℕ) → TellsSteps old new run told → f0 ≤ f1 → f1 ≤ f2 → (run.stop ≡ stop.WriteFault → Rose f0 f1) → (CutNow run told → Rose f1 f2) → told.stop ≡ stop.WriteFault → Rose f0 f2
-steps_rose old new run told f0 f1 f2 tells first second ran cut fault =
-    ⊎_elim (λ end. rose_on f0 f1 f2 f2 first (cut (end, fault)) (omega arith))
-    (λ none. rose_on f0 f0 f1 f2 (omega arith) (ran (sym (tells.cut none).0 ∙ fault)) second) (end_or_cut run.stop)
+pub steps_rose : (old new : Option (List ℕ)) (run told : Outcome) (f0 f1 f2 w0 w1 : ℕ) → TellsSteps old new run told → f0 ≤ f1 → f1 ≤ f2 → (run.stop ≡ stop.WriteFault → Rose f0 f1 ⊎ Rose w0 w1) → (CutNow run told → Rose f1 f2) → told.stop ≡ stop.WriteFault → Rose f0 f2 ⊎ Rose w0 w1
+steps_rose old new run told f0 f1 f2 w0 w1 tells first second ran cut fault =
+    ⊎_elim (λ end. inl (rose_on f0 f1 f2 f2 first (cut (end, fault)) (omega arith)))
+    (λ none. ⊎_elim (λ r. inl (rose_on f0 f0 f1 f2 (omega arith) r second)) (λ r. inr r) (ran (sym (tells.cut none).0 ∙ fault))) (end_or_cut run.stop)
+
+pub end_rose : (run told : Outcome) (f0 f1 f2 : ℕ) → f0 ≤ f1 → (CutNow run told → Rose f1 f2) → IsEnd run.stop → told.stop ≡ stop.WriteFault → Rose f0 f2
+end_rose run told f0 f1 f2 first cut end fault = rose_on f0 f1 f2 f2 first (cut (end, fault)) (omega arith)
 
 -- ---- names that are apart
 

@@ -1,5 +1,5 @@
 -- What a call of the top speaks of: the words, and the outside before and after it.
-use Rattle.std.specs.Prelude.{◌≡◌, ◌≤◌, ◌⊎◌, ℕ, List, Option, Some, None, ⊤}
+use Rattle.std.specs.Prelude.{◌≡◌, ◌≤◌, ℕ, List, Option, Some, None}
 use Rattle.session.specs.SimIo.Told.{Files, AfterTold}
 use Rattle.command_line.specs.Line.{Mode, Simulate, Format, Generate, line_of}
 use Rattle.session.specs.Outputs.{Names, IsOther}
@@ -44,14 +44,6 @@ names_in (Generate g) = no_names
 abbrev pub names_if : Option Mode → Names
 names_if None = no_names
 names_if (Some mode) = names_in mode
-
--- one of these is named
-abbrev pub IsNamed : Option (List ℕ) → Type 0
-IsNamed None = ⊥
-IsNamed (Some name) = ⊤
-
-abbrev pub NamesOne : Names → Type 0
-NamesOne names = IsNamed names.trace ⊎ IsNamed names.choices
 
 -- each file but these is as before
 abbrev pub OnlyThese : Names → Files → Files → Type 0

@@ -23,8 +23,8 @@ use Rattle.run_input.specs.Loaded.{IsUnread, IsTooLarge}
 use Rattle.run_input.specs.Judged.{IsBrokenModel, HasModelFault, AcceptsModel, IsBrokenScript, HasScriptFault, Accepts, ReadsReplay, HasReplayFault, IsBrokenReplay, IsLayoutOf}
 use Rattle.run_input.specs.Together.{Together}
 use Rattle.tlmsim.specs.Asked.{HasTexts, HasModel, IsModel, IsPlan, budget_of, replay_of}
-use Rattle.tlmsim.specs.Call.{Call, Keeps, NamesOne, names_in, names_if}
-use Rattle.tlmsim.specs.Orderly.{Orderly, HadNoEnd}
+use Rattle.tlmsim.specs.Call.{Call, Keeps, names_in}
+use Rattle.tlmsim.specs.Orderly.{Orderly}
 use Rattle.tlmsim.specs.Taken.{Holds, TakesAll, TakesShort, Spared}
 use Rattle.tlmsim.specs.Telling.{WroteCut}
 use Rattle.run_input.specs.RefusalLines.ErrLines.{usage_line, read_line, model_line, script_line, replay_line, large_line, err_line, write_line, memory_line}
@@ -123,15 +123,13 @@ pub record Accepted (c : Call) : Type 0 where
 
 -- The run of a design of the source tree, which is sound, under the script, as the words ask for it, with these choices and steps,
 -- which ended so, and whose texts were taken as T says; each choice is one of the rule; and the run is orderly: what has ended is
--- named nowhere, unwind blocks run exactly once, and the protocol is kept on each hop. Before each of its steps the run had no end: it
--- ended at its first named cause, or at the budget.
+-- named nowhere, unwind blocks run exactly once, and the protocol is kept on each hop.
 pub record Session (c : Call) (choices : List ℕ) (steps : ℕ) (s : Stop) (T : Mode → Texts → Type 0) : Type 0 where
   pub accepted : Accepted c
   pub orderly : Orderly accepted.design accepted.commands
   pub plan : Plan
   pub planned : IsPlan accepted.mode accepted.listed plan
   pub ran : Ran (start accepted.design accepted.commands) plan choices steps s (T accepted.mode)
-  pub no_end_before : HadNoEnd (start accepted.design accepted.commands) plan choices steps
 
 -- a run that ended by itself, with all its texts
 abbrev pub Ended : Call → List ℕ → ℕ → Stop → Type 0
@@ -178,11 +176,9 @@ pub record PageShort (c : Call) (choices : List ℕ) (steps : ℕ) (s : Stop) : 
   pub rose : s ≡ stop.WriteFault → Rose c.before.out_faults c.after.out_faults
   pub no_run : NoRun choices steps
 
--- the texts are accepted, and no run was begun, since not all of the files that the words name were created; and where that failed a
--- write to the files did
+-- the texts are accepted, and no run was begun, since not all of its files were created; and where that failed a write to the files did
 pub record NotBegun (c : Call) (choices : List ℕ) (steps : ℕ) (s : Stop) : Type 0 where
   pub accepted : Accepted c
-  pub named : NamesOne (names_in accepted.mode)
   pub spared : Spared c accepted.mode
   pub rose : s ≡ stop.WriteFault → Rose c.before.writes c.after.writes
   pub no_run : NoRun choices steps
@@ -193,10 +189,9 @@ abbrev pub IsCut : Call → List ℕ → ℕ → Stop → Type 0
 IsCut c choices steps s =
     Session c choices steps s (λ mode. Holds c (names_in mode)) ⊎ (EndedShort c choices steps s ⊎ (PageShort c choices steps s ⊎ NotBegun c choices steps s))
 
--- `out` or a file that the words name was not written: a count of faults rose, that of `out`; or that of the shelf, where the words name
--- a file for writing
+-- `out` or a file that the words name was not written: a count of faults rose
 abbrev pub OneRose : Call → Type 0
-OneRose c = Rose c.before.out_faults c.after.out_faults ⊎ (NamesOne (names_if (line_of c.words)) × Rose c.before.writes c.after.writes)
+OneRose c = Rose c.before.out_faults c.after.out_faults ⊎ Rose c.before.writes c.after.writes
 
 -- ---- what `err` gets
 
