@@ -1,5 +1,5 @@
 -- What writing a line, and trying another behind it, leaves on a sink.
-use Rattle.std.proofs.Common.{◌≡◌, ◌<◌, ◌≤◌, ⊎_elim, ℕ, Bool, true, false, ◌||◌, nat_eq, List, length, take, Option, Result, Ok, Err, subst, sym, ap, ◌∙◌, refl, arith}
+use Rattle.std.proofs.Common.{◌≡◌, ◌<◌, ⊎_elim, ℕ, Bool, true, false, ◌||◌, nat_eq, List, length, take, Option, Result, Ok, Err, subst, sym, ap, ◌∙◌, refl, arith}
 use Rattle.std.proofs.lemmas.Bool.{false≢true}
 use Rattle.std.proofs.Math.Seq.{take-length}
 use Rattle.session.specs.SimIo.Told.{Grew}
@@ -86,20 +86,6 @@ unfolding is_end
 told_no_end r old new faults faults' status told =
     ⊎_elim (λ whole. not_end status (ap is_end whole.0 ∙ refusal_no_end r))
     (⊎_elim (λ cut. not_end status (ap is_end cut.0)) (λ cut. not_end status (ap is_end cut.0))) told
-
--- its status is 10 at most
-refusal_bound : (r : Refusal) → refusal_status r ≤ 10
-refusal_bound refusal.Usage = omega arith
-refusal_bound (refusal.Read file) = omega arith
-refusal_bound (refusal.Model f) = omega arith
-refusal_bound (refusal.Script f) = omega arith
-refusal_bound (refusal.Replay line) = omega arith
-refusal_bound (refusal.TooLarge file) = omega arith
-
-pub told_bound : (r : Refusal) (old new : Option (List ℕ)) (faults faults' status : ℕ) → Tells r old new faults faults' status → status ≤ 10
-told_bound r old new faults faults' status told =
-    ⊎_elim (λ whole. subst (λ n. n ≤ 10) (sym whole.0) (refusal_bound r))
-    (⊎_elim (λ cut. omega (arith, cut.0)) (λ cut. omega (arith, cut.0))) told
 
 -- nor has want of memory
 pub memory_no_end : IsRunStatus 8 → ⊥
