@@ -1,17 +1,15 @@
 -- A rising list at one of its entries, and what the words on entries say there.
-use Rattle.std.proofs.Common.{◌≡◌, ◌<◌, List, [], ◌∷◌, ◌++◌, length, length-append, arith, Some, None, Box, refl, sym, ap, ◌∙◌, subst, cond}
-use Rattle.std.specs.declared.alloc.Global.{Global}
+use Rattle.std.proofs.Common.{◌≡◌, ◌<◌, List, ◌∷◌, ◌++◌, length, length-append, arith, Some, None, ℕ, refl, sym, ap, ◌∙◌, subst, cond}
 use Rattle.std.specs.declared.cmp.Ordering.{Ordering}
 use Rattle.std.specs.declared.cmp.Ordering.TheVariants.{Less, Equal, Greater}
 use Rattle.std.specs.Ordering.{is_lt, is_eq}
 use Rattle.std.specs.Cmp.{IsTotalOrder, tied_back}
 use Rattle.std.specs.FinMap.{find, put}
 use Rattle.std.specs.FinMap.Entries.{by_order}
+use Rattle.room_map.specs.declared.nodes.Node.{Node}
+use Rattle.room_map.specs.Shape.{Shape, entries}
+use Rattle.room_map.proofs.Held.{IsOver}
 use Rattle.room_map.specs.Entries.{AllAbove, IsRising, without, first_not_below}
-use Rattle.room_map.specs.Nodes.{entries, entries_of}
-use Rattle.room_map.specs.declared.tree.Node.{Node}
-use Rattle.room_map.specs.declared.tree.Link.{Link}
-use Rattle.room_map.specs.declared.tree.Link.TheVariants.{Fork}
 use Rattle.room_map.proofs.Rising.{AllBelow, turned, turned_back, above_from, above_at, find-append, put-append, without-append, first-append, find-append_above, without-append_above, put-append_above, first-append_some, first-append_none, rising_front, rising_back, all_below, below_more, below_tied, without-above}
 
 -- d has l, then e, then r, and rises
@@ -19,38 +17,14 @@ pub record IsCut {K V : Type 0} (R : K → K → Ordering) (d l : List (K × V))
   pub is : d ≡ l ++ e ∷ r
   pub rises : IsRising R (l ++ e ∷ r)
 
-pub cut_at : {K V : Type 0} (R : K → K → Ordering) {link : Link K V} {d : List (K × V)} {node : Box (Node K V) Global} {n : Node K V}
-    → entries link ≡ d → link ≡ Fork node → n ≡ node.value → IsRising R d → IsCut R d n.left (n.key, n.value) n.right
-cut_at R {link} {d} {node} {n} shown fork there rises =
-    let is = sym shown ∙ ap entries fork ∙ ap entries_of (sym there) in
-    record { is = is; rises = subst (IsRising R) is rises }
+pub cut_over : {K V : Type 0} (R : K → K → Ordering) {ns : List (Node K V)} {i : ℕ} {t : Shape K V} {n : Node K V} (o : IsOver ns i t n)
+    → IsRising R (entries t) → IsCut R (entries t) (entries o.l) (n.key, n.value) (entries o.r)
+cut_over R {t = t} {n = n} o rises = record { is = ap entries o.is; rises = subst (λ t. IsRising R (entries t)) o.is rises }
 
 not_less : {X : Type 0} (w : Ordering) (a b : X) → (w ≡ Less → ⊥) → cond (is_lt w) a b ≡ b
 not_less Less a b h = absurd (h refl)
 not_less Equal a b h = refl
 not_less Greater a b h = refl
-
--- a node whose left or right side is taken out, changed and put back
-module _ {K V : Type 0} (f : List (K × V) → List (K × V)) where
-  pub left_again : {n p m w : Node K V} {l x : List (K × V)} → n ≡ p → l ≡ p.left → m ≡ record p { left = [] } → x ≡ f l → w ≡ record m { left = x }
-      → entries_of w ≡ f n.left ++ (n.key, n.value) ∷ n.right
-  left_again {n} {p} {m} {w} {l} {x} there side rest changed again =
-      ap {A = Node K V} (λ w. entries_of w) again
-      ∙ ap {A = Node K V} (λ m. x ++ (m.key, m.value) ∷ m.right) (rest ∙ ap {A = Node K V} {B = Node K V} (λ p. record p { left = [] }) (sym there))
-      ∙ ap (λ s. s ++ (n.key, n.value) ∷ n.right) (changed ∙ ap f (side ∙ ap {A = Node K V} (λ p. p.left) (sym there)))
-
-  pub right_again : {n p m w : Node K V} {r x : List (K × V)} → n ≡ p → r ≡ p.right → m ≡ record p { right = [] } → x ≡ f r → w ≡ record m { right = x }
-      → entries_of w ≡ n.left ++ (n.key, n.value) ∷ f n.right
-  right_again {n} {p} {m} {w} {r} {x} there side rest changed again =
-      ap {A = Node K V} (λ w. entries_of w) again
-      ∙ ap {A = Node K V} (λ m. m.left ++ (m.key, m.value) ∷ x) (rest ∙ ap {A = Node K V} {B = Node K V} (λ p. record p { right = [] }) (sym there))
-      ∙ ap (λ s. n.left ++ (n.key, n.value) ∷ s) (changed ∙ ap f (side ∙ ap {A = Node K V} (λ p. p.right) (sym there)))
-
--- a node whose sides are both taken out
-pub sides_joined : {K V : Type 0} {n p m : Node K V} {l r y : List (K × V)} → n ≡ p → l ≡ p.left → m ≡ record p { left = [] } → r ≡ m.right → y ≡ l ++ r → y ≡ n.left ++ n.right
-sides_joined {K} {V} {n} {p} {m} {l} {r} {y} there left rest right is =
-    is ∙ ap (λ s. s ++ r) (left ∙ ap {A = Node K V} (λ p. p.left) (sym there))
-    ∙ ap (λ s. n.left ++ s) (right ∙ ap {A = Node K V} (λ m. m.right) rest ∙ ap {A = Node K V} (λ p. p.right) (sym there))
 
 -- a key that is neither below nor there is above
 pub greater_left : (w : Ordering) → (w ≡ Less → ⊥) → (w ≡ Equal → ⊥) → w ≡ Greater

@@ -1,4 +1,13 @@
 pub mod Rising
-pub mod Cuts
 pub mod Maps
 pub mod Walks
+pub mod Sizes
+pub mod Held
+pub mod Places
+pub mod Even
+pub mod Cuts
+pub mod Changes
+pub mod Leavings
+pub mod Chains
+pub mod Depths
+pub mod Kept

@@ -1,3 +1,5 @@
 pub mod Entries
 pub mod Room
+pub mod Shape
 pub mod Nodes
+pub mod Kept

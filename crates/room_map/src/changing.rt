@@ -1,140 +1,158 @@
-//! Changing a tree.
-ghost use Rattle.std.specs.Prelude.{◌≡◌, None, IsSome, [], ◌∷◌, ◌++◌, ◌+◌, ◌^◌, ◌<◌, length};
-ghost use Rattle.std.specs.FinMap as map;
-ghost use Rattle.room_map.specs.Entries.{IsRising, without};
-ghost use Rattle.room_map.specs.Nodes.{entries_of};
+//! Changing the tree that hangs from a link.
+ghost use Rattle.std.specs.Prelude.{◌≡◌, ◌+◌};
+ghost use Rattle.room_map.specs.Shape.{Shape, is_at, times};
+ghost use Rattle.room_map.specs.Nodes.{Under, Changed, CanSplit, IsSplit, CanJoin, IsJoined, CanEnter, HasEntered, HasKey, HasValue, CanLeave, HasLeft};
 
-use crate::balance::{balance, join, part_left, part_right, with_left, with_right};
-use crate::tree::{Link, Node, Tree};
+use crate::nodes::{NONE, Node, Spot, close, node_at, put};
+use crate::turns::balance;
 use std::cmp::Ordering;
-use std::mem;
 
-// The tree of one entry, in a node that held another.
-fn bud<K: Copy, V: Copy>(mut node: Box<Node<K, V>>, key: K, value: V) -> Tree<K, V>
-    ensures { result ≡ (key, value) ∷ [] }
-{
-    node.left = Tree::new();
-    node.key = key;
-    node.value = value;
-    node.right = Tree::new();
-    Tree::close(node)
+// The first entry of a tree with its place, and the link to the others.
+#[derive(Clone, Copy)]
+pub(crate) struct First<K: Copy, V: Copy> {
+    spot: Spot<K, V>,
+    rest: u32,
 }
 
-// The node with this value in place of its own.
-fn holding<K: Copy, V: Copy>(mut node: Box<Node<K, V>>, value: V) -> Box<Node<K, V>>
-    ensures { entries_of result.value ≡ node.value.left ++ (node.value.key, value) ∷ node.value.right }
-{
-    node.value = value;
-    node
+// The link to a tree without an entry, and the place that the entry left.
+#[derive(Clone, Copy)]
+pub(crate) struct Unlinked {
+    pub(crate) root: u32,
+    pub(crate) freed: u32,
 }
 
-impl<K: Ord + Copy, V: Copy> Tree<K, V> {
-    // The tree with an entry more, in a node that is spare.
-    pub(crate) fn with_entry(self, key: K, value: V, spare: Box<Node<K, V>>) -> Tree<K, V>
-        requires rising { IsRising K.cmp self }
-        requires absent { map.find K.cmp key self ≡ None }
-        requires fits { length self + 1 < 2 ^ 32 }
-        ensures { result ≡ map.put K.cmp key value self }
-    {
-        match self.link {
-            Link::Leaf => bud(spare, key, value),
-            Link::Fork(node) => match key.cmp(&node.key) {
+// The first of the entries under the link, at which this node stands, and the others.
+fn split_first<K: Copy, V: Copy>(nodes: &mut [Node<K, V>], at: u32, node: Node<K, V>) -> First<K, V>
+    requires { (t : Shape K V) × CanSplit nodes.old at node t }
+    ensures { (t : Shape K V) → CanSplit nodes.old at node t → (u : Shape K V) × Under nodes.new result.rest u × IsSplit t result.spot.place result.spot.key result.spot.value u × Changed (λ q. times q t) nodes.old nodes.new }
+{
+    let here = Spot {
+        place: at,
+        key: node.key,
+        value: node.value,
+    };
+    match node_at(nodes, node.left) {
+        None => First {
+            spot: here,
+            rest: node.right,
+        },
+        Some(below) => {
+            let first = split_first(nodes, node.left, below);
+            let rest = balance(nodes, first.rest, here, node.right);
+            First {
+                spot: first.spot,
+                rest,
+            }
+        }
+    }
+}
+
+// The entries of the left side, then those of the right one. The result is the link to the tree of all.
+fn join<K: Copy, V: Copy>(nodes: &mut [Node<K, V>], left: u32, right: u32) -> u32
+    requires { (l : Shape K V) × (r : Shape K V) × CanJoin nodes.old left l right r }
+    ensures { (l r : Shape K V) → CanJoin nodes.old left l right r → (u : Shape K V) × Under nodes.new result u × IsJoined l r u × Changed (λ q. times q l + times q r) nodes.old nodes.new }
+{
+    match node_at(nodes, right) {
+        None => left,
+        Some(node) => {
+            let first = split_first(nodes, right, node);
+            balance(nodes, left, first.spot, first.rest)
+        }
+    }
+}
+
+// The tree with an entry more, in the node at its place. The result is the link to it.
+pub(crate) fn with_entry<K: Ord + Copy, V: Copy>(
+    nodes: &mut [Node<K, V>],
+    at: u32,
+    spot: Spot<K, V>,
+) -> u32
+    requires { (t : Shape K V) × CanEnter K.cmp nodes.old at spot.key spot.place t }
+    ensures { (t : Shape K V) → CanEnter K.cmp nodes.old at spot.key spot.place t → (u : Shape K V) × Under nodes.new result u × HasEntered K.cmp t spot.place spot.key spot.value u × Changed (λ q. times q t + is_at spot.place q) nodes.old nodes.new }
+{
+    match node_at(nodes, at) {
+        None => close(nodes, NONE, spot, NONE),
+        Some(node) => {
+            let here = Spot {
+                place: at,
+                key: node.key,
+                value: node.value,
+            };
+            match spot.key.cmp(&node.key) {
                 Ordering::Less => {
-                    let (left, node) = part_left(node);
-                    balance(with_left(node, left.with_entry(key, value, spare)))
+                    let left = with_entry(nodes, node.left, spot);
+                    balance(nodes, left, here, node.right)
                 }
                 _ => {
-                    let (right, node) = part_right(node);
-                    balance(with_right(node, right.with_entry(key, value, spare)))
+                    let right = with_entry(nodes, node.right, spot);
+                    balance(nodes, node.left, here, right)
                 }
-            },
+            }
         }
     }
+}
 
-    // The tree with this value at a key that it has.
-    pub(crate) fn with_value(self, key: K, value: V) -> Tree<K, V>
-        requires rising { IsRising K.cmp self }
-        requires present { IsSome (map.find K.cmp key self) }
-        requires fits { length self < 2 ^ 32 }
-        ensures { result ≡ map.put K.cmp key value self }
-    {
-        match self.link {
-            Link::Leaf => unreachable!(),
-            Link::Fork(node) => match key.cmp(&node.key) {
-                Ordering::Less => {
-                    let (left, node) = part_left(node);
-                    Tree::close(with_left(node, left.with_value(key, value)))
-                }
-                Ordering::Equal => Tree::close(holding(node, value)),
-                Ordering::Greater => {
-                    let (right, node) = part_right(node);
-                    Tree::close(with_right(node, right.with_value(key, value)))
-                }
-            },
-        }
+// Puts this value at a key that is there.
+pub(crate) fn set_value<K: Ord + Copy, V: Copy>(nodes: &mut [Node<K, V>], at: u32, key: K, value: V)
+    requires { (t : Shape K V) × HasKey K.cmp nodes.old at key t }
+    ensures { (t : Shape K V) → HasKey K.cmp nodes.old at key t → (u : Shape K V) × Under nodes.new at u × HasValue K.cmp t key value u × Changed (λ q. times q t) nodes.old nodes.new }
+{
+    match node_at(nodes, at) {
+        None => unreachable!(),
+        Some(node) => match key.cmp(&node.key) {
+            Ordering::Less => set_value(nodes, node.left, key, value),
+            Ordering::Equal => put(
+                nodes,
+                at,
+                Node {
+                    left: node.left,
+                    right: node.right,
+                    count: node.count,
+                    height: node.height,
+                    key: node.key,
+                    value,
+                },
+            ),
+            Ordering::Greater => set_value(nodes, node.right, key, value),
+        },
     }
+}
 
-    // The tree without the entry of a key that it has, and the node that held it.
-    pub(crate) fn unlink(self, key: K) -> (Tree<K, V>, Box<Node<K, V>>)
-        requires rising { IsRising K.cmp self }
-        requires present { IsSome (map.find K.cmp key self) }
-        requires fits { length self < 2 ^ 32 }
-        ensures { result.0 ≡ without K.cmp key self }
-    {
-        match self.link {
-            Link::Leaf => unreachable!(),
-            Link::Fork(node) => match key.cmp(&node.key) {
+// The tree without the entry of a key that it has, and the place that the entry left.
+pub(crate) fn unlink<K: Ord + Copy, V: Copy>(nodes: &mut [Node<K, V>], at: u32, key: K) -> Unlinked
+    requires { (t : Shape K V) × CanLeave K.cmp nodes.old at key t }
+    ensures { (t : Shape K V) → CanLeave K.cmp nodes.old at key t → (u : Shape K V) × Under nodes.new result.root u × HasLeft K.cmp t key result.freed u × Changed (λ q. times q t) nodes.old nodes.new }
+{
+    match node_at(nodes, at) {
+        None => unreachable!(),
+        Some(node) => {
+            let here = Spot {
+                place: at,
+                key: node.key,
+                value: node.value,
+            };
+            match key.cmp(&node.key) {
                 Ordering::Less => {
-                    let (side, node) = part_left(node);
-                    let (left, freed) = side.unlink(key);
-                    (balance(with_left(node, left)), freed)
+                    let side = unlink(nodes, node.left, key);
+                    let root = balance(nodes, side.root, here, node.right);
+                    Unlinked {
+                        root,
+                        freed: side.freed,
+                    }
                 }
                 Ordering::Equal => {
-                    let (left, node) = part_left(node);
-                    let (right, node) = part_right(node);
-                    (join(left, right), node)
+                    let root = join(nodes, node.left, node.right);
+                    Unlinked { root, freed: at }
                 }
                 Ordering::Greater => {
-                    let (side, node) = part_right(node);
-                    let (right, freed) = side.unlink(key);
-                    (balance(with_right(node, right)), freed)
+                    let side = unlink(nodes, node.right, key);
+                    let root = balance(nodes, node.left, here, side.root);
+                    Unlinked {
+                        root,
+                        freed: side.freed,
+                    }
                 }
-            },
+            }
         }
-    }
-
-    // Puts an entry in, in a node that is spare.
-    pub(crate) fn insert(&mut self, key: K, value: V, spare: Box<Node<K, V>>)
-        requires rising { IsRising K.cmp self.old }
-        requires absent { map.find K.cmp key self.old ≡ None }
-        requires fits { length self.old + 1 < 2 ^ 32 }
-        ensures { self.new ≡ map.put K.cmp key value self.old }
-    {
-        let tree = mem::replace(self, Tree::new());
-        *self = tree.with_entry(key, value, spare);
-    }
-
-    // Puts this value at a key that is there.
-    pub(crate) fn replace(&mut self, key: K, value: V)
-        requires rising { IsRising K.cmp self.old }
-        requires present { IsSome (map.find K.cmp key self.old) }
-        requires fits { length self.old < 2 ^ 32 }
-        ensures { self.new ≡ map.put K.cmp key value self.old }
-    {
-        let tree = mem::replace(self, Tree::new());
-        *self = tree.with_value(key, value);
-    }
-
-    // Takes the entry of a key that is there out, and gives the node that held it.
-    pub(crate) fn remove(&mut self, key: K) -> Box<Node<K, V>>
-        requires rising { IsRising K.cmp self.old }
-        requires present { IsSome (map.find K.cmp key self.old) }
-        requires fits { length self.old < 2 ^ 32 }
-        ensures { self.new ≡ without K.cmp key self.old }
-    {
-        let tree = mem::replace(self, Tree::new());
-        let (left, freed) = tree.unlink(key);
-        *self = left;
-        freed
     }
 }

@@ -1,44 +1,46 @@
 //! A map in the order of its keys into which inserting takes no memory, since room was made before.
 //!
-//! It is a tree whose sides are kept about equally high: a call takes time in the logarithm of the
+//! It is a tree over one vector of nodes, whose sides are kept about equally high: a call takes time in the logarithm of the
 //! number of entries, but for `reserve`, which takes time in the room that it makes.
 #![tactic(auto)]
 
 ghost use Rattle.std.specs.Prelude.{◌≡◌, ◌+◌, ◌-◌, ◌^◌, ◌<◌, ◌≤◌, [], None, is_some, IsSome, OnOk, OnErr, if◌then◌else◌, length, max, slice_get, ◌==◌};
 ghost use Rattle.std.specs.FinMap as map;
 
-mod balance;
 mod changing;
 mod finding;
+mod nodes;
 mod spares;
-mod tree;
+mod turns;
 
-use spares::Spares;
+use changing::{set_value, unlink, with_entry};
+use nodes::{NONE, Node, Spot};
+use spares::{free_all, free_node, next};
 use std::alloc::{AllocError, Global};
 use std::marker::Model;
-use tree::Tree;
 
 /// A map from keys to values, with room for some entries more.
 ///
-/// A clause sees its `entries` in rising order of their keys, and by `spare` for how many more there is room.
-/// There are less than 2^32 entries and places.
+/// A clause sees its `entries` in rising order of their keys, by `spare` for how many more there is room, and by `depth`
+/// how many nodes a call may go down. There are less than 2^32 entries and places.
 #[derive(Drop)]
 pub struct RoomMap<K: Ord + Copy, V: Copy> {
-    alloc: Global,
-    root: Tree<K, V>,
-    spares: Spares<K, V>,
+    nodes: Vec<Node<K, V>>,
+    root: u32,
+    free: u32,
+    spare: u32,
 }
 
 impl<K: Ord + Copy, V: Copy> Model for RoomMap<K, V> {
-    ghost use Rattle.std.specs.Prelude.{◌+◌, ◌^◌, ◌<◌, length};
-    ghost use Rattle.room_map.specs.Entries.{IsRising};
     ghost use Rattle.room_map.specs.Room.{Room};
+    ghost use Rattle.room_map.specs.Shape.{entries, height};
+    ghost use Rattle.room_map.specs.Kept.{tree, IsKept};
 
     ghost Value = { Room K V };
 
-    ghost view = { λ m. record { entries = m.root; spare = m.spares } };
+    ghost view = { λ m. record { entries = entries (tree m.nodes.items m.root); spare = m.spare; depth = height (tree m.nodes.items m.root) } };
 
-    ghost invariant = { λ m. IsRising K.cmp m.root × (length m.root + m.spares < 2 ^ 32) };
+    ghost invariant = { λ m. IsKept K.cmp m.nodes.items m.root m.free m.spare (tree m.nodes.items m.root) };
 }
 
 impl<K: Ord + Copy, V: Copy> RoomMap<K, V> {
@@ -50,9 +52,10 @@ impl<K: Ord + Copy, V: Copy> RoomMap<K, V> {
         ensures spare { result.spare ≡ 0 }
     {
         RoomMap {
-            alloc,
-            root: Tree::new(),
-            spares: Spares::new(),
+            nodes: Vec::new(alloc),
+            root: NONE,
+            free: NONE,
+            spare: 0,
         }
     }
 
@@ -61,22 +64,23 @@ impl<K: Ord + Copy, V: Copy> RoomMap<K, V> {
         ensures len { result ≡ length self.now.entries }
         ensures rising { IsRising K.cmp self.now.entries }
         ensures few { length self.now.entries + self.now.spare < 2 ^ 32 }
+        ensures shallow { 2 ^ self.now.depth ≤ (length self.now.entries + 1) ^ 2 }
     {
-        self.root.len()
+        nodes::len(self.nodes.as_slice(), self.root)
     }
 
     /// Whether there is no entry.
     pub fn is_empty(&self) -> bool
         ensures { result ≡ (length self.now.entries == 0) }
     {
-        self.root.len() == 0
+        self.len() == 0
     }
 
     /// For how many entries more there is room.
     pub fn spare(&self) -> u32
         ensures { result ≡ self.now.spare }
     {
-        self.spares.len()
+        self.spare
     }
 
     /// The value at the key, or `None` where there is none.
@@ -84,7 +88,7 @@ impl<K: Ord + Copy, V: Copy> RoomMap<K, V> {
         ensures value { result ≡ map.find K.cmp key self.now.entries }
         ensures in_map { result ≡ map.get (as_map K.cmp self.now.entries) key }
     {
-        self.root.get(key)
+        finding::get(self.nodes.as_slice(), self.root, key)
     }
 
     /// Whether there is a value at the key.
@@ -99,23 +103,23 @@ impl<K: Ord + Copy, V: Copy> RoomMap<K, V> {
     pub fn kth(&self, k: u32) -> Option<(K, V)>
         ensures { result ≡ slice_get self.now.entries k }
     {
-        self.root.kth(k)
+        finding::kth(self.nodes.as_slice(), self.root, k)
     }
 
     /// The entry of the least key, or `None` where there is none.
     pub fn least(&self) -> Option<(K, V)>
         ensures { result ≡ slice_get self.now.entries 0 }
     {
-        self.root.kth(0)
+        self.kth(0)
     }
 
     /// The entry of the greatest key, or `None` where there is none.
     pub fn greatest(&self) -> Option<(K, V)>
         ensures { result ≡ slice_get self.now.entries (length self.now.entries - 1) }
     {
-        match self.root.len() {
+        match self.len() {
             0 => None,
-            len => self.root.kth(len - 1),
+            len => self.kth(len - 1),
         }
     }
 
@@ -123,7 +127,7 @@ impl<K: Ord + Copy, V: Copy> RoomMap<K, V> {
     pub fn first_not_below(&self, key: K) -> Option<(K, V)>
         ensures { result ≡ first_not_below K.cmp key self.now.entries }
     {
-        self.root.first_not_below(key)
+        finding::first_not_below(self.nodes.as_slice(), self.root, key)
     }
 
     /// Puts an entry in, at a key that has none, for which there is room. It takes no memory.
@@ -136,10 +140,13 @@ impl<K: Ord + Copy, V: Copy> RoomMap<K, V> {
         ensures one_more { length self.new.entries ≡ length self.old.entries + 1 }
         ensures rising { IsRising K.cmp self.new.entries }
     {
-        match self.spares.take() {
-            Some(spare) => self.root.insert(key, value, spare),
-            None => unreachable!(),
-        }
+        let root = self.root;
+        let place = self.free;
+        let behind = next(self.nodes.as_slice(), place);
+        let spot = Spot { place, key, value };
+        self.root = with_entry(self.nodes.as_mut_slice(), root, spot);
+        self.free = behind;
+        self.spare -= 1;
     }
 
     /// Puts this value at a key that has one. It takes no memory.
@@ -151,7 +158,8 @@ impl<K: Ord + Copy, V: Copy> RoomMap<K, V> {
         ensures as_many { length self.new.entries ≡ length self.old.entries }
         ensures rising { IsRising K.cmp self.new.entries }
     {
-        self.root.replace(key, value);
+        let root = self.root;
+        set_value(self.nodes.as_mut_slice(), root, key, value);
     }
 
     /// Takes the entry of the key out, if there is one: its place is spare again. The result is its value.
@@ -163,9 +171,15 @@ impl<K: Ord + Copy, V: Copy> RoomMap<K, V> {
         ensures same_places { length self.new.entries + self.new.spare ≡ length self.old.entries + self.old.spare }
         ensures rising { IsRising K.cmp self.new.entries }
     {
-        let found = self.root.get(key);
+        let found = self.get(key);
         if found.is_some() {
-            self.spares.give(self.root.remove(key));
+            let root = self.root;
+            let others = self.free;
+            let left = unlink(self.nodes.as_mut_slice(), root, key);
+            free_node(self.nodes.as_mut_slice(), left.freed, others);
+            self.root = left.root;
+            self.free = left.freed;
+            self.spare += 1;
         }
         found
     }
@@ -180,11 +194,19 @@ impl<K: Ord + Copy + Default, V: Copy + Default> RoomMap<K, V> {
         ensures kept { self.new.entries ≡ self.old.entries }
         ensures err { OnErr result (self.new ≡ self.old) }
     {
-        let more = n.saturating_sub(self.spares.len());
-        let places = self.root.len() + self.spares.len();
-        if places.checked_add(more).is_none() {
-            return Err(AllocError);
+        let more = n.saturating_sub(self.spare);
+        let had = self.len() + self.spare;
+        match had.checked_add(more) {
+            None => Err(AllocError),
+            Some(places) => match self.nodes.resize(places as usize, Node::empty()) {
+                Err(_) => Err(AllocError),
+                Ok(()) => {
+                    let others = self.free;
+                    self.free = free_all(self.nodes.as_mut_slice(), had, places, others);
+                    self.spare += more;
+                    Ok(())
+                }
+            },
         }
-        self.spares.make(self.alloc, more)
     }
 }
