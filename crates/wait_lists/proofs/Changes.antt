@@ -1,15 +1,15 @@
 -- What a change of one waiter changes of the waits that are told.
-use Rattle.std.proofs.Common.{◌≡◌, ℕ, ◌≤◌, ◌≢◌, Bool, true, false, List, [], ◌∷◌, ◌++◌, length, set, Option, Some, None, refl, sym, ap, ◌∙◌, arith}
+use Rattle.std.proofs.Common.{◌≡◌, ℕ, ◌≤◌, ◌≢◌, Bool, true, false, List, [], ◌∷◌, length, set, Option, Some, None, refl, sym, ap, ◌∙◌, arith}
 use Rattle.std.specs.Prelude.{slice_get, unwrap_or, is_some}
 use Rattle.std.specs.Ordering.{nat_cmp}
 use Rattle.std.specs.FinMap as maps
 use Rattle.event_core.specs.declared.event.Ev.{Ev}
 use Rattle.lemmas.specs.Updated.{updated}
 use Rattle.wait_lists.specs.Waits.{Wait, Waits, with_wait, with_mark, with_room, without_instance, room_for}
-use Rattle.wait_lists.specs.Shown.{Shown, idle, listed, wait_of, mark_of, room_of, shown_at, told, waits_of}
+use Rattle.wait_lists.specs.Shown.{Shown, listed, wait_of, mark_of, room_of, shown_at, told, waits_of}
 use Rattle.wait_lists.proofs.Told.{get-room, with_wait-told, with_mark-told, with_room-told, without-told}
 use Rattle.lemmas.proofs.MapLemmas.{is_updated, get-updated_same, get-updated_other}
-use Rattle.wait_lists.proofs.FitLemmas.{Placed, told-here, told-set_same, told-set_other, told-absent, told-pushed_same, told-pushed_other}
+use Rattle.wait_lists.proofs.Telling.{Placed, told-here, told-set_same, told-set_other}
 
 module _ (es : List (ℕ × ℕ)) (ss : List Shown) (placed : Placed es ss) (p at : ℕ) (s new : Shown)
     (place : maps.find nat_cmp p es ≡ Some at) (here : slice_get ss at ≡ Some s) where
@@ -88,12 +88,3 @@ module _ (es : List (ℕ × ℕ)) (ss : List Shown) (p : ℕ) (absent : maps.fin
 
   pub absent-without : waits_of ss es ≡ without_instance (waits_of ss es) p
   absent-without = without-told ss ss es es p (λ q _. refl) (told_absent (λ o. o))
-
--- one has room that had none
-pub pushed-room : (es : List (ℕ × ℕ)) (ss : List Shown) (placed : Placed es ss) (p items : ℕ) (absent : maps.find nat_cmp p es ≡ None)
-    → waits_of (ss ++ idle p items ∷ []) (maps.put nat_cmp p (length ss) es) ≡ with_room (waits_of ss es) p items
-pushed-room es ss placed p items absent = with_room-told ss (ss ++ idle p items ∷ []) es (maps.put nat_cmp p (length ss) es) p
-    (told-pushed_other es ss p items absent placed) items
-    (ap room_of (told-pushed_same es ss p items absent))
-    (ap wait_of (told-pushed_same es ss p items absent) ∙ sym (ap wait_of (told-absent es ss p items absent)))
-    (ap mark_of (told-pushed_same es ss p items absent) ∙ sym (ap mark_of (told-absent es ss p items absent)))

@@ -84,3 +84,7 @@ module _ (ss tt : List Shown) (es fs : List (ℕ × ℕ)) (p : ℕ) (there : (q 
     muted = muted_updated false (ap mark_of gone) i;
     room = room_updated None (ap room_of gone) i;
   }
+
+  -- nothing else is told of any
+  pub same-told : told tt fs p ≡ told ss es p → waits_of tt fs ≡ waits_of ss es
+  same-told same = λ i. record { waits = waits_kept (ap wait_of same) i; muted = muted_kept (ap mark_of same) i; room = room_kept (ap room_of same) i }

@@ -1,5 +1,6 @@
 pub mod Waits
 pub mod Shown
-pub mod Links
+pub mod Chains
+pub mod Nodes
 pub mod Kept
 pub mod EventCore

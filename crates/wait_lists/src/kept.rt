@@ -1,15 +1,19 @@
-//! The waits as they are kept: a place for each instance that has room, at the place its waiter, and by event the links to
-//! those who wait for it.
-ghost use Rattle.std.specs.Prelude.{◌≡◌, ◌==◌, ℕ, ◌+◌, ◌^◌, ◌<◌, ◌≤◌, true, false, [], None, Some, IfSome, IfNone, OnOk, OnErr, length, max, vec_len, vec_capacity, slice_get, slice_set, drop};
-ghost use Rattle.std.specs.List.Sorted.{IsStrictlyIncreasing};
+//! The waits as they are kept: a place for each instance that has room, at the place its waiter, and a node for each event of
+//! each wait, in the list of the event and in that of the waiter.
+ghost use Rattle.std.specs.Prelude.{◌≡◌, ◌≢◌, ℕ, ◌+◌, ◌^◌, ◌<◌, ◌≤◌, [], ◌∷◌, ◌++◌, true, Some, None, IfSome, length, drop, slice_get, slice_set, vec_capacity};
 ghost use Rattle.std.specs.Ordering.{nat_cmp};
 ghost use Rattle.std.specs.FinMap as map;
-ghost use Rattle.wait_lists.specs.Waits.{Waits, without, no_waits, with_wait, with_mark, with_room, without_instance, room_for, waits_for, wait_after, is_met_by, waits_naming, AddsEach};
+ghost use Rattle.wait_lists.specs.Waits.{no_waits, with_wait, with_mark, without_instance, room_for};
 ghost use Rattle.wait_lists.specs.Shown.{Shown, listed};
-ghost use Rattle.wait_lists.specs.Kept.{IsSound, IsNext, relocated, waits_by};
+ghost use Rattle.wait_lists.specs.Chains.{none};
+ghost use Rattle.wait_lists.specs.declared.waiter.Waiter.{Waiter};
+ghost use Rattle.wait_lists.specs.Nodes.{code_of, event_of};
+ghost use Rattle.wait_lists.specs.Kept.{IsSound, IsUsed, IsOf, IsShorter, IsCutAt, shown_by, waits_by};
 
-use crate::links::{Links, event_code, link, make_links, next_linked, unlink, unlink_one};
-use crate::waiter::Waiter;
+use crate::heads::Heads;
+use crate::linking::{cut_event, cut_wait, put_event, put_wait};
+use crate::nodes::{FREE, NONE, Node};
+use crate::waiter::{Waiter, set_kind, set_muted, set_room};
 use event_core::Ev;
 use room_map::RoomMap;
 use std::alloc::{AllocError, Global};
@@ -17,10 +21,13 @@ use std::alloc::{AllocError, Global};
 #[derive(Drop)]
 pub(crate) struct Kept {
     // By serial.
-    pub(crate) places: RoomMap<u32, usize>,
+    pub(crate) places: RoomMap<u32, u32>,
     // By place.
     pub(crate) waiters: Vec<Waiter>,
-    pub(crate) links: Links,
+    // The places that no instance has.
+    pub(crate) vacant: Vec<u32>,
+    pub(crate) nodes: Vec<Node>,
+    pub(crate) heads: Heads,
     // For how many events there is room, in all.
     pub(crate) total: u64,
 }
@@ -32,35 +39,121 @@ pub(crate) fn nothing_kept(alloc: Global) -> Kept
     Kept {
         places: RoomMap::new(alloc),
         waiters: Vec::new(alloc),
-        links: RoomMap::new(alloc),
+        vacant: Vec::new(alloc),
+        nodes: Vec::new(alloc),
+        heads: Heads::new(alloc),
         total: 0,
     }
 }
 
-// Takes the instance out of all lists.
-fn clear_wait(kept: &mut Kept, p: u32, at: usize)
-    requires sound { IsSound kept.old }
-    requires place { map.find nat_cmp p kept.old.places.entries ≡ Some at }
-    ensures sound { IsSound kept.new }
-    ensures places { kept.new.places ≡ kept.old.places }
-    ensures total { kept.new.total ≡ kept.old.total }
-    ensures cleared { (s : Shown) → slice_get kept.old.waiters.items at ≡ Some s → kept.new.waiters.items ≡ slice_set kept.old.waiters.items at (record s { events = [] }) }
-    ensures waits { waits_by kept.new ≡ with_wait (waits_by kept.old) p None }
+pub(crate) fn event_code(e: Ev) -> u64
+    ensures { result ≡ code_of e }
 {
-    unlink(&mut kept.links, kept.waiters[at].events(), p);
-    kept.waiters[at].clear();
+    match e {
+        Ev::Fixed(n) => 3 * u64::from(n) + 2,
+        Ev::Terminated(n) => 3 * u64::from(n) + 3,
+        Ev::Restarted(n) => 3 * u64::from(n) + 4,
+    }
 }
 
-// Lets an instance that waits for nothing wait for these events, for which it has room.
-fn begin_wait(kept: &mut Kept, p: u32, at: usize, for_all: bool, list: &[Ev])
+// Takes a node out of the list of its event and out of that of its waiter. It is free from now on.
+pub(crate) fn drop_node(kept: &mut Kept, i: u32)
     requires sound { IsSound kept.old }
-    requires place { map.find nat_cmp p kept.old.places.entries ≡ Some at }
-    requires free { (s : Shown) → slice_get kept.old.waiters.items at ≡ Some s → (s.events ≡ []) × (length list.now ≤ s.room) }
+    requires used { IsUsed kept.old i }
     ensures sound { IsSound kept.new }
-    ensures waits { waits_by kept.new ≡ with_wait (waits_by kept.old) p (listed for_all list.now) }
+    ensures places { kept.new.places ≡ kept.old.places }
+    ensures vacant { kept.new.vacant ≡ kept.old.vacant }
+    ensures total { kept.new.total ≡ kept.old.total }
+    ensures len { length kept.new.waiters.items ≡ length kept.old.waiters.items }
+    ensures shorter { (at : ℕ) (s : Shown) → IsOf kept.old at i → slice_get (shown_by kept.old) at ≡ Some s → IsShorter kept.old kept.new at i s }
+    ensures cut { (at : ℕ) → IsOf kept.old at i → IsCutAt kept.old kept.new at }
 {
-    link(&mut kept.links, list, p);
-    kept.waiters[at].listen(for_all, list);
+    cut_event(&mut kept.nodes, &mut kept.heads, i);
+    put_event(&mut kept.nodes, &mut kept.heads, i, FREE);
+    cut_wait(&mut kept.nodes, &mut kept.waiters, i);
+}
+
+// Lets the waiter at this place wait for the event of this code too, before all others. It has room for that.
+fn add_node(kept: &mut Kept, at: u32, code: u64)
+    requires sound { IsSound kept.old }
+    requires event { 1 < code }
+    requires inside { at < length kept.old.waiters.items }
+    requires room { (s : Shown) → slice_get (shown_by kept.old) at ≡ Some s → length s.events < s.room }
+    ensures sound { IsSound kept.new }
+    ensures places { kept.new.places ≡ kept.old.places }
+    ensures vacant { kept.new.vacant ≡ kept.old.vacant }
+    ensures total { kept.new.total ≡ kept.old.total }
+    ensures len { length kept.new.waiters.items ≡ length kept.old.waiters.items }
+    ensures more { (s : Shown) → slice_get (shown_by kept.old) at ≡ Some s → shown_by kept.new ≡ slice_set (shown_by kept.old) at (record s { events = event_of code ∷ s.events }) }
+{
+    let i = kept.heads.free;
+    cut_event(&mut kept.nodes, &mut kept.heads, i);
+    put_event(&mut kept.nodes, &mut kept.heads, i, code);
+    put_wait(&mut kept.nodes, &mut kept.waiters, i, at);
+}
+
+// The first node of the list of the waiter at this place.
+pub(crate) fn first_node(kept: &Kept, at: u32) -> u32
+    requires { at < length kept.now.waiters.items }
+    ensures { (w : Waiter) → slice_get kept.now.waiters.items at ≡ Some w → result ≡ w.first }
+{
+    kept.waiters[at as usize].first
+}
+
+// For how many events the waiter at this place has room.
+pub(crate) fn room_at(kept: &Kept, at: u32) -> u32
+    requires { at < length kept.now.waiters.items }
+    ensures { (w : Waiter) → slice_get kept.now.waiters.items at ≡ Some w → result ≡ w.room }
+{
+    kept.waiters[at as usize].room
+}
+
+// Takes the waiter at this place out of all lists.
+pub(crate) fn clear_wait(kept: &mut Kept, at: u32)
+    requires sound { IsSound kept.old }
+    requires inside { at < length kept.old.waiters.items }
+    ensures sound { IsSound kept.new }
+    ensures places { kept.new.places ≡ kept.old.places }
+    ensures vacant { kept.new.vacant ≡ kept.old.vacant }
+    ensures total { kept.new.total ≡ kept.old.total }
+    ensures len { length kept.new.waiters.items ≡ length kept.old.waiters.items }
+    ensures cleared { (s : Shown) → slice_get (shown_by kept.old) at ≡ Some s → shown_by kept.new ≡ slice_set (shown_by kept.old) at (record s { events = [] }) }
+    ensures cut { IsCutAt kept.old kept.new at }
+{
+    let mut first = first_node(kept, at);
+    while first != NONE {
+        drop_node(kept, first);
+        first = first_node(kept, at);
+    }
+}
+
+// Lets a waiter that waits for nothing wait for these events, for which it has room.
+fn begin_wait(kept: &mut Kept, at: u32, for_all: bool, list: &[Ev])
+    requires sound { IsSound kept.old }
+    requires inside { at < length kept.old.waiters.items }
+    requires free { (s : Shown) → slice_get (shown_by kept.old) at ≡ Some s → (s.events ≡ []) × (length list.now ≤ s.room) }
+    ensures sound { IsSound kept.new }
+    ensures places { kept.new.places ≡ kept.old.places }
+    ensures begun { (s : Shown) → slice_get (shown_by kept.old) at ≡ Some s → shown_by kept.new ≡ slice_set (shown_by kept.old) at (record s { for_all = for_all; events = list.now }) }
+{
+    set_kind(&mut kept.waiters, at, for_all);
+    list_events(kept, at, list);
+}
+
+// Lets a waiter that waits for nothing yet wait for these events, from the last to the first.
+fn list_events(kept: &mut Kept, at: u32, list: &[Ev])
+    requires sound { IsSound kept.old }
+    requires inside { at < length kept.old.waiters.items }
+    requires free { (s : Shown) → slice_get (shown_by kept.old) at ≡ Some s → (s.events ≡ []) × (length list.now ≤ s.room) }
+    ensures sound { IsSound kept.new }
+    ensures places { kept.new.places ≡ kept.old.places }
+    ensures begun { (s : Shown) → slice_get (shown_by kept.old) at ≡ Some s → shown_by kept.new ≡ slice_set (shown_by kept.old) at (record s { events = list.now }) }
+{
+    let mut k = list.len();
+    while 0 < k {
+        k -= 1;
+        add_node(kept, at, event_code(list[k]));
+    }
 }
 
 // Lets the instance wait for any or for all of these events, in place of what it waited for.
@@ -71,8 +164,8 @@ pub(crate) fn set_wait(kept: &mut Kept, p: u32, for_all: bool, list: &[Ev])
     ensures waits { waits_by kept.new ≡ with_wait (waits_by kept.old) p (listed for_all list.now) }
 {
     if let Some(at) = kept.places.get(p) {
-        clear_wait(kept, p, at);
-        begin_wait(kept, p, at, for_all, list);
+        clear_wait(kept, at);
+        begin_wait(kept, at, for_all, list);
     }
 }
 
@@ -83,62 +176,7 @@ pub(crate) fn set_mark(kept: &mut Kept, p: u32, on: bool)
     ensures waits { waits_by kept.new ≡ with_mark (waits_by kept.old) p on }
 {
     if let Some(at) = kept.places.get(p) {
-        kept.waiters[at].mute(on);
-    }
-}
-
-// Makes room for so many events of an instance that has room.
-fn widen(kept: &mut Kept, p: u32, at: usize, items: u32) -> Result<(), AllocError>
-    requires sound { IsSound kept.old }
-    requires place { map.find nat_cmp p kept.old.places.entries ≡ Some at }
-    ensures sound { IsSound kept.new }
-    ensures ok { OnOk result (waits_by kept.new ≡ with_room (waits_by kept.old) p (max items (room_for (waits_by kept.old) p))) }
-    ensures err { OnErr result (waits_by kept.new ≡ waits_by kept.old) }
-{
-    let room = kept.waiters[at].room();
-    if items <= room {
-        return Ok(());
-    }
-    make_links(&mut kept.links, kept.total, items - room)?;
-    kept.waiters[at].widen(items)?;
-    kept.total += u64::from(items - room);
-    Ok(())
-}
-
-// Makes room for an instance that has none, and for so many events.
-fn admit(kept: &mut Kept, alloc: Global, p: u32, items: u32) -> Result<(), AllocError>
-    requires sound { IsSound kept.old }
-    requires absent { map.find nat_cmp p kept.old.places.entries ≡ None }
-    ensures sound { IsSound kept.new }
-    ensures ok { OnOk result (waits_by kept.new ≡ with_room (waits_by kept.old) p items) }
-    ensures err { OnErr result (waits_by kept.new ≡ waits_by kept.old) }
-{
-    kept.places.reserve(1)?;
-    kept.waiters.reserve(1)?;
-    make_links(&mut kept.links, kept.total, items)?;
-    let waiter = Waiter::new(alloc, p, items)?;
-    let at = kept.waiters.len();
-    kept.waiters.push_reserved(waiter);
-    kept.places.insert(p, at);
-    kept.total += u64::from(items);
-    Ok(())
-}
-
-// Makes room for the instance, so that it can wait for so many events.
-pub(crate) fn make_room(
-    kept: &mut Kept,
-    alloc: Global,
-    p: u32,
-    items: u32,
-) -> Result<(), AllocError>
-    requires { IsSound kept.old }
-    ensures sound { IsSound kept.new }
-    ensures ok { OnOk result (waits_by kept.new ≡ with_room (waits_by kept.old) p (max items (room_for (waits_by kept.old) p))) }
-    ensures err { OnErr result (waits_by kept.new ≡ waits_by kept.old) }
-{
-    match kept.places.get(p) {
-        Some(at) => widen(kept, p, at, items),
-        None => admit(kept, alloc, p, items),
+        set_muted(&mut kept.waiters, at, on);
     }
 }
 
@@ -149,100 +187,21 @@ pub(crate) fn put_out(kept: &mut Kept, p: u32)
     ensures waits { waits_by kept.new ≡ without_instance (waits_by kept.old) p }
 {
     if let Some(at) = kept.places.get(p) {
-        clear_wait(kept, p, at);
-        take_place(kept, p, at);
+        clear_wait(kept, at);
+        vacate(kept, p, at);
     }
 }
 
-// Takes the place of an instance that waits for nothing. The last waiter moves there.
-fn take_place(kept: &mut Kept, p: u32, at: usize)
+// Takes the place of an instance that waits for nothing.
+fn vacate(kept: &mut Kept, p: u32, at: u32)
     requires sound { IsSound kept.old }
     requires place { map.find nat_cmp p kept.old.places.entries ≡ Some at }
-    requires free { (s : Shown) → slice_get kept.old.waiters.items at ≡ Some s → s.events ≡ [] }
+    requires free { (s : Shown) → slice_get (shown_by kept.old) at ≡ Some s → s.events ≡ [] }
     ensures sound { IsSound kept.new }
     ensures waits { waits_by kept.new ≡ without_instance (waits_by kept.old) p }
 {
-    let last = kept.waiters.len() - 1;
-    let moved = kept.waiters[last].serial();
-    kept.total -= u64::from(kept.waiters[at].room());
-    kept.waiters.swap_remove(at);
+    kept.total -= u64::from(room_at(kept, at));
+    set_room(&mut kept.waiters, at, 0);
+    kept.vacant.push_reserved(at);
     kept.places.remove(p);
-    move_place(&mut kept.places, moved, last, at);
-}
-
-// If this serial has the one place, it has the other now.
-fn move_place(places: &mut RoomMap<u32, usize>, moved: u32, from: usize, to: usize)
-    ensures { (p : ℕ) → map.find nat_cmp p places.new.entries ≡ relocated moved from to p (map.find nat_cmp p places.old.entries) }
-{
-    if let Some(at) = places.get(moved) {
-        if at == from {
-            places.replace(moved, to);
-        }
-    }
-}
-
-// The first instance from this serial on that waits for the event.
-fn next_waiting(kept: &Kept, e: Ev, from: u64) -> Option<u32>
-    requires { IsSound kept.now }
-    ensures next { IfSome result (IsNext (waits_by kept.now) e from) }
-    ensures small { IfSome result (λ p. p < 2 ^ 32) }
-    ensures none { IfNone result ((p : ℕ) → from ≤ p → waits_for (waits_by kept.now) p e ≡ false) }
-{
-    match u32::try_from(from) {
-        Ok(from) => next_linked(&kept.links, event_code(e), from),
-        Err(_) => None,
-    }
-}
-
-// Takes the event out of what the instance at this place waits for, and answers whether none is left.
-fn strike_one(kept: &mut Kept, p: u32, at: usize, e: Ev) -> bool
-    requires sound { IsSound kept.old }
-    requires place { map.find nat_cmp p kept.old.places.entries ≡ Some at }
-    ensures sound { IsSound kept.new }
-    ensures over { (s : Shown) → slice_get kept.old.waiters.items at ≡ Some s → result ≡ (length (without e s.events) == 0) }
-    ensures waits { (s : Shown) → slice_get kept.old.waiters.items at ≡ Some s → waits_by kept.new ≡ with_wait (waits_by kept.old) p (listed s.for_all (without e s.events)) }
-{
-    unlink_one(&mut kept.links, event_code(e), p);
-    kept.waiters[at].strike(e)
-}
-
-// Takes from the wait of an instance that waits for the event what that strikes, and answers whether the wait is met.
-fn strike(kept: &mut Kept, p: u32, e: Ev) -> bool
-    requires sound { IsSound kept.old }
-    requires waiting { waits_for (waits_by kept.old) p e ≡ true }
-    ensures sound { IsSound kept.new }
-    ensures met { result ≡ is_met_by (waits_by kept.old) p e }
-    ensures waits { waits_by kept.new ≡ with_wait (waits_by kept.old) p (wait_after (waits_by kept.old) p e) }
-{
-    let Some(at) = kept.places.get(p) else {
-        return false;
-    };
-    if kept.waiters[at].is_muted() {
-        return false;
-    }
-    if kept.waiters[at].is_for_all() {
-        return strike_one(kept, p, at, e);
-    }
-    clear_wait(kept, p, at);
-    true
-}
-
-// Strikes the event from each wait, and adds the serials of those that are met.
-pub(crate) fn strike_all(kept: &mut Kept, e: Ev, out: &mut Vec<u32>)
-    requires sound { IsSound kept.old }
-    requires room { vec_len out.old + map.len (waits_naming (waits_by kept.old) e) ≤ vec_capacity out.old }
-    ensures sound { IsSound kept.new }
-    ensures struck { (p : ℕ) → map.get (waits_by kept.new).waits p ≡ wait_after (waits_by kept.old) p e }
-    ensures kept { waits_by kept.new ≡ record (waits_by kept.old) { waits = (waits_by kept.new).waits } }
-    ensures met { AddsEach out.old.items out.new.items (λ p. is_met_by (waits_by kept.old) p e) }
-    ensures rising { IsStrictlyIncreasing (drop (vec_len out.old) out.new.items) }
-    ensures capacity { vec_capacity out.new ≡ vec_capacity out.old }
-{
-    let mut from = 0u64;
-    while let Some(p) = next_waiting(kept, e, from) {
-        if strike(kept, p, e) {
-            out.push_reserved(p);
-        }
-        from = u64::from(p) + 1;
-    }
 }

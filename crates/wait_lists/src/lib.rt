@@ -9,13 +9,19 @@ ghost use Rattle.std.specs.List.Sorted.{IsStrictlyIncreasing};
 ghost use Rattle.std.specs.FinMap as map;
 ghost use Rattle.std.specs.FinSet as set;
 
+mod firing;
+mod growing;
+mod heads;
 mod kept;
 mod laws;
-mod links;
+mod linking;
+mod nodes;
 mod waiter;
 
 pub use event_core::Ev;
-use kept::{Kept, make_room, nothing_kept, put_out, set_mark, set_wait, strike_all};
+use firing::strike_all;
+use growing::make_room;
+use kept::{Kept, nothing_kept, put_out, set_mark, set_wait};
 pub use laws::{
     as_many_as_have_room, as_many_as_serials, as_many_as_wait_for_it, who_waits_has_room,
 };
@@ -25,7 +31,6 @@ use std::marker::Model;
 /// The waits of all instances.
 #[derive(Drop)]
 pub struct WaitLists {
-    alloc: Global,
     kept: Kept,
 }
 
@@ -53,7 +58,6 @@ impl WaitLists {
         ensures room { result.room ≡ map.empty }
     {
         WaitLists {
-            alloc,
             kept: nothing_kept(alloc),
         }
     }
@@ -75,7 +79,7 @@ impl WaitLists {
         ensures kept { self.new ≡ record self.old { room = self.new.room } }
         ensures err { OnErr result (self.new ≡ self.old) }
     {
-        make_room(&mut self.kept, self.alloc, p, items)
+        make_room(&mut self.kept, p, items)
     }
 
     /// Lets `p` wait for any of these events, in place of what it waited for. With no event it waits for nothing.

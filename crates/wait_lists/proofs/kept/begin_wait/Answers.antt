@@ -1,55 +1,55 @@
-use Rattle.std.proofs.Common.{◌<◌, length, ap, ◌∙◌, arith}
+use Rattle.std.proofs.Common.{◌≡◌, ap, ◌∙◌, sym, refl, arith, length, Some, set}
 use Rattle.std.specs.Prelude.{slice_get}
-use Rattle.wait_lists.specs.Links.{has_code, is_linked}
-use Rattle.wait_lists.proofs.FitLemmas.{place_within, read_at, linked-at, fit-events, shown-serial}
-use Rattle.wait_lists.proofs.Changes.{changed-wait}
-use Rattle.wait_lists.proofs.Pigeons.{spare-enough}
-use Rattle.wait_lists.proofs.Relinked.{linked_here, linked_there}
+use Rattle.std.proofs.lemmas.List.{length-set}
+use Rattle.wait_lists.specs.declared.waiter.Waiter.{Waiter}
+use Rattle.wait_lists.specs.Shown.{Shown}
+use Rattle.wait_lists.specs.Nodes.{shown_of}
+use Rattle.wait_lists.specs.Kept.{shown_by}
+use Rattle.wait_lists.proofs.Telling.{written_at}
+use Rattle.wait_lists.proofs.Refit.{get-inside, shown-at}
+use Rattle.wait_lists.proofs.Places.{slice_get-set_same}
+use Rattle.wait_lists.proofs.Clearing.{set_twice}
+use Rattle.wait_lists.proofs.Written.{fit-kind, shown-kind}
 use Rattle.wait_lists.proofs.kept.begin_wait.Goals as goal
 
-pub link-requires-clause-room : goal.link-requires-clause-room
-link-requires-clause-room c =
-    let ss = c.args.kept.now.waiters.items in
-    let es = c.args.kept.now.places.entries in
-    let links = c.args.kept.now.links in
-    let total = c.args.kept.now.total in
-    let fit = c.requires.sound in
-    let one = shown-serial (slice_get ss c.args.at) c.args.p (fit.placed c.args.p c.args.at c.requires.place).0 in
-    let free = c.requires.free one.0 one.1 in
-    omega (arith, spare-enough es ss links total fit c.args.at one.0 one.1 free.0, free.1)
+pub list_events-requires-clause-sound : goal.list_events-requires-clause-sound
+list_events-requires-clause-sound c =
+    let k = c.args.kept.now in
+    let own = get-inside k.waiters.items c.args.at c.requires.inside in
+    let new : Waiter = record own.0 { for_all = c.args.for_all } in
+    let is = c.set_kind.ensures own.0 own.1 in (
+      fit-kind k.places.entries k.waiters.items c.set_kind.new.waiters.items k.vacant.items k.nodes.items k.heads.events k.heads.free k.total c.requires.sound.0 c.args.at own.0 new own.1 is refl refl refl,
+      omega (arith, c.requires.sound.1, ap length is, length-set k.waiters.items c.args.at new),
+    )
 
-pub index_mut-requires : goal.index_mut-requires
-index_mut-requires c =
-    let within : c.args.at < length c.args.kept.now.waiters.items = place_within c.args.kept.now.waiters.items c.args.kept.now.places.entries c.requires.sound.placed c.args.p c.args.at c.requires.place in
-    omega arith
+pub list_events-requires-clause-inside : goal.list_events-requires-clause-inside
+list_events-requires-clause-inside c =
+    let k = c.args.kept.now in
+    let own = get-inside k.waiters.items c.args.at c.requires.inside in
+    omega (arith, c.requires.inside, ap length (c.set_kind.ensures own.0 own.1), length-set k.waiters.items c.args.at (record own.0 { for_all = c.args.for_all }))
 
-pub listen-requires : goal.listen-requires
-listen-requires c =
-    let ss = c.args.kept.now.waiters.items in
-    let es = c.args.kept.now.places.entries in
-    let s = c.index_mut.result.now in
-    (c.requires.free s (read_at ss es c.requires.sound.placed c.args.p c.args.at s c.requires.place c.index_mut.ensures.value)).1
+pub list_events-requires-clause-free : goal.list_events-requires-clause-free
+list_events-requires-clause-free c x found =
+    let k = c.args.kept.now in
+    let own = get-inside k.waiters.items c.args.at c.requires.inside in
+    let new : Waiter = record own.0 { for_all = c.args.for_all } in
+    let here = shown-at k.nodes.items k.waiters.items c.args.at own.0 own.1 in
+    let now = shown-kind k.waiters.items c.set_kind.new.waiters.items k.nodes.items c.args.at new (c.set_kind.ensures own.0 own.1) in
+    let is = written_at (shown_by k) (shown_by (record k { waiters = c.set_kind.new.waiters })) c.args.at (shown_of k.nodes.items own.0) x (shown_of k.nodes.items new) here now found in
+    let old = c.requires.free (shown_of k.nodes.items own.0) here in
+    (ap (λ (y : Shown). y.events) is ∙ old.0, omega (arith, ap (λ (y : Shown). y.room) is, old.1))
 
-pub returns-clause-sound : goal.returns-clause-sound
-returns-clause-sound c =
-    let ss = c.args.kept.now.waiters.items in
-    let es = c.args.kept.now.places.entries in
-    let links = c.args.kept.now.links in
-    let total = c.args.kept.now.total in
-    let fit = c.requires.sound in
-    let s = c.index_mut.result.now in
-    let here = read_at ss es fit.placed c.args.p c.args.at s c.requires.place c.index_mut.ensures.value in
-    let free = c.requires.free s here in
-    fit-events es ss links total fit c.args.p c.args.at s c.listen.new.self c.requires.place here c.args.for_all c.args.list.now c.listen.ensures free.1 c.link.new.links
-    (λ d. linked_here c.args.p (is_linked c.link.new.links.entries d c.args.p) (is_linked links.entries d c.args.p) (has_code d c.args.list.now) (c.link.ensures.linked d c.args.p)
-    (linked-at es ss links total fit c.args.p c.args.at s s c.requires.place here d ∙ ap (has_code d) free.0))
-    (λ d q apart. linked_there c.args.p q (is_linked c.link.new.links.entries d q) (is_linked links.entries d q) (has_code d c.args.list.now) apart (c.link.ensures.linked d q))
-    c.link.ensures.rising c.link.ensures.places
-
-pub returns-clause-waits : goal.returns-clause-waits
-returns-clause-waits c =
-    let ss = c.args.kept.now.waiters.items in
-    let es = c.args.kept.now.places.entries in
-    let s = c.index_mut.result.now in
-    let here = read_at ss es c.requires.sound.placed c.args.p c.args.at s c.requires.place c.index_mut.ensures.value in
-    changed-wait es ss c.requires.sound.placed c.args.p c.args.at s c.listen.new.self c.requires.place here c.args.for_all c.args.list.now c.listen.ensures
+pub returns-clause-begun : goal.returns-clause-begun
+returns-clause-begun c s found =
+    let k = c.args.kept.now in
+    let own = get-inside k.waiters.items c.args.at c.requires.inside in
+    let new : Waiter = record own.0 { for_all = c.args.for_all } in
+    let here = shown-at k.nodes.items k.waiters.items c.args.at own.0 own.1 in
+    let now = shown-kind k.waiters.items c.set_kind.new.waiters.items k.nodes.items c.args.at new (c.set_kind.ensures own.0 own.1) in
+    let same : Some (shown_of k.nodes.items own.0) ≡ Some s = sym here ∙ found in
+    let alike : shown_of k.nodes.items own.0 ≡ s = cc in
+    let read = ap (λ l. slice_get l c.args.at) now ∙ slice_get-set_same (shown_by k) c.args.at (shown_of k.nodes.items own.0) (shown_of k.nodes.items new) here in
+    c.list_events.ensures.begun (shown_of k.nodes.items new) read
+    ∙ ap (λ l. set l c.args.at (record (shown_of k.nodes.items new) { events = c.args.list.now })) now
+    ∙ set_twice (shown_by k) c.args.at (shown_of k.nodes.items new) (record (shown_of k.nodes.items new) { events = c.args.list.now })
+    ∙ ap (λ (y : Shown). set (shown_by k) c.args.at (record y { for_all = c.args.for_all; events = c.args.list.now })) alike

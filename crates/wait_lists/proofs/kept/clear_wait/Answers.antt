@@ -1,53 +1,59 @@
-use Rattle.std.proofs.Common.{◌≡◌, ◌<◌, ◌≤◌, [], length, set, Some, sym, ap, ◌∙◌, arith}
-use Rattle.wait_lists.specs.Waits.{with_wait}
-use Rattle.wait_lists.specs.Shown.{Shown, waits_of}
-use Rattle.wait_lists.specs.Links.{has_code, is_linked}
-use Rattle.wait_lists.proofs.FitLemmas.{place_within, read_at, linked-at, fit-events}
-use Rattle.wait_lists.proofs.Changes.{changed-wait, listed-empty}
-use Rattle.wait_lists.proofs.Relinked.{unlinked_here, unlinked_there}
+use Rattle.std.proofs.Common.{◌<◌, ap, ◌∙◌, sym, refl, arith, length, set}
+use Rattle.wait_lists.specs.Kept.{shown_by}
+use Rattle.wait_lists.proofs.Refit.{set-here}
+use Rattle.wait_lists.proofs.Rewritten.{cut-none, cut-more}
+use Rattle.wait_lists.proofs.Clearing.{of-first, used-first, empty-first, left-here, left-more, shorter-count}
 use Rattle.wait_lists.proofs.kept.clear_wait.Goals as goal
 
-pub index-requires : goal.index-requires
-index-requires c =
-    let within : c.args.at < length c.args.kept.now.waiters.items = place_within c.args.kept.now.waiters.items c.args.kept.now.places.entries c.requires.sound.placed c.args.p c.args.at c.requires.place in
-    omega arith
+pub loop-first-init : goal.loop-first-init
+loop-first-init c = record {
+  sound = c.requires.sound;
+  places = refl;
+  vacant = refl;
+  total = refl;
+  len = refl;
+  left = λ s here. (s.events, sym (set-here (shown_by c.args.kept.now) c.args.at s here));
+  first_is = c.first_node-first.ensures;
+  cut = cut-none c.args.kept.now c.args.at;
+}
 
-pub index_mut-requires : goal.index_mut-requires
-index_mut-requires c =
-    let within : c.args.at < length c.args.kept.now.waiters.items = place_within c.args.kept.now.waiters.items c.args.kept.now.places.entries c.requires.sound.placed c.args.p c.args.at c.requires.place in
-    omega arith
+pub drop_node-requires-clause-used : goal.drop_node-requires-clause-used
+drop_node-requires-clause-used c =
+    let inv = c.loop-first.invariant in
+    let inside : c.args.at < length c.loop-first.kept.waiters.items = omega (arith, inv.len, c.requires.inside) in
+    used-first c.loop-first.kept inv.sound c.args.at c.loop-first.first inside inv.first_is c.loop-first-test.true
 
-pub returns-clause-sound : goal.returns-clause-sound
-returns-clause-sound c =
-    let ss = c.args.kept.now.waiters.items in
-    let es = c.args.kept.now.places.entries in
-    let links = c.args.kept.now.links in
-    let total = c.args.kept.now.total in
-    let fit = c.requires.sound in
-    let s = c.index_mut.result.now in
-    let here = read_at ss es fit.placed c.args.p c.args.at s c.requires.place c.index_mut.ensures.value in
-    let here_too = read_at ss es fit.placed c.args.p c.args.at c.index.result.now c.requires.place c.index.ensures in
-    let none : 0 ≤ s.room = omega arith in
-    fit-events es ss links total fit c.args.p c.args.at s c.clear.new.self c.requires.place here s.for_all [] c.clear.ensures none c.unlink.new.links
-    (λ d. unlinked_here c.args.p (is_linked c.unlink.new.links.entries d c.args.p) (is_linked links.entries d c.args.p) (has_code d c.events.result.now) (c.unlink.ensures.linked d c.args.p)
-    (linked-at es ss links total fit c.args.p c.args.at c.index.result.now c.index.result.now c.requires.place here_too d ∙ ap (has_code d) (sym c.events.ensures)))
-    (λ d q apart. unlinked_there c.args.p q (is_linked c.unlink.new.links.entries d q) (is_linked links.entries d q) (has_code d c.events.result.now) apart (c.unlink.ensures.linked d q))
-    c.unlink.ensures.rising c.unlink.ensures.places
+pub loop-first-smaller : goal.loop-first-smaller
+loop-first-smaller c =
+    let inv = c.loop-first.invariant in
+    let inside : c.args.at < length c.loop-first.kept.waiters.items = omega (arith, inv.len, c.requires.inside) in
+    shorter-count c.loop-first.kept c.drop_node.new.kept c.args.at c.loop-first.first inside
+    (λ s here. c.drop_node.ensures.shorter c.args.at s (of-first c.loop-first.kept inv.sound c.args.at c.loop-first.first inside inv.first_is c.loop-first-test.true) here)
+
+pub loop-first-preserved : goal.loop-first-preserved
+loop-first-preserved c =
+    let inv = c.loop-first.invariant in
+    let inside : c.args.at < length c.loop-first.kept.waiters.items = omega (arith, inv.len, c.requires.inside) in
+    let of = of-first c.loop-first.kept inv.sound c.args.at c.loop-first.first inside inv.first_is c.loop-first-test.true in
+    record {
+      sound = c.drop_node.ensures.sound;
+      places = c.drop_node.ensures.places ∙ inv.places;
+      vacant = c.drop_node.ensures.vacant ∙ inv.vacant;
+      total = c.drop_node.ensures.total ∙ inv.total;
+      len = c.drop_node.ensures.len ∙ inv.len;
+      left = λ s here.
+          let before = inv.left s here in
+          let less = c.drop_node.ensures.shorter c.args.at (record s { events = before.0 }) of (left-here (shown_by c.args.kept.now) (shown_by c.loop-first.kept) c.args.at s here before.0 before.1) in
+          (less.events, left-more (shown_by c.args.kept.now) (shown_by c.loop-first.kept) c.args.at s here before.0 before.1 (shown_by c.drop_node.new.kept) less.events less.is);
+      first_is = c.first_node-first-in-loop-first.ensures;
+      cut = cut-more c.args.kept.now c.loop-first.kept c.drop_node.new.kept c.args.at inv.cut (c.drop_node.ensures.cut c.args.at of);
+    }
 
 pub returns-clause-cleared : goal.returns-clause-cleared
-returns-clause-cleared c x there =
-    let ss = c.args.kept.now.waiters.items in
-    let s = c.index_mut.result.now in
-    let here = read_at ss c.args.kept.now.places.entries c.requires.sound.placed c.args.p c.args.at s c.requires.place c.index_mut.ensures.value in
-    let both : Some s ≡ Some x = sym here ∙ there in
-    let same : s ≡ x = cc in
-    ap (set ss c.args.at) (c.clear.ensures ∙ ap (λ (y : Shown). record y { events = [] }) same)
-
-pub returns-clause-waits : goal.returns-clause-waits
-returns-clause-waits c =
-    let ss = c.args.kept.now.waiters.items in
-    let es = c.args.kept.now.places.entries in
-    let s = c.index_mut.result.now in
-    let here = read_at ss es c.requires.sound.placed c.args.p c.args.at s c.requires.place c.index_mut.ensures.value in
-    changed-wait es ss c.requires.sound.placed c.args.p c.args.at s c.clear.new.self c.requires.place here s.for_all [] c.clear.ensures
-    ∙ ap (with_wait (waits_of ss es) c.args.p) (listed-empty s.for_all)
+returns-clause-cleared c s here =
+    let inv = c.loop-first.invariant in
+    let inside : c.args.at < length c.loop-first.kept.waiters.items = omega (arith, inv.len, c.requires.inside) in
+    let before = inv.left s here in
+    let none_left = empty-first c.loop-first.kept inv.sound c.args.at c.loop-first.first inside inv.first_is c.loop-first-test.false (record s { events = before.0 })
+    (left-here (shown_by c.args.kept.now) (shown_by c.loop-first.kept) c.args.at s here before.0 before.1) in
+    before.1 ∙ ap (λ l. set (shown_by c.args.kept.now) c.args.at (record s { events = l })) none_left

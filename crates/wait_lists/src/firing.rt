@@ -1,0 +1,133 @@
+//! An event goes along its list.
+ghost use Rattle.std.specs.Prelude.{◌≡◌, ◌≢◌, ℕ, ◌+◌, ◌<◌, ◌≤◌, ◌++◌, ◌∷◌, [], ◌==◌, true, false, Some, List, length, drop, slice_get, vec_len, vec_capacity, if◌then◌else◌};
+ghost use Rattle.std.specs.List.Sorted.{IsStrictlyIncreasing, IsPermutation, IsSorted};
+ghost use Rattle.std.specs.Ordering.{nat_cmp};
+ghost use Rattle.std.specs.FinMap as map;
+ghost use Rattle.wait_lists.specs.Waits.{waits_naming, wait_after, is_met_by, AddsEach};
+ghost use Rattle.wait_lists.specs.Shown.{Shown};
+ghost use Rattle.wait_lists.specs.Chains.{none};
+ghost use Rattle.wait_lists.specs.Kept.{IsSound, IsUsed, IsOf, IsNodes, IsCutAt, IsStruck, last_in, first_from, shown_by, waits_by};
+
+use crate::kept::{Kept, clear_wait, drop_node, event_code, first_node};
+use crate::nodes::NONE;
+use crate::waiter::Waiter;
+use event_core::Ev;
+
+// The place of the waiter in whose list the node stands.
+fn owner(kept: &Kept, i: u32) -> u32
+    requires { i < length kept.now.nodes.items }
+    ensures { IsOf kept.now result i }
+{
+    kept.nodes[i as usize].waiter
+}
+
+fn waiter_at(kept: &Kept, at: u32) -> Waiter
+    requires { at < length kept.now.waiters.items }
+    ensures { slice_get kept.now.waiters.items at ≡ Some result }
+{
+    kept.waiters[at as usize]
+}
+
+// Takes from the wait of the waiter at this place what its event strikes: the node alone where it waits for all, and else all.
+fn strike_wait(kept: &mut Kept, i: u32, at: u32, for_all: bool)
+    requires sound { IsSound kept.old }
+    requires used { IsUsed kept.old i }
+    requires of { IsOf kept.old at i }
+    requires inside { at < length kept.old.waiters.items }
+    requires kind { (s : Shown) → slice_get (shown_by kept.old) at ≡ Some s → s.for_all ≡ for_all }
+    ensures sound { IsSound kept.new }
+    ensures places { kept.new.places ≡ kept.old.places }
+    ensures len { length kept.new.waiters.items ≡ length kept.old.waiters.items }
+    ensures struck { (s : Shown) → slice_get (shown_by kept.old) at ≡ Some s → IsStruck kept.old kept.new i at s }
+    ensures cut { IsCutAt kept.old kept.new at }
+{
+    if for_all {
+        drop_node(kept, i);
+    } else {
+        clear_wait(kept, at);
+    }
+}
+
+// Takes from the wait in which the node stands what its event strikes, and adds the serial if that was all. It answers whether
+// the node stays, as that of a waiter that is muted does.
+fn strike(kept: &mut Kept, i: u32, out: &mut Vec<u32>) -> bool
+    requires sound { IsSound kept.old }
+    requires used { IsUsed kept.old i }
+    requires room { (at : ℕ) (s : Shown) → IsOf kept.old at i → slice_get (shown_by kept.old) at ≡ Some s → s.mark ≡ false → vec_len out.old < vec_capacity out.old }
+    ensures sound { IsSound kept.new }
+    ensures places { kept.new.places ≡ kept.old.places }
+    ensures stays { (at : ℕ) (s : Shown) → IsOf kept.old at i → slice_get (shown_by kept.old) at ≡ Some s → result ≡ s.mark }
+    ensures muted { result ≡ true → (kept.new ≡ kept.old) × (out.new.items ≡ out.old.items) }
+    ensures struck { (at : ℕ) (s : Shown) → IsOf kept.old at i → slice_get (shown_by kept.old) at ≡ Some s → s.mark ≡ false → IsStruck kept.old kept.new i at s }
+    ensures cut { (at : ℕ) → IsOf kept.old at i → IsCutAt kept.old kept.new at }
+    ensures told { (at : ℕ) (s t : Shown) → IsOf kept.old at i → slice_get (shown_by kept.old) at ≡ Some s → s.mark ≡ false → slice_get (shown_by kept.new) at ≡ Some t → out.new.items ≡ out.old.items ++ (if length t.events == 0 then s.serial ∷ [] else []) }
+    ensures capacity { vec_capacity out.new ≡ vec_capacity out.old }
+{
+    let at = owner(kept, i);
+    let waiter = waiter_at(kept, at);
+    if waiter.is_muted {
+        return true;
+    }
+    strike_wait(kept, i, at, waiter.for_all);
+    if first_node(kept, at) == NONE {
+        out.push_reserved(waiter.serial);
+    }
+    false
+}
+
+// The node behind one of this code that stays, or the first one where none stays yet.
+fn next_behind(kept: &Kept, stays: u32, code: u64) -> u32
+    requires sound { IsSound kept.now }
+    requires inside { stays ≢ none → stays < length kept.now.nodes.items }
+    ensures { (xs ys : List ℕ) → IsNodes kept.now code (xs ++ ys) → last_in none xs ≡ stays → result ≡ first_from ys }
+{
+    if stays == NONE {
+        return kept.heads.first(code);
+    }
+    kept.nodes[stays as usize].next
+}
+
+// Strikes the event from each wait, and adds the serials of those that are met.
+fn strike_each(kept: &mut Kept, e: Ev, out: &mut Vec<u32>)
+    requires sound { IsSound kept.old }
+    requires room { vec_len out.old + map.len (waits_naming (waits_by kept.old) e) ≤ vec_capacity out.old }
+    ensures sound { IsSound kept.new }
+    ensures struck { (p : ℕ) → map.get (waits_by kept.new).waits p ≡ wait_after (waits_by kept.old) p e }
+    ensures kept { waits_by kept.new ≡ record (waits_by kept.old) { waits = (waits_by kept.new).waits } }
+    ensures met { AddsEach out.old.items out.new.items (λ p. is_met_by (waits_by kept.old) p e) }
+    ensures capacity { vec_capacity out.new ≡ vec_capacity out.old }
+{
+    let code = event_code(e);
+    let mut stays = NONE;
+    let mut i = kept.heads.first(code);
+    while i != NONE {
+        if strike(kept, i, out) {
+            stays = i;
+        }
+        i = next_behind(kept, stays, code);
+    }
+}
+
+// Sorts the numbers from this place on.
+fn sort_from(list: &mut [u32], from: usize)
+    requires { from ≤ length list.old }
+    ensures { (front back : List ℕ) → list.old ≡ front ++ back → length front ≡ from → (more : List ℕ) × (list.new ≡ front ++ more) × IsPermutation back more × IsSorted nat_cmp more }
+{
+    list[from..].sort_unstable();
+}
+
+// Strikes the event from each wait, and adds the serials of those that are met, by rising serials.
+pub(crate) fn strike_all(kept: &mut Kept, e: Ev, out: &mut Vec<u32>)
+    requires sound { IsSound kept.old }
+    requires room { vec_len out.old + map.len (waits_naming (waits_by kept.old) e) ≤ vec_capacity out.old }
+    ensures sound { IsSound kept.new }
+    ensures struck { (p : ℕ) → map.get (waits_by kept.new).waits p ≡ wait_after (waits_by kept.old) p e }
+    ensures kept { waits_by kept.new ≡ record (waits_by kept.old) { waits = (waits_by kept.new).waits } }
+    ensures met { AddsEach out.old.items out.new.items (λ p. is_met_by (waits_by kept.old) p e) }
+    ensures rising { IsStrictlyIncreasing (drop (vec_len out.old) out.new.items) }
+    ensures capacity { vec_capacity out.new ≡ vec_capacity out.old }
+{
+    let old = out.len();
+    strike_each(kept, e, out);
+    sort_from(out.as_mut_slice(), old);
+}
