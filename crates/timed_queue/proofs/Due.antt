@@ -1,5 +1,5 @@
 -- The names with one time: what their map has, and what is left once the least of them is taken out.
-use Rattle.std.proofs.Common.{◌≡◌, ℕ, ◌+◌, ◌≢◌, ◌≤◌, ◌<◌, Bool, true, false, cond, not, List, [], ◌∷◌, length, Option, Some, None, refl, sym, ap, ◌∙◌, subst, ⊎_elim, arith, eq-eqb, ne_eqb, true≢false}
+use Rattle.std.proofs.Common.{◌≡◌, ℕ, ◌+◌, ◌-◌, ◌≢◌, ◌≤◌, ◌<◌, Bool, true, false, cond, not, List, [], ◌∷◌, length, Option, Some, None, refl, sym, ap, ◌∙◌, subst, ⊎_elim, arith, eq-eqb, ne_eqb, true≢false}
 use Rattle.std.specs.Prelude.{is_some, ◌==◌, count_by, map as map_list}
 use Rattle.std.proofs.lemmas.Bool.{cases_eq}
 use Rattle.std.proofs.lemmas.List.{length-map}
@@ -16,7 +16,6 @@ use Rattle.room_map.proofs.Maps.{rising-entries, entries-remove, len-retain_keys
 use Rattle.sim_time.specs.declared.moments.Time.{Time}
 use Rattle.timed_queue.specs.Timed.{Timed, is_at, is_due, due_at, without_due}
 use Rattle.timed_queue.specs.Timed as timed
-use Rattle.timed_queue.specs.Kept.{IsFirstDue}
 use Rattle.timed_queue.proofs.MapLemmas.{same_gets, get-removed, get-retained}
 
 module _ {X : Type 0} where
@@ -98,7 +97,7 @@ module _ (m : maps.FinMap nat_cmp Time) (t : Time) where
   held-due_at = len-retain_keys-le nat_cmp_total maps.nat_cmp-IsAntisymmetric m (is_due m t)
 
   module _ (none : (q : ℕ) → is_due m t q ≡ false) where
-    no_due : due_at m t ≡ maps.empty
+    pub no_due : due_at m t ≡ maps.empty
     no_due = same_gets maps.empty (due_at m t) (λ q. get-due_at q ∙ ap (λ b. cond b (maps.get m q) None) (none q) ∙ sym (maps.get-empty nat_cmp q))
 
     pub no_keys : maps.keys (due_at m t) ≡ []
@@ -112,7 +111,7 @@ module _ (m : maps.FinMap nat_cmp Time) (t : Time) where
     all_stay = same_gets m (maps.retain_keys m (λ q. not (is_due m t q))) (λ q.
         get-retained m (λ q. not (is_due m t q)) q ∙ ap (λ b. cond (not b) (maps.get m q) None) (none q))
 
-  module _ (name : ℕ) (is : IsFirstDue m t name) where
+  module _ (name : ℕ) (is : is_due m t name ≡ true) where
     due_left : due_at (maps.remove m name) t ≡ maps.remove (due_at m t) name
     due_left = same_gets (maps.remove (due_at m t) name) (due_at (maps.remove m name) t) (λ q.
         get-retained (maps.remove m name) (is_due (maps.remove m name) t) q
@@ -124,16 +123,23 @@ module _ (m : maps.FinMap nat_cmp Time) (t : Time) where
         by_test q true = refl
         by_test q false = sym (get-due_at q)
 
-    pub keys-due_at : maps.keys (due_at m t) ≡ name ∷ maps.keys (due_at (maps.remove m name) t)
-    keys-due_at =
-        keys-first (due_at m t) name (has-due_at name ∙ is.due) (λ q there. is.first q (sym (has-due_at q) ∙ there))
-        ∙ ap (λ n. name ∷ maps.keys n) (sym due_left)
-
     pub len-due_at : maps.len (due_at m t) ≡ maps.len (due_at (maps.remove m name) t) + 1
-    len-due_at = omega (arith, len-keys (due_at m t), ap length keys-due_at, len-keys (due_at (maps.remove m name) t))
+    len-due_at =
+        let d = due_at m t in
+        let e : maps.len (due_at (maps.remove m name) t) ≡ maps.len (maps.remove d name) = ap maps.len due_left in
+        let f : maps.len (maps.remove d name) ≡ maps.len d - 1 = maps.len-remove nat_cmp_total d name ∙ ap (λ b. cond b (maps.len d - 1) (maps.len d)) (has-due_at name ∙ is) in
+        let some : maps.len d ≢ 0 = λ none. true≢false (sym (has-due_at name ∙ is) ∙ ap (λ n. is_some (maps.get n name)) (maps.empty_of_len d none) ∙ ap is_some (maps.get-empty nat_cmp name)) in
+        omega (arith, e, f, some)
+
+    pub due-removed : (p : ℕ) → is_due (maps.remove m name) t p ≡ cond (p == name) false (is_due m t p)
+    due-removed p = ap (is_at t) (get-removed m name p) ∙ by_test (p == name)
+      where
+        by_test : (b : Bool) → is_at t (cond b None (maps.get m p)) ≡ cond b false (is_at t (maps.get m p))
+        by_test true = refl
+        by_test false = refl
 
     there : maps.contains_key m name ≡ true
-    there = by_case (maps.get m name) is.due
+    there = by_case (maps.get m name) is
       where
         by_case : (o : Option Time) → is_at t o ≡ true → is_some o ≡ true
         by_case None h = absurd (true≢false (sym h))
@@ -145,7 +151,7 @@ module _ (m : maps.FinMap nat_cmp Time) (t : Time) where
         ∙ ap (λ o. cond (not (is_at t o)) o None) (get-removed m name q)
         ∙ ⊎_elim
         (λ same. ap (λ b. cond (not (is_at t (cond b None (maps.get m q)))) (cond b None (maps.get m q)) None) (eq-eqb q name same)
-        ∙ sym (ap (λ b. cond (not b) (maps.get m q) None) (ap (is_due m t) same ∙ is.due)))
+        ∙ sym (ap (λ b. cond (not b) (maps.get m q) None) (ap (is_due m t) same ∙ is)))
         (λ apart. ap (λ b. cond (not (is_at t (cond b None (maps.get m q)))) (cond b None (maps.get m q)) None) (ne_eqb q name apart))
         (cases_eq q name)
         ∙ sym (get-retained m (λ q. not (is_due m t q)) q))
@@ -159,7 +165,7 @@ left_none q t none = λ i. record {
     nothing_more : q.spare + maps.len (due_at q.times t) ≡ q.spare
     nothing_more = omega (arith, ap maps.len (no_due q.times t none), maps.len-empty nat_cmp Time)
 
-pub left_one : (q : Timed) (t : Time) (name : ℕ) → IsFirstDue q.times t name → without_due (timed.without q name) t ≡ without_due q t
+pub left_one : (q : Timed) (t : Time) (name : ℕ) → is_due q.times t name ≡ true → without_due (timed.without q name) t ≡ without_due q t
 left_one q t name is = λ i. record {
   times = others_stay q.times t name is i;
   spare = as_many i;

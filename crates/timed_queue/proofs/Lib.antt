@@ -1,3 +1,15 @@
+pub mod PlaceLaws
+pub mod LinkLaws
+pub mod CountLaws
+pub mod NodeLaws
+pub mod WheelLaws
+pub mod FreeLaws
+pub mod WalkLaws
+pub mod TimeLaws
+pub mod MoveLaws
+pub mod EntryLaws
 pub mod MapLemmas
-pub mod Kept
+pub mod QueueLaws
 pub mod Due
+pub mod RoomLaws
+pub mod SortLaws

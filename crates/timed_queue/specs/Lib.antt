@@ -1,3 +1,8 @@
 pub mod Timed
+pub mod Placing
+pub mod Nodes
+pub mod Marked
+pub mod Nearer
+pub mod Sound
 pub mod Kept
 pub mod SimTime

@@ -1,58 +1,70 @@
 //! A queue of names by time: each name has at most one time, and the earliest time comes first (IEEE 1666-2011, 4.2.1.5).
 #![tactic(auto)]
 
-ghost use Rattle.std.specs.Prelude.{◌≡◌, ℕ, ◌⊎◌, ◌↔◌, ◌+◌, ◌++◌, ◌<◌, ◌≤◌, false, IsTrue, IsNone, IfNone, IfSome, OnOk, OnErr, vec_len, vec_capacity};
+ghost use Rattle.std.specs.Prelude.{◌≡◌, ℕ, ◌⊎◌, ◌↔◌, ◌+◌, ◌++◌, ◌<◌, ◌≤◌, false, true, take, drop, length, IsTrue, IsNone, IfNone, IfSome, OnOk, OnErr, vec_len, vec_capacity};
 ghost use Rattle.std.specs.FinMap as map;
+ghost use Rattle.std.specs.Ordering.{nat_cmp};
+ghost use Rattle.std.specs.List.Sorted.{IsSorted, IsPermutation};
 
+mod chains;
+mod entries;
 mod laws;
+mod marks;
+mod moving;
+mod placing;
+mod room;
+mod walking;
+mod wheel;
 
+use chains::name_of;
 pub use laws::due_names_are_held;
 use room_map::RoomMap;
 use sim_time::Time;
 use std::alloc::{AllocError, Global};
 use std::marker::Model;
+use wheel::Wheel;
 
 /// A map from names to times, with room for some names more.
 ///
-/// A call takes time in the logarithm of the number of names, but for `reserve`, which takes time in the room that it
-/// makes, and `take_due`, which takes that for each name that it gives.
+/// A wheel of 11 levels of 64 places: a time stands on the level of the highest digit to the base 64 in which it differs from
+/// the origin, a time that no name is before. A call takes the time of one or two look-ups of a name, but for `reserve`, which takes
+/// time in the room that it makes; `earliest`, which looks at all names of one place; `take_due`, which looks up each name
+/// that it gives, and brings the origin to its time; and a `set` before the origin, which moves all names.
 #[derive(Drop)]
 pub struct TimedQueue {
-    // The picoseconds of each name's time.
-    times: RoomMap<u32, u64>,
-    // Each name, behind the picoseconds of its time.
-    due: RoomMap<(u64, u32), ()>,
+    // The node of each name.
+    index: RoomMap<u32, u32>,
+    wheel: Wheel,
 }
 
 impl Model for TimedQueue {
-    ghost use Rattle.std.specs.Prelude.{◌≤◌};
     ghost use Rattle.timed_queue.specs.Timed.{Timed, timed_code};
 
     ghost Value = { Timed };
 
     ghost coded = { timed_code };
 
-    ghost use Rattle.timed_queue.specs.Kept.{times_of, IsQueue};
+    ghost use Rattle.std.specs.Prelude.{length};
+    ghost use Rattle.timed_queue.specs.Kept.{times_of, IsQueue, HasRoom};
 
     ghost view = { λ q. record {
-      times = times_of q.times.entries;
-      spare = q.times.spare;
+      times = times_of q.index.entries q.wheel.nodes.items;
+      spare = q.wheel.room;
     } };
 
-    ghost invariant = { λ q. IsQueue q.times.entries q.due.entries × (q.times.spare ≤ q.due.spare) };
+    ghost invariant = { λ q. IsQueue q.index.entries q.wheel × HasRoom q.wheel.room q.index.spare (length q.index.entries) };
 }
 
 impl TimedQueue {
     ghost use Rattle.timed_queue.specs.Timed.{with_time, without, without_due, due_at, is_due, IsEarliest, AddsEach};
-    ghost use Rattle.timed_queue.specs.Kept.{IsFirstDue};
 
     /// A queue with no name and no room. It takes no memory.
     pub fn new(alloc: Global) -> TimedQueue
         ensures { result.times ≡ map.empty }
     {
         TimedQueue {
-            times: RoomMap::new(alloc),
-            due: RoomMap::new(alloc),
+            index: RoomMap::new(alloc),
+            wheel: Wheel::new(alloc),
         }
     }
 
@@ -60,7 +72,7 @@ impl TimedQueue {
     pub fn len(&self) -> u32
         ensures { result ≡ map.len self.now.times }
     {
-        self.times.len()
+        self.index.len()
     }
 
     /// Whether there is no name.
@@ -77,8 +89,12 @@ impl TimedQueue {
         ensures kept { self.new.times ≡ self.old.times }
         ensures err { OnErr result (self.new ≡ self.old) }
     {
-        match self.due.reserve(n) {
-            Ok(()) => self.times.reserve(n),
+        match self.index.reserve(n) {
+            Ok(()) => {
+                // It tells that there are less than 2^32 names and places.
+                let _names = self.index.len();
+                self.wheel.reserve(n)
+            }
             Err(error) => Err(error),
         }
     }
@@ -88,15 +104,12 @@ impl TimedQueue {
         requires { IsTrue (map.contains_key self.old.times name) ⊎ (0 < self.old.spare) }
         ensures { self.new ≡ with_time self.old name t }
     {
-        match self.times.get(name) {
-            Some(old) => {
-                self.due.remove((old, name));
-                self.times.replace(name, t.0);
-                self.due.insert((t.0, name), ());
-            }
+        self.wheel.lower(t.0);
+        match self.index.get(name) {
+            Some(i) => self.wheel.renew(i, name, t.0),
             None => {
-                self.times.insert(name, t.0);
-                self.due.insert((t.0, name), ());
+                let i = self.wheel.add(name, t.0);
+                self.index.insert(name, i);
             }
         }
     }
@@ -105,10 +118,8 @@ impl TimedQueue {
     pub fn clear(&mut self, name: u32)
         ensures { self.new ≡ without self.old name }
     {
-        match self.times.remove(name) {
-            Some(old) => {
-                self.due.remove((old, name));
-            }
+        match self.index.remove(name) {
+            Some(i) => self.wheel.remove(i),
             None => {}
         }
     }
@@ -118,26 +129,51 @@ impl TimedQueue {
         ensures empty { IsNone result ↔ (self.now.times ≡ map.empty) }
         ensures least { IfSome result (IsEarliest self.now.times) }
     {
-        match self.due.least() {
-            Some(entry) => Some(Time((entry.0).0)),
+        match self.wheel.least() {
+            Some(t) => Some(Time(t)),
             None => None,
         }
     }
 
-    // The least of the names with this time.
-    fn first_due(&self, t: Time) -> Option<u32>
-        ensures none { IfNone result ((p : ℕ) → is_due self.now.times t p ≡ false) }
-        ensures first { IfSome result (IsFirstDue self.now.times t) }
+    /// A time that no name's time is before, in the time of a few tests: the first time of the first place that holds a name.
+    pub fn not_before(&self) -> Option<Time>
+        ensures none { IsNone result ↔ (self.now.times ≡ map.empty) }
+        ensures bound { IfSome result (λ t. (name : ℕ) (other : Time) → map.get self.now.times name ≡ Some other → t.0 ≤ other.0) }
     {
-        match self.due.first_not_below((t.0, 0)) {
-            Some(entry) => {
-                if (entry.0).0 == t.0 {
-                    Some((entry.0).1)
-                } else {
-                    None
-                }
-            }
+        match self.wheel.bound() {
+            Some(t) => Some(Time(t)),
             None => None,
+        }
+    }
+
+    // A name with this very time.
+    fn due_name(&self, t: Time) -> Option<u32>
+        ensures none { IfNone result ((p : ℕ) → is_due self.now.times t p ≡ false) }
+        ensures some { IfSome result (λ name. is_due self.now.times t name ≡ true) }
+    {
+        match self.wheel.due_node(t.0) {
+            Some(i) => Some(name_of(&self.wheel.nodes, i)),
+            None => None,
+        }
+    }
+
+    // Brings the origin to this time, where no earlier one is held.
+    fn follow(&mut self, t: Time)
+        ensures { self.new ≡ self.old }
+    {
+        self.wheel.follow(t.0);
+    }
+
+    // Moves each name with this very time out of the queue and behind what `out` has.
+    fn move_due(&mut self, t: Time, out: &mut Vec<u32>)
+        requires { vec_len out.old + map.len (due_at self.old.times t) ≤ vec_capacity out.old }
+        ensures left { self.new ≡ without_due self.old t }
+        ensures taken { AddsEach out.old.items out.new.items (is_due self.old.times t) }
+        ensures capacity { vec_capacity out.new ≡ vec_capacity out.old }
+    {
+        'taking: while let Some(name) = self.due_name(t) {
+            self.clear(name);
+            out.push_reserved(name);
         }
     }
 
@@ -149,11 +185,22 @@ impl TimedQueue {
         ensures order { out.new.items ≡ out.old.items ++ map.keys (due_at self.old.times t) }
         ensures capacity { vec_capacity out.new ≡ vec_capacity out.old }
     {
-        'taking: while let Some(name) = self.first_due(t) {
-            self.clear(name);
-            out.push_reserved(name);
-        }
+        let had = out.len();
+        self.follow(t);
+        self.move_due(t, out);
+        sort_from(out, had);
     }
+}
+
+// Sorts the numbers from this place on.
+fn sort_from(out: &mut Vec<u32>, from: usize)
+    requires { from ≤ vec_len out.old }
+    ensures front { take from out.new.items ≡ take from out.old.items }
+    ensures permuted { IsPermutation (drop from out.old.items) (drop from out.new.items) }
+    ensures sorted { IsSorted nat_cmp (drop from out.new.items) }
+    ensures capacity { vec_capacity out.new ≡ vec_capacity out.old }
+{
+    out[from..].sort_unstable();
 }
 
 /// What is passed on of sim_time.

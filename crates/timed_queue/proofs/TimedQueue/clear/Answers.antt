@@ -1,52 +1,61 @@
-use Rattle.std.proofs.Common.{◌≡◌, ◌+◌, true, cond, Some, None, refl, ◌∙◌, ap, sym, subst, arith, eq-eqb}
+use Rattle.std.proofs.Common.{◌≡◌, ◌+◌, cond, Some, None, refl, sym, ap, ◌∙◌, arith}
 use Rattle.std.specs.Prelude.{is_some}
 use Rattle.std.specs.Ordering.{nat_cmp}
+use Rattle.std.specs.FinMap as map
 use Rattle.std.specs.FinMap.{find}
 use Rattle.timed_queue.specs.Timed.{without}
-use Rattle.timed_queue.specs.Kept.{pair_cmp, is_this}
-use Rattle.timed_queue.proofs.Kept.{Says, says_absent, says_cleared, queue_changed, finds_without, shown-without}
+use Rattle.timed_queue.specs.Kept.{times_of}
+use Rattle.timed_queue.proofs.QueueLaws.{one_name, queue_removed, queue_unfound, unfound, finds_without, times_cut, has-times_of}
 use Rattle.timed_queue.proofs.TimedQueue.clear.Goals as goal
+
+pub remove-requires-in-Some-clause-entry : goal.remove-requires-in-Some-clause-entry
+remove-requires-in-Some-clause-entry c = (c.self.invariant.0.found c.args.name c.in-Some.i (sym c.remove.ensures.value ∙ c.in-Some.is)).0
 
 pub invariant_of-self : goal.invariant_of-self
 invariant_of-self c =
-    let times = c.self.inside.times.entries in
-    let due = c.self.inside.due.entries in
-    let queue = c.self.invariant.0 in
-    let name = c.args.name in
-    let there : find nat_cmp name times ≡ Some c.in-Some.old = sym c.remove.ensures.value ∙ c.in-Some.is in
-    let behind : is_some (find pair_cmp (c.in-Some.old, name) due) ≡ true = queue.agree c.in-Some.old name ∙ ap (is_this c.in-Some.old) there ∙ eq-eqb c.in-Some.old c.in-Some.old refl in
-    let one : c.remove.new.self.spare ≡ c.self.inside.times.spare + 1 =
-    c.remove.ensures.gives_one ∙ ap (λ o. cond (is_some o) (c.self.inside.times.spare + 1) c.self.inside.times.spare) c.in-Some.is in
-    let other : c.remove-in-Some.new.self.spare ≡ c.self.inside.due.spare + 1 =
-    c.remove-in-Some.ensures.gives_one ∙ ap (λ b. cond b (c.self.inside.due.spare + 1) c.self.inside.due.spare) (ap is_some c.remove-in-Some.ensures.value ∙ behind) in (
-      queue_changed times due queue name c.remove.new.self.entries c.remove-in-Some.new.self.entries None c.remove.ensures.rising c.remove-in-Some.ensures.rising
-          (λ q. ap (find nat_cmp q) c.remove.ensures.entries ∙ finds_without name times q)
-          (subst (λ d. Says due d name None) (sym c.remove-in-Some.ensures.entries) (says_cleared times due queue name c.in-Some.old there)),
-      omega (arith, one, other, c.self.invariant.1),
+    let es = c.self.inside.index.entries in let w = c.self.inside.wheel in let room = c.self.invariant.1 in let enough = room.enough in let few = room.few in
+    let there : find nat_cmp c.args.name es ≡ Some c.in-Some.i = sym c.remove.ensures.value ∙ c.in-Some.is in
+    let one : c.remove.new.self.spare ≡ c.self.inside.index.spare + 1 =
+    c.remove.ensures.gives_one ∙ ap (λ o. cond (is_some o) (c.self.inside.index.spare + 1) c.self.inside.index.spare) c.in-Some.is in
+    let r = c.remove-in-Some.ensures.room in (
+      queue_removed es w c.remove-in-Some.new.self c.self.invariant.0 c.args.name c.in-Some.i c.remove-in-Some.ensures.sound c.remove-in-Some.ensures.settled c.remove-in-Some.ensures.others
+          c.remove.new.self.entries c.remove.ensures.rising (λ q. ap (find nat_cmp q) c.remove.ensures.entries ∙ finds_without c.args.name es q) there c.remove-in-Some.ensures.gone,
+      record { enough = omega (arith, one, r, enough); few = omega (arith, c.remove.ensures.same_places, few) },
     )
 
 pub invariant_of-self-in-None : goal.invariant_of-self-in-None
 invariant_of-self-in-None c =
-    let times = c.self.inside.times.entries in
-    let due = c.self.inside.due.entries in
-    let queue = c.self.invariant.0 in
-    let name = c.args.name in
-    let none : find nat_cmp name times ≡ None = sym c.remove.ensures.value ∙ c.in-None.is in
-    let same : c.remove.new.self.spare ≡ c.self.inside.times.spare =
-    c.remove.ensures.gives_one ∙ ap (λ o. cond (is_some o) (c.self.inside.times.spare + 1) c.self.inside.times.spare) c.in-None.is in (
-      queue_changed times due queue name c.remove.new.self.entries due None c.remove.ensures.rising queue.times_rise
-          (λ q. ap (find nat_cmp q) c.remove.ensures.entries ∙ finds_without name times q) (says_absent times due queue name none),
-      omega (arith, same, c.self.invariant.1),
+    let es = c.self.inside.index.entries in let room = c.self.invariant.1 in let enough = room.enough in let few = room.few in
+    let none : find nat_cmp c.args.name es ≡ None = sym c.remove.ensures.value ∙ c.in-None.is in
+    let same : c.remove.new.self.spare ≡ c.self.inside.index.spare =
+    c.remove.ensures.gives_one ∙ ap (λ o. cond (is_some o) (c.self.inside.index.spare + 1) c.self.inside.index.spare) c.in-None.is in (
+      queue_unfound es c.remove.new.self.entries c.self.inside.wheel c.self.invariant.0 c.remove.ensures.rising
+          (unfound c.args.name es c.remove.new.self.entries (λ q. ap (find nat_cmp q) c.remove.ensures.entries ∙ finds_without c.args.name es q) none),
+      record { enough = omega (arith, same, enough); few = omega (arith, c.remove.ensures.same_places, few) },
     )
 
 pub returns-in-Some : goal.returns-in-Some
 returns-in-Some c =
-    shown-without c.args.name c.self.inside.times.entries c.remove.new.self.entries c.self.inside.times.spare c.remove.new.self.spare (is_some c.remove.result)
-    c.remove.ensures.entries (ap is_some c.remove.ensures.value) c.remove.ensures.gives_one
-    ∙ ap (λ q. without q c.args.name) c.self.view_is
+    let es = c.self.inside.index.entries in let w = c.self.inside.wheel in let w' = c.remove-in-Some.new.self in
+    let there : find nat_cmp c.args.name es ≡ Some c.in-Some.i = sym c.remove.ensures.value ∙ c.in-Some.is in
+    let has = has-times_of es w.nodes.items c.args.name ∙ ap is_some there in
+    let spare : w'.room ≡ cond (map.contains_key (times_of es w.nodes.items) c.args.name) (w.room + 1) w.room =
+    c.remove-in-Some.ensures.room ∙ ap (λ b. cond b (w.room + 1) w.room) (sym has) in
+    (λ k. record {
+      times = times_cut es w.nodes.items w'.nodes.items c.remove.new.self.entries c.args.name
+          (λ q j apart e. c.remove-in-Some.ensures.others.times j (one_name es w w' c.self.invariant.0 c.args.name c.in-Some.i c.remove-in-Some.ensures.sound c.remove-in-Some.ensures.settled c.remove-in-Some.ensures.others there q j e apart))
+          (λ q. ap (find nat_cmp q) c.remove.ensures.entries ∙ finds_without c.args.name es q) k;
+      spare = spare k;
+    }) ∙ ap (λ q. without q c.args.name) c.self.view_is
 
 pub returns-in-None : goal.returns-in-None
 returns-in-None c =
-    shown-without c.args.name c.self.inside.times.entries c.remove.new.self.entries c.self.inside.times.spare c.remove.new.self.spare (is_some c.remove.result)
-    c.remove.ensures.entries (ap is_some c.remove.ensures.value) c.remove.ensures.gives_one
-    ∙ ap (λ q. without q c.args.name) c.self.view_is
+    let es = c.self.inside.index.entries in let w = c.self.inside.wheel in
+    let none : find nat_cmp c.args.name es ≡ None = sym c.remove.ensures.value ∙ c.in-None.is in
+    let has = has-times_of es w.nodes.items c.args.name ∙ ap is_some none in
+    let spare : w.room ≡ cond (map.contains_key (times_of es w.nodes.items) c.args.name) (w.room + 1) w.room = ap (λ b. cond b (w.room + 1) w.room) (sym has) in
+    (λ k. record {
+      times = times_cut es w.nodes.items w.nodes.items c.remove.new.self.entries c.args.name (λ q j apart e. refl)
+          (λ q. ap (find nat_cmp q) c.remove.ensures.entries ∙ finds_without c.args.name es q) k;
+      spare = spare k;
+    }) ∙ ap (λ q. without q c.args.name) c.self.view_is

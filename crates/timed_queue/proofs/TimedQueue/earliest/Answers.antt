@@ -1,21 +1,14 @@
-use Rattle.std.proofs.Common.{◌∙◌, ap, refl, sym, subst, true≢false}
-use Rattle.timed_queue.specs.Timed.{IsEarliest}
-use Rattle.timed_queue.specs.Kept.{time_of}
-use Rattle.timed_queue.proofs.Kept.{earliest_of, not_empty, empty_of}
+use Rattle.std.proofs.Common.{refl, sym, ap, ◌∙◌, subst, true≢false}
+use Rattle.timed_queue.specs.Timed.{Timed, IsEarliest}
+use Rattle.timed_queue.proofs.QueueLaws.{none_held, some_held, earliest_is}
 use Rattle.timed_queue.proofs.TimedQueue.earliest.Goals as goal
 
 pub returns-in-Some-clause-empty : goal.returns-in-Some-clause-empty
-returns-in-Some-clause-empty c = (
-  λ some. absurd (true≢false some),
-  λ empty. absurd (not_empty c.self.inside.times.entries c.self.inside.due.entries c.self.invariant.0 c.in-Some.entry (sym c.least.ensures ∙ c.in-Some.is) (ap (λ q. q.times) c.self.view_is ∙ empty)),
-)
-
-pub returns-in-Some-clause-least : goal.returns-in-Some-clause-least
-returns-in-Some-clause-least c = subst (λ q. IsEarliest q.times (time_of c.in-Some.entry.0.0)) c.self.view_is
-    (earliest_of c.self.inside.times.entries c.self.inside.due.entries c.self.invariant.0 c.in-Some.entry (sym c.least.ensures ∙ c.in-Some.is))
+returns-in-Some-clause-empty c =
+    (λ e. absurd (true≢false e), λ none. absurd (some_held c.self.inside.index.entries c.self.inside.wheel c.self.invariant.0 c.in-Some.ensures.some.held.0 c.in-Some.ensures.some.held.1 (ap (λ (q : Timed). q.times) c.self.view_is ∙ none)))
 
 pub returns-in-None-clause-empty : goal.returns-in-None-clause-empty
-returns-in-None-clause-empty c = (
-  λ _. sym (ap (λ q. q.times) c.self.view_is) ∙ empty_of c.self.inside.times.entries c.self.inside.due.entries c.self.invariant.0 (sym c.least.ensures ∙ c.in-None.is),
-  λ _. refl,
-)
+returns-in-None-clause-empty c = (λ _. ap (λ (q : Timed). q.times) (sym c.self.view_is) ∙ none_held c.self.inside.index.entries c.self.inside.wheel c.self.invariant.0 c.in-None.ensures.none, λ _. refl)
+
+pub returns-in-Some-clause-least : goal.returns-in-Some-clause-least
+returns-in-Some-clause-least c = subst (λ (q : Timed). IsEarliest q.times (record { 0 = c.in-Some.t })) c.self.view_is (earliest_is c.self.inside.index.entries c.self.inside.wheel c.self.invariant.0 c.in-Some.t c.in-Some.ensures.some)
