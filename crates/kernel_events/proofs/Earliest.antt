@@ -1,5 +1,5 @@
 -- The earliest of the timed notifications.
-use Rattle.std.proofs.Common.{◌≡◌, ◌≤◌, ℕ, zero, suc, Bool, true, false, cond, List, [], ◌∷◌, Option, Some, None, refl, sym, ap, ◌∙◌, arith, ltb-true, ltb-false}
+use Rattle.std.proofs.Common.{◌≡◌, ◌≤◌, ℕ, zero, suc, Bool, true, false, cond, List, [], ◌∷◌, Option, Some, None, ◌⊎◌, inl, inr, ⊎_elim, refl, sym, ap, ◌∙◌, arith, ltb-true, ltb-false}
 use Rattle.std.specs.Prelude.{nat_lt, IsNone, IfSome, ◌↔◌, option_map}
 use Rattle.std.specs.Ordering.{nat_cmp}
 use Rattle.std.specs.FinMap as maps
@@ -62,8 +62,44 @@ none_there (pending.Nothing ∷ events) none = none_there events (λ e. none (su
 none_there (pending.Delta ∷ events) none = none_there events (λ e. none (suc e))
 none_there (pending.At u ∷ events) none = absurd (let h : Some u ≡ None = none 0 in cc)
 
+-- a time that is told is that of an event, or was there before
+behind : (p : Pending) (events : List Pending) (t : Option ℕ) (u : ℕ) → (t ≡ Some u) ⊎ ((e : ℕ) × (v : Time) × (time_of (pending_at events e) ≡ Some v) × (v.0 ≡ u))
+    → (t ≡ Some u) ⊎ ((e : ℕ) × (v : Time) × (time_of (pending_at (p ∷ events) e) ≡ Some v) × (v.0 ≡ u))
+behind p events t u told = ⊎_elim (λ here. inl here) (λ rest. inr (suc rest.0, rest.1, rest.2, rest.3)) told
+
+told_by : (events : List Pending) (t : Option ℕ) (u : ℕ) → earliest_event events t ≡ Some u → (t ≡ Some u) ⊎ ((e : ℕ) × (v : Time) × (time_of (pending_at events e) ≡ Some v) × (v.0 ≡ u))
+told_by [] t u is = inl is
+told_by (pending.Nothing ∷ events) t u is = behind (pending.Nothing) events t u (told_by events t u is)
+told_by (pending.Delta ∷ events) t u is = behind (pending.Delta) events t u (told_by events t u is)
+told_by (pending.At w ∷ events) None u is = ⊎_elim
+    (λ (here : Some w.0 ≡ Some u). inr (0, w, refl, (let same : w.0 ≡ u = cc in same)))
+    (λ rest. inr (suc rest.0, rest.1, rest.2, rest.3))
+    (told_by events (Some w.0) u is)
+told_by (pending.At w ∷ events) (Some t) u is = by_test (nat_lt w.0 t) (λ b. told_by events (cond b (Some w.0) (Some t)) u) is
+  where
+    There : Type 0
+    There = (e : ℕ) × (v : Time) × (time_of (pending_at (pending.At w ∷ events) e) ≡ Some v) × (v.0 ≡ u)
+
+    by_test : (b : Bool) → ((b : Bool) → earliest_event events (cond b (Some w.0) (Some t)) ≡ Some u
+        → (cond b (Some w.0) (Some t) ≡ Some u) ⊎ ((e : ℕ) × (v : Time) × (time_of (pending_at events e) ≡ Some v) × (v.0 ≡ u)))
+        → earliest_event events (cond b (Some w.0) (Some t)) ≡ Some u → (Some t ≡ Some u) ⊎ There
+    by_test true told is = ⊎_elim
+        (λ (here : Some w.0 ≡ Some u). inr (0, w, refl, (let same : w.0 ≡ u = cc in same)))
+        (λ rest. inr (suc rest.0, rest.1, rest.2, rest.3))
+        (told true is)
+    by_test false told is = ⊎_elim (λ here. inl here) (λ rest. inr (suc rest.0, rest.1, rest.2, rest.3)) (told false is)
+
 module _ (events : List Pending) (marks : List Bool) (timed : Timed) (n : ℕ) (tied : IsTied events marks timed n) where
   pub earliest_told : (answer : Option Time) → (IsNone answer ↔ (timed.times ≡ maps.empty)) → IfSome answer (IsEarliest timed.times) → option_map (λ t. t.0) answer ≡ earliest_event events None
   earliest_told None none least = sym (none_there events (λ e. sym (tied.times e) ∙ ap (λ m. maps.get m e) (none.0 refl) ∙ maps.get-empty nat_cmp e))
   earliest_told (Some t) none least = sym (earliest_is events t.0 None tt least.held.0 t (sym (tied.times least.held.0) ∙ least.held.1) refl
       (λ e u is. least.least e u (tied.times e ∙ is)))
+
+  pub none_told : timed.times ≡ maps.empty → earliest_event events None ≡ None
+  none_told none = none_there events (λ e. sym (tied.times e) ∙ ap (λ m. maps.get m e) none ∙ maps.get-empty nat_cmp e)
+
+  pub bound_told : (t : Time) → ((name : ℕ) (other : Time) → maps.get timed.times name ≡ Some other → t.0 ≤ other.0) → (u : ℕ) → earliest_event events None ≡ Some u → t.0 ≤ u
+  bound_told t from u is = ⊎_elim
+      (λ (here : None ≡ Some u). absurd (cc))
+      (λ rest. let le = from rest.0 rest.1 (tied.times rest.0 ∙ rest.2) in let same = rest.3 in omega (arith, le, same))
+      (told_by events None u is)

@@ -5,7 +5,7 @@ use Rattle.std.proofs.lemmas.Bool.Decides.{nat_tests}
 use Rattle.kernel_state.specs.SimModel.Configuration.{Config, Instance, Deadline, no_deadline, next_delta, at_time}
 use Rattle.kernel_state.specs.SimModel.Phases.{earlier, earlier_deadline, earliest_deadline, earliest_event, earliest}
 use Rattle.kernel_state.specs.KernelProcesses.Seen.{bare, shown_at, body_at}
-use Rattle.kernel_state.specs.KernelProcesses.Times.{HasNoTime, IsEarliestTime}
+use Rattle.kernel_state.specs.KernelProcesses.Times.{HasNoTime, HasNoTimeBefore, IsEarliestTime}
 use Rattle.kernel_state.specs.Processes.{TellsBy, Tells}
 use Rattle.kernel_state.specs.Kernel.{Shows, StandsFor, whole_design}
 use Rattle.kernel_state.specs.declared.kernel.Kept.{Kept}
@@ -50,6 +50,11 @@ three_earlier (Some a) u t le = by (nat_lt u a) refl
     by : (b : Bool) → nat_lt u a ≡ b → earlier (or_else (nat_lt u a) u a) t ≡ earlier (Some a) t
     by true is = ap (λ b. earlier (or_else b u a) t) is ∙ two_earlier u t le ∙ sym (two_earlier a t (less is))
     by false is = ap (λ b. earlier (or_else b u a) t) is
+
+-- a time that none is before
+pub none_earlier : (o : Option ℕ) (t : ℕ) → ((u : ℕ) → o ≡ Some u → t ≤ u) → earlier o t ≡ Some t
+none_earlier None t least = refl
+none_earlier (Some u) t least = two_earlier u t (least u refl)
 
 -- ---- of all instances
 
@@ -122,3 +127,14 @@ module _ (k : Kernel) (c : Config) (h : StandsFor k c) where
       let held = is.held in
       least_time c.processes.instances (earliest_event c.events None) t held.0 (held_at held.0 t held.1 (slice_get c.processes.instances held.0) refl held.2 held.3 (h.processes.each held.0))
       (λ p u there. let s = shown_with p u there in is.least p s.0 u s.1.0 s.1.1) ∙ ap (λ es. earlier (earliest_event es None) t) h.events
+
+  -- a notification that no wait ends before
+  pub event_first : (t b : ℕ) → earliest_event k.events None ≡ Some t → HasNoTimeBefore k.schedule b → t ≤ b → earliest c ≡ Some t
+  event_first t b told bound le =
+      ap (λ es. earliest_deadline c.processes.instances (earliest_event es None)) h.events ∙ ap (earliest_deadline c.processes.instances) told
+      ∙ stays_least c.processes.instances t (λ q u there. let s = shown_with q u there in let more = bound.least q s.0 u s.1.0 s.1.1 in omega (arith, le, more))
+
+  -- a wait that no notification is before
+  pub deadline_first : (t b : ℕ) → IsEarliestTime k.schedule t → ((u : ℕ) → earliest_event k.events None ≡ Some u → b ≤ u) → t ≤ b → earliest c ≡ Some t
+  deadline_first t b is bound le =
+      with_deadline t is ∙ none_earlier (earliest_event k.events None) t (λ u told. let more = bound u told in omega (arith, le, more))

@@ -1,5 +1,6 @@
 //! The timed notification phase.
-ghost use Rattle.std.specs.Prelude.{◌≡◌, ◌==◌, not, option_map};
+ghost use Rattle.std.specs.Prelude.{◌≡◌, ◌≤◌, ℕ, None, Some, ◌==◌, not, option_map};
+ghost use Rattle.kernel_state.specs.KernelProcesses.Times.{HasNoTimeBefore};
 ghost use Rattle.kernel_state.specs.SimModel.Configuration.{Config, with_phase};
 ghost use Rattle.kernel_state.specs.SimModel.Phases as phases;
 ghost use Rattle.kernel_state.specs.Kernel.{StandsFor, IsSound};
@@ -9,7 +10,9 @@ ghost use Rattle.kernel_phases.specs.Due.{HasRoom};
 use super::due::{phase_after, set_off};
 use super::updates::set_phase;
 use kernel_state::Kernel;
-use kernel_state::kernel_processes_api::{earliest as earliest_deadline, take_due};
+use kernel_state::kernel_processes_api::{
+    earliest as earliest_deadline, not_before as no_deadline_before, take_due,
+};
 use kernel_state::sim_model_api::Phase;
 use kernel_state::sim_time_api::Time;
 
@@ -23,15 +26,73 @@ fn earlier(a: Option<Time>, b: Time) -> Option<Time>
     }
 }
 
-/// The earliest time at which something is notified or a wait ends; none where nothing is pending.
+/// The earliest time of the timed notifications, which is given, and of the waits that end.
+fn with_deadlines(k: &Kernel, event: Option<Time>) -> Option<Time>
+    requires sound { IsSound k.now }
+    requires event { option_map (λ t. t.0) event ≡ phases.earliest_event k.now.events None }
+    ensures { (c : Config) → StandsFor k.now c → option_map (λ t. t.0) result ≡ phases.earliest c }
+{
+    match earliest_deadline(&k.schedule) {
+        None => event,
+        Some(t) => earlier(event, t),
+    }
+}
+
+/// The earliest time of all, where no wait ends before the bound: the waits are asked only where a notification comes later.
+fn events_first(k: &Kernel, bound: Time) -> Option<Time>
+    requires sound { IsSound k.now }
+    requires bound { HasNoTimeBefore k.now.schedule bound.0 }
+    ensures { (c : Config) → StandsFor k.now c → option_map (λ t. t.0) result ≡ phases.earliest c }
+{
+    let event = k.events.earliest();
+    match event {
+        None => with_deadlines(k, event),
+        Some(t) => {
+            if t.0 <= bound.0 {
+                Some(t)
+            } else {
+                with_deadlines(k, event)
+            }
+        }
+    }
+}
+
+/// The earliest time of all, where no notification is before the bound: they are asked only where a wait ends later.
+fn deadlines_first(k: &Kernel, bound: Time) -> Option<Time>
+    requires sound { IsSound k.now }
+    requires bound { (u : ℕ) → phases.earliest_event k.now.events None ≡ Some u → bound.0 ≤ u }
+    ensures { (c : Config) → StandsFor k.now c → option_map (λ t. t.0) result ≡ phases.earliest c }
+{
+    match earliest_deadline(&k.schedule) {
+        None => k.events.earliest(),
+        Some(t) => {
+            if t.0 <= bound.0 {
+                Some(t)
+            } else {
+                earlier(k.events.earliest(), t)
+            }
+        }
+    }
+}
+
+/// The earliest time at which something is notified or a wait ends; none where nothing is pending. Of notifications and waits those
+/// are asked first that may come first, and the others only where they may come before that answer.
 pub fn earliest(k: &Kernel) -> Option<Time>
     requires { IsSound k.now }
     ensures { (c : Config) → StandsFor k.now c → option_map (λ t. t.0) result ≡ phases.earliest c }
 {
-    let event = k.events.earliest();
-    match earliest_deadline(&k.schedule) {
-        None => event,
-        Some(t) => earlier(event, t),
+    match no_deadline_before(&k.schedule) {
+        None => k.events.earliest(),
+        Some(deadline) => match k.events.not_before() {
+            None => with_deadlines(k, None),
+            Some(event) => {
+                if event.0 <= deadline.0 {
+                    events_first(k, deadline)
+                } else {
+                    deadlines_first(k, event)
+                }
+            }
+        },
     }
 }
 

@@ -18,7 +18,7 @@ use Rattle.kernel_processes.specs.declared.parts.Process.{Process}
 use Rattle.kernel_processes.specs.declared.parts.Schedule.{Schedule}
 use Rattle.kernel_processes.proofs.Sounding.{on_last, once_more}
 use Rattle.sim_model.specs.Phases.{is_zero_timeout, is_due_at}
-use Rattle.kernel_processes.specs.Times.{over, over_if, PutsAllOver, TakesSome, TakesDue, HasNoTime, IsEarliestTime}
+use Rattle.kernel_processes.specs.Times.{over, over_if, PutsAllOver, TakesSome, TakesDue, HasNoTime, HasNoTimeBefore, IsEarliestTime}
 use Rattle.wait_lists.proofs.LawLemmas.{len-le}
 use Rattle.kernel_processes.proofs.Fired.{on_counted}
 use Rattle.instance_table.specs.declared.instances.Deadline.{Deadline as Kept}
@@ -183,6 +183,9 @@ module _ {B : Type 0} where
 
     pub no_times : s.deadlines.times ≡ map.empty → HasNoTime s
     no_times empty = record { none = λ q i t shown at. true≢false (ap is_some (sym (in_queue q i t shown at) ∙ ap (λ m. map.get m q) empty ∙ map.get-empty nat_cmp q)) }
+
+    pub no_times_before : (t : Time) → ((q : ℕ) (u : Time) → map.get s.deadlines.times q ≡ Some u → t.0 ≤ u.0) → HasNoTimeBefore s t.0
+    no_times_before t from = record { least = λ q i u shown at. from q (record { 0 = u }) (in_queue q i u shown at) }
 
     pub earliest_time : (t : Time) → timed.IsEarliest s.deadlines.times t → IsEarliestTime s t.0
     earliest_time t is = record {

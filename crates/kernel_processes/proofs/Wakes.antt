@@ -1,7 +1,6 @@
 -- A wake of one instance, and an event that goes over all serials.
-use Rattle.std.proofs.Common.{◌≡◌, ◌≢◌, ◌≤◌, ◌<◌, ◌+◌, ◌==◌, ◌&&◌, ◌||◌, not, ℕ, zero, suc, Bool, true, false, cond, List, [], ◌∷◌, ◌++◌, length, slice_get, slice_set, Option, Some, None, option_map, refl, sym, ap, ◌∙◌, subst, arith, eq-eqb, ne_eqb, ⊎_elim}
+use Rattle.std.proofs.Common.{◌≡◌, ◌≢◌, ◌≤◌, ◌<◌, ◌+◌, ◌==◌, ◌&&◌, ◌||◌, not, ℕ, zero, suc, Bool, true, false, List, [], ◌∷◌, ◌++◌, length, slice_get, slice_set, Option, Some, None, option_map, refl, sym, ap, ◌∙◌, subst, arith, eq-eqb, ne_eqb, ⊎_elim}
 use Rattle.std.specs.Prelude.{if◌then◌else◌, nat_le}
-use Rattle.std.specs.List.{list_any}
 use Rattle.std.proofs.lemmas.Bool.{cases_eq, cases_lt}
 use Rattle.std.proofs.lemmas.Bool.Decides.{leb_tells}
 use Rattle.std.proofs.Math.Dec.{leb-zero}
@@ -9,7 +8,7 @@ use Rattle.std.proofs.lemmas.Option.{none-some, slice_get_past}
 use Rattle.std.proofs.lemmas.List.Folds.{list_any-append}
 use Rattle.wait_lists.specs.EventCore.declared.event.Ev.{Ev}
 use Rattle.sim_model.specs.Configuration.{Config, Instance, Wait, waits_for_nothing, waits_statically, waits_for_any, waits_for_all, changed_at, change, change_instance, instance_at, with_runnable}
-use Rattle.sim_model.specs.Waits.{is_among, struck, freed, holds, joined, is_active, woken, wake_instance, wake, left_of_all, reaches, reach_instance, fire_each, fire}
+use Rattle.sim_model.specs.Waits.{is_among, struck, freed, holds, joined, is_active, wake_instance, wake, left_of_all, reaches, reach_instance, fire_each, fire}
 use Rattle.kernel_processes.specs.Woken.{is_deaf, roused, after_wake, joins, after_last, after_named, after_event, is_empty, ends_wait, joins_by, if_there, Rouses, at_only, joins_only}
 
 -- ---- one element of a list changed

@@ -74,9 +74,12 @@ module _ {B : Type 0} where
     pub stack : t.stack ≡ s.stack
     pub next : t.table.next ≡ s.table.next
 
-  -- no wait ends by time; and this is the earliest time at which one does
+  -- no wait ends by time; none does before this time; and this is the earliest time at which one does
   pub record HasNoTime (s : Schedule B) : Type 0 where
     pub none : (q : ℕ) (i : Instance) (t : ℕ) → shown_at s q ≡ Some i → i.deadline ≡ at_time t → ⊥
+
+  pub record HasNoTimeBefore (s : Schedule B) (t : ℕ) : Type 0 where
+    pub least : (q : ℕ) (i : Instance) (u : ℕ) → shown_at s q ≡ Some i → i.deadline ≡ at_time u → t ≤ u
 
   pub record IsEarliestTime (s : Schedule B) (t : ℕ) : Type 0 where
     pub held : (q : ℕ) × (i : Instance) × (shown_at s q ≡ Some i) × (i.deadline ≡ at_time t)

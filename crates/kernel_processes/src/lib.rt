@@ -29,7 +29,7 @@ pub use making::empty;
 pub use moves::{end_time, join};
 pub use parts::{Process, Schedule, Trigger, Wait};
 pub use spawning::spawn;
-pub use time::{earliest, take_due, take_zero, wake_due};
+pub use time::{earliest, not_before, take_due, take_zero, wake_due};
 pub use turns::{begin, initialize, take, top};
 pub use waits::{rest, wait as begin_wait};
 pub use wakes_told::{a_wake_reaches_one_instance, an_event_reaches_each_instance};

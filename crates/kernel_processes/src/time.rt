@@ -6,7 +6,7 @@ ghost use Rattle.sim_model.specs.Phases.{is_zero_timeout, is_due_at};
 ghost use Rattle.kernel_processes.specs.Seen.{seen, is_on};
 ghost use Rattle.kernel_processes.specs.Sound.{IsSound};
 ghost use Rattle.kernel_processes.specs.Moves.{with_entry, Changes};
-ghost use Rattle.kernel_processes.specs.Times.{over_entry, over, PutsAllOver, TakesDue, HasNoTime, IsEarliestTime, WakesThose};
+ghost use Rattle.kernel_processes.specs.Times.{over_entry, over, PutsAllOver, TakesDue, HasNoTime, HasNoTimeBefore, IsEarliestTime, WakesThose};
 
 use crate::{Schedule, end_time, wake};
 use instance_table::Deadline;
@@ -79,6 +79,18 @@ pub fn wake_due<B>(s: &mut Schedule<B>)
 {
     while let Some(p) = s.due.pop() {
         wake(s, p);
+    }
+}
+
+/// A time that no wait ends before, in the time of a few tests; none where no time ends one.
+pub fn not_before<B>(s: &Schedule<B>) -> Option<Time>
+    requires { IsSound s.now }
+    ensures none { IfNone result (HasNoTime s.now) }
+    ensures bound { IfSome result (λ t. HasNoTimeBefore s.now t.0) }
+{
+    match s.deadlines.not_before() {
+        Some(t) => Some(t),
+        None => None,
     }
 }
 

@@ -58,7 +58,8 @@ pub mod kernel_events_api {
 pub mod kernel_processes_api {
     pub use kernel_processes::{
         Schedule, Trigger, Wait, begin, disable, earliest, empty, end, fire, initialize, is_active,
-        push, rest, resume, spawn, stay_kept, suspend, take, take_due, take_zero, top, wake_due,
+        not_before, push, rest, resume, spawn, stay_kept, suspend, take, take_due, take_zero, top,
+        wake_due,
     };
 }
 

@@ -1,10 +1,7 @@
-use Rattle.std.proofs.Common.{sym, ap, ◌∙◌}
+use Rattle.std.proofs.Common.{refl, sym, ap, ◌∙◌}
 use Rattle.kernel_state.specs.SimModel.Phases as phases
-use Rattle.kernel_phases.proofs.EarliestTime.{event_alone, with_deadline}
+use Rattle.kernel_phases.proofs.EarliestTime.{event_alone}
 use Rattle.kernel_phases.proofs.times.earliest.Goals as goal
 
 pub returns-in-None : goal.returns-in-None
-returns-in-None c = λ d h. c.earliest-event.ensures ∙ sym (event_alone c.args.k.now d h c.in-None.ensures.none)
-
-pub returns-in-Some : goal.returns-in-Some
-returns-in-Some c = λ d h. c.earlier.ensures ∙ ap (λ a. phases.earlier a c.in-Some.t.0) c.earliest-event.ensures ∙ sym (with_deadline c.args.k.now d h c.in-Some.t.0 c.in-Some.ensures.least)
+returns-in-None c = λ d h. c.earliest.ensures ∙ sym (event_alone c.args.k.now d h c.in-None.ensures.none)
