@@ -4,3 +4,8 @@
 mod laws;
 
 pub use laws::no_rule_is_broken;
+
+/// What is passed on of transport_phases.
+pub mod transport_phases_api {
+    pub use transport_phases::Path;
+}

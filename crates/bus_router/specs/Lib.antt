@@ -3,3 +3,4 @@ pub mod Sofar
 pub mod Making
 pub mod Holding
 pub mod TrafficFile
+pub mod AddressMap

@@ -40,8 +40,8 @@ pub(crate) fn length_of(action: &BusAction) -> u64
     }
 }
 
-// Whether all bytes of the access are in the range.
-pub(crate) fn holds_all(range: &TargetRange, line: &BusLine) -> bool
+/// Whether all bytes of the access are in the range.
+pub fn holds_all(range: &TargetRange, line: &BusLine) -> bool
     ensures { IsTrue result ↔ times.HoldsAll range.now line.now }
 {
     let len = length_of(&line.action);
@@ -50,8 +50,8 @@ pub(crate) fn holds_all(range: &TargetRange, line: &BusLine) -> bool
         && len <= range.size - (line.address - range.low)
 }
 
-// Whether the invalidation shares an address with the range.
-pub(crate) fn reaches(invalidate: &Invalidate, range: &TargetRange) -> bool
+/// Whether the invalidation shares an address with the range.
+pub fn reaches(invalidate: &Invalidate, range: &TargetRange) -> bool
     ensures { result ≡ times.reaches invalidate.now range.now }
 {
     (invalidate.low < range.low || invalidate.low - range.low < range.size)

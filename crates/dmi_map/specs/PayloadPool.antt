@@ -1,2 +1,3 @@
-pub use Rattle.payload_pool.specs.declared as declared
+pub use Rattle.payload_pool.specs.Payloads as Payloads
 pub use Rattle.payload_pool.specs.Transfer as Transfer
+pub use Rattle.payload_pool.specs.declared as declared

@@ -9,5 +9,5 @@ pub use grants::{Grants, Region};
 
 /// What is passed on of payload_pool.
 pub mod payload_pool_api {
-    pub use payload_pool::Payload;
+    pub use payload_pool::{ADDRESS, Bytes, INCOMPLETE, MakeStop, OK, Payload, Pool, READ, WRITE};
 }

@@ -2,5 +2,4 @@ pub mod Traffic
 pub mod LineForms
 pub mod BusText
 pub mod Stops
-pub mod Worked
 pub mod AddressMap

@@ -7,16 +7,12 @@ mod lines;
 mod numbers;
 mod reading;
 mod stops;
-mod worked;
 
 use address_map::AddressMap;
 use model_tree::logic_values_api::Text;
 use model_tree::plain_lists_api::Items;
 pub use reading::read_bus;
 pub use stops::{BusKind, BusStop};
-pub use worked::{
-    faults_have_their_order, forms_come_before_faults, limits_are_counted, lines_are_read,
-};
 
 /// What is passed on of address_map.
 pub mod address_map_api {

@@ -5,7 +5,7 @@ ghost use Rattle.traffic_file.specs.declared.stops.BusStop.TheVariants as stop;
 ghost use Rattle.traffic_file.specs.declared.BusAction.TheVariants as action;
 ghost use Rattle.traffic_file.specs.declared.forms.LineForm.TheVariants as line;
 ghost use Rattle.traffic_file.specs.BusText.{bus_of, judged, target_fault, initiator_fault};
-ghost use Rattle.traffic_file.specs.Worked as worked;
+ghost use Rattle.worked_traffic.specs.Texts as worked;
 
 /// Each line is in the bus, in the order of the file.
 pub fn lines_are_read()

@@ -1,6 +1,6 @@
 -- Texts written by hand.
 use Rattle.std.specs.Prelude.{ℕ, Bool, true, false, List, [], ◌∷◌, replicate, codes}
-use Rattle.address_map.specs.Ranges.{range_of}
+use Rattle.traffic_file.specs.AddressMap.Ranges.{range_of}
 use Rattle.traffic_file.specs.declared.Bus.{Bus}
 use Rattle.traffic_file.specs.declared.BusTarget.{BusTarget}
 use Rattle.traffic_file.specs.declared.BusInitiator.{BusInitiator}

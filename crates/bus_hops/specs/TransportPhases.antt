@@ -1,0 +1,1 @@
+pub use Rattle.transport_phases.specs.History as History

@@ -1,0 +1,10 @@
+//! The text of the traffic of a bus when it is over.
+#![tactic(auto)]
+
+mod lines;
+mod order;
+mod refusals;
+mod texts;
+
+pub use refusals::refusal_line;
+pub use texts::text_of;
