@@ -1,7 +1,7 @@
 -- The tokens of parts lead through all their turns, and what is written is their expansion.
-use Rattle.std.proofs.Common.{◌≡◌, ℕ, zero, suc, Bool, true, false, List, [], ◌∷◌, ◌++◌, Option, Some, None, ◌∙◌, refl, sym, ap, subst, append_assoc, ⊎_elim}
+use Rattle.std.proofs.Common.{◌≡◌, ℕ, Bool, true, false, List, [], ◌∷◌, ◌++◌, Option, Some, None, ◌∙◌, refl, sym, ap, subst, append_assoc, ⊎_elim}
 use Rattle.std.proofs.lemmas.List.{append-nil}
-use Rattle.std.specs.Prelude.{option_map, codes}
+use Rattle.std.specs.Prelude.{codes}
 use Rattle.std.specs.Str.{bytes_eq}
 use Rattle.std.proofs.lemmas.Bool.{cases_Bool}
 use Rattle.std.proofs.lemmas.Slice.Eq.{bytes_eq-Decides}
@@ -9,9 +9,9 @@ use Rattle.model_lexer.specs.ModelTree.declared.vocabulary.Word.TheVariants as w
 use Rattle.model_lexer.specs.ModelTree.declared.vocabulary.Symbol.TheVariants as s
 use Rattle.model_lexer.specs.ModelGrammar.Tokens.{Token, Tokens, name, number, word, symbol}
 use Rattle.clocked.specs.declared.words.NewWord.TheVariants as n
-use Rattle.clocked.specs.Words.{Sign, new, old_name, a_number, truth_value, left_brace, right_brace, left_paren, right_paren, dot, at_sign, semicolon, other, sign_of, new_word, new_word_of, IsOldName, is_new_sign}
-use Rattle.clocked.specs.Parts.{Reset, WrittenReset, Place, first, numbered, computed, Piece, plain, tick, Clocked, Part, kept, clocked, truth, written_place, written_reset, written_piece, written_body, clock_of, written_head, written_part, written_parts, Has, IfWritten, one_less, parens_behind, braces_behind, AreClosed, IsPlace, is_count, IsBody, is_edge, fits_reset, IsClocked, IsPart, AreParts}
-use Rattle.clocked.specs.Expanded.{put, Resets, tick_before, tick_behind, expanded_piece, expanded_body, last_line, reset_of, resets_of, body_before, body_behind, reset_method, expanded_head, expanded_part, expanded_parts, expanded, Expands}
+use Rattle.clocked.specs.Words.{Sign, new, old_name, truth_value, right_brace, right_paren, sign_of, new_word, new_word_of, IsOldName, is_new_sign}
+use Rattle.clocked.specs.Parts.{WrittenReset, Place, first, numbered, computed, Piece, plain, tick, Clocked, Part, kept, clocked, truth, written_place, written_reset, written_piece, written_body, clock_of, written_head, written_part, written_parts, IfWritten, one_less, parens_behind, braces_behind, AreClosed, IsPlace, is_count, IsBody, is_edge, fits_reset, IsClocked, IsPart, AreParts}
+use Rattle.clocked.specs.Expanded.{put, tick_before, expanded_piece, expanded_body, last_line, reset_of, resets_of, body_before, body_behind, reset_method, expanded_head, expanded_part, expanded_parts, expanded, Expands}
 use Rattle.clocked.specs.Turns as turns
 use Rattle.clocked.specs.Turns.{Head, State, Turn, goes, keeps, keeps_at, goes_if, head_of, with_reset, resets_in, inner_closed, turn_outside, turn_inner, turn_closed, turn_inside, turn, run}
 use Rattle.clocked.proofs.Leads.{Leads, leads_nowhere, leads_on, leads_both, leads_one, leads_to, new_sign, old_sign, truth_sign, turn_as, has_some}

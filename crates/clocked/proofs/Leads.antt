@@ -1,5 +1,5 @@
 -- Where tokens lead, and what is written of them on the way.
-use Rattle.std.proofs.Common.{◌≡◌, ℕ, zero, suc, Bool, true, false, List, [], ◌∷◌, ◌++◌, Option, Some, None, ◌∙◌, refl, sym, ap, subst, append_assoc}
+use Rattle.std.proofs.Common.{◌≡◌, ℕ, Bool, true, false, List, [], ◌∷◌, ◌++◌, Option, Some, None, ◌∙◌, refl, sym, ap, subst, append_assoc}
 use Rattle.std.specs.Prelude.{option_map}
 use Rattle.model_lexer.specs.ModelGrammar.Tokens.{Token, Tokens, name}
 use Rattle.clocked.specs.declared.words.NewWord.{NewWord}

@@ -1,5 +1,5 @@
 -- Tokens that go through all turns are those of parts, and what is written is their expansion.
-use Rattle.std.proofs.Common.{◌≡◌, ℕ, zero, suc, ◌+◌, Bool, true, false, List, [], ◌∷◌, ◌++◌, Option, Some, None, ◌∙◌, refl, sym, ap, subst, append_assoc}
+use Rattle.std.proofs.Common.{◌≡◌, ℕ, zero, suc, Bool, true, false, List, [], ◌∷◌, ◌++◌, Option, Some, None, ◌∙◌, refl, sym, ap, subst, append_assoc}
 use Rattle.std.specs.Prelude.{option_map, ◌&&◌, ◌==◌, not, is_some, codes}
 use Rattle.std.specs.Str.{bytes_eq}
 use Rattle.std.proofs.lemmas.Bool.{eqb-true}
@@ -14,8 +14,8 @@ use Rattle.clocked.specs.declared.words.NewWord.{NewWord}
 use Rattle.clocked.specs.declared.words.NewWord.TheVariants as n
 use Rattle.clocked.specs.declared.words.TheConstants.{NEW_WORDS}
 use Rattle.clocked.specs.Words.{Sign, new, old_name, a_number, truth_value, left_brace, right_brace, left_paren, right_paren, dot, at_sign, semicolon, other, sign_of_name, sign_of_word, sign_of_symbol, sign_of, new_word_text, new_word_of, new_word, IsOldName, is_new_sign, is_new}
-use Rattle.clocked.specs.Parts.{Reset, WrittenReset, Place, first, numbered, computed, Piece, plain, tick, Clocked, Part, kept, clocked, truth, written_place, written_reset, written_piece, written_body, written_part, written_parts, Has, IfWritten, one_less, parens_behind, braces_behind, AreClosed, IsPlace, is_count, IsBody, is_edge, fits_reset, IsClocked, IsPart, AreParts}
-use Rattle.clocked.specs.Expanded.{put, Resets, tick_before, tick_behind, expanded_piece, expanded_body, last_line, reset_of, body_before, body_behind, reset_method, expanded_part, expanded_parts, Expands}
+use Rattle.clocked.specs.Parts.{Reset, WrittenReset, Place, first, numbered, computed, Piece, plain, tick, Clocked, Part, kept, clocked, truth, written_place, written_reset, written_piece, written_body, written_part, written_parts, Has, IfWritten, one_less, parens_behind, braces_behind, AreClosed, IsPlace, is_count, IsBody, is_edge, fits_reset, AreParts}
+use Rattle.clocked.specs.Expanded.{put, tick_before, tick_behind, expanded_piece, expanded_body, last_line, reset_of, body_before, body_behind, reset_method, expanded_part, expanded_parts, Expands}
 use Rattle.clocked.specs.Turns as turns
 use Rattle.clocked.specs.Turns.{Head, State, Turn, keeps, keeps_at, goes_if, head_of, with_reset, resets_in, may_be_asynchronous, may_be_synchronous, turn_language, turn_version, turn_line_end, turn_outside, turn_named, turn_channel, turn_place, turn_placed, turn_inner, turn_dotted, turn_edge, turn_resets, turn_signal, turn_level, turn_closed, turn_inside, turn_ticked, turn_counted, turn, ended, go_on, run}
 

@@ -4,7 +4,7 @@ use Rattle.std.specs.Str.{bytes_eq}
 use Rattle.model_lexer.specs.ModelTree.declared.vocabulary.Word.TheVariants as w
 use Rattle.model_lexer.specs.ModelGrammar.Tokens.{Token, Tokens, number, word}
 use Rattle.clocked.specs.declared.words.NewWord.TheVariants as n
-use Rattle.clocked.specs.Words.{Sign, new, old_name, a_number, truth_value, left_brace, right_brace, left_paren, right_paren, dot, at_sign, semicolon, other, sign_of}
+use Rattle.clocked.specs.Words.{Sign, new, old_name, a_number, truth_value, left_brace, right_brace, left_paren, right_paren, dot, at_sign, semicolon, sign_of}
 use Rattle.clocked.specs.Parts.{Reset, one_less, parens_behind, braces_behind, is_count, is_edge, fits_reset}
 use Rattle.clocked.specs.Expanded.{put, Resets, tick_before, tick_behind, body_before, body_behind, reset_method}
 
@@ -122,8 +122,12 @@ abbrev pub turn_edge : List ℕ → Sign → Token → ℕ → Turn
 turn_edge thread (old_name x) t l = goes_if (is_edge x) (resets (head_of thread)) ((t, l) ∷ (word w.DontInitialize, l) ∷ [])
 turn_edge thread sign t l = None
 
+-- the `{` of a block
+abbrev pub block_begins : Token → ℕ → Tokens
+block_begins t l = (t, l) ∷ put l body_before
+
 abbrev pub turn_resets : Head → Sign → Token → ℕ → Turn
-turn_resets h left_brace t l = goes (inside h 0 l) ((t, l) ∷ put l body_before)
+turn_resets h left_brace t l = goes (inside h 0 l) (block_begins t l)
 turn_resets h (new n.AsyncReset) t l = goes_if (may_be_asynchronous h) (signal h true) []
 turn_resets h (new n.SyncReset) t l = goes_if (may_be_synchronous h) (signal h false) []
 turn_resets h sign t l = None
@@ -136,9 +140,13 @@ abbrev pub turn_level : Head → Bool → List ℕ → Sign → Turn
 turn_level h at_once x (truth_value b) = goes (resets (with_reset h at_once (record { signal = x; level = b }))) []
 turn_level h at_once x sign = None
 
+-- the end of a clocked thread
+abbrev pub thread_end : Head → ℕ → Token → ℕ → Tokens
+thread_end h at t l = put at body_behind ++ (t, l) ∷ put l (reset_method h.thread h.asynchronous)
+
 -- behind a brace that closes
 abbrev pub turn_closed : Head → Option ℕ → ℕ → Token → ℕ → Turn
-turn_closed h None at t l = goes outside (put at body_behind ++ (t, l) ∷ put l (reset_method h.thread h.asynchronous))
+turn_closed h None at t l = goes outside (thread_end h at t l)
 turn_closed h (Some k) at t l = keeps (inside h k l) t l
 
 abbrev pub turn_inside : Head → ℕ → ℕ → Sign → Token → ℕ → Turn
@@ -146,17 +154,26 @@ turn_inside h k at right_brace t l = turn_closed h (one_less k) at t l
 turn_inside h k at (new n.Tick) t l = goes (ticked h k l) []
 turn_inside h k at sign t l = keeps_at (λ m. inside h m l) (braces_behind sign k) t l
 
--- the `;` of a tick
-abbrev pub tick_end : Head → ℕ → Token → ℕ → Turn
-tick_end h k t l = goes (inside h k l) ((t, l) ∷ put l (tick_behind (resets_in h)))
+-- the `;` of a tick, its number, what stands for one, and a tick without one
+abbrev pub tick_end : Head → Token → ℕ → Tokens
+tick_end h t l = (t, l) ∷ put l (tick_behind (resets_in h))
+
+abbrev pub tick_number : ℕ → Token → ℕ → Tokens
+tick_number at t l = put at tick_before ++ (t, l) ∷ []
+
+abbrev pub tick_one : List Token
+tick_one = tick_before ++ number 1 ∷ []
+
+abbrev pub tick_alone : Head → ℕ → Token → ℕ → Tokens
+tick_alone h at t l = put at tick_one ++ tick_end h t l
 
 abbrev pub turn_ticked : Head → ℕ → ℕ → Sign → Token → ℕ → Turn
-turn_ticked h k at (a_number v) t l = goes_if (is_count v) (counted h k) (put at tick_before ++ (t, l) ∷ [])
-turn_ticked h k at semicolon t l = goes (inside h k l) (put at (tick_before ++ number 1 ∷ []) ++ (t, l) ∷ put l (tick_behind (resets_in h)))
+turn_ticked h k at (a_number v) t l = goes_if (is_count v) (counted h k) (tick_number at t l)
+turn_ticked h k at semicolon t l = goes (inside h k l) (tick_alone h at t l)
 turn_ticked h k at sign t l = None
 
 abbrev pub turn_counted : Head → ℕ → Sign → Token → ℕ → Turn
-turn_counted h k semicolon t l = tick_end h k t l
+turn_counted h k semicolon t l = goes (inside h k l) (tick_end h t l)
 turn_counted h k sign t l = None
 
 abbrev pub turn : State → Sign → Token → ℕ → Turn

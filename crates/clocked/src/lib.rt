@@ -1,10 +1,16 @@
 //! Clocked threads: the tokens of a text with them, and those of the language without them that they become.
 #![tactic(auto)]
 
+mod expanding;
+mod expansion;
 mod laws;
+mod putting;
+mod signs;
+mod states;
+mod turns;
 mod words;
-mod worked;
 
+pub use expanding::expand;
+pub use expansion::{Expansion, Placed, Written};
 pub use laws::one_expansion;
 pub use words::{NEW_WORDS, NewWord, new_word_of, new_word_text};
-pub use worked::{others_become_nothing, resets_are_tested, several_expand, ticks_wait};

@@ -1,0 +1,9 @@
+use Rattle.std.proofs.Common.{[], ◌∷◌}
+use Rattle.model_lexer.specs.Seen.{token_of}
+use Rattle.clocked.specs.Expanded.{put, tick_before}
+use Rattle.clocked.proofs.Adding.{adds_then}
+use Rattle.clocked.proofs.turns.tick_number.Goals as goal
+
+pub returns : goal.returns
+returns c =
+    adds_then c.add.result c.args.out.now c.tick_before.new.out c.add.new.out (put c.args.at tick_before) ((token_of c.args.token.kind, c.args.token.line) ∷ []) c.in_ok-tick_before.ensures c.add.ensures
