@@ -1,0 +1,11 @@
+mod Elements
+mod Within
+mod Taking
+mod Raised
+mod Labels
+mod Coming
+mod Homes
+mod Judged
+mod Noting
+mod Begun
+mod Lower

@@ -1,0 +1,6 @@
+pub mod Free
+pub mod Users
+pub mod Tables
+pub mod Spreading
+pub mod Roots
+pub mod Broken

@@ -1,0 +1,1 @@
+pub use Rattle.flat_design.specs.EventCore.declared as declared

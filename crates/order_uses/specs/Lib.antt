@@ -1,0 +1,4 @@
+pub mod Uses
+pub mod Blocks
+pub mod FlatDesign
+pub mod EventCore
