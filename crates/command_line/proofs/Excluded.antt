@@ -1,5 +1,5 @@
 -- Options that do not stand together.
-use Rattle.std.proofs.Common.{◌≡◌, ◌∙◌, ◌&&◌, ℕ, List, Bool, true, false, cond, Option, Some, None, refl, sym, ap, not}
+use Rattle.std.proofs.Common.{◌≡◌, ◌∙◌, ◌&&◌, ℕ, List, [], ◌∷◌, Bool, true, false, cond, Option, Some, None, refl, sym, ap, not}
 use Rattle.std.specs.Prelude.{is_none, option_and_then}
 use Rattle.std.specs.Str.{bytes_eq}
 use Rattle.std.proofs.lemmas.Bool.{and_left, and_right}
@@ -7,8 +7,9 @@ use Rattle.std.proofs.lemmas.Slice.Eq.{bytes_eq-Decides}
 use Rattle.clap.specs.Words.{Text}
 use Rattle.sim_model.specs.declared.plain.Log.{Log}
 use Rattle.command_line.specs.declared.modes.Order.{Order}
+use Rattle.command_line.specs.declared.modes.PageKind.{PageKind}
 use Rattle.command_line.specs.Given.{Given, given_by}
-use Rattle.command_line.specs.Line.{ChoiceRule, Format, Generate, Mode, Simulate, Simulation, are_apart, budget_in, format_alone, generated_alone, generated_with, line_of, log_in, mode_by, mode_in, names_no_run, order_in, rule_in, rule_with, simulation_named, simulation_with, steers_no_run}
+use Rattle.command_line.specs.Line.{ChoiceRule, Page, Generate, Mode, Simulate, Simulation, are_apart, budget_in, page_alone, generated_alone, generated_with, line_of, log_in, mode_by, mode_in, pages_in, Asked, names_no_run, order_in, rule_in, rule_with, simulation_named, simulation_with, steers_no_run}
 use Rattle.command_line.proofs.LineLemmas.{line_given}
 
 no_rule : (file : Text) (o : Option Order) → rule_with (Some file) false o ≡ None
@@ -38,15 +39,16 @@ one_file_twice None s g apart = refl
 one_file_twice (Some m) None g apart = refl
 one_file_twice (Some m) (Some s) g apart = rw apart refl
 
-no_mode : (f n : Option Text) (g : Given) → names_no_run g ≡ false → simulation_named g.model g.script g ≡ None → mode_by f n g ≡ None
-no_mode None None g run none = none
-no_mode (Some m) None g run none = rw run refl
-no_mode None (Some n) g run none = rw run refl
-no_mode (Some m) (Some n) g run none = refl
+no_mode : (ps : List Asked) (n : Option Text) (g : Given) → names_no_run g ≡ false → simulation_named g.model g.script g ≡ None → mode_by ps n g ≡ None
+no_mode [] None g run none = none
+no_mode [] (Some n) g run none = rw run refl
+no_mode (p ∷ []) None g run none = rw run refl
+no_mode (p ∷ []) (Some n) g run none = refl
+no_mode (p ∷ q ∷ ps) n g run none = refl
 
 no_line : (words : List Text) (g : Given) → given_by words ≡ Some g → names_no_run g ≡ false → simulation_named g.model g.script g ≡ None
     → line_of words ≡ None
-no_line words g given run none = line_given words g None given (sym (no_mode g.format g.generate g run none))
+no_line words g given run none = line_given words g None given (sym (no_mode (pages_in g) g.generate g run none))
 
 given_replay : (g : Given) (file : Text) → g.replay ≡ Some file → names_no_run g ≡ false
 given_replay g file replay =
@@ -86,13 +88,13 @@ by_test false x m e = cc
 trace_of : Option Mode → Option Text
 trace_of None = None
 trace_of (Some (Simulate s)) = s.vcd
-trace_of (Some (Format model)) = None
+trace_of (Some (Page kind file)) = None
 trace_of (Some (Generate g)) = None
 
 choices_of : Option Mode → Option Text
 choices_of None = None
 choices_of (Some (Simulate s)) = s.choices
-choices_of (Some (Format model)) = None
+choices_of (Some (Page kind file)) = None
 choices_of (Some (Generate g)) = None
 
 -- the files of a simulation are those that are given
@@ -111,8 +113,8 @@ named_apart (Some m) (Some k) g s e =
     let (vcd, choices) = same_files m k g (budget_in g.budget) (rule_in g) (log_in g.log) s is in
     sym (ap (λ x. are_apart x g.choices) vcd ∙ ap (λ x. are_apart s.vcd x) choices) ∙ apart
 
-formats_none : (m : Text) (g : Given) (s : Simulation) → format_alone m g ≡ Some (Simulate s) → are_apart s.vcd s.choices ≡ true
-formats_none m g s e = let (alone, is) = by_test (names_no_run g && steers_no_run g) (Some (Format m)) (Simulate s) e in cc
+pages_none : (k : PageKind) (m : Text) (g : Given) (s : Simulation) → page_alone k m g ≡ Some (Simulate s) → are_apart s.vcd s.choices ≡ true
+pages_none k m g s e = let (alone, is) = by_test (names_no_run g && steers_no_run g) (Some (Page k m)) (Simulate s) e in cc
 
 generates_with : (n b : Option ℕ) (o : Option Order) (s : Simulation) → generated_with n b o ≡ Some (Simulate s) → are_apart s.vcd s.choices ≡ true
 generates_with None b o s e = cc
@@ -123,16 +125,17 @@ generates_with (Some n) (Some b) (Some o) s e = cc
 generates_none : (n : Text) (g : Given) (s : Simulation) → generated_alone n g ≡ Some (Simulate s) → are_apart s.vcd s.choices ≡ true
 generates_none n g s e = let (alone, is) = by_test (names_no_run g) _ (Simulate s) e in generates_with _ _ _ s is
 
-mode_apart : (f n : Option Text) (g : Given) (s : Simulation) → mode_by f n g ≡ Some (Simulate s) → are_apart s.vcd s.choices ≡ true
-mode_apart None None g s e = named_apart g.model g.script g s e
-mode_apart (Some m) None g s e = formats_none m g s e
-mode_apart None (Some n) g s e = generates_none n g s e
-mode_apart (Some m) (Some n) g s e = cc
+mode_apart : (ps : List Asked) (n : Option Text) (g : Given) (s : Simulation) → mode_by ps n g ≡ Some (Simulate s) → are_apart s.vcd s.choices ≡ true
+mode_apart [] None g s e = named_apart g.model g.script g s e
+mode_apart [] (Some n) g s e = generates_none n g s e
+mode_apart (p ∷ []) None g s e = pages_none p.kind p.file g s e
+mode_apart (p ∷ []) (Some n) g s e = cc
+mode_apart (p ∷ q ∷ ps) n g s e = cc
 
 given_apart : (words : List Text) (o : Option Given) (s : Simulation) → given_by words ≡ o → line_of words ≡ Some (Simulate s) → are_apart s.vcd s.choices ≡ true
 unfolding line_of
 given_apart words None s given e = let none : line_of words ≡ None = ap (option_and_then mode_in) given in cc
-given_apart words (Some g) s given e = mode_apart g.format g.generate g s (sym (line_given words g (mode_in g) given refl) ∙ e)
+given_apart words (Some g) s given e = mode_apart (pages_in g) g.generate g s (sym (line_given words g (mode_in g) given refl) ∙ e)
 
 pub writes_apart : (words : List Text) (s : Simulation) → line_of words ≡ Some (Simulate s) → are_apart s.vcd s.choices ≡ true
 writes_apart words s e = given_apart words (given_by words) s refl e

@@ -10,8 +10,8 @@ use Rattle.command_line.specs.Seen.{Gives, Reads}
 
 -- two readings with the same values are the same
 pub same_given : (a b : Given) → a.model ≡ b.model → a.script ≡ b.script → a.vcd ≡ b.vcd → a.budget ≡ b.budget → a.order ≡ b.order
-    → a.seed ≡ b.seed → a.choices ≡ b.choices → a.replay ≡ b.replay → a.log ≡ b.log → a.format ≡ b.format → a.generate ≡ b.generate → a ≡ b
-same_given a b model script vcd budget order seed choices replay log format generate = λ i. record {
+    → a.seed ≡ b.seed → a.choices ≡ b.choices → a.replay ≡ b.replay → a.log ≡ b.log → a.format ≡ b.format → a.order_free ≡ b.order_free → a.bus ≡ b.bus → a.generate ≡ b.generate → a ≡ b
+same_given a b model script vcd budget order seed choices replay log format order_free bus generate = λ i. record {
   model = model i;
   script = script i;
   vcd = vcd i;
@@ -22,6 +22,8 @@ same_given a b model script vcd budget order seed choices replay log format gene
   replay = replay i;
   log = log i;
   format = format i;
+  order_free = order_free i;
+  bus = bus i;
   generate = generate i;
 }
 

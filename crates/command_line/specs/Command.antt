@@ -1,4 +1,4 @@
--- The command by which clap reads the words: two positionals and nine options, each of which takes one value, any text.
+-- The command by which clap reads the words: two positionals and eleven options, each of which takes one value, any text.
 use Rattle.std.specs.Prelude.{true, List, [], ◌∷◌, Some, codes, fold}
 use Rattle.clap.specs.Words.{App, Rule, Text, new_app, new_rule, with_rule}
 
@@ -24,7 +24,7 @@ arguments =
     positional (codes "model") ∷ positional (codes "script")
     ∷ option_named (codes "vcd") ∷ option_named (codes "budget") ∷ option_named (codes "order") ∷ option_named (codes "seed")
     ∷ option_named (codes "choices") ∷ option_named (codes "replay") ∷ option_named (codes "log")
-    ∷ option_named (codes "format") ∷ option_named (codes "generate") ∷ []
+    ∷ option_named (codes "format") ∷ option_named (codes "order-free") ∷ option_named (codes "bus") ∷ option_named (codes "generate") ∷ []
 
 unfoldable pub line_command : App
 line_command = fold with_rule bare_command arguments

@@ -16,6 +16,8 @@ pub record Given : Type 0 where
   pub replay : Option Text
   pub log : Option Text
   pub format : Option Text
+  pub order_free : Option Text
+  pub bus : Option Text
   pub generate : Option Text
 
 abbrev pub given_in : List Row → Given
@@ -30,6 +32,8 @@ given_in rows = record {
   replay = first_of (codes "replay") rows;
   log = first_of (codes "log") rows;
   format = first_of (codes "format") rows;
+  order_free = first_of (codes "order-free") rows;
+  bus = first_of (codes "bus") rows;
   generate = first_of (codes "generate") rows;
 }
 

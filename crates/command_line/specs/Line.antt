@@ -1,5 +1,5 @@
 -- Which words are which command line.
-use Rattle.std.specs.Prelude.{ℕ, ◌&&◌, ◌^◌, ◌-◌, Bool, true, List, Option, Some, None, not, codes, if◌then◌else◌, is_none, option_and_then}
+use Rattle.std.specs.Prelude.{ℕ, ◌&&◌, ◌^◌, ◌-◌, Bool, true, List, [], ◌∷◌, ◌++◌, Option, Some, None, not, codes, if◌then◌else◌, is_none, option_and_then}
 use Rattle.std.specs.Str.{bytes_eq}
 use Rattle.clap.specs.Words.{Text}
 use Rattle.sim_model.specs.declared.plain.Log.{Log}
@@ -7,6 +7,8 @@ use Rattle.sim_model.specs.declared.plain.Log.TheVariants as log
 use Rattle.command_line.specs.declared.modes.Order.{Order}
 use Rattle.command_line.specs.declared.modes.Order.TheVariants as order
 use Rattle.command_line.specs.declared.modes.Generated.{Generated}
+use Rattle.command_line.specs.declared.modes.PageKind.{PageKind}
+use Rattle.command_line.specs.declared.modes.PageKind.TheVariants as page
 use Rattle.command_line.specs.Given.{Given, given_by}
 use Rattle.command_line.specs.Numbers.{budget_limit, default_budget, number_in, number_or, size_limit}
 
@@ -28,7 +30,7 @@ pub record Simulation : Type 0 where
 -- what a command line asks for
 pub data Mode : Type 0 where
   Simulate : Simulation → Mode
-  Format : Text → Mode
+  Page : PageKind → Text → Mode
   Generate : Generated → Mode
 
 -- ---- single values
@@ -110,8 +112,9 @@ simulation_named (Some model) (Some script) g =
     if are_apart g.vcd g.choices then simulation_with model script g (budget_in g.budget) (rule_in g) (log_in g.log) else None
 simulation_named _ _ g = None
 
-abbrev pub format_alone : Text → Given → Option Mode
-format_alone model g = if names_no_run g && steers_no_run g then Some (Format model) else None
+-- a page of one file stands with no other word
+abbrev pub page_alone : PageKind → Text → Given → Option Mode
+page_alone kind file g = if names_no_run g && steers_no_run g then Some (Page kind file) else None
 
 abbrev pub generated_with : Option ℕ → Option ℕ → Option Order → Option Mode
 generated_with (Some size) (Some budget) (Some o) = Some (Generate (record { size = size; budget = budget; order = o }))
@@ -121,15 +124,29 @@ abbrev pub generated_alone : Text → Given → Option Mode
 generated_alone size g =
     if names_no_run g then generated_with (number_in 1 size_limit size) (budget_in g.budget) (order_in g) else None
 
--- by what `--format` and `--generate` give
-abbrev pub mode_by : Option Text → Option Text → Given → Option Mode
-mode_by None None g = simulation_named g.model g.script g
-mode_by (Some model) None g = format_alone model g
-mode_by None (Some size) g = generated_alone size g
-mode_by (Some model) (Some size) g = None
+-- a page that is asked for, and of which file
+pub record Asked : Type 0 where
+  pub kind : PageKind
+  pub file : Text
+
+abbrev pub asked_of : PageKind → Option Text → List Asked
+asked_of kind None = []
+asked_of kind (Some file) = record { kind = kind; file = file } ∷ []
+
+-- the pages that the words ask for
+abbrev pub pages_in : Given → List Asked
+pages_in g = asked_of page.Layout g.format ++ asked_of page.Verdict g.order_free ++ asked_of page.Traffic g.bus
+
+-- one page, or a generated model, or a run
+abbrev pub mode_by : List Asked → Option Text → Given → Option Mode
+mode_by [] None g = simulation_named g.model g.script g
+mode_by [] (Some size) g = generated_alone size g
+mode_by (one ∷ []) None g = page_alone one.kind one.file g
+mode_by (one ∷ []) (Some size) g = None
+mode_by (one ∷ other ∷ more) size g = None
 
 abbrev pub mode_in : Given → Option Mode
-mode_in g = mode_by g.format g.generate g
+mode_in g = mode_by (pages_in g) g.generate g
 
 -- what the words ask for, if they are a command line
 unfoldable pub line_of : List Text → Option Mode

@@ -15,7 +15,7 @@ use Rattle.command_line.specs.declared.modes.Mode.TheVariants as mode
 use Rattle.command_line.specs.declared.modes.WordsStop.{WordsStop}
 use Rattle.command_line.specs.declared.modes.WordsStop.TheVariants.{Usage, NoMemory}
 use Rattle.command_line.specs.Given.{Given, given_by, given_in}
-use Rattle.command_line.specs.Line.{ChoiceRule, Simulation, Mode, Ordered, Replayed, Simulate, Format, Generate}
+use Rattle.command_line.specs.Line.{ChoiceRule, Simulation, Mode, Ordered, Replayed, Simulate, Page, Generate}
 
 abbrev pub text_of : Option (Bor Text) → Option Text
 text_of = option_map (λ t. t.now)
@@ -32,6 +32,8 @@ given_of g = record {
   replay = text_of g.replay;
   log = text_of g.log;
   format = text_of g.format;
+  order_free = text_of g.order_free;
+  bus = text_of g.bus;
   generate = text_of g.generate;
 }
 
@@ -71,7 +73,7 @@ simulation_of s = record {
 
 abbrev pub mode_of : declared_mode.Mode → Mode
 mode_of (mode.Simulate s) = Simulate (simulation_of s)
-mode_of (mode.Format model) = Format model.now
+mode_of (mode.Page kind file) = Page kind file.now
 mode_of (mode.Generate g) = Generate g
 
 -- an answer is what the words ask for, a refusal says that they ask for nothing, and want of memory says nothing

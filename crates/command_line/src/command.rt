@@ -52,5 +52,7 @@ pub fn line_command<'a>(alloc: Global) -> Result<Command<'a>, AllocError>
     let command = with_option(alloc, command, "replay")?;
     let command = with_option(alloc, command, "log")?;
     let command = with_option(alloc, command, "format")?;
+    let command = with_option(alloc, command, "order-free")?;
+    let command = with_option(alloc, command, "bus")?;
     with_option(alloc, command, "generate")
 }

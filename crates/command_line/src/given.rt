@@ -24,6 +24,8 @@ pub struct Given<'a> {
     pub replay: Option<&'a str>,
     pub log: Option<&'a str>,
     pub format: Option<&'a str>,
+    pub order_free: Option<&'a str>,
+    pub bus: Option<&'a str>,
     pub generate: Option<&'a str>,
 }
 
@@ -42,6 +44,8 @@ fn given_in<'a>(matches: &ArgMatches<'a>) -> Given<'a>
         replay: matches.get_str("replay"),
         log: matches.get_str("log"),
         format: matches.get_str("format"),
+        order_free: matches.get_str("order-free"),
+        bus: matches.get_str("bus"),
         generate: matches.get_str("generate"),
     }
 }

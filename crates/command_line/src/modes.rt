@@ -53,13 +53,24 @@ pub struct Generated {
     pub order: Order,
 }
 
+/// What is told of one file.
+#[derive(Clone, Copy, Debug, PartialEq, Eq)]
+pub enum PageKind {
+    /// A model as the printer lays it out.
+    Layout,
+    /// Whether the order of the processes of a model can make a difference.
+    Verdict,
+    /// What comes of the traffic of a bus.
+    Traffic,
+}
+
 /// What a command line asks for.
 #[derive(Clone, Copy)]
 pub enum Mode<'a> {
     /// To run a model under a script.
     Simulate(Simulation<'a>),
-    /// To print the model in the file of this name as the printer lays it out.
-    Format(&'a str),
+    /// To tell this of the file of this name.
+    Page(PageKind, &'a str),
     /// To run a generated model.
     Generate(Generated),
 }

@@ -3,7 +3,7 @@ ghost use Rattle.command_line.specs.Line as spec;
 ghost use Rattle.command_line.specs.Seen as seen;
 
 use super::given::{Given, given_by};
-use super::modes::{ChoiceRule, Generated, Mode, Order, Simulation, WordsStop};
+use super::modes::{ChoiceRule, Generated, Mode, Order, PageKind, Simulation, WordsStop};
 use super::numbers::{BUDGET_LIMIT, DEFAULT_BUDGET, GENERATED_LIMIT, number_in, number_or};
 use super::words::Words;
 use sim_model::Log;
@@ -120,11 +120,11 @@ fn simulation_named<'a>(model: &'a str, script: &'a str, given: &Given<'a>) -> O
     }))
 }
 
-fn format_alone<'a>(model: &'a str, given: &Given<'a>) -> Option<Mode<'a>>
-    ensures { option_map seen.mode_of result ≡ spec.format_alone model.entry.now (seen.given_of given.now) }
+fn page_alone<'a>(kind: PageKind, file: &'a str, given: &Given<'a>) -> Option<Mode<'a>>
+    ensures { option_map seen.mode_of result ≡ spec.page_alone kind file.entry.now (seen.given_of given.now) }
 {
     if names_no_run(given) && steers_no_run(given) {
-        Some(Mode::Format(model))
+        Some(Mode::Page(kind, file))
     } else {
         None
     }
@@ -149,21 +149,23 @@ fn generated_alone<'a>(size: &str, given: &Given<'a>) -> Option<Mode<'a>>
 fn mode_in<'a>(given: &Given<'a>) -> Option<Mode<'a>>
     ensures { option_map seen.mode_of result ≡ spec.mode_in (seen.given_of given.now) }
 {
-    match (given.format, given.generate) {
-        (None, None) => match (given.model, given.script) {
+    match (given.format, given.order_free, given.bus, given.generate) {
+        (None, None, None, None) => match (given.model, given.script) {
             (Some(model), Some(script)) => simulation_named(model, script, given),
             _ => None,
         },
-        (Some(model), None) => format_alone(model, given),
-        (None, Some(size)) => generated_alone(size, given),
-        (Some(_), Some(_)) => None,
+        (Some(model), None, None, None) => page_alone(PageKind::Layout, model, given),
+        (None, Some(model), None, None) => page_alone(PageKind::Verdict, model, given),
+        (None, None, Some(file), None) => page_alone(PageKind::Traffic, file, given),
+        (None, None, None, Some(size)) => generated_alone(size, given),
+        _ => None,
     }
 }
 
-/// What words ask for, of the three modes of the program.
+/// What words ask for, of the modes of the program.
 ///
-/// `MODEL SCRIPT` runs a model under a script, `--format MODEL` prints a model, and `--generate N` runs a generated
-/// model of a size from 1 to 1,000. With a run stand `--budget N`, from 1 to 67,108,864, `--order first|last|seed` and
+/// `MODEL SCRIPT` runs a model under a script, `--format MODEL` prints a model, `--order-free MODEL` tells whether the order of its
+/// processes can make a difference, `--bus FILE` tells what comes of the traffic of a bus, and `--generate N` runs a generated model of a size from 1 to 1,000. With a run stand `--budget N`, from 1 to 67,108,864, `--order first|last|seed` and
 /// `--seed N`, a u64; with a model and a script also `--vcd F`, `--choices F`, `--replay F` and `--log prints|turns`.
 /// Each option stands once at most, as `--x v` or `--x=v`, and `--` ends the options. A number is decimal digits alone.
 /// `--replay` stands with neither `--choices` nor `--order`, and the files of `--vcd` and `--choices` differ.

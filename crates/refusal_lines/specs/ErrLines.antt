@@ -1,6 +1,8 @@
 -- The line that `err` gets for a refusal of the input, and the two for a run that was cut.
 use Rattle.std.specs.Prelude.{ℕ, List, ◌++◌, codes}
 use Rattle.std.specs.Fmt.{decimal}
+use Rattle.traffic_file.specs.declared.stops.BusStop.{BusStop}
+use Rattle.bus_text.specs.Refusals.{refusal_line}
 use Rattle.refusal_lines.specs.KindWords.{kind_word}
 use Rattle.refusal_lines.specs.declared.refusals.ModelFault.{ModelFault}
 use Rattle.refusal_lines.specs.declared.refusals.ModelFault.TheVariants as model_fault
@@ -29,6 +31,10 @@ script_line (script_fault.Command f) = fault_line (codes "script") f.line (kind_
 abbrev pub replay_line : ℕ → List ℕ
 replay_line line = syntax_line (codes "replay") line
 
+-- a traffic file with a line that does not read, or is at fault
+abbrev pub bus_line : BusStop → List ℕ
+bus_line stop = refusal_line stop
+
 -- words that are refused, a file that could not be read, and one that is too large
 abbrev pub usage_line : List ℕ
 usage_line = codes "usage: tlmsim MODEL SCRIPT [options]\n"
@@ -46,6 +52,7 @@ err_line (refusal.Read file) = read_line file
 err_line (refusal.Model f) = model_line f
 err_line (refusal.Script f) = script_line f
 err_line (refusal.Replay line) = replay_line line
+err_line (refusal.Bus stop) = bus_line stop
 err_line (refusal.TooLarge file) = large_line file
 
 -- a run that was cut: by a write that failed, and for want of memory

@@ -5,6 +5,7 @@ use super::kinds::kind_word;
 use super::refusals::{ModelFault, Refusal, ScriptFault};
 use model_tree::logic_values_api::Text;
 use std::alloc::{AllocError, Global};
+use traffic_file::BusStop;
 
 /// A line on a text that does not read.
 fn syntax_line(alloc: Global, source: &str, line: u32) -> Result<Text, AllocError>
@@ -78,6 +79,13 @@ fn file_line(alloc: Global, cause: &[u8], name: &[u8]) -> Result<Text, AllocErro
     Ok(Text::from_vec(text))
 }
 
+fn bus_line(alloc: Global, stop: &BusStop) -> Result<Text, AllocError>
+    ensures { IfOk result (λ text. text ≡ spec.bus_line stop.now) }
+{
+    let text = bus_text::refusal_line(alloc, stop)?;
+    Ok(Text::from_vec(text))
+}
+
 fn usage_line(alloc: Global) -> Result<Text, AllocError>
     ensures { IfOk result (λ text. text ≡ spec.usage_line) }
 {
@@ -95,6 +103,7 @@ pub fn refusal_line(alloc: Global, refusal: &Refusal) -> Result<Text, AllocError
         Refusal::Model(fault) => model_line(alloc, fault),
         Refusal::Script(fault) => script_line(alloc, fault),
         Refusal::Replay(line) => syntax_line(alloc, "replay", *line),
+        Refusal::Bus(stop) => bus_line(alloc, stop),
         Refusal::TooLarge(file) => file_line(alloc, b"too large ", file.as_slice()),
     }
 }

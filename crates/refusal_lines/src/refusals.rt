@@ -1,6 +1,7 @@
 //! What is wrong with input that is refused, to be said of it.
 use model_tree::Fault;
 use model_tree::logic_values_api::Text;
+use traffic_file::BusStop;
 
 /// What is wrong with a model.
 #[derive(Drop)]
@@ -20,7 +21,7 @@ pub enum ScriptFault {
     Command(Fault),
 }
 
-/// Why no session began, where it is the input that is refused.
+/// Why nothing was begun, where it is the input that is refused.
 #[derive(Drop)]
 pub enum Refusal {
     /// The words are refused.
@@ -33,6 +34,8 @@ pub enum Refusal {
     Script(ScriptFault),
     /// The replay text is no list of serials; the line at which it does not read, counted from 1.
     Replay(u32),
+    /// The traffic file is refused for what is wrong with it, which is not want of memory.
+    Bus(BusStop),
     /// The file of this name has more bytes than its limit.
     TooLarge(Text),
 }

@@ -94,8 +94,8 @@ pub(crate) fn judge_tree(alloc: Global, tree: Tree) -> Result<Design, ModelStop>
     }
 }
 
-/// The design of a model.
-fn judge_model(alloc: Global, text: &[u8]) -> Result<Design, ModelStop>
+/// The design of a model, which is judged by all rules. A refusal has what is wrong with it.
+pub fn judge_model(alloc: Global, text: &[u8]) -> Result<Design, ModelStop>
     requires { length text.now < 2 ^ 32 }
     ensures accepted { IfOk result (IsDesignOfText text.now) }
     ensures runs { IfOk result CanRun }

@@ -6,7 +6,7 @@ mod laws;
 mod laying;
 mod loading;
 
-pub use judging::{JudgeStop, Judged, ModelStop, judge, judge_text};
+pub use judging::{JudgeStop, Judged, ModelStop, judge, judge_model, judge_text};
 pub use laws::one_cause;
 pub use laying::laid_out;
 pub use loading::{LoadStop, MODEL_LIMIT, REPLAY_LIMIT, SCRIPT_LIMIT, Texts, load, load_model};

@@ -17,4 +17,6 @@ returns c =
     let replay = c.in_ok-command-8.ensures ∙ ap (λ (a : App). with_rule a (option_named (codes "replay"))) choices in
     let log = c.in_ok-command-9.ensures ∙ ap (λ (a : App). with_rule a (option_named (codes "log"))) replay in
     let format = c.in_ok-command-10.ensures ∙ ap (λ (a : App). with_rule a (option_named (codes "format"))) log in
-    IfOk-weaker c.with_option-9.result _ _ (λ r h. h ∙ ap (λ (a : App). with_rule a (option_named (codes "generate"))) format) c.with_option-9.ensures
+    let order_free = c.in_ok-command-11.ensures ∙ ap (λ (a : App). with_rule a (option_named (codes "order-free"))) format in
+    let bus = c.in_ok-command-12.ensures ∙ ap (λ (a : App). with_rule a (option_named (codes "bus"))) order_free in
+    IfOk-weaker c.with_option-11.result _ _ (λ r h. h ∙ ap (λ (a : App). with_rule a (option_named (codes "generate"))) bus) c.with_option-11.ensures

@@ -17,4 +17,6 @@ returns c =
     (c.get_str-8.ensures ∙ first_value-rows (found_of c.args.matches.now) (codes "replay"))
     (c.get_str-9.ensures ∙ first_value-rows (found_of c.args.matches.now) (codes "log"))
     (c.get_str-10.ensures ∙ first_value-rows (found_of c.args.matches.now) (codes "format"))
-    (c.get_str-11.ensures ∙ first_value-rows (found_of c.args.matches.now) (codes "generate"))
+    (c.get_str-11.ensures ∙ first_value-rows (found_of c.args.matches.now) (codes "order-free"))
+    (c.get_str-12.ensures ∙ first_value-rows (found_of c.args.matches.now) (codes "bus"))
+    (c.get_str-13.ensures ∙ first_value-rows (found_of c.args.matches.now) (codes "generate"))
