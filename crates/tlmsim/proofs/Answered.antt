@@ -10,7 +10,7 @@ use Rattle.command_line.specs.SimModel.declared.plain.Rule.{Rule}
 use Rattle.command_line.specs.SimModel.declared.plain.Rule.TheVariants as rule
 use Rattle.command_line.specs.SimModel.declared.plain.Stop.{Stop}
 use Rattle.command_line.specs.SimModel.declared.plain.Stop.TheVariants as stop
-use Rattle.command_line.specs.Line.{Mode, Simulate, Format, Generate, line_of}
+use Rattle.command_line.specs.Line.{Mode, Simulate, Page, Generate, line_of}
 use Rattle.session.specs.Course.{IsEnd}
 use Rattle.session.specs.Fronts.{WroteFront}
 use Rattle.session.specs.declared.plans.Plan.{Plan}
@@ -23,7 +23,7 @@ use Rattle.run_input.proofs.Apart.{OneTree}
 use Rattle.tlmsim.specs.Asked.{IsPlan, budget_of}
 use Rattle.tlmsim.specs.Call.{Call, Keeps}
 use Rattle.tlmsim.specs.Telling.{Tells, TellsStop, refusal_status}
-use Rattle.tlmsim.specs.Headline.{ReadFailed, TooLarge, ModelRefused, RefusedFor, Ended, NoRun, Finished, TextCut, TextLacking, LineCut, LineLacking, ScriptTold, Untouched, Gets, Gives, IsSilent, Answers, IsRefusal, IsRunStatus, stop_status}
+use Rattle.tlmsim.specs.Headline.{ReadFailed, TooLarge, ModelRefused, RefusedFor, Ended, NoRun, Finished, TextCut, TextLacking, LineCut, LineLacking, ScriptTold, ModelTold, Untouched, Gets, Gives, IsSilent, Answers, IsRefusal, IsRunStatus, stop_status}
 use Rattle.tlmsim.specs.Worked.{EndedSo, Unmoved, Works}
 use Rattle.tlmsim.specs.declared.working.WorkStop.{WorkStop}
 use Rattle.tlmsim.specs.declared.working.WorkStop.TheVariants as work_stop
@@ -86,7 +86,7 @@ used_up budget steps h = grind (arith, nat_tests)
 
 plan_budget : (mode : Mode) (listed : Option (List ℕ)) (p : Plan) → IsPlan mode listed p → p.budget ≡ budget_of mode
 plan_budget (Simulate s) listed p is = is.budget_is
-plan_budget (Format name) listed p is = absurd is
+plan_budget (Page kind name) listed p is = absurd is
 plan_budget (Generate g) listed p is = ap (λ (q : Plan). q.budget) is
 
 all_steps : (c : Call) (choices : List ℕ) (steps : ℕ) → (x : Ended c choices steps stop.Budget) → steps ≡ budget_of x.accepted.mode
@@ -188,10 +188,10 @@ of_stop one c choices steps s h told faults kept =
       model_comes = comes.model;
       script_comes = comes.script;
       replay_comes = comes.replay;
-      format_comes = comes.format;
+      page_refused_comes = comes.page_refused;
       complete = comes.complete;
       generates = comes.generates;
-      lays_out = comes.lays;
+      page_comes = comes.tells;
     }
 
 -- ---- the statuses where nothing was begun
@@ -199,7 +199,7 @@ of_stop one c choices steps s h told faults kept =
 record Refused (c : Call) (choices : List ℕ) (steps : ℕ) (status : ℕ) : Type 0 where
   usage : status ≡ 1 → (line_of c.words ≡ None) × Gets c usage_line
   read : status ≡ 2 → (file : List ℕ) × ReadFailed c file × Gets c (read_line file)
-  model : status ≡ 3 → (f : ModelFault) × ModelRefused c f × Gets c (model_line f)
+  model : status ≡ 3 → ModelTold c
   script : status ≡ 4 → ScriptTold c
   write : status ≡ 7 → LineCut c choices steps
   memory : status ≡ 8 → LineLacking c choices steps
@@ -212,8 +212,8 @@ usage_cause c choices steps h told = record { usage = λ e. (h, told); read = λ
 read_cause : (c : Call) (choices : List ℕ) (steps : ℕ) (file : List ℕ) → ReadFailed c file → Gets c (read_line file) → Refused c choices steps 2
 read_cause c choices steps file h told = record { usage = λ e. absurd (omega arith); read = λ e. (file, h, told); model = λ e. absurd (omega arith); script = λ e. absurd (omega arith); write = λ e. absurd (omega arith); memory = λ e. absurd (omega arith); large = λ e. absurd (omega arith); bound = omega arith }
 
-model_cause : (c : Call) (choices : List ℕ) (steps : ℕ) (f : ModelFault) → ModelRefused c f → Gets c (model_line f) → Refused c choices steps 3
-model_cause c choices steps f h told = record { usage = λ e. absurd (omega arith); read = λ e. absurd (omega arith); model = λ e. (f, h, told); script = λ e. absurd (omega arith); write = λ e. absurd (omega arith); memory = λ e. absurd (omega arith); large = λ e. absurd (omega arith); bound = omega arith }
+model_cause : (c : Call) (choices : List ℕ) (steps : ℕ) → ModelTold c → Refused c choices steps 3
+model_cause c choices steps h = record { usage = λ e. absurd (omega arith); read = λ e. absurd (omega arith); model = λ e. h; script = λ e. absurd (omega arith); write = λ e. absurd (omega arith); memory = λ e. absurd (omega arith); large = λ e. absurd (omega arith); bound = omega arith }
 
 script_cause : (c : Call) (choices : List ℕ) (steps : ℕ) → ScriptTold c → Refused c choices steps 4
 script_cause c choices steps h = record { usage = λ e. absurd (omega arith); read = λ e. absurd (omega arith); model = λ e. absurd (omega arith); script = λ e. h; write = λ e. absurd (omega arith); memory = λ e. absurd (omega arith); large = λ e. absurd (omega arith); bound = omega arith }
@@ -230,7 +230,8 @@ large_cause c choices steps file h told = record { usage = λ e. absurd (omega a
 cause_of : (c : Call) (choices : List ℕ) (steps : ℕ) (r : Refusal) → RefusedFor c r → Gets c (err_line r) → Refused c choices steps (refusal_status r)
 cause_of c choices steps refusal.Usage h told = usage_cause c choices steps h told
 cause_of c choices steps (refusal.Read file) h told = read_cause c choices steps file h told
-cause_of c choices steps (refusal.Model f) h told = model_cause c choices steps f h told
+cause_of c choices steps (refusal.Model f) h told = model_cause c choices steps (inl (f, h, told))
+cause_of c choices steps (refusal.Bus f) h told = model_cause c choices steps (inr (f, h, told))
 cause_of c choices steps (refusal.Script f) h told = script_cause c choices steps (inl (f, h, told))
 cause_of c choices steps (refusal.Replay at) h told = script_cause c choices steps (inr (at, h, told))
 cause_of c choices steps (refusal.TooLarge file) h told = large_cause c choices steps file h told
@@ -260,10 +261,10 @@ of_none c choices steps status no_end cause comes untouched kept =
       model_comes = comes.model;
       script_comes = comes.script;
       replay_comes = comes.replay;
-      format_comes = comes.format;
+      page_refused_comes = comes.page_refused;
       complete = comes.complete;
       generates = comes.generates;
-      lays_out = comes.lays;
+      page_comes = comes.tells;
     }
 
 -- the answers of a refusal, as it was told

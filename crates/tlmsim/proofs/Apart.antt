@@ -3,14 +3,16 @@ use Rattle.std.proofs.Common.{◌≡◌, ◌<◌, ◌≤◌, ◌⊎◌, ⊎_elim
 use Rattle.std.specs.Prelude.{IfSome}
 use Rattle.session.specs.SimIo.Told.{Files, Lacks, IsText, IsLarge}
 use Rattle.session.specs.SimIo.Cause.{Rose}
-use Rattle.command_line.specs.Line.{Mode, Simulation, Simulate, Format, Generate, line_of}
+use Rattle.command_line.specs.declared.modes.PageKind.{PageKind}
+use Rattle.command_line.specs.Line.{Mode, Simulation, Simulate, Page, Generate, line_of}
 use Rattle.run_input.specs.Limits.{model_limit, script_limit, replay_limit}
 use Rattle.run_input.specs.Loaded.{AreTexts}
 use Rattle.run_input.specs.Together.{Together}
 use Rattle.run_input.proofs.Present.{text_at, large_at, lacks_none}
-use Rattle.tlmsim.specs.Asked.{HasTexts, HasModel, IsModel, replay_of}
+use Rattle.tlmsim.specs.Asked.{HasTexts, HasText, IsModel, replay_of}
 use Rattle.tlmsim.specs.Call.{Call}
-use Rattle.tlmsim.specs.Headline.{UnreadIn, ReadFailed, LargeIn, TooLarge, Reads, Given, ModelGiven, FormatGiven, Within, PastLimit, names_model}
+use Rattle.tlmsim.specs.Pages.{ReadsModel}
+use Rattle.tlmsim.specs.Headline.{UnreadIn, ReadFailed, LargeIn, TooLarge, Reads, Given, ModelGiven, PageGiven, Within, PastLimit, names_model}
 
 -- ---- one command line
 
@@ -20,9 +22,13 @@ same_mode words a b p q = cc
 pub no_line : (words : List (List ℕ)) (a : Mode) → line_of words ≡ Some a → line_of words ≡ None → ⊥
 no_line words a p q = cc
 
--- no words ask for a run and for a laid-out text
-pub one_mode : (words : List (List ℕ)) (s : Simulation) (name : List ℕ) → line_of words ≡ Some (Simulate s) → line_of words ≡ Some (Format name) → ⊥
-one_mode words s name p q = cc
+-- words ask for one page, of one file
+pub same_page : (words : List (List ℕ)) (k k' : PageKind) (n n' : List ℕ) → line_of words ≡ Some (Page k n) → line_of words ≡ Some (Page k' n') → (k ≡ k') × (n ≡ n')
+same_page words k k' n n' p q = (cc, cc)
+
+-- no words ask for a run and for a page
+pub one_mode : (words : List (List ℕ)) (s : Simulation) (kind : PageKind) (name : List ℕ) → line_of words ≡ Some (Simulate s) → line_of words ≡ Some (Page kind name) → ⊥
+one_mode words s kind name p q = cc
 
 -- ---- one file
 
@@ -162,8 +168,8 @@ not_large c old new model script replay file g w l =
 long_in : (c : Call) (old new : Files) (name model : List ℕ) (mode : Mode) (model' : List ℕ) → Reads c old new → old name ≡ Some model → model_limit < length model → names_model mode ≡ Some name → IsModel c mode model' → ⊥
 long_in c old new name model (Simulate s) model' r there past named is =
     let n : s.model ≡ name = cc in too_long c old new name s.model model model' r n there past is.2.model_is is.2.model_within
-long_in c old new name model (Format file) model' r there past named is =
-    let n : file ≡ name = cc in too_long c old new name file model model' r n there past is.text is.within
+long_in c old new name model (Page kind file) model' r there past named is =
+    let n : file ≡ name = cc in too_long c old new name file model model' r n there past is.1.text is.1.within
 long_in c old new name model (Generate g) model' r there past named is = cc
 
 -- it was not read within it
@@ -174,7 +180,7 @@ long_model c old new model mode model' g past line is =
 
 model_in : (c : Call) (mode : Mode) (model script : List ℕ) (replay : Option (List ℕ)) → HasTexts c mode model script replay → IsModel c mode model
 model_in c (Simulate s) model script replay t = (script, replay, t)
-model_in c (Format name) model script replay t = absurd t
+model_in c (Page kind name) model script replay t = absurd t
 model_in c (Generate g) model script replay t = t.0
 
 -- nor for a run
@@ -192,7 +198,7 @@ long_unread c old new name model (Simulate s) file r there past named h =
     (λ third. too_long c old new name s.model model third.1.0 r n there past third.1.1 third.1.2)
     later)
     h
-long_unread c old new name model (Format other) file r there past named h =
+long_unread c old new name model (Page kind other) file r there past named h =
     let n : other ≡ name = cc in unread_there c old new name other model r n there h.1
 long_unread c old new name model (Generate g) file r there past named h = absurd h
 
@@ -202,30 +208,44 @@ long_read c old new model file g past r =
     let P : Mode → Type 0 = λ m. UnreadIn c m file in
     long_unread c old new g.name model g.mode file g.reads g.model_is past g.named (subst P (same_mode c.words r.mode g.mode r.line g.line) r.cause)
 
--- ---- a model that is to be laid out
+-- ---- a model of which a page is told
 
 -- it is not run
-pub laid_found : (c : Call) (old new : Files) (model : List ℕ) (model' script' : List ℕ) (replay' : Option (List ℕ)) → FormatGiven c old new model → Found c model' script' replay' → ⊥
-laid_found c old new model model' script' replay' g f =
+pub paged_found : (c : Call) (old new : Files) (model : List ℕ) (model' script' : List ℕ) (replay' : Option (List ℕ)) → PageGiven c old new model → Found c model' script' replay' → ⊥
+paged_found c old new model model' script' replay' g f =
     let P : Mode → Type 0 = λ mode. HasTexts c mode model' script' replay' in
-    let none : HasTexts c (Format g.name) model' script' replay' = subst P (same_mode c.words f.mode (Format g.name) f.line g.line) f.texts in
+    let none : HasTexts c (Page g.kind g.name) model' script' replay' = subst P (same_mode c.words f.mode (Page g.kind g.name) f.line g.line) f.texts in
     none
 
--- the one that was read is the one that is given
-pub laid_model : (c : Call) (old new : Files) (model : List ℕ) (mode : Mode) (model' : List ℕ) → FormatGiven c old new model → line_of c.words ≡ Some mode → IsModel c mode model' → model' ≡ model
-laid_model c old new model mode model' g line is =
+-- a model that was read is the text that is given, and the page is one of a model
+pub paged_model : (c : Call) (old new : Files) (model : List ℕ) (mode : Mode) (model' : List ℕ) → (g : PageGiven c old new model) → line_of c.words ≡ Some mode → IsModel c mode model' → ReadsModel g.kind × (model' ≡ model)
+paged_model c old new model mode model' g line is =
     let P : Mode → Type 0 = λ m. IsModel c m model' in
-    let here : HasModel c g.name model' = subst P (same_mode c.words mode (Format g.name) line g.line) is in
-    text_there c old new g.name g.name model model' g.reads refl g.model_is here.text
+    let here : ReadsModel g.kind × HasText c g.name model' = subst P (same_mode c.words mode (Page g.kind g.name) line g.line) is in
+    (here.0, text_there c old new g.name g.name model model' g.reads refl g.model_is here.1.text)
 
-pub laid_read : (c : Call) (old new : Files) (model file : List ℕ) → FormatGiven c old new model → ReadFailed c file → ⊥
-laid_read c old new model file g r =
+pub paged_read : (c : Call) (old new : Files) (model file : List ℕ) → PageGiven c old new model → ReadFailed c file → ⊥
+paged_read c old new model file g r =
     let P : Mode → Type 0 = λ m. UnreadIn c m file in
-    let here : UnreadIn c (Format g.name) file = subst P (same_mode c.words r.mode (Format g.name) r.line g.line) r.cause in
+    let here : UnreadIn c (Page g.kind g.name) file = subst P (same_mode c.words r.mode (Page g.kind g.name) r.line g.line) r.cause in
     unread_there c old new g.name g.name model g.reads refl g.model_is here.1
 
-pub laid_large : (c : Call) (old new : Files) (model file : List ℕ) → FormatGiven c old new model → length model ≤ model_limit → TooLarge c file → ⊥
-laid_large c old new model file g fits l =
+pub paged_large : (c : Call) (old new : Files) (model file : List ℕ) → PageGiven c old new model → length model ≤ model_limit → TooLarge c file → ⊥
+paged_large c old new model file g fits l =
     let P : Mode → Type 0 = λ m. LargeIn c m file in
-    let here : LargeIn c (Format g.name) file = subst P (same_mode c.words l.mode (Format g.name) l.line g.line) l.cause in
+    let here : LargeIn c (Page g.kind g.name) file = subst P (same_mode c.words l.mode (Page g.kind g.name) l.line g.line) l.cause in
     not_past_it c old new g.name g.name model model_limit g.reads refl g.model_is fits here.1
+
+-- the file of a page that was read is the one that is given
+pub paged_text : (c : Call) (old new : Files) (text : List ℕ) (kind : PageKind) (name text' : List ℕ) → (g : PageGiven c old new text) → line_of c.words ≡ Some (Page kind name) → HasText c name text' → (kind ≡ g.kind) × (text' ≡ text)
+paged_text c old new text kind name text' g line has =
+    let same = same_page c.words kind g.kind name g.name line g.line in
+    (same.0, text_there c old new g.name name text text' g.reads same.1 g.model_is has.text)
+
+-- nor is it past its limit
+pub long_paged : (c : Call) (old new : Files) (text : List ℕ) (kind : PageKind) (name text' : List ℕ) → ModelGiven c old new text → model_limit < length text → line_of c.words ≡ Some (Page kind name) → HasText c name text' → ⊥
+long_paged c old new text kind name text' g past line has =
+    let P : Mode → Type 0 = λ m. names_model m ≡ Some g.name in
+    let named : Some name ≡ Some g.name = subst P (same_mode c.words g.mode (Page kind name) g.line line) g.named in
+    let same : name ≡ g.name = cc in
+    too_long c old new g.name name text text' g.reads same g.model_is past has.text has.within

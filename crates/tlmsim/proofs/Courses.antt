@@ -1,17 +1,20 @@
 -- Runs, by what was taken of their texts.
-use Rattle.std.proofs.Common.{◌≡◌, ℕ, List, ◌++◌, Option, Some, None, sym, ◌∙◌, subst}
+use Rattle.std.proofs.Common.{◌≡◌, ◌<◌, ◌+◌, ◌-◌, ℕ, suc, List, ◌++◌, length, Option, Some, None, refl, sym, ◌∙◌, subst, arith}
 use Rattle.std.specs.Prelude.{IfSome}
 use Rattle.session.specs.SimIo.Told.{Files, AfterTold, Grew, Same, WereTold}
 use Rattle.session.proofs.SimIo.Chains.{grew_on}
 use Rattle.command_line.specs.SimModel.Configuration.{Config}
 use Rattle.command_line.specs.SimModel.declared.plain.Stop.{Stop}
 use Rattle.command_line.specs.SimModel.declared.plain.Stop.TheVariants as stop
+use Rattle.command_line.specs.SimModel.declared.plain.Rule.{Rule}
+use Rattle.command_line.specs.SimModel.Runs.{after, Ruled, stop_of}
 use Rattle.session.specs.Course.{Ran, Wrote}
-use Rattle.session.specs.Outputs.{FilesGot, Names, Outer, Texts, Took}
+use Rattle.session.specs.Outputs.{AreNames, FileGot, FilesGot, HasName, Names, Outer, Texts, Took}
 use Rattle.session.specs.declared.plans.Plan.{Plan}
 use Rattle.tlmsim.specs.Held.{FilesHold, FilesMade}
 use Rattle.tlmsim.proofs.Holding.{held_by}
 use Rattle.tlmsim.specs.Call.{Call, no_names}
+use Rattle.tlmsim.specs.Orderly.{HadNoEnd}
 use Rattle.tlmsim.specs.Taken.{Holds}
 
 -- what was taken in one way was taken in another
@@ -33,6 +36,34 @@ ran_with first plan choices steps s A B so r = record {
   wrote = wrote_with A B so _ _ s r.wrote;
   earlier = (r.earlier.0, so r.earlier.0 r.earlier.1, r.earlier.2);
 }
+
+-- before each of its steps a session had no end
+pub no_end : ((rule : Rule) (n more budget : ℕ) (choices : List ℕ) (first last : Config) → after (n + suc more) choices first ≡ Some last → Ruled rule (n + suc more) choices first → n < budget
+    → (c : Config) × (used : List ℕ) × (left : List ℕ) × (choices ≡ used ++ left) × (after n used first ≡ Some c) × (stop_of c rule (length used) n budget ≡ None))
+    → (first : Config) (plan : Plan) (choices : List ℕ) (steps : ℕ) (s : Stop) (T : Texts → Type 0) → Ran first plan choices steps s T → HadNoEnd first plan choices steps
+no_end law first plan choices steps s T r n less =
+    let more = steps - suc n in
+    let same : n + suc more ≡ steps = omega (arith, less) in
+    law plan.rule n more plan.budget choices first r.last (subst (λ m. after m choices first ≡ Some r.last) (sym same) r.is_run) (subst (λ m. Ruled plan.rule m choices first) (sym same) r.ruled)
+    (let within = r.within in omega (arith, less, within))
+
+-- a session without files, over a shelf that has no part in it
+pub took_alone : {S : Type 0} (stands : S → ℕ → List ℕ → Type 0) (shelf : S) (trace choices : Option ℕ) → trace ≡ None → choices ≡ None → (files : Option Files) (old new : Option (List ℕ)) (t : Texts) → Grew old new t.report
+    → Took (AreNames stands shelf trace choices) (record { sink = old; files = files }) (record { sink = new; files = files }) t
+took_alone stands shelf trace choices untraced unlisted files old new t grew = record {
+  report = grew;
+  files = λ names named. all names
+      (unnamed names.trace (subst (λ o. HasName stands shelf o names.trace) untraced named.trace_is))
+      (unnamed names.choices (subst (λ o. HasName stands shelf o names.choices) unlisted named.choices_is)) files;
+}
+  where
+    unnamed : (name : Option (List ℕ)) → HasName stands shelf None name → name ≡ None
+    unnamed None h = refl
+    unnamed (Some name) h = absurd h
+
+    all : (names : Names) → names.trace ≡ None → names.choices ≡ None → (f : Option Files) → AfterTold f f (FilesGot names t)
+    all names a b None = tt
+    all names a b (Some f) = record { trace = subst (λ o. FileGot o t.trace f f) (sym a) tt; choices = subst (λ o. FileGot o t.choices f f) (sym b) tt; others = λ name p q. refl }
 
 -- a session's texts, in its files that were made empty before it, are what the call leaves
 pub holds_by : (c : Call) (AreNamed : Names → Type 0) (names : Names) (old new : Outer) → c.before.out ≡ old.sink → c.after.out ≡ new.sink → c.after.files ≡ new.files

@@ -17,8 +17,15 @@ use Rattle.command_line.specs.SimModel.Configuration.{start}
 use Rattle.command_line.specs.SimModel.declared.plain.Command.{Command}
 use Rattle.command_line.specs.SimModel.declared.plain.Stop.{Stop}
 use Rattle.command_line.specs.SimModel.declared.plain.Stop.TheVariants as stop
-use Rattle.command_line.specs.Line.{Simulation, Mode, Simulate, Format, Generate, are_apart, line_of}
+use Rattle.command_line.specs.Line.{Simulation, Mode, Simulate, Page, Generate, are_apart, line_of}
 use Rattle.command_line.specs.Seen.{text_of}
+use Rattle.command_line.specs.declared.modes.PageKind.{PageKind}
+use Rattle.command_line.specs.declared.modes.PageKind.TheVariants as page_kind
+use Rattle.traffic_file.specs.declared.stops.BusStop.{BusStop}
+use Rattle.traffic_file.specs.declared.stops.BusStop.TheVariants as bus_stop
+use Rattle.traffic_file.specs.BusText.{bus_of}
+use Rattle.traffic_file.specs.Stops.{IfRefused, IfSyntax}
+use Rattle.run_input.specs.RefusalLines.declared.refusals.Refusal.TheVariants as refusal
 use Rattle.command_line.specs.declared.modes.Generated.{Generated}
 use Rattle.session.specs.Course.{Ran, IsEnd}
 use Rattle.session.specs.Cut.{cut_by}
@@ -38,12 +45,15 @@ use Rattle.run_input.specs.declared.judging.JudgeStop.{JudgeStop}
 use Rattle.run_input.specs.declared.judging.JudgeStop.TheVariants as judge_stop
 use Rattle.run_input.specs.declared.judging.ModelStop.{ModelStop}
 use Rattle.run_input.specs.declared.judging.ModelStop.TheVariants as model_stop
-use Rattle.tlmsim.specs.Asked.{HasModel, HasTexts, IsPlan, PlansRun, replay_of}
-use Rattle.tlmsim.specs.Call.{Call, OnlyThese, names_in, no_names}
-use Rattle.tlmsim.specs.Headline.{Accepted, Ended, EndedShort, IsCut, LaysOut, OneRose, Session}
-use Rattle.tlmsim.specs.Orderly.{Orderly}
+use Rattle.tlmsim.specs.Asked.{HasText, HasTexts, IsPlan, PlansRun, replay_of}
+use Rattle.tlmsim.specs.Call.{Call, IsNamed, NamesOne, OnlyThese, names_if, names_in, no_names}
+use Rattle.tlmsim.specs.Headline.{Accepted, Ended, EndedShort, IsCut, HasPage, OneRose, Session}
+use Rattle.tlmsim.specs.Orderly.{HadNoEnd, Orderly}
 use Rattle.tlmsim.specs.Taken.{Spared, Holds, TakesAll, TakesShort, steps_line}
-use Rattle.tlmsim.specs.Worked.{CutNow, EndedSo, TellsBy, TellsSteps, Unmoved, Works, unfit, unformed, unread}
+use Rattle.tlmsim.specs.Worked.{CutNow, EndedSo, TellsBy, TellsSteps, Unmoved, Works, HasNoPage, unfit, unformed, unread, unserved}
+use Rattle.tlmsim.specs.Pages.{ReadsModel}
+use Rattle.tlmsim.specs.declared.working.WorkStop.{WorkStop}
+use Rattle.tlmsim.specs.declared.working.WorkStop.TheVariants as work_stop
 use Rattle.tlmsim.proofs.Courses.{ran_with}
 
 -- ---- texts and files, seen from a later moment
@@ -138,14 +148,32 @@ unread_works c s line (load_stop.Failed file) cause unmoved = (record { mode = S
 unread_works c s line (load_stop.TooLarge file) cause unmoved = (record { mode = Simulate s; line = line; cause = cause }, unmoved)
 unread_works c s line load_stop.NoMemory cause unmoved = unmoved
 
-pub unread_page : (c : Call) (name : List ℕ) → line_of c.words ≡ Some (Format name) → (st : LoadStop) → FileCause c.before.files c.after.files (Rose c.before.reads c.after.reads) name model_limit st → Unmoved c → Works c (Err (unread st))
-unread_page c name line (load_stop.Failed file) cause unmoved = (record { mode = Format name; line = line; cause = cause }, unmoved)
-unread_page c name line (load_stop.TooLarge file) cause unmoved = (record { mode = Format name; line = line; cause = cause }, unmoved)
-unread_page c name line load_stop.NoMemory cause unmoved = unmoved
+pub unread_page : (c : Call) (kind : PageKind) (name : List ℕ) → line_of c.words ≡ Some (Page kind name) → (st : LoadStop) → FileCause c.before.files c.after.files (Rose c.before.reads c.after.reads) name model_limit st → Unmoved c → Works c (Err (unread st))
+unread_page c kind name line (load_stop.Failed file) cause unmoved = (record { mode = Page kind name; line = line; cause = cause }, unmoved)
+unread_page c kind name line (load_stop.TooLarge file) cause unmoved = (record { mode = Page kind name; line = line; cause = cause }, unmoved)
+unread_page c kind name line load_stop.NoMemory cause unmoved = unmoved
 
-pub unformed_page : (c : Call) (name : List ℕ) → line_of c.words ≡ Some (Format name) → (model : List ℕ) → HasModel c name model → (st : ModelStop) → IfModelFault st (HasModelFault model) → Unmoved c → Works c (Err (unformed st))
-unformed_page c name line model has (model_stop.Fault f) fault unmoved = (record { mode = Format name; line = line; model = model; is_model = has; fault = fault }, unmoved)
-unformed_page c name line model has model_stop.NoMemory fault unmoved = unmoved
+-- a text that has no page
+pub no_page : (c : Call) (kind : PageKind) (name : List ℕ) → line_of c.words ≡ Some (Page kind name) → (text : List ℕ) → HasText c name text → (st : WorkStop) → HasNoPage kind text st → Unmoved c → Works c (Err st)
+no_page c kind name line text has (work_stop.Refused (refusal.Model f)) (reads, fault) unmoved = (record { mode = Page kind name; line = line; model = text; is_model = (reads, has); fault = fault }, unmoved)
+no_page c kind name line text has (work_stop.Refused (refusal.Bus f)) (is, fault) unmoved = (record { name = name; line = subst (λ k. line_of c.words ≡ Some (Page k name)) is line; text = text; is_text = has; fault = fault }, unmoved)
+no_page c kind name line text has (work_stop.Refused refusal.Usage) none unmoved = absurd none
+no_page c kind name line text has (work_stop.Refused (refusal.Read file)) none unmoved = absurd none
+no_page c kind name line text has (work_stop.Refused (refusal.Script f)) none unmoved = absurd none
+no_page c kind name line text has (work_stop.Refused (refusal.Replay at)) none unmoved = absurd none
+no_page c kind name line text has (work_stop.Refused (refusal.TooLarge file)) none unmoved = absurd none
+no_page c kind name line text has work_stop.NoMemory none unmoved = unmoved
+
+-- a model that was not accepted has no page
+pub unformed_none : (kind : PageKind) (text : List ℕ) → ReadsModel kind → (st : ModelStop) → IfModelFault st (HasModelFault text) → HasNoPage kind text (unformed st)
+unformed_none kind text reads (model_stop.Fault f) fault = (reads, fault)
+unformed_none kind text reads model_stop.NoMemory fault = tt
+
+-- nor has a traffic file that is refused
+pub unserved_none : (text : List ℕ) (st : BusStop) → IfSyntax st (λ line. bus_of text ≡ Err (bus_stop.Syntax line)) → IfRefused st (λ kind line name. bus_of text ≡ Err (bus_stop.Refused kind line name)) → HasNoPage page_kind.Traffic text (unserved st)
+unserved_none text (bus_stop.Syntax line) syntax refused = (refl, syntax)
+unserved_none text (bus_stop.Refused kind line name) syntax refused = (refl, refused)
+unserved_none text bus_stop.NoMemory syntax refused = tt
 
 -- of a simulation
 pub unfit_works : (c : Call) (s : Simulation) → line_of c.words ≡ Some (Simulate s) → (model script : List ℕ) (replay : Option (List ℕ)) → HasTexts c (Simulate s) model script replay → (st : JudgeStop) → HasTextFault model script replay st → Unmoved c → Works c (Err (unfit st))
@@ -167,15 +195,37 @@ unfit_generated c g line model is judge_stop.NoMemory fault unmoved = unmoved
 
 -- ---- ends
 
+-- the count of the shelf rose where the words name a file for writing
+shelf_rose : (c : Call) (mode : Mode) → line_of c.words ≡ Some mode → NamesOne (names_in mode) → Rose c.before.writes c.after.writes → OneRose c
+shelf_rose c mode line named rose = inr (subst (λ o. NamesOne (names_if o)) (sym line) named, rose)
+
+-- which count it was: without a file it is that of `out`
+rose_named : (names : Names) (trace choices : Option ℕ) → Together names.trace trace (λ name id. ⊤) → Together names.choices choices (λ name id. ⊤) → (A B : Type 0) → A ⊎ B → (trace ≡ None → choices ≡ None → A) → A ⊎ (NamesOne names × B)
+rose_named names trace choices first second A B rose alone = by names.trace refl names.choices refl
+  where
+    none : (name : Option (List ℕ)) (id : Option ℕ) → name ≡ None → Together name id (λ n i. ⊤) → id ≡ None
+    none None None is each = refl
+    none None (Some id) is each = absurd each
+    none (Some name) id is each = cc
+
+    by : (a : Option (List ℕ)) → names.trace ≡ a → (b : Option (List ℕ)) → names.choices ≡ b → A ⊎ (NamesOne names × B)
+    by None is None at = inl (alone (none names.trace trace is first) (none names.choices choices at second))
+    by (Some a) is b at = ⊎_elim (λ x. inl x) (λ y. inr (inl (subst IsNamed (sym is) tt), y)) rose
+    by None is (Some b) at = ⊎_elim (λ x. inl x) (λ y. inr (inr (subst IsNamed (sym at) tt), y)) rose
+
+-- a count that is 0 for ever does not rise
+pub never_rose : Rose 0 0 → ⊥
+never_rose rose = omega (arith, rose)
+
 -- files that were not created
-pub not_begun : (c : Call) (a : Accepted c) → Spared c a.mode → (e : Trouble) → (e ≡ trouble.Failed → Rose c.before.writes c.after.writes) → EndedSo c [] 0 (cut_by e)
-not_begun c a spared e rose = by e rose
+pub not_begun : (c : Call) (a : Accepted c) → NamesOne (names_in a.mode) → Spared c a.mode → (e : Trouble) → (e ≡ trouble.Failed → Rose c.before.writes c.after.writes) → EndedSo c [] 0 (cut_by e)
+not_begun c a named spared e rose = by e rose
   where
     begun : (x : Stop) → (x ≡ stop.WriteFault → Rose c.before.writes c.after.writes) → IsCut c [] 0 x
-    begun x r = inr (inr (inr (record { accepted = a; spared = spared; rose = r; no_run = record { no_choices = refl; no_steps = refl } })))
+    begun x r = inr (inr (inr (record { accepted = a; named = named; spared = spared; rose = r; no_run = record { no_choices = refl; no_steps = refl } })))
 
     by : (x : Trouble) → (x ≡ trouble.Failed → Rose c.before.writes c.after.writes) → EndedSo c [] 0 (cut_by x)
-    by trouble.Failed r = (begun stop.WriteFault (λ is. r refl), inr (r refl))
+    by trouble.Failed r = (begun stop.WriteFault (λ is. r refl), shelf_rose c a.mode a.line named (r refl))
     by trouble.NoMemory r = begun stop.NoMemory (λ is. absurd (differ is))
       where
         differ : stop.NoMemory ≡ stop.WriteFault → ⊥
@@ -184,17 +234,21 @@ not_begun c a spared e rose = by e rose
 -- a simulation that was run
 pub simulated : (c : Call) (s : Simulation) → line_of c.words ≡ Some (Simulate s) → (model script : List ℕ) (replay : Option (List ℕ)) → HasTexts c (Simulate s) model script replay → (m : tree.Model) (design : Design) (commands : List Command)
     → Accepts model script m design commands → (listed : Option (List ℕ)) → ReadsReplay replay listed → SoundDesign design → Orderly design commands → (plan : Plan) → PlansRun s listed plan
-    → (choices : List ℕ) (steps : ℕ) (st : Stop) → Ran (start design commands) plan choices steps st (Holds c (names_in (Simulate s))) → (st ≡ stop.WriteFault → OneRose c) → EndedSo c choices steps st
-simulated c s line model script replay texts m design commands accepts listed reads sound orderly plan planned choices steps st ran rose = by st ran rose
+    → (choices : List ℕ) (steps : ℕ) (st : Stop) → Ran (start design commands) plan choices steps st (Holds c (names_in (Simulate s))) → HadNoEnd (start design commands) plan choices steps
+    → (st ≡ stop.WriteFault → Rose c.before.out_faults c.after.out_faults ⊎ Rose c.before.writes c.after.writes) → (plan.vcd ≡ None → plan.choices ≡ None → st ≡ stop.WriteFault → Rose c.before.out_faults c.after.out_faults)
+    → EndedSo c choices steps st
+simulated c s line model script replay texts m design commands accepts listed reads sound orderly plan planned choices steps st ran none rose unfiled =
+    by st ran (λ is. ⊎_elim (λ x. inl x) (λ y. shelf_rose c (Simulate s) line y.0 y.1)
+    (rose_named (names_in (Simulate s)) plan.vcd plan.choices planned.vcd_is planned.choices_are (Rose c.before.out_faults c.after.out_faults) (Rose c.before.writes c.after.writes) (rose is) (λ untraced unlisted. unfiled untraced unlisted is)))
   where
     accepted : Accepted c
     accepted = record { mode = Simulate s; line = line; model = model; script = script; replay = replay; texts = texts; m = m; design = design; commands = commands; accepts = accepts; listed = listed; reads = reads; sound = sound }
 
     whole : (x : Stop) → Ran (start design commands) plan choices steps x (Holds c (names_in (Simulate s))) → Ended c choices steps x
-    whole x r = record { accepted = accepted; orderly = orderly; plan = plan; planned = planned; ran = r }
+    whole x r = record { accepted = accepted; orderly = orderly; plan = plan; planned = planned; ran = r; no_end_before = none }
 
     part : (x : Stop) → Ran (start design commands) plan choices steps x (Holds c (names_in (Simulate s))) → IsCut c choices steps x
-    part x r = inl (record { accepted = accepted; orderly = orderly; plan = plan; planned = planned; ran = r })
+    part x r = inl (record { accepted = accepted; orderly = orderly; plan = plan; planned = planned; ran = r; no_end_before = none })
 
     by : (x : Stop) → Ran (start design commands) plan choices steps x (Holds c (names_in (Simulate s))) → (x ≡ stop.WriteFault → OneRose c) → EndedSo c choices steps x
     by stop.Done r rose = inl (whole stop.Done r)
@@ -205,15 +259,15 @@ simulated c s line model script replay texts m design commands accepts listed re
     by stop.WriteFault r rose = (part stop.WriteFault r, rose refl)
     by stop.NoMemory r rose = part stop.NoMemory r
 
--- a text that was laid out, whole or in part
-pub laid_out_so : (c : Call) (page : List ℕ) → LaysOut c page → Grew c.before.out c.after.out page → EndedSo c [] 0 stop.Done
-laid_out_so c page lays out = inr (record { page = page; lays = lays; out = out; no_run = record { no_choices = refl; no_steps = refl } })
+-- a page that was told, whole or in part
+pub page_so : (c : Call) (page : List ℕ) → HasPage c page → Grew c.before.out c.after.out page → EndedSo c [] 0 stop.Done
+page_so c page has out = inr (record { page = page; has = has; out = out; no_run = record { no_choices = refl; no_steps = refl } })
 
-pub page_cut : (c : Call) (page part : List ℕ) → LaysOut c page → IsFront part page → length part < length page → Grew c.before.out c.after.out part → (e : Trouble) → (e ≡ trouble.Failed → Rose c.before.out_faults c.after.out_faults) → EndedSo c [] 0 (cut_by e)
-page_cut c page part lays front short out e rose = by e rose
+pub page_cut : (c : Call) (page part : List ℕ) → HasPage c page → IsFront part page → length part < length page → Grew c.before.out c.after.out part → (e : Trouble) → (e ≡ trouble.Failed → Rose c.before.out_faults c.after.out_faults) → EndedSo c [] 0 (cut_by e)
+page_cut c page part has front short out e rose = by e rose
   where
     cut : (x : Stop) → (x ≡ stop.WriteFault → Rose c.before.out_faults c.after.out_faults) → IsCut c [] 0 x
-    cut x r = inr (inr (inl (record { page = page; lays = lays; part = part; front = front; short = short; out = out; rose = r; no_run = record { no_choices = refl; no_steps = refl } })))
+    cut x r = inr (inr (inl (record { page = page; has = has; part = part; front = front; short = short; out = out; rose = r; no_run = record { no_choices = refl; no_steps = refl } })))
 
     by : (x : Trouble) → (x ≡ trouble.Failed → Rose c.before.out_faults c.after.out_faults) → EndedSo c [] 0 (cut_by x)
     by trouble.Failed r = (cut stop.WriteFault (λ is. r refl), inl (r refl))
@@ -226,16 +280,16 @@ page_cut c page part lays front short out e rose = by e rose
 pub generated_so : (c : Call) (g : Generated) → line_of c.words ≡ Some (Generate g) → (model : List ℕ) → model ≡ generated g.size → (m : tree.Model) (design : Design) (commands : List Command)
     → Accepts model (codes "run") m design commands → SoundDesign design → Orderly design commands → (plan : Plan) → IsPlan (Generate g) None plan
     → (run told : Outcome) (mid : Option (List ℕ)) → TellsSteps mid c.after.out run told → Ran (start design commands) plan run.choices run.steps run.stop (λ t. Grew c.before.out mid t.report)
-    → AfterTold c.before.files c.after.files Same → (told.stop ≡ stop.WriteFault → OneRose c) → (IsEnd run.stop → told.stop ≡ stop.WriteFault → Rose c.before.out_faults c.after.out_faults)
+    → HadNoEnd (start design commands) plan run.choices run.steps → AfterTold c.before.files c.after.files Same → (told.stop ≡ stop.WriteFault → Rose c.before.out_faults c.after.out_faults)
     → EndedSo c told.choices told.steps told.stop
-generated_so c g line model is m design commands accepts sound orderly plan planned run told mid tells ran same rose out_rose =
+generated_so c g line model is m design commands accepts sound orderly plan planned run told mid tells ran none same rose =
     subst (λ n. EndedSo c told.choices n told.stop) (sym tells.steps) (subst (λ cs. EndedSo c cs run.steps told.stop) (sym tells.choices) (by run.stop refl))
   where
     accepted : Accepted c
     accepted = record { mode = Generate g; line = line; model = model; script = codes "run"; replay = None; texts = (is, refl, refl); m = m; design = design; commands = commands; accepts = accepts; listed = None; reads = tt; sound = sound }
 
     session : (x : Stop) (T : Mode → Texts → Type 0) → Ran (start design commands) plan run.choices run.steps x (T (Generate g)) → Session c run.choices run.steps x T
-    session x T r = record { accepted = accepted; orderly = orderly; plan = plan; planned = planned; ran = r }
+    session x T r = record { accepted = accepted; orderly = orderly; plan = plan; planned = planned; ran = r; no_end_before = none }
 
     hold : (t : Texts) → AfterTold c.before.files c.after.files (FilesHold no_names t)
     hold t = held c.before.files c.after.files same
@@ -278,7 +332,7 @@ generated_so c g line model is m design commands accepts sound orderly plan plan
     told_by x (stop.Fault f) is end (same, grew) rose = whole (stop.Fault f) (is ∙ sym same) grew
 
     ended_by : (x : Stop) → run.stop ≡ x → IsEnd x → EndedSo c run.choices run.steps told.stop
-    ended_by x is end = told_by x told.stop is end (subst (λ y. TellsBy mid c.after.out (steps_line run.steps) y told.stop) is (tells.ended (subst IsEnd (sym is) end))) (out_rose (subst IsEnd (sym is) end))
+    ended_by x is end = told_by x told.stop is end (subst (λ y. TellsBy mid c.after.out (steps_line run.steps) y told.stop) is (tells.ended (subst IsEnd (sym is) end))) rose
 
     cut_at : (x : Stop) → run.stop ≡ x → (IsEnd x → ⊥) → (told.stop ≡ x) × (c.after.out ≡ mid)
     cut_at x is none = let (same, kept) = tells.cut (λ end. none (subst IsEnd is end)) in (same ∙ is, kept)
@@ -289,10 +343,10 @@ generated_so c g line model is m design commands accepts sound orderly plan plan
     by stop.Budget is = ended_by stop.Budget is tt
     by (stop.Replay place) is = ended_by (stop.Replay place) is tt
     by (stop.Fault f) is = ended_by (stop.Fault f) is tt
-    by stop.WriteFault is = let (same, kept) = cut_at stop.WriteFault is (λ end. end) in subst (EndedSo c run.choices run.steps) (sym same) (alone stop.WriteFault is kept, rose same)
+    by stop.WriteFault is = let (same, kept) = cut_at stop.WriteFault is (λ end. end) in subst (EndedSo c run.choices run.steps) (sym same) (alone stop.WriteFault is kept, inl (rose same))
     by stop.NoMemory is = let (same, kept) = cut_at stop.NoMemory is (λ end. end) in subst (EndedSo c run.choices run.steps) (sym same) (alone stop.NoMemory is kept)
 
--- ---- the line of the steps, and the laid-out text
+-- ---- the line of the steps, and pages
 
 front_taken : (count : ℕ) (text part : List ℕ) → part ≡ take count text → IsFront part text
 front_taken count text part is = (drop count text, sym (take-append-drop count text) ∙ ap (λ p. p ++ drop count text) (sym is))
@@ -301,8 +355,8 @@ short_taken : (count : ℕ) (text part : List ℕ) → count < length text → p
 short_taken count text part less is = omega (arith, less, ap length is, length-take count text)
 
 -- a page that was cut while it was written
-pub page_short : (c : Call) (page : List ℕ) → LaysOut c page → (e : Trouble) → TookOf c.before.out c.after.out page (Err e) → (e ≡ trouble.Failed → Rose c.before.out_faults c.after.out_faults) → EndedSo c [] 0 (cut_by e)
-page_short c page lays e (part, grew, (count, less, is)) rose = page_cut c page part lays (front_taken count page part is) (short_taken count page part less is) grew e rose
+pub page_short : (c : Call) (page : List ℕ) → HasPage c page → (e : Trouble) → TookOf c.before.out c.after.out page (Err e) → (e ≡ trouble.Failed → Rose c.before.out_faults c.after.out_faults) → EndedSo c [] 0 (cut_by e)
+page_short c page has e (part, grew, (count, less, is)) rose = page_cut c page part has (front_taken count page part is) (short_taken count page part less is) grew e rose
 
 pub told_cut : (old new : Option (List ℕ)) (run : Outcome) (e : Trouble) → IsEnd run.stop → TookOf old new (steps_line run.steps) (Err e) → TellsSteps old new run (record { stop = cut_by e; choices = run.choices; steps = run.steps })
 told_cut old new run e end (part, grew, (count, less, is)) = record { choices = refl; steps = refl; cut = λ none. absurd (none end); ended = λ h. by e }
@@ -350,13 +404,10 @@ end_or_cut (stop.Fault f) = inl tt
 end_or_cut stop.WriteFault = inr (λ end. end)
 end_or_cut stop.NoMemory = inr (λ end. end)
 
-pub steps_rose : (old new : Option (List ℕ)) (run told : Outcome) (f0 f1 f2 w0 w1 : ℕ) → TellsSteps old new run told → f0 ≤ f1 → f1 ≤ f2 → (run.stop ≡ stop.WriteFault → Rose f0 f1 ⊎ Rose w0 w1) → (CutNow run told → Rose f1 f2) → told.stop ≡ stop.WriteFault → Rose f0 f2 ⊎ Rose w0 w1
-steps_rose old new run told f0 f1 f2 w0 w1 tells first second ran cut fault =
-    ⊎_elim (λ end. inl (rose_on f0 f1 f2 f2 first (cut (end, fault)) (omega arith)))
-    (λ none. ⊎_elim (λ r. inl (rose_on f0 f0 f1 f2 (omega arith) r second)) (λ r. inr r) (ran (sym (tells.cut none).0 ∙ fault))) (end_or_cut run.stop)
-
-pub end_rose : (run told : Outcome) (f0 f1 f2 : ℕ) → f0 ≤ f1 → (CutNow run told → Rose f1 f2) → IsEnd run.stop → told.stop ≡ stop.WriteFault → Rose f0 f2
-end_rose run told f0 f1 f2 first cut end fault = rose_on f0 f1 f2 f2 first (cut (end, fault)) (omega arith)
+pub steps_rose : (old new : Option (List ℕ)) (run told : Outcome) (f0 f1 f2 : ℕ) → TellsSteps old new run told → f0 ≤ f1 → f1 ≤ f2 → (run.stop ≡ stop.WriteFault → Rose f0 f1) → (CutNow run told → Rose f1 f2) → told.stop ≡ stop.WriteFault → Rose f0 f2
+steps_rose old new run told f0 f1 f2 tells first second ran cut fault =
+    ⊎_elim (λ end. rose_on f0 f1 f2 f2 first (cut (end, fault)) (omega arith))
+    (λ none. rose_on f0 f0 f1 f2 (omega arith) (ran (sym (tells.cut none).0 ∙ fault)) second) (end_or_cut run.stop)
 
 -- ---- names that are apart
 

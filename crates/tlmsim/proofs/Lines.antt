@@ -1,5 +1,5 @@
 -- What writing a line, and trying another behind it, leaves on a sink.
-use Rattle.std.proofs.Common.{◌≡◌, ◌<◌, ⊎_elim, ℕ, Bool, true, false, ◌||◌, nat_eq, List, length, take, Option, Result, Ok, Err, subst, sym, ap, ◌∙◌, refl, arith}
+use Rattle.std.proofs.Common.{◌≡◌, ◌<◌, ◌≤◌, ⊎_elim, ℕ, Bool, true, false, ◌||◌, nat_eq, List, length, take, Option, Result, Ok, Err, subst, sym, ap, ◌∙◌, refl, arith}
 use Rattle.std.proofs.lemmas.Bool.{false≢true}
 use Rattle.std.proofs.Math.Seq.{take-length}
 use Rattle.session.specs.SimIo.Told.{Grew}
@@ -10,7 +10,9 @@ use Rattle.session.specs.Course.{IsEnd}
 use Rattle.session.specs.Fronts.{WroteFront}
 use Rattle.command_line.specs.SimModel.declared.plain.Stop.{Stop}
 use Rattle.command_line.specs.SimModel.declared.plain.Stop.TheVariants as stop
-use Rattle.run_input.specs.RefusalLines.ErrLines.{err_line, model_line, script_line}
+use Rattle.traffic_file.specs.declared.stops.BusStop.{BusStop}
+use Rattle.traffic_file.specs.declared.stops.BusStop.TheVariants as bus_stop
+use Rattle.run_input.specs.RefusalLines.ErrLines.{err_line, model_line, script_line, bus_line}
 use Rattle.run_input.specs.RefusalLines.declared.refusals.ModelFault.{ModelFault}
 use Rattle.run_input.specs.RefusalLines.declared.refusals.ModelFault.TheVariants as model_fault
 use Rattle.run_input.specs.RefusalLines.declared.refusals.ScriptFault.{ScriptFault}
@@ -49,12 +51,18 @@ script_some : (f : ScriptFault) → 0 < length (script_line f)
 script_some (script_fault.Syntax line) = omega arith
 script_some (script_fault.Command f) = omega arith
 
+bus_some : (f : BusStop) → 0 < length (bus_line f)
+bus_some (bus_stop.Syntax line) = omega arith
+bus_some (bus_stop.Refused kind line name) = omega arith
+bus_some bus_stop.NoMemory = omega arith
+
 line_some : (r : Refusal) → 0 < length (err_line r)
 line_some refusal.Usage = omega arith
 line_some (refusal.Read file) = omega arith
 line_some (refusal.Model f) = model_some f
 line_some (refusal.Script f) = script_some f
 line_some (refusal.Replay line) = omega arith
+line_some (refusal.Bus f) = bus_some f
 line_some (refusal.TooLarge file) = omega arith
 
 -- a line that was not begun
@@ -78,6 +86,7 @@ refusal_no_end (refusal.Read file) = refl
 refusal_no_end (refusal.Model f) = refl
 refusal_no_end (refusal.Script f) = refl
 refusal_no_end (refusal.Replay line) = refl
+refusal_no_end (refusal.Bus f) = refl
 refusal_no_end (refusal.TooLarge file) = refl
 
 -- a refusal that is told has none of them
@@ -86,6 +95,21 @@ unfolding is_end
 told_no_end r old new faults faults' status told =
     ⊎_elim (λ whole. not_end status (ap is_end whole.0 ∙ refusal_no_end r))
     (⊎_elim (λ cut. not_end status (ap is_end cut.0)) (λ cut. not_end status (ap is_end cut.0))) told
+
+-- its status is 10 at most
+refusal_bound : (r : Refusal) → refusal_status r ≤ 10
+refusal_bound refusal.Usage = omega arith
+refusal_bound (refusal.Read file) = omega arith
+refusal_bound (refusal.Model f) = omega arith
+refusal_bound (refusal.Script f) = omega arith
+refusal_bound (refusal.Replay line) = omega arith
+refusal_bound (refusal.Bus f) = omega arith
+refusal_bound (refusal.TooLarge file) = omega arith
+
+pub told_bound : (r : Refusal) (old new : Option (List ℕ)) (faults faults' status : ℕ) → Tells r old new faults faults' status → status ≤ 10
+told_bound r old new faults faults' status told =
+    ⊎_elim (λ whole. subst (λ n. n ≤ 10) (sym whole.0) (refusal_bound r))
+    (⊎_elim (λ cut. omega (arith, cut.0)) (λ cut. omega (arith, cut.0))) told
 
 -- nor has want of memory
 pub memory_no_end : IsRunStatus 8 → ⊥

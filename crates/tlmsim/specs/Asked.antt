@@ -4,7 +4,7 @@ use Rattle.session.specs.SimIo.Told.{IsText}
 use Rattle.command_line.specs.SimModel.declared.plain.Log.TheVariants as log
 use Rattle.command_line.specs.SimModel.declared.plain.Rule.{Rule}
 use Rattle.command_line.specs.SimModel.declared.plain.Rule.TheVariants as rule
-use Rattle.command_line.specs.Line.{ChoiceRule, Simulation, Mode, Ordered, Replayed, Simulate, Format, Generate}
+use Rattle.command_line.specs.Line.{ChoiceRule, Simulation, Mode, Ordered, Replayed, Simulate, Page, Generate}
 use Rattle.command_line.specs.declared.modes.Order.{Order}
 use Rattle.command_line.specs.declared.modes.Order.TheVariants as order
 use Rattle.model_gen.specs.Generated.{generated}
@@ -13,6 +13,7 @@ use Rattle.run_input.specs.Loaded.{AreTexts}
 use Rattle.run_input.specs.Together.{Together}
 use Rattle.session.specs.declared.plans.Plan.{Plan}
 use Rattle.tlmsim.specs.Call.{Call}
+use Rattle.tlmsim.specs.Pages.{ReadsModel}
 
 -- the replay file that is named, if there is one
 abbrev pub replay_of : ChoiceRule → Option (List ℕ)
@@ -20,21 +21,21 @@ replay_of (Ordered o) = None
 replay_of (Replayed file) = Some file
 
 -- These are the texts of the run that is asked for: of a simulation those of its files, where the shelf tells them, each within its
--- limit; of a generated model its text, and the script that runs it once. A model that is formatted is not run.
+-- limit; of a generated model its text, and the script that runs it once. A file of which a page is told is not run.
 abbrev pub HasTexts : Call → Mode → List ℕ → List ℕ → Option (List ℕ) → Type 0
 HasTexts c (Simulate s) model script replay = AreTexts c.before.files c.after.files s.model s.script (replay_of s.rule) model script replay
-HasTexts c (Format name) model script replay = ⊥
+HasTexts c (Page kind name) model script replay = ⊥
 HasTexts c (Generate g) model script replay = (model ≡ generated g.size) × (script ≡ codes "run") × (replay ≡ None)
 
--- the text of a model that is formatted, within its limit
-pub record HasModel (c : Call) (name model : List ℕ) : Type 0 where
+-- the text of a file of which a page is told, within its limit
+pub record HasText (c : Call) (name model : List ℕ) : Type 0 where
   pub text : IsText c.before.files c.after.files name model
   pub within : length model ≤ model_limit
 
 -- this is the text of the model that is judged
 abbrev pub IsModel : Call → Mode → List ℕ → Type 0
 IsModel c (Simulate s) model = (script : List ℕ) × (replay : Option (List ℕ)) × HasTexts c (Simulate s) model script replay
-IsModel c (Format name) model = HasModel c name model
+IsModel c (Page kind name) model = ReadsModel kind × HasText c name model
 IsModel c (Generate g) model = model ≡ generated g.size
 
 -- ---- how a run goes
@@ -61,11 +62,11 @@ pub record PlansRun (s : Simulation) (replay : Option (List ℕ)) (p : Plan) : T
 
 abbrev pub IsPlan : Mode → Option (List ℕ) → Plan → Type 0
 IsPlan (Simulate s) replay p = PlansRun s replay p
-IsPlan (Format name) replay p = ⊥
+IsPlan (Page kind name) replay p = ⊥
 IsPlan (Generate g) replay p = p ≡ record { rule = rule_of g.order; budget = g.budget; log = log.Prints; vcd = None; choices = None }
 
 -- the most steps
 abbrev pub budget_of : Mode → ℕ
 budget_of (Simulate s) = s.budget
-budget_of (Format name) = 0
+budget_of (Page kind name) = 0
 budget_of (Generate g) = g.budget

@@ -1,7 +1,7 @@
 -- What a call of the top speaks of: the words, and the outside before and after it.
-use Rattle.std.specs.Prelude.{◌≡◌, ◌≤◌, ℕ, List, Option, Some, None}
+use Rattle.std.specs.Prelude.{◌≡◌, ◌≤◌, ◌⊎◌, ℕ, List, Option, Some, None, ⊤}
 use Rattle.session.specs.SimIo.Told.{Files, AfterTold}
-use Rattle.command_line.specs.Line.{Mode, Simulate, Format, Generate, line_of}
+use Rattle.command_line.specs.Line.{Mode, Simulate, Page, Generate, line_of}
 use Rattle.session.specs.Outputs.{Names, IsOther}
 
 -- the outside at a moment: the files where they are told, what `out` and `err` hold where they tell that, and the
@@ -38,12 +38,20 @@ no_names = record { trace = None; choices = None }
 
 abbrev pub names_in : Mode → Names
 names_in (Simulate s) = record { trace = s.vcd; choices = s.choices }
-names_in (Format model) = no_names
+names_in (Page kind model) = no_names
 names_in (Generate g) = no_names
 
 abbrev pub names_if : Option Mode → Names
 names_if None = no_names
 names_if (Some mode) = names_in mode
+
+-- one of these is named
+abbrev pub IsNamed : Option (List ℕ) → Type 0
+IsNamed None = ⊥
+IsNamed (Some name) = ⊤
+
+abbrev pub NamesOne : Names → Type 0
+NamesOne names = IsNamed names.trace ⊎ IsNamed names.choices
 
 -- each file but these is as before
 abbrev pub OnlyThese : Names → Files → Files → Type 0

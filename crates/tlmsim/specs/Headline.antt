@@ -1,8 +1,10 @@
 -- The answers of the top call, the cause of each, and what `err` gets with it.
-use Rattle.std.specs.Prelude.{◌≡◌, ◌≤◌, ◌⊎◌, ◌<◌, ℕ, List, [], Option, Some, None, length, codes}
+use Rattle.std.specs.Prelude.{◌≡◌, ◌≤◌, ◌⊎◌, ◌<◌, ℕ, List, [], Option, Some, None, Err, length, codes}
 use Rattle.session.specs.SimIo.Told.{Files, AfterTold, Grew, Lacks, IsLarge, Same}
 use Rattle.session.specs.SimIo.Cause.{Rose}
 use Rattle.flat_design.specs.declared.faults.RunFault.{RunFault}
+use Rattle.traffic_file.specs.declared.stops.BusStop.{BusStop}
+use Rattle.traffic_file.specs.BusText.{bus_of}
 use Rattle.model_tree.specs.Tree as tree
 use Rattle.flat_design.specs.declared.design.Design.{Design}
 use Rattle.flat_design.specs.Sound.{SoundDesign}
@@ -11,8 +13,10 @@ use Rattle.command_line.specs.SimModel.Configuration.{start}
 use Rattle.command_line.specs.SimModel.declared.plain.Command.{Command}
 use Rattle.command_line.specs.SimModel.declared.plain.Stop.{Stop}
 use Rattle.command_line.specs.SimModel.declared.plain.Stop.TheVariants as stop
-use Rattle.command_line.specs.Line.{Mode, Simulation, Simulate, Format, Generate, line_of}
+use Rattle.command_line.specs.Line.{Mode, Simulation, Simulate, Page, Generate, line_of}
 use Rattle.command_line.specs.declared.modes.Generated.{Generated}
+use Rattle.command_line.specs.declared.modes.PageKind.{PageKind}
+use Rattle.command_line.specs.declared.modes.PageKind.TheVariants as page_kind
 use Rattle.model_gen.specs.Generated.{generated}
 use Rattle.session.specs.Course.{Ran, IsEnd}
 use Rattle.session.specs.Fronts.{WroteFront}
@@ -20,14 +24,15 @@ use Rattle.session.specs.Outputs.{Texts, IsFront}
 use Rattle.session.specs.declared.plans.Plan.{Plan}
 use Rattle.run_input.specs.Limits.{model_limit, script_limit, replay_limit}
 use Rattle.run_input.specs.Loaded.{IsUnread, IsTooLarge}
-use Rattle.run_input.specs.Judged.{IsBrokenModel, HasModelFault, AcceptsModel, IsBrokenScript, HasScriptFault, Accepts, ReadsReplay, HasReplayFault, IsBrokenReplay, IsLayoutOf}
+use Rattle.run_input.specs.Judged.{IsBrokenModel, HasModelFault, AcceptsModel, IsBrokenScript, HasScriptFault, Accepts, ReadsReplay, HasReplayFault, IsBrokenReplay}
 use Rattle.run_input.specs.Together.{Together}
-use Rattle.tlmsim.specs.Asked.{HasTexts, HasModel, IsModel, IsPlan, budget_of, replay_of}
-use Rattle.tlmsim.specs.Call.{Call, Keeps, names_in}
-use Rattle.tlmsim.specs.Orderly.{Orderly}
+use Rattle.tlmsim.specs.Asked.{HasTexts, HasText, IsModel, IsPlan, budget_of, replay_of}
+use Rattle.tlmsim.specs.Call.{Call, Keeps, NamesOne, names_in, names_if}
+use Rattle.tlmsim.specs.Orderly.{Orderly, HadNoEnd}
+use Rattle.tlmsim.specs.Pages.{IsPageOf, IsFitFor, IsUnfitFor}
 use Rattle.tlmsim.specs.Taken.{Holds, TakesAll, TakesShort, Spared}
 use Rattle.tlmsim.specs.Telling.{WroteCut}
-use Rattle.run_input.specs.RefusalLines.ErrLines.{usage_line, read_line, model_line, script_line, replay_line, large_line, err_line, write_line, memory_line}
+use Rattle.run_input.specs.RefusalLines.ErrLines.{usage_line, read_line, model_line, script_line, replay_line, bus_line, large_line, err_line, write_line, memory_line}
 use Rattle.run_input.specs.RefusalLines.declared.refusals.ModelFault.{ModelFault}
 use Rattle.run_input.specs.RefusalLines.declared.refusals.ScriptFault.{ScriptFault}
 use Rattle.run_input.specs.RefusalLines.declared.refusals.Refusal.{Refusal}
@@ -39,7 +44,7 @@ use Rattle.run_input.specs.RefusalLines.declared.refusals.Refusal.TheVariants as
 -- the script, the replay file. The shelf's read count rose in this call, or it tells its files and lacks this one.
 abbrev pub UnreadIn : Call → Mode → List ℕ → Type 0
 UnreadIn c (Simulate s) file = IsUnread c.before.files c.after.files (Rose c.before.reads c.after.reads) s.model s.script (replay_of s.rule) file
-UnreadIn c (Format name) file = (file ≡ name) × (Rose c.before.reads c.after.reads ⊎ Lacks c.before.files name)
+UnreadIn c (Page kind name) file = (file ≡ name) × (Rose c.before.reads c.after.reads ⊎ Lacks c.before.files name)
 UnreadIn c (Generate g) file = ⊥
 
 pub record ReadFailed (c : Call) (file : List ℕ) : Type 0 where
@@ -50,7 +55,7 @@ pub record ReadFailed (c : Call) (file : List ℕ) : Type 0 where
 -- more bytes than its limit were read of a file
 abbrev pub LargeIn : Call → Mode → List ℕ → Type 0
 LargeIn c (Simulate s) file = IsTooLarge c.before.files c.after.files s.model s.script (replay_of s.rule) file
-LargeIn c (Format name) file = (file ≡ name) × IsLarge c.before.files c.after.files name model_limit
+LargeIn c (Page kind name) file = (file ≡ name) × IsLarge c.before.files c.after.files name model_limit
 LargeIn c (Generate g) file = ⊥
 
 pub record TooLarge (c : Call) (file : List ℕ) : Type 0 where
@@ -94,6 +99,14 @@ pub record ReplayRefused (c : Call) (at : ℕ) : Type 0 where
   pub accepts : Accepts model script m design commands
   pub fault : HasReplayFault replay at
 
+-- the traffic file was read, and this is wrong with it
+pub record BusRefused (c : Call) (f : BusStop) : Type 0 where
+  pub name : List ℕ
+  pub line : line_of c.words ≡ Some (Page page_kind.Traffic name)
+  pub text : List ℕ
+  pub is_text : HasText c name text
+  pub fault : bus_of text ≡ Err f
+
 -- the cause of a refusal
 abbrev pub RefusedFor : Call → Refusal → Type 0
 RefusedFor c refusal.Usage = line_of c.words ≡ None
@@ -101,6 +114,7 @@ RefusedFor c (refusal.Read file) = ReadFailed c file
 RefusedFor c (refusal.Model f) = ModelRefused c f
 RefusedFor c (refusal.Script f) = ScriptRefused c f
 RefusedFor c (refusal.Replay at) = ReplayRefused c at
+RefusedFor c (refusal.Bus f) = BusRefused c f
 RefusedFor c (refusal.TooLarge file) = TooLarge c file
 
 -- ---- runs
@@ -123,13 +137,15 @@ pub record Accepted (c : Call) : Type 0 where
 
 -- The run of a design of the source tree, which is sound, under the script, as the words ask for it, with these choices and steps,
 -- which ended so, and whose texts were taken as T says; each choice is one of the rule; and the run is orderly: what has ended is
--- named nowhere, unwind blocks run exactly once, and the protocol is kept on each hop.
+-- named nowhere, unwind blocks run exactly once, and the protocol is kept on each hop. Before each of its steps the run had no end: it
+-- ended at its first named cause, or at the budget.
 pub record Session (c : Call) (choices : List ℕ) (steps : ℕ) (s : Stop) (T : Mode → Texts → Type 0) : Type 0 where
   pub accepted : Accepted c
   pub orderly : Orderly accepted.design accepted.commands
   pub plan : Plan
   pub planned : IsPlan accepted.mode accepted.listed plan
   pub ran : Ran (start accepted.design accepted.commands) plan choices steps s (T accepted.mode)
+  pub no_end_before : HadNoEnd (start accepted.design accepted.commands) plan choices steps
 
 -- a run that ended by itself, with all its texts
 abbrev pub Ended : Call → List ℕ → ℕ → Stop → Type 0
@@ -140,24 +156,25 @@ pub record NoRun (choices : List ℕ) (steps : ℕ) : Type 0 where
   pub no_choices : choices ≡ []
   pub no_steps : steps ≡ 0
 
--- the words ask for the laid-out text of a model, which is accepted, and this is that text
-pub record LaysOut (c : Call) (page : List ℕ) : Type 0 where
+-- the words ask for a page of a file, and this is that page
+pub record HasPage (c : Call) (page : List ℕ) : Type 0 where
+  pub kind : PageKind
   pub name : List ℕ
-  pub line : line_of c.words ≡ Some (Format name)
-  pub model : List ℕ
-  pub is_model : HasModel c name model
-  pub layout : IsLayoutOf model page
+  pub line : line_of c.words ≡ Some (Page kind name)
+  pub text : List ℕ
+  pub is_text : HasText c name text
+  pub is_page : IsPageOf kind text page
 
 -- `out` took it
-pub record LaidOut (c : Call) (choices : List ℕ) (steps : ℕ) : Type 0 where
+pub record PageTold (c : Call) (choices : List ℕ) (steps : ℕ) : Type 0 where
   pub page : List ℕ
-  pub lays : LaysOut c page
+  pub has : HasPage c page
   pub out : Grew c.before.out c.after.out page
   pub no_run : NoRun choices steps
 
--- the script was carried out, or the model stopped it; or the text of a model was laid out
+-- the script was carried out, or the model stopped it; or a page was told
 abbrev pub Finished : Call → List ℕ → ℕ → Type 0
-Finished c choices steps = Ended c choices steps stop.Done ⊎ (Ended c choices steps stop.Stopped ⊎ LaidOut c choices steps)
+Finished c choices steps = Ended c choices steps stop.Done ⊎ (Ended c choices steps stop.Stopped ⊎ PageTold c choices steps)
 
 -- ---- cuts
 
@@ -165,10 +182,10 @@ Finished c choices steps = Ended c choices steps stop.Done ⊎ (Ended c choices 
 abbrev pub EndedShort : Call → List ℕ → ℕ → Stop → Type 0
 EndedShort c choices steps cut = (s : Stop) × IsEnd s × Session c choices steps s (λ mode. TakesShort c mode steps) × (cut ≡ stop.WriteFault → Rose c.before.out_faults c.after.out_faults)
 
--- `out` took a front of the laid-out text, which lacks a byte; and where a write failed it was one to `out`
+-- `out` took a front of the page, which lacks a byte; and where a write failed it was one to `out`
 pub record PageShort (c : Call) (choices : List ℕ) (steps : ℕ) (s : Stop) : Type 0 where
   pub page : List ℕ
-  pub lays : LaysOut c page
+  pub has : HasPage c page
   pub part : List ℕ
   pub front : IsFront part page
   pub short : length part < length page
@@ -176,22 +193,24 @@ pub record PageShort (c : Call) (choices : List ℕ) (steps : ℕ) (s : Stop) : 
   pub rose : s ≡ stop.WriteFault → Rose c.before.out_faults c.after.out_faults
   pub no_run : NoRun choices steps
 
--- the texts are accepted, and no run was begun, since not all of its files were created; and where that failed a write to the files did
+-- the texts are accepted, and no run was begun, since not all of the files that the words name were created; and where that failed a
+-- write to the files did
 pub record NotBegun (c : Call) (choices : List ℕ) (steps : ℕ) (s : Stop) : Type 0 where
   pub accepted : Accepted c
+  pub named : NamesOne (names_in accepted.mode)
   pub spared : Spared c accepted.mode
   pub rose : s ≡ stop.WriteFault → Rose c.before.writes c.after.writes
   pub no_run : NoRun choices steps
 
--- The texts that were cut: those of a run, taken in fronts; a run's that had ended, whose steps were not told whole; the laid-out text
--- of a model; or none, where a file was not created.
+-- The texts that were cut: those of a run, taken in fronts; a run's that had ended, whose steps were not told whole; a page; or none, where a file was not created.
 abbrev pub IsCut : Call → List ℕ → ℕ → Stop → Type 0
 IsCut c choices steps s =
     Session c choices steps s (λ mode. Holds c (names_in mode)) ⊎ (EndedShort c choices steps s ⊎ (PageShort c choices steps s ⊎ NotBegun c choices steps s))
 
--- `out` or a file that the words name was not written: a count of faults rose
+-- `out` or a file that the words name was not written: a count of faults rose, that of `out`; or that of the shelf, where the words name
+-- a file for writing
 abbrev pub OneRose : Call → Type 0
-OneRose c = Rose c.before.out_faults c.after.out_faults ⊎ Rose c.before.writes c.after.writes
+OneRose c = Rose c.before.out_faults c.after.out_faults ⊎ (NamesOne (names_if (line_of c.words)) × Rose c.before.writes c.after.writes)
 
 -- ---- what `err` gets
 
@@ -236,6 +255,10 @@ pub record LineLacking (c : Call) (choices : List ℕ) (steps : ℕ) : Type 0 wh
   pub untouched : Untouched c choices steps
   pub told : WroteFront c.before.err c.after.err memory_line ⊎ ((r : Refusal) × RefusedFor c r × WroteCut c.before.err c.after.err (err_line r) memory_line)
 
+-- a model or a traffic file is refused, and `err` got its line
+abbrev pub ModelTold : Call → Type 0
+ModelTold c = ((f : ModelFault) × ModelRefused c f × Gets c (model_line f)) ⊎ ((f : BusStop) × BusRefused c f × Gets c (bus_line f))
+
 -- a script or a replay text is refused, and `err` got its line
 abbrev pub ScriptTold : Call → Type 0
 ScriptTold c = ((f : ScriptFault) × ScriptRefused c f × Gets c (script_line f)) ⊎ ((at : ℕ) × ReplayRefused c at × Gets c (replay_line at))
@@ -256,7 +279,7 @@ stop_status (stop.Replay place) = 9
 abbrev pub IsRefusal : ℕ → Type 0
 IsRefusal status = (status ≡ 1) ⊎ ((status ≡ 2) ⊎ ((status ≡ 3) ⊎ ((status ≡ 4) ⊎ (status ≡ 10))))
 
--- the statuses of a run that ended, and of a text that was laid out
+-- the statuses of a run that ended, and of a page that was told
 abbrev pub IsRunStatus : ℕ → Type 0
 IsRunStatus status = (status ≡ 0) ⊎ ((status ≡ 5) ⊎ ((status ≡ 6) ⊎ (status ≡ 9)))
 
@@ -281,10 +304,10 @@ pub record Given (c : Call) (old new : Files) (model script : List ℕ) (replay 
   pub script_is : old s.script ≡ Some script
   pub replay_is : Together (replay_of s.rule) replay (λ name text. old name ≡ Some text)
 
--- the model that the words name, for a run or to be laid out, is there with this text; of the other files nothing is said
+-- the model or the file of a page that the words name is there with this text; of the other files nothing is said
 abbrev pub names_model : Mode → Option (List ℕ)
 names_model (Simulate s) = Some s.model
-names_model (Format name) = Some name
+names_model (Page kind name) = Some name
 names_model (Generate g) = None
 
 pub record ModelGiven (c : Call) (old new : Files) (model : List ℕ) : Type 0 where
@@ -295,11 +318,12 @@ pub record ModelGiven (c : Call) (old new : Files) (model : List ℕ) : Type 0 w
   pub named : names_model mode ≡ Some name
   pub model_is : old name ≡ Some model
 
--- the model that is to be laid out is there with this text
-pub record FormatGiven (c : Call) (old new : Files) (model : List ℕ) : Type 0 where
+-- the file of which a page is asked for is there with this text
+pub record PageGiven (c : Call) (old new : Files) (model : List ℕ) : Type 0 where
   pub reads : Reads c old new
+  pub kind : PageKind
   pub name : List ℕ
-  pub line : line_of c.words ≡ Some (Format name)
+  pub line : line_of c.words ≡ Some (Page kind name)
   pub model_is : old name ≡ Some model
 
 -- each text is within its limit
@@ -317,7 +341,7 @@ pub record Answers (c : Call) (status : ℕ) (choices : List ℕ) (steps : ℕ) 
   pub done : status ≡ 0 → Finished c choices steps
   pub usage : status ≡ 1 → (line_of c.words ≡ None) × Gets c usage_line
   pub read : status ≡ 2 → (file : List ℕ) × ReadFailed c file × Gets c (read_line file)
-  pub model : status ≡ 3 → (f : ModelFault) × ModelRefused c f × Gets c (model_line f)
+  pub model : status ≡ 3 → ModelTold c
   pub script : status ≡ 4 → ScriptTold c
   pub fault : status ≡ 5 → (f : RunFault) × Ended c choices steps (stop.Fault f)
   pub budget : status ≡ 6 → (s : Ended c choices steps stop.Budget) × (steps ≡ budget_of s.accepted.mode)
@@ -337,11 +361,11 @@ pub record Answers (c : Call) (status : ℕ) (choices : List ℕ) (steps : ℕ) 
       → (m : tree.Model) → AcceptsModel model m → IsBrokenScript m script → Gives c status 4
   pub replay_comes : (old new : Files) (model script : List ℕ) (replay : Option (List ℕ)) → Given c old new model script replay → Within model script replay
       → (m : tree.Model) (d : Design) (commands : List Command) → Accepts model script m d commands → IsBrokenReplay replay → Gives c status 4
-  pub format_comes : (old new : Files) (model : List ℕ) → FormatGiven c old new model → length model ≤ model_limit → IsBrokenModel model → Gives c status 3
+  pub page_refused_comes : (old new : Files) (text : List ℕ) (g : PageGiven c old new text) → length text ≤ model_limit → IsUnfitFor g.kind text → Gives c status 3
   pub complete : (old new : Files) (model script : List ℕ) (replay : Option (List ℕ)) → Given c old new model script replay → Within model script replay
       → (m : tree.Model) (d : Design) (commands : List Command) (listed : Option (List ℕ)) → Accepts model script m d commands → ReadsReplay replay listed
       → (OneRose c → ⊥) → IsRunStatus status ⊎ (status ≡ 8)
   pub generates : (g : Generated) → line_of c.words ≡ Some (Generate g) → (m : tree.Model) (d : Design) (commands : List Command)
       → Accepts (generated g.size) (codes "run") m d commands → (OneRose c → ⊥) → IsRunStatus status ⊎ (status ≡ 8)
-  pub lays_out : (old new : Files) (model : List ℕ) → FormatGiven c old new model → length model ≤ model_limit → (m : tree.Model) → AcceptsModel model m
+  pub page_comes : (old new : Files) (text : List ℕ) (g : PageGiven c old new text) → length text ≤ model_limit → IsFitFor g.kind text
       → (Rose c.before.out_faults c.after.out_faults → ⊥) → (status ≡ 0) ⊎ (status ≡ 8)

@@ -1,5 +1,6 @@
 pub mod Held
 pub mod Call
+pub mod Pages
 pub mod Asked
 pub mod Orderly
 pub mod Taken

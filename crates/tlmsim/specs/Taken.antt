@@ -2,7 +2,7 @@
 use Rattle.std.specs.Prelude.{◌≡◌, ◌<◌, ℕ, List, [], ◌∷◌, ◌++◌, length, codes}
 use Rattle.std.specs.Fmt.{decimal}
 use Rattle.session.specs.SimIo.Told.{AfterTold, Grew}
-use Rattle.command_line.specs.Line.{Mode, Simulate, Format, Generate}
+use Rattle.command_line.specs.Line.{Mode, Simulate, Page, Generate}
 use Rattle.session.specs.Outputs.{Texts, Names, IsFront}
 use Rattle.tlmsim.specs.Held.{FilesHold, FilesSpared}
 use Rattle.tlmsim.specs.Call.{Call, names_in, no_names}
@@ -19,7 +19,7 @@ steps_line steps = codes "steps " ++ decimal steps ++ 10 ∷ []
 -- the texts of a run whose steps are told behind its report, where it is that of a generated model
 abbrev pub with_steps : Mode → ℕ → Texts → Texts
 with_steps (Simulate s) steps t = t
-with_steps (Format name) steps t = t
+with_steps (Page kind name) steps t = t
 with_steps (Generate g) steps t = record t { report = t.report ++ steps_line steps }
 
 -- all of a run's texts were taken
@@ -35,7 +35,7 @@ pub record TakesPart (c : Call) (steps : ℕ) (t : Texts) : Type 0 where
 
 abbrev pub TakesShort : Call → Mode → ℕ → Texts → Type 0
 TakesShort c (Simulate s) steps t = ⊥
-TakesShort c (Format name) steps t = ⊥
+TakesShort c (Page kind name) steps t = ⊥
 TakesShort c (Generate g) steps t = TakesPart c steps t
 
 -- `out` is as it was, and each file that the words name for writing is as before or empty

@@ -1,11 +1,17 @@
 -- What the work below the statuses comes to.
-use Rattle.std.specs.Prelude.{◌≡◌, ◌<◌, ◌⊎◌, ℕ, Bool, true, false, List, length, Option, Result, Ok, Err}
+use Rattle.std.specs.Prelude.{◌≡◌, ◌<◌, ◌⊎◌, ⊤, ℕ, Bool, true, false, List, length, Option, Result, Ok, Err}
 use Rattle.session.specs.SimIo.Told.{AfterTold, Grew, Same}
 use Rattle.command_line.specs.SimModel.declared.plain.Stop.{Stop}
 use Rattle.command_line.specs.SimModel.declared.plain.Stop.TheVariants as stop
 use Rattle.session.specs.Course.{IsEnd}
 use Rattle.session.specs.Outputs.{IsFront}
 use Rattle.session.specs.declared.plans.Outcome.{Outcome}
+use Rattle.traffic_file.specs.declared.stops.BusStop.{BusStop}
+use Rattle.traffic_file.specs.declared.stops.BusStop.TheVariants as bus_stop
+use Rattle.traffic_file.specs.BusText.{bus_of}
+use Rattle.command_line.specs.declared.modes.PageKind.{PageKind}
+use Rattle.command_line.specs.declared.modes.PageKind.TheVariants as page_kind
+use Rattle.run_input.specs.Judged.{HasModelFault}
 use Rattle.run_input.specs.RefusalLines.declared.refusals.Refusal.TheVariants as refusal
 use Rattle.run_input.specs.declared.loading.LoadStop.{LoadStop}
 use Rattle.run_input.specs.declared.loading.LoadStop.TheVariants as load_stop
@@ -14,7 +20,8 @@ use Rattle.run_input.specs.declared.judging.JudgeStop.TheVariants as judge_stop
 use Rattle.run_input.specs.declared.judging.ModelStop.{ModelStop}
 use Rattle.run_input.specs.declared.judging.ModelStop.TheVariants as model_stop
 use Rattle.tlmsim.specs.Call.{Call}
-use Rattle.tlmsim.specs.Headline.{Ended, IsCut, LaidOut, OneRose, RefusedFor}
+use Rattle.tlmsim.specs.Headline.{Ended, IsCut, PageTold, OneRose, RefusedFor}
+use Rattle.tlmsim.specs.Pages.{ReadsModel}
 use Rattle.tlmsim.specs.Taken.{steps_line}
 use Rattle.tlmsim.specs.declared.working.WorkStop.{WorkStop}
 use Rattle.tlmsim.specs.declared.working.WorkStop.TheVariants as work_stop
@@ -35,9 +42,25 @@ abbrev pub unformed : ModelStop → WorkStop
 unformed (model_stop.Fault f) = work_stop.Refused (refusal.Model f)
 unformed model_stop.NoMemory = work_stop.NoMemory
 
--- by how it ended: a run with all its texts, or a text that was laid out; or one that was cut
+abbrev pub unserved : BusStop → WorkStop
+unserved (bus_stop.Syntax line) = work_stop.Refused (refusal.Bus (bus_stop.Syntax line))
+unserved (bus_stop.Refused kind line name) = work_stop.Refused (refusal.Bus (bus_stop.Refused kind line name))
+unserved bus_stop.NoMemory = work_stop.NoMemory
+
+-- why a text has no such page: what is wrong with the model, or with the traffic file; of want of memory nothing is said
+abbrev pub HasNoPage : PageKind → List ℕ → WorkStop → Type 0
+HasNoPage kind text (work_stop.Refused (refusal.Model f)) = ReadsModel kind × HasModelFault text f
+HasNoPage kind text (work_stop.Refused (refusal.Bus f)) = (kind ≡ page_kind.Traffic) × (bus_of text ≡ Err f)
+HasNoPage kind text (work_stop.Refused refusal.Usage) = ⊥
+HasNoPage kind text (work_stop.Refused (refusal.Read file)) = ⊥
+HasNoPage kind text (work_stop.Refused (refusal.Script f)) = ⊥
+HasNoPage kind text (work_stop.Refused (refusal.Replay at)) = ⊥
+HasNoPage kind text (work_stop.Refused (refusal.TooLarge file)) = ⊥
+HasNoPage kind text work_stop.NoMemory = ⊤
+
+-- by how it ended: a run with all its texts, or a page that was told; or one that was cut
 abbrev pub EndedSo : Call → List ℕ → ℕ → Stop → Type 0
-EndedSo c choices steps stop.Done = Ended c choices steps stop.Done ⊎ LaidOut c choices steps
+EndedSo c choices steps stop.Done = Ended c choices steps stop.Done ⊎ PageTold c choices steps
 EndedSo c choices steps stop.Stopped = Ended c choices steps stop.Stopped
 EndedSo c choices steps stop.Budget = Ended c choices steps stop.Budget
 EndedSo c choices steps (stop.Replay place) = Ended c choices steps (stop.Replay place)

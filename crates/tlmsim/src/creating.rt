@@ -4,6 +4,7 @@ ghost use Rattle.session.specs.SimIo.Told.{AfterTold};
 ghost use Rattle.session.specs.SimIo.Cause.{RoseIf};
 ghost use Rattle.session.specs.SimIo.Keeps.{WriteKeeps};
 ghost use Rattle.session.specs.Outputs.{AreApart, AreNames, HasName};
+ghost use Rattle.tlmsim.specs.Call.{IsNamed, NamesOne};
 ghost use Rattle.tlmsim.specs.Held.{FileMade, FileSpared, FilesMade, FilesSpared, ForEach, names_of};
 
 use session::sim_io_api::{Shelf, Trouble};
@@ -24,6 +25,7 @@ fn create_if<S: Shelf>(shelf: &mut S, name: Option<&str>) -> Result<Option<u32>,
     ensures made { IfOk result (λ id. AfterTold (S.files shelf.old) (S.files shelf.new) (FileMade (option_copied name.entry))) }
     ensures named { IfOk result (λ id. IfSome (S.files shelf.new) (λ told. HasName S.stands shelf.new id (option_copied name.entry))) }
     ensures spared { OnErr result (AfterTold (S.files shelf.old) (S.files shelf.new) (FileSpared (option_copied name.entry))) }
+    ensures refused { OnErr result (IsNamed (option_copied name.entry)) }
     ensures kept { WriteKeeps S.files S.reads S.reading S.created S.stands shelf.old shelf.new }
     ensures cause { RoseIf (S.writes shelf.old) (S.writes shelf.new) (IsErrOf result Trouble.Failed) }
 {
@@ -51,6 +53,7 @@ pub fn create_files<S: Shelf>(
     ensures made { IfOk result (λ made. AfterTold (S.files shelf.old) (S.files shelf.new) (FilesMade (names_of (option_copied trace.entry) (option_copied choices.entry)))) }
     ensures named { IfOk result (λ made. IfSome (S.files shelf.new) (λ told. AreNames S.stands shelf.new made.trace made.choices (names_of (option_copied trace.entry) (option_copied choices.entry)))) }
     ensures spared { OnErr result (AfterTold (S.files shelf.old) (S.files shelf.new) (FilesSpared (names_of (option_copied trace.entry) (option_copied choices.entry)))) }
+    ensures refused { OnErr result (NamesOne (names_of (option_copied trace.entry) (option_copied choices.entry))) }
     ensures kept { WriteKeeps S.files S.reads S.reading S.created S.stands shelf.old shelf.new }
     ensures cause { RoseIf (S.writes shelf.old) (S.writes shelf.new) (IsErrOf result Trouble.Failed) }
 {

@@ -1,23 +1,22 @@
-//! The files of a session: created before it, and what they hold behind it.
-//!
-//! The simulator: the words of a command line, and the one call that runs a model under a script.
+//! The simulator: the words of a command line, and the one call that does what they ask for.
 #![tactic(auto)]
 
 mod creating;
-mod formatting;
 mod generating;
 mod main_call;
+mod pages;
 mod running;
 mod simulating;
 mod statuses;
 mod telling;
 mod working;
 
-pub use command_line::Words;
+pub use command_line::{Words, WordsStop};
 pub use creating::{Created, create_files};
 pub use flat_design::Choices;
 pub use main_call::{Ended, sim_main};
 pub use run_input::{MODEL_LIMIT, SCRIPT_LIMIT, one_cause};
+pub use telling::end_without_words;
 
 /// What is passed on of sim_io.
 pub mod sim_io_api {

@@ -31,18 +31,21 @@ pub struct Ended {
 /// `MODEL SCRIPT` runs the model under the script, with any of `--budget N`, the most steps, from 1 to 67,108,864;
 /// `--order first|last|seed`, which of the runnable processes is taken; `--seed N`; `--replay FILE`, a file that lists the
 /// processes to be taken; `--log prints|turns`, what the report tells; `--vcd FILE`, the file of the trace; `--choices FILE`,
-/// the file of the processes that were taken. `--format MODEL` writes the model laid out. `--generate N`, from 1 to 1,000, with
-/// any of budget, order and seed, runs the generated model of that size, and writes `steps K` behind its report.
+/// the file of the processes that were taken. `--format MODEL` writes the model laid out. `--order-free MODEL` writes
+/// `order free yes` where no order of processes can show in a run, by a rule of five parts, and else `order free no K`, K being the
+/// first part that is broken. `--bus FILE` runs the accesses of a traffic file through a router, and writes what came of each.
+/// `--generate N`, from 1 to 1,000, with any of budget, order and seed, runs the generated model of that size, and writes `steps K`
+/// behind its report.
 ///
-/// The statuses: 0, the script was carried out or the model stopped it, or the model was laid out; 1, the words are refused; 2, a
-/// file could not be read; 3, the model is refused: it does not read, or it breaks a rule; 4, the script or the replay file is
-/// refused; 5, a run fault; 6, the step budget is used up; 7, a write failed, or a file was not created; 8, memory was refused; 9, a
-/// listed choice could not be taken; 10, a file is too large.
+/// The statuses: 0, the script was carried out or the model stopped it, or a page was written; 1, the words are refused; 2, a
+/// file could not be read; 3, the model is refused: it does not read, or it breaks a rule; or the traffic file is; 4, the script
+/// or the replay file is refused; 5, a run fault; 6, the step budget is used up; 7, a write failed, or a file was not created; 8,
+/// memory was refused; 9, a listed choice could not be taken; 10, a file is too large.
 ///
 /// `err` gets one line for a refusal of the input, which are 1, 2, 3, 4 and 10, and a line is tried there for 7 and 8:
 /// `usage: tlmsim MODEL SCRIPT [options]`; `read fault FILE`; `model LINE KIND NAME` or `model LINE Syntax`; the same two
-/// for `script`; `replay LINE Syntax`; `too large FILE`; `write fault`; `no memory`. A refusal whose line cannot be written is 7,
-/// or 8 for want of memory. With 0, 5, 6 and 9 `err` is left alone.
+/// for `script` and for `bus`; `replay LINE Syntax`; `too large FILE`; `write fault`; `no memory`. A refusal whose line cannot be
+/// written is 7, or 8 for want of memory. With 0, 5, 6 and 9 `err` is left alone.
 ///
 /// Files are created once all is judged, the trace's before that of the choices. A run that is cut leaves fronts of its texts.
 pub fn sim_main<S: Shelf, O: Sink, E: Sink>(

@@ -26,7 +26,7 @@ pub fn refusal_status(refusal: &Refusal) -> u8
     match refusal {
         Refusal::Usage => 1,
         Refusal::Read(_) => 2,
-        Refusal::Model(_) => 3,
+        Refusal::Model(_) | Refusal::Bus(_) => 3,
         Refusal::Script(_) | Refusal::Replay(_) => 4,
         Refusal::TooLarge(_) => 10,
     }

@@ -2,9 +2,10 @@
 ghost use Rattle.std.specs.Prelude.{◌≡◌, ◌≤◌};
 ghost use Rattle.session.specs.Course.{IsEnd};
 ghost use Rattle.session.specs.Fronts.{WroteFront};
-ghost use Rattle.tlmsim.specs.Telling.{Tells, TellsStop};
+ghost use Rattle.tlmsim.specs.Telling.{Tells, TellsStop, TellsWithout};
 
 use super::statuses::refusal_status;
+use command_line::WordsStop;
 use command_line::sim_model_api::Stop;
 use run_input::refusal_lines_api::{Refusal, memory_line, refusal_line, write_line};
 use session::sim_io_api::{Sink, Trouble, write_all};
@@ -41,6 +42,24 @@ pub fn tell_refusal<E: Sink>(alloc: Global, refusal: &Refusal, err: &mut E) -> u
             WRITE_FAULT
         }
         Err(Trouble::NoMemory) => {
+            try_line(err, memory_line());
+            NO_MEMORY
+        }
+    }
+}
+
+/// Ends a program whose words cannot be had. That a word is no text is told as words that are refused: `err` gets the line of
+/// usage, and the status is 1; or 7 where a write of that line failed, or 8 for want of memory. Where memory was refused before,
+/// the status is 8, and the line that says so is tried.
+#[tactic(auto, using(crate::proofs::Lines::told_bound))]
+pub fn end_without_words<E: Sink>(alloc: Global, stop: WordsStop, err: &mut E) -> u8
+    ensures told { TellsWithout stop (E.holds err.old) (E.holds err.new) (E.faults err.old) (E.faults err.new) result }
+    ensures later { E.faults err.old ≤ E.faults err.new }
+    ensures bound { result ≤ 10 }
+{
+    match stop {
+        WordsStop::Usage => tell_refusal(alloc, &Refusal::Usage, err),
+        WordsStop::NoMemory => {
             try_line(err, memory_line());
             NO_MEMORY
         }

@@ -5,8 +5,8 @@ ghost use Rattle.command_line.specs.Line as line;
 ghost use Rattle.tlmsim.specs.Call.{OnlyThese, names_if, outside_of};
 ghost use Rattle.tlmsim.specs.Worked.{Works};
 
-use super::formatting::format;
 use super::generating::generate;
+use super::pages::page;
 use super::simulating::simulate;
 use command_line::{Mode, Words, WordsStop, read_line, simulations_write_apart};
 use run_input::refusal_lines_api::Refusal;
@@ -24,7 +24,7 @@ pub enum WorkStop {
 }
 
 /// The work in its order: the words, the files, the model, the script, the replay text, the files that are written, the session; or
-/// the laid-out text of a model; or the run of a generated model. What `err` holds has no part in it; a refusal has what is to be
+/// a page of a model; or the run of a generated model. What `err` holds has no part in it; a refusal has what is to be
 /// said there.
 pub(crate) fn work<S: Shelf, O: Sink>(
     alloc: Global,
@@ -45,7 +45,7 @@ pub(crate) fn work<S: Shelf, O: Sink>(
     simulations_write_apart();
     match read_line(alloc, words) {
         Ok(Mode::Simulate(simulation)) => simulate(alloc, simulation, shelf, out),
-        Ok(Mode::Format(model)) => format(alloc, model, shelf, out),
+        Ok(Mode::Page(kind, model)) => page(alloc, kind, model, shelf, out),
         Ok(Mode::Generate(generated)) => generate(alloc, generated, shelf, out),
         Err(WordsStop::Usage) => Err(WorkStop::Refused(Refusal::Usage)),
         Err(WordsStop::NoMemory) => Err(WorkStop::NoMemory),

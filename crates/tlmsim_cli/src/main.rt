@@ -2,7 +2,7 @@
 //! output, and ends with the status of the run.
 #![tactic(auto)]
 
-ghost use Rattle.std.specs.Prelude.{◌≡◌, ◌≤◌, ◌⊎◌, IfErr};
+ghost use Rattle.std.specs.Prelude.{◌≡◌, ◌≤◌};
 ghost use Rattle.std.specs.IoError.{error_kind};
 ghost use Rattle.std.specs.Process.{exit_status};
 
@@ -11,38 +11,29 @@ use std::process::ExitCode;
 use std::rt::Env;
 use std::{env, io};
 use tlmsim::sim_io_api::{HostShelf, HostSink};
-use tlmsim::{Words, sim_main};
+use tlmsim::{Words, WordsStop, end_without_words, sim_main};
 
-/// The status of words that cannot be read as text.
-const USAGE: u8 = 1;
-
-/// The status of a run that was refused memory.
-const NO_MEMORY: u8 = 8;
-
-/// The status that an error of asking for the words stands for.
-fn status_of(error: &io::Error) -> u8
-    ensures memory { error_kind error.now ≡ ErrorKind.OutOfMemory → result ≡ NO_MEMORY }
-    ensures text { ¬ (error_kind error.now ≡ ErrorKind.OutOfMemory) → result ≡ USAGE }
-    ensures either { (result ≡ USAGE) ⊎ (result ≡ NO_MEMORY) }
+/// Why the words cannot be had, by the error of asking for them: memory was refused, or one of them is no text.
+fn stop_of(error: &io::Error) -> WordsStop
+    ensures memory { error_kind error.now ≡ ErrorKind.OutOfMemory → result ≡ WordsStop.NoMemory }
+    ensures text { ¬ (error_kind error.now ≡ ErrorKind.OutOfMemory) → result ≡ WordsStop.Usage }
 {
     match error.kind() {
-        ErrorKind::OutOfMemory => NO_MEMORY,
-        _ => USAGE,
+        ErrorKind::OutOfMemory => WordsStop::NoMemory,
+        _ => WordsStop::Usage,
     }
 }
 
-/// The words behind the program's name, or the status to end with.
-fn words_given(rt: &(impl Env + AllocGlobal)) -> Result<Words, u8>
-    ensures { IfErr result (λ status. (status ≡ USAGE) ⊎ (status ≡ NO_MEMORY)) }
-{
+/// The words behind the program's name.
+fn words_given(rt: &(impl Env + AllocGlobal)) -> Result<Words, WordsStop> {
     let given = match env::args(rt) {
         Ok(given) => given,
-        Err(error) => return Err(status_of(&error)),
+        Err(error) => return Err(stop_of(&error)),
     };
     let mut words = Words::new(rt.alloc());
     for word in given.skip(1) {
         if words.push(word.as_str()).is_err() {
-            return Err(NO_MEMORY);
+            return Err(WordsStop::NoMemory);
         }
     }
     Ok(words)
@@ -59,13 +50,21 @@ fn run(rt: HostRuntime, words: &Words) -> u8
     sim_main(alloc, words, &mut shelf, &mut out, &mut err).status
 }
 
+/// The status of a program whose words cannot be had.
+fn refuse(rt: HostRuntime, stop: WordsStop) -> u8
+    ensures { result ≤ 10 }
+{
+    let mut err = HostSink::new(rt.stderr());
+    end_without_words(rt.alloc(), stop, &mut err)
+}
+
 /// The exit code of the program, whose statuses go from 0 to 10.
 fn exit_code(rt: HostRuntime) -> ExitCode
     ensures { exit_status result ≤ 10 }
 {
     let status = match words_given(&rt) {
         Ok(words) => run(rt, &words),
-        Err(status) => status,
+        Err(stop) => refuse(rt, stop),
     };
     ExitCode::from(status)
 }

@@ -32,6 +32,7 @@ returns-in-Err-create_files-clause-works g c = λ words err err' faults faults' 
       reads = c.in-Ok-judge.ensures.replay;
       sound = c.in-Ok-judge.ensures.runs.sound;
     })
+    (rw (copied_text c.args.simulation.vcd, copied_text c.args.simulation.choices) at c.in-Err-create_files.ensures.refused)
     (record {
       out = refl;
       files = spared_on (names_in (Simulate (simulation_of c.args.simulation))) _ _ _ c.in-Ok.ensures.files (rw (copied_text c.args.simulation.vcd, copied_text c.args.simulation.choices) at c.in-Err-create_files.ensures.spared);
@@ -47,7 +48,9 @@ returns-clause-works g c = λ words err err' faults faults' line.
     c.in-Ok-judge.ensures.accepted.0 c.in-Ok-judge.judged.design c.in-Ok-judge.judged.script c.in-Ok-judge.ensures.accepted.1 c.in-Ok-judge.judged.replay c.in-Ok-judge.ensures.replay c.in-Ok-judge.ensures.runs.sound c.run.ensures.orderly
     c.plan_of-plan.result c.plan_of-plan.ensures.plans c.run.result.choices c.run.result.steps c.run.result.stop
     (ran_with _ _ _ _ _ _ _ (holds_by _ (AreNames g.S.Shelf.stands c.create_files.new.shelf c.plan_of-plan.result.vcd c.plan_of-plan.result.choices) names _ _ refl refl refl (made_on names _ _ _ c.in-Ok.ensures.files (rw (copied_text c.args.simulation.vcd, copied_text c.args.simulation.choices) at c.in-Ok-create_files.ensures.made)) c.run.ensures.kept.told (named_by g.S.Shelf.stands c.create_files.new.shelf _ _ _ _ names _ c.plan_of-plan.ensures.vcd c.plan_of-plan.ensures.choices (rw (copied_text c.args.simulation.vcd, copied_text c.args.simulation.choices) at c.in-Ok-create_files.ensures.named))) ran)
+    c.run.ensures.no_end_before
     (λ is. ⊎_elim (λ r. inl r) (λ r. inr (rose_on _ _ _ _ (omega (arith, c.in-Ok.ensures.writes, c.in-Ok-create_files.ensures.cause.later)) r (omega arith))) (c.run.ensures.cause.rose is))
+    c.run.ensures.alone
 
 pub returns-clause-files : goal.returns-clause-files
 returns-clause-files g c =

@@ -10,8 +10,8 @@ simulate-requires g c =
 pub returns-in-Ok-Simulate-clause-works : goal.returns-in-Ok-Simulate-clause-works
 returns-in-Ok-Simulate-clause-works g c = λ err err' faults faults'. c.simulate.ensures.works c.args.words.now err err' faults faults' (rw c.in-Ok-Simulate.field-0-is at c.in-Ok-Simulate.ensures)
 
-pub returns-in-Ok-Format-clause-works : goal.returns-in-Ok-Format-clause-works
-returns-in-Ok-Format-clause-works g c = λ err err' faults faults'. c.format.ensures.works c.args.words.now err err' faults faults' (rw c.in-Ok-Format.field-0-is at c.in-Ok-Format.ensures)
+pub returns-in-Ok-Page-clause-works : goal.returns-in-Ok-Page-clause-works
+returns-in-Ok-Page-clause-works g c = λ err err' faults faults'. c.page.ensures.works c.args.words.now err err' faults faults' (rw c.in-Ok-Page.field-0-is at c.in-Ok-Page.ensures)
 
 pub returns-in-Ok-Generate-clause-works : goal.returns-in-Ok-Generate-clause-works
 returns-in-Ok-Generate-clause-works g c = λ err err' faults faults'. c.generate.ensures.works c.args.words.now err err' faults faults' (rw c.in-Ok-Generate.field-0-is at c.in-Ok-Generate.ensures)
