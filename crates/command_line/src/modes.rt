@@ -58,7 +58,7 @@ pub struct Generated {
 pub enum PageKind {
     /// A model as the printer lays it out.
     Layout,
-    /// Whether the order of the processes of a model can make a difference.
+    /// Whether a model keeps the rule on the order of its processes.
     Verdict,
     /// What comes of the traffic of a bus.
     Traffic,

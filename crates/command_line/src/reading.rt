@@ -164,9 +164,10 @@ fn mode_in<'a>(given: &Given<'a>) -> Option<Mode<'a>>
 
 /// What words ask for, of the modes of the program.
 ///
-/// `MODEL SCRIPT` runs a model under a script, `--format MODEL` prints a model, `--order-free MODEL` tells whether the order of its
-/// processes can make a difference, `--bus FILE` tells what comes of the traffic of a bus, and `--generate N` runs a generated model of a size from 1 to 1,000. With a run stand `--budget N`, from 1 to 67,108,864, `--order first|last|seed` and
-/// `--seed N`, a u64; with a model and a script also `--vcd F`, `--choices F`, `--replay F` and `--log prints|turns`.
+/// `MODEL SCRIPT` runs a model under a script, `--format MODEL` prints a model, `--order-free MODEL` tells whether it keeps
+/// the rule on the order of its processes, `--bus FILE` tells what comes of the traffic of a bus, and `--generate N` runs a
+/// generated model of a size from 1 to 1,000. With a run stand `--budget N`, from 1 to 67,108,864, `--order first|last|seed`
+/// and `--seed N`, a u64; with a model and a script also `--vcd F`, `--choices F`, `--replay F` and `--log prints|turns`.
 /// Each option stands once at most, as `--x v` or `--x=v`, and `--` ends the options. A number is decimal digits alone.
 /// `--replay` stands with neither `--choices` nor `--order`, and the files of `--vcd` and `--choices` differ.
 ///

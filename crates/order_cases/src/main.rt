@@ -1,4 +1,4 @@
-//! Reads model texts that are given as data, and says of each whether the order of its processes cannot show.
+//! Reads model texts that are given as data, and says of each whether it keeps the rule on the order of its processes.
 #![tactic(auto)]
 
 mod cases;

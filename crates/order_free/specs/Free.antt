@@ -1,4 +1,4 @@
--- When the order of processes cannot show.
+-- The rule on what the processes of a design share, and what a verdict says of it.
 use Rattle.std.specs.Prelude.{◌≡◌, ◌≢◌, ◌⊎◌, ◌<◌, ⊤, ℕ, slice_get, Some, Contains}
 use Rattle.order_uses.specs.EventCore.declared.event.Ev.{Ev}
 use Rattle.order_uses.specs.FlatDesign.Code.{Statement, arena_of, body_at}

@@ -90,7 +90,7 @@ fn note_homes(
     Ok(())
 }
 
-/// Whether the order of processes cannot show in the runs of a design. Each process counts with all that it reaches through
+/// Whether a design keeps the rule on the order of its processes. Each process counts with all that it reaches through
 /// calls, whatever the conditions on the way, and with its static sensitivity. The answer is yes, or the first part of the
 /// rule that is broken:
 ///

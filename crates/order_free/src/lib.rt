@@ -1,5 +1,5 @@
-//! Whether the order of processes can show in the runs of a design: the rule whose yes means that it cannot, and the search that
-//! judges it.
+//! A rule of five parts on what the processes of a design share, which is to keep their order from showing in its runs, and the
+//! search that judges a design by it. That it does keep it is no clause here.
 #![tactic(auto)]
 
 mod checking;

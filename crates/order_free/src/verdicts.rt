@@ -7,10 +7,10 @@ ghost use Rattle.order_free.specs.Broken.{Broken, Judges};
 use super::tables::Tables;
 use super::users::{Users, is_many, is_somebody, joined};
 
-/// Whether the order of processes cannot show in the runs of a design.
+/// Whether a design keeps the rule on the order of its processes.
 #[derive(Clone, Copy, Debug, PartialEq, Eq)]
 pub enum Verdict {
-    /// It cannot.
+    /// It keeps all five parts.
     Yes,
     /// The rule is broken.
     No {

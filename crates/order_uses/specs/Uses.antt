@@ -1,4 +1,4 @@
--- What each form of statement, expression and target uses, as far as the order of processes can show in it: first by the names of
+-- What each form of statement, expression and target uses, as far as the rule on the order of processes asks: first by the names of
 -- the module that it stands in, and then in an instance of that module.
 use Rattle.std.specs.Prelude.{ℕ, List, [], ◌∷◌, ◌++◌, slice_get, Option, Some, None}
 use Rattle.std.specs.List.{flat_map}

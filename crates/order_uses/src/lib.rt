@@ -1,4 +1,4 @@
-//! What the statements of a design use, as far as the order of processes can show in it: by the names of a module, and block by
+//! What the statements of a design use, as far as the rule on the order of processes asks: by the names of a module, and block by
 //! block.
 #![tactic(auto)]
 

@@ -1,4 +1,4 @@
-/// What a statement does that the order of processes can show, by a name of the module that it stands in. Names are given by
+/// What a statement does that the rule on the order of processes asks for, by a name of the module that it stands in. Names are given by
 /// their places among those that the module declares.
 #[derive(Clone, Copy)]
 pub enum Deed {
@@ -20,7 +20,7 @@ pub enum Deed {
     Cancels(u32),
 }
 
-/// What a process uses in a design, as far as the order of processes can show in it. Objects are given by their numbers among
+/// What a process uses in a design, as far as the rule on the order of processes asks. Objects are given by their numbers among
 /// those of their kind, as the design has them.
 #[derive(Clone, Copy)]
 pub enum Use {

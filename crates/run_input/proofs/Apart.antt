@@ -71,7 +71,3 @@ pub one_page : OneTree → (model page : List ℕ) (m : tree.Model) → IsLayout
 one_page one model page m l a =
     let P : tree.Model → Type 0 = λ x. page ≡ printed_text x in
     subst P (one model l.m m l.accepted.reads a.reads) l.page_is
-
--- a model that has a laid-out text is not refused
-pub not_laid_out : OneTree → (model page : List ℕ) → IsLayoutOf model page → IsBrokenModel model → ⊥
-not_laid_out one model page l b = not_broken one model l.m l.accepted b

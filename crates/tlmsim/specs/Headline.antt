@@ -202,7 +202,8 @@ pub record NotBegun (c : Call) (choices : List ℕ) (steps : ℕ) (s : Stop) : T
   pub rose : s ≡ stop.WriteFault → Rose c.before.writes c.after.writes
   pub no_run : NoRun choices steps
 
--- The texts that were cut: those of a run, taken in fronts; a run's that had ended, whose steps were not told whole; a page; or none, where a file was not created.
+-- The texts that were cut: those of a run, taken in fronts; a run's that had ended, whose steps were not told whole; a page; or none,
+-- where a file was not created.
 abbrev pub IsCut : Call → List ℕ → ℕ → Stop → Type 0
 IsCut c choices steps s =
     Session c choices steps s (λ mode. Holds c (names_in mode)) ⊎ (EndedShort c choices steps s ⊎ (PageShort c choices steps s ⊎ NotBegun c choices steps s))

@@ -32,7 +32,7 @@ pub struct Ended {
 /// `--order first|last|seed`, which of the runnable processes is taken; `--seed N`; `--replay FILE`, a file that lists the
 /// processes to be taken; `--log prints|turns`, what the report tells; `--vcd FILE`, the file of the trace; `--choices FILE`,
 /// the file of the processes that were taken. `--format MODEL` writes the model laid out. `--order-free MODEL` writes
-/// `order free yes` where no order of processes can show in a run, by a rule of five parts, and else `order free no K`, K being the
+/// `order free yes` where the model keeps a rule of five parts on what its processes share, and else `order free no K`, K being the
 /// first part that is broken. `--bus FILE` runs the accesses of a traffic file through a router, and writes what came of each.
 /// `--generate N`, from 1 to 1,000, with any of budget, order and seed, runs the generated model of that size, and writes `steps K`
 /// behind its report.
