@@ -6,7 +6,7 @@ use Rattle.std.proofs.lemmas.List.{drop_more, drop_all}
 use Rattle.sim_model.specs.FlatDesign.Code.{Arena, block_at}
 use Rattle.kernel_bodies.specs.Depths.{IsDeep, depth_of}
 use Rattle.kernel_bodies.specs.declared.around.Cursor.{Cursor}
-use Rattle.kernel_bodies.specs.declared.layers.Layer.TheVariants as layer
+use Rattle.kernel_bodies.specs.declared.layers.Open.TheVariants as layer
 use Rattle.kernel_bodies.specs.Room.{Fits, FitsLayer}
 
 pub rest_some : (xs : List ℕ) (i x : ℕ) → slice_get xs i ≡ Some x → drop i xs ≡ x ∷ drop (i + 1) xs

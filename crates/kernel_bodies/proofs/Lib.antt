@@ -2,7 +2,10 @@ pub mod Strips
 pub mod Contained
 pub mod Settling
 pub mod Blocks
-pub mod Lands
 pub mod Rooms
+pub mod Passing
 pub mod Seeking
+pub mod Lands
+pub mod Unwinds
 pub mod Leaving
+pub mod Enclosing

@@ -4,9 +4,10 @@ use Rattle.sim_model.specs.FlatDesign.Code.{Arena}
 use Rattle.sim_model.specs.Residual as residual
 use Rattle.sim_model.specs.Residual.{Residual, Frame, Next, skip, one, seq, owing, guard, try_, frame, shell, run, goal, followed, statements, then_on, then_owed, in_run, in_guard, in_try, in_shell, settle, next_of, in_frame, before_goal, frame_end}
 use Rattle.kernel_bodies.specs.Depths.{handlers_of}
-use Rattle.kernel_bodies.specs.declared.layers.Layer.{Layer}
-use Rattle.kernel_bodies.specs.declared.layers.Layer.TheVariants as layer
-use Rattle.kernel_bodies.specs.Layers.{call_of, around, inside, rest_at}
+use Rattle.kernel_bodies.specs.declared.layers.Saved.{Saved}
+use Rattle.kernel_bodies.specs.declared.layers.Open.{Open}
+use Rattle.kernel_bodies.specs.declared.layers.Open.TheVariants as layer
+use Rattle.kernel_bodies.specs.Layers.{around, inside, inside_frames, whole, rest_at, IsComing}
 
 -- something is left
 abbrev pub IsLeft : Residual → Type 0
@@ -17,17 +18,14 @@ followed_left : (r : Residual) (ss : List ℕ) → IsLeft r → IsLeft (followed
 followed_left r [] h = h
 followed_left r (s ∷ ss) h = tt
 
-pub around_left : (a : Arena) (l : Layer) (r : Residual) → IsLeft r → IsLeft (around a l r)
+pub around_left : (a : Arena) (l : Open) (r : Residual) → IsLeft r → IsLeft (around a l r)
 around_left a (layer.Rest c) r h = followed_left r (rest_at a c) h
 around_left a (layer.Again s) r h = tt
 around_left a (layer.Owed u) r h = tt
 around_left a (layer.Guard u) r h = tt
 around_left a (layer.Try s) r h = tt
-around_left a (layer.Frame x) r h = tt
-around_left a (layer.Shell x) r h = tt
 around_left a layer.Run r h = tt
 around_left a (layer.Goal k) r h = tt
-around_left a layer.Gone r h = h
 
 -- what is left stays where it is
 
@@ -47,7 +45,7 @@ in_try_left : (q : Residual) (hs : _) → IsLeft q → in_try q hs ≡ try_ q hs
 in_try_left skip hs h = absurd h
 in_try_left q hs h = refl
 
-in_shell_left : (q : Residual) (x : Frame) → IsLeft q → in_shell q x ≡ shell q x
+pub in_shell_left : (q : Residual) (x : Frame) → IsLeft q → in_shell q x ≡ shell q x
 in_shell_left skip x h = absurd h
 in_shell_left q x h = refl
 
@@ -64,74 +62,60 @@ settle_followed a r [] = sym (then_on_none (settle a r))
 settle_followed a r (s ∷ ss) = refl
 
 -- what a layer comes to, by what is left inside it
-abbrev pub settled_around : Arena → Layer → Residual → Residual
+abbrev pub settled_around : Arena → Open → Residual → Residual
 settled_around a (layer.Rest c) q = then_on q (rest_at a c)
 settled_around a (layer.Again s) q = then_on q (s ∷ [])
 settled_around a (layer.Owed u) q = then_owed a q 0 u
 settled_around a (layer.Guard u) q = in_guard q 0 u
 settled_around a (layer.Try s) q = in_try q (handlers_of a s)
-settled_around a (layer.Frame x) q = frame q (call_of x)
-settled_around a (layer.Shell x) q = in_shell q (call_of x)
 settled_around a layer.Run q = in_run 0 q
 settled_around a (layer.Goal k) q = goal q k
-settled_around a layer.Gone q = q
 
-pub settle_around : (a : Arena) (l : Layer) (r : Residual) → settle a (around a l r) ≡ settled_around a l (settle a r)
+pub settle_around : (a : Arena) (l : Open) (r : Residual) → settle a (around a l r) ≡ settled_around a l (settle a r)
 settle_around a (layer.Rest c) r = settle_followed a r (rest_at a c)
 settle_around a (layer.Again s) r = refl
 settle_around a (layer.Owed u) r = refl
 settle_around a (layer.Guard u) r = refl
 settle_around a (layer.Try s) r = refl
-settle_around a (layer.Frame x) r = refl
-settle_around a (layer.Shell x) r = refl
 settle_around a layer.Run r = refl
 settle_around a (layer.Goal k) r = refl
-settle_around a layer.Gone r = refl
 
-pub settled_around_left : (a : Arena) (l : Layer) (q : Residual) → IsLeft q → settled_around a l q ≡ around a l q
+pub settled_around_left : (a : Arena) (l : Open) (q : Residual) → IsLeft q → settled_around a l q ≡ around a l q
 settled_around_left a (layer.Rest c) q h = then_on_left q (rest_at a c) h
 settled_around_left a (layer.Again s) q h = then_on_left q (s ∷ []) h
 settled_around_left a (layer.Owed u) q h = then_owed_left a q u h
 settled_around_left a (layer.Guard u) q h = in_guard_left q u h
 settled_around_left a (layer.Try s) q h = in_try_left q (handlers_of a s) h
-settled_around_left a (layer.Frame x) q h = refl
-settled_around_left a (layer.Shell x) q h = in_shell_left q (call_of x) h
 settled_around_left a layer.Run q h = in_run_left q h
 settled_around_left a (layer.Goal k) q h = refl
-settled_around_left a layer.Gone q h = refl
 
-pub settle_inside : (a : Arena) (ls : List Layer) (r q : Residual) → settle a r ≡ q → IsLeft q → (settle a (inside a ls r) ≡ inside a ls q) × IsLeft (inside a ls q)
-settle_inside a [] r q e h = (e, h)
-settle_inside a (l ∷ ls) r q e h =
-    let w = settle_inside a ls r q e h in
-    (settle_around a l (inside a ls r) ∙ ap (settled_around a l) w.0 ∙ settled_around_left a l (inside a ls q) w.1, around_left a l (inside a ls q) w.1)
+-- blocks and frames one after another
 
-pub settle_same : (a : Arena) (ls : List Layer) (r q : Residual) → settle a r ≡ settle a q → settle a (inside a ls r) ≡ settle a (inside a ls q)
-settle_same a [] r q e = e
-settle_same a (l ∷ ls) r q e = settle_around a l (inside a ls r) ∙ ap (settled_around a l) (settle_same a ls r q e) ∙ sym (settle_around a l (inside a ls q))
-
--- layers one after another
-
-pub inside_append : (a : Arena) (ls ms : List Layer) (r : Residual) → inside a (ls ++ ms) r ≡ inside a ls (inside a ms r)
+pub inside_append : (a : Arena) (ls ms : List Open) (r : Residual) → inside a (ls ++ ms) r ≡ inside a ls (inside a ms r)
 inside_append a [] ms r = refl
 inside_append a (l ∷ ls) ms r = ap (around a l) (inside_append a ls ms r)
 
-pub inside_take : (a : Arena) (ls : List Layer) (n : ℕ) (d : Layer) (r : Residual) → n < length ls → inside a (take (suc n) ls) r ≡ inside a (take n ls) (around a (get_or ls n d) r)
+pub inside_take : (a : Arena) (ls : List Open) (n : ℕ) (d : Open) (r : Residual) → n < length ls → inside a (take (suc n) ls) r ≡ inside a (take n ls) (around a (get_or ls n d) r)
 inside_take a [] n d r h = absurd (omega (arith, h))
 inside_take a (l ∷ ls) zero d r h = refl
 inside_take a (l ∷ ls) (suc n) d r h = ap (around a l) (inside_take a ls n d r (omega (arith, h)))
 
+pub frames_append : (a : Arena) (xs ys : List Saved) (r : Residual) → inside_frames a (xs ++ ys) r ≡ inside_frames a xs (inside_frames a ys r)
+frames_append a [] ys r = refl
+frames_append a (x ∷ xs) ys r = ap (whole a x) (frames_append a xs ys r)
+
+pub frames_take : (a : Arena) (xs : List Saved) (n : ℕ) (d : Saved) (r : Residual) → n < length xs → inside_frames a (take (suc n) xs) r ≡ inside_frames a (take n xs) (whole a (get_or xs n d) r)
+frames_take a [] n d r h = absurd (omega (arith, h))
+frames_take a (x ∷ xs) zero d r h = refl
+frames_take a (x ∷ xs) (suc n) d r h = ap (whole a x) (frames_take a xs n d r (omega (arith, h)))
+
 -- what comes next
 
-abbrev pub IsComing : Next → Type 0
-IsComing residual.nothing = ⊥
-IsComing n = Unit {0}
-
-in_frame_same : (n : Next) (x : Frame) → IsComing n → in_frame n x ≡ n
+pub in_frame_same : (n : Next) (x : Frame) → IsComing n → in_frame n x ≡ n
 in_frame_same residual.nothing x h = absurd h
 in_frame_same n x h = refl
 
-before_goal_same : (n : Next) (k : _) → IsComing n → before_goal n k ≡ n
+pub before_goal_same : (n : Next) (k : _) → IsComing n → before_goal n k ≡ n
 before_goal_same residual.nothing k h = absurd h
 before_goal_same n k h = refl
 
@@ -139,21 +123,11 @@ next_followed : (r : Residual) (ss : List ℕ) → next_of (followed r ss) ≡ n
 next_followed r [] = refl
 next_followed r (s ∷ ss) = refl
 
-pub next_around : (a : Arena) (l : Layer) (r : Residual) → IsComing (next_of r) → next_of (around a l r) ≡ next_of r
+pub next_around : (a : Arena) (l : Open) (r : Residual) → IsComing (next_of r) → next_of (around a l r) ≡ next_of r
 next_around a (layer.Rest c) r h = next_followed r (rest_at a c)
 next_around a (layer.Again s) r h = refl
 next_around a (layer.Owed u) r h = refl
 next_around a (layer.Guard u) r h = refl
 next_around a (layer.Try s) r h = refl
-next_around a (layer.Frame x) r h = in_frame_same (next_of r) (call_of x) h
-next_around a (layer.Shell x) r h = refl
 next_around a layer.Run r h = refl
 next_around a (layer.Goal k) r h = before_goal_same (next_of r) k h
-next_around a layer.Gone r h = refl
-
-pub next_inside : (a : Arena) (ls : List Layer) (r : Residual) → IsComing (next_of r) → next_of (inside a ls r) ≡ next_of r
-next_inside a [] r h = refl
-next_inside a (l ∷ ls) r h =
-    let e = next_inside a ls r h in
-    let P : Next → Type 0 = IsComing in
-    next_around a l (inside a ls r) (subst P (sym e) h) ∙ e

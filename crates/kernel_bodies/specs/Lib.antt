@@ -3,6 +3,7 @@ pub mod Depths
 pub mod Around
 pub mod Layers
 pub mod Room
+pub mod Landings
 pub mod Sought
 pub mod Unwound
 pub mod Changed

@@ -1,5 +1,5 @@
 -- The room that layers need, so that nothing that comes inside them takes memory.
-use Rattle.std.specs.Prelude.{ℕ, ◌+◌, ◌≤◌, List, [], ◌∷◌, Option, Some, None, Contains, length}
+use Rattle.std.specs.Prelude.{◌≡◌, ℕ, ◌+◌, ◌≤◌, List, [], ◌∷◌, Option, Some, None, Contains, length}
 use Rattle.std.specs.Vec.{vec_capacity}
 use Rattle.sim_model.specs.LogicValues.declared.kinds.Value.{Value}
 use Rattle.sim_model.specs.FlatDesign.Code.{Arena}
@@ -8,8 +8,10 @@ use Rattle.sim_model.specs.Residual.{Residual, skip, block, first_locals}
 use Rattle.kernel_bodies.specs.Depths.{blocks_of, depth_of, locals_at}
 use Rattle.kernel_bodies.specs.declared.layers.Comes.{Comes}
 use Rattle.kernel_bodies.specs.Layers.{layers_of, statement_of}
-use Rattle.kernel_bodies.specs.declared.layers.Layer.{Layer}
-use Rattle.kernel_bodies.specs.declared.layers.Layer.TheVariants as layer
+use Rattle.kernel_bodies.specs.declared.layers.Saved.{Saved}
+use Rattle.kernel_bodies.specs.declared.layers.Spare.{Spare}
+use Rattle.kernel_bodies.specs.declared.layers.Open.{Open}
+use Rattle.kernel_bodies.specs.declared.layers.Open.TheVariants as layer
 
 -- The blocks inside a statement fit, if what it puts around them begins at this place.
 abbrev pub FitsBlocks : Arena → List ℕ → ℕ → ℕ → ℕ → Type 0
@@ -20,42 +22,36 @@ FitsStatement a depths most i None = i ≤ most
 FitsStatement a depths most i (Some s) = (i ≤ most) × FitsBlocks a depths most i s
 
 -- An unwinding is one layer more: one place is kept for it, but not inside another.
-abbrev pub kept_inside : ℕ → Layer → ℕ
+abbrev pub kept_inside : ℕ → Open → ℕ
 kept_inside t (layer.Rest c) = t
 kept_inside t (layer.Again s) = t
 kept_inside t (layer.Owed u) = t
 kept_inside t (layer.Guard u) = t
 kept_inside t (layer.Try s) = t
-kept_inside t (layer.Frame x) = t
-kept_inside t (layer.Shell x) = t
 kept_inside t layer.Run = t
 kept_inside t (layer.Goal k) = 0
-kept_inside t layer.Gone = t
 
 -- a layer at place i has room for what may come in its place and inside it, with t places more
-abbrev pub FitsLayer : Arena → List ℕ → ℕ → ℕ → ℕ → Layer → Type 0
+abbrev pub FitsLayer : Arena → List ℕ → ℕ → ℕ → ℕ → Open → Type 0
 FitsLayer a depths most t i (layer.Rest c) = i + t + depth_of depths c.block + 1 ≤ most
 FitsLayer a depths most t i (layer.Again s) = (i + t + 1 ≤ most) × FitsBlocks a depths most (i + t) s
 FitsLayer a depths most t i (layer.Owed u) = i + t + depth_of depths u + 2 ≤ most
 FitsLayer a depths most t i (layer.Guard u) = i + t + depth_of depths u + 2 ≤ most
 FitsLayer a depths most t i (layer.Try s) = (i + t + 1 ≤ most) × FitsBlocks a depths most (i + t) s
-FitsLayer a depths most t i (layer.Frame x) = i + t + 1 ≤ most
-FitsLayer a depths most t i (layer.Shell x) = i + t + 1 ≤ most
 FitsLayer a depths most t i layer.Run = i + t + 1 ≤ most
 FitsLayer a depths most t i (layer.Goal k) = i + 1 ≤ most
-FitsLayer a depths most t i layer.Gone = i + t + 1 ≤ most
 
 -- all layers from place i on
-abbrev pub FitsAll : Arena → List ℕ → ℕ → ℕ → ℕ → List Layer → Type 0
+abbrev pub FitsAll : Arena → List ℕ → ℕ → ℕ → ℕ → List Open → Type 0
 FitsAll a depths most t i [] = Unit {0}
 FitsAll a depths most t i (l ∷ ls) = FitsLayer a depths most t i l × FitsAll a depths most (kept_inside t l) (i + 1) ls
 
-abbrev pub kept_along : ℕ → List Layer → ℕ
+abbrev pub kept_along : ℕ → List Open → ℕ
 kept_along t [] = t
 kept_along t (l ∷ ls) = kept_along (kept_inside t l) ls
 
 -- layers from place i on, and a statement inside them
-abbrev pub Fits : Arena → List ℕ → ℕ → ℕ → ℕ → List Layer → Option ℕ → Type 0
+abbrev pub Fits : Arena → List ℕ → ℕ → ℕ → ℕ → List Open → Option ℕ → Type 0
 Fits a depths most t i ls s = FitsAll a depths most t i ls × FitsStatement a depths most (i + length ls + kept_along t ls) s
 
 -- the same of what begins in place of a layer
@@ -63,27 +59,54 @@ abbrev pub FitsIf : Arena → List ℕ → ℕ → ℕ → ℕ → Option Comes 
 FitsIf a depths most t i None = Unit {0}
 FitsIf a depths most t i (Some c) = Fits a depths most t i (layers_of c) (statement_of c)
 
--- How many local variables the vector of the body's own call has room for: that of the outermost one, or else the one that
--- is kept for it.
+-- the blocks of a saved frame fit, with this statement inside them
+abbrev pub FitsIn : Arena → List ℕ → Saved → Option ℕ → Type 0
+FitsIn a depths x s = Fits a depths (vec_capacity x.blocks) 1 0 x.blocks.items s
+
+abbrev pub EachFitsIn : Arena → List ℕ → List Saved → Type 0
+EachFitsIn a depths [] = Unit {0}
+EachFitsIn a depths (x ∷ xs) = FitsIn a depths x None × EachFitsIn a depths xs
+
+-- the innermost of saved frames has room for the statement
+abbrev pub FitsLast : Arena → List ℕ → List Saved → Option ℕ → Type 0
+FitsLast a depths [] s = Unit {0}
+FitsLast a depths (x ∷ []) s = FitsIn a depths x s
+FitsLast a depths (x ∷ y ∷ ys) s = FitsLast a depths (y ∷ ys) s
+
+-- all saved frames have room for what may come inside them
+pub record FitsFrames (a : Arena) (depths : List ℕ) (xs : List Saved) (s : Option ℕ) : Type 0 where
+  pub each : EachFitsIn a depths xs
+  pub last : FitsLast a depths xs s
+
+-- How much the vectors of the body's own call have room for: those of the outermost frame that is no call, or else those that
+-- are kept for it.
 abbrev pub room_of_own : Option ℕ → ℕ → ℕ → ℕ
 room_of_own None own other = own
 room_of_own (Some call) own other = other
 
-abbrev pub own_or : Layer → ℕ → ℕ
-own_or (layer.Rest c) n = n
-own_or (layer.Again s) n = n
-own_or (layer.Owed u) n = n
-own_or (layer.Guard u) n = n
-own_or (layer.Try s) n = n
-own_or (layer.Frame x) n = room_of_own x.call (vec_capacity x.locals) n
-own_or (layer.Shell x) n = room_of_own x.call (vec_capacity x.locals) n
-own_or layer.Run n = n
-own_or (layer.Goal k) n = n
-own_or layer.Gone n = n
+abbrev pub own_locals : ℕ → List Saved → ℕ
+own_locals spare [] = spare
+own_locals spare (x ∷ xs) = room_of_own x.frame.call (vec_capacity x.frame.locals) (own_locals spare xs)
 
-abbrev pub own_room : ℕ → List Layer → ℕ
-own_room spare [] = spare
-own_room spare (l ∷ ls) = own_or l (own_room spare ls)
+abbrev pub own_blocks : ℕ → List Saved → ℕ
+own_blocks spare [] = spare
+own_blocks spare (x ∷ xs) = room_of_own x.frame.call (vec_capacity x.blocks) (own_blocks spare xs)
+
+-- the same vectors, or larger ones, are kept for the body's own call
+pub record KeepsOwn (sparing spare : Spare) (old new : List Saved) : Type 0 where
+  pub locals : own_locals (vec_capacity sparing.locals) old ≤ own_locals (vec_capacity spare.locals) new
+  pub blocks : own_blocks (vec_capacity sparing.blocks) old ≤ own_blocks (vec_capacity spare.blocks) new
+
+-- new is the frame old with other blocks, in as much memory; with another answer or other values of local variables too
+pub record SameCall (old new : Saved) : Type 0 where
+  pub frame : new.frame ≡ old.frame
+  pub shell : new.shell ≡ old.shell
+  pub room : vec_capacity old.blocks ≤ vec_capacity new.blocks
+
+pub record SameRoom (old new : Saved) : Type 0 where
+  pub call : new.frame.call ≡ old.frame.call
+  pub locals : vec_capacity new.frame.locals ≡ vec_capacity old.frame.locals
+  pub room : vec_capacity old.blocks ≤ vec_capacity new.blocks
 
 -- the block of a body: what is left of it when it begins, and how many layers may come inside it
 abbrev pub begun_in : Arena → Option CodeBody → Residual

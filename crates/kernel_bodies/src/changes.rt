@@ -1,36 +1,34 @@
-//! Changes of one layer, and of the innermost ones.
-ghost use Rattle.std.specs.Prelude.{◌≡◌, ℕ, ◌+◌, ◌-◌, ◌<◌, ◌≤◌, ◌++◌, ◌∷◌, [], List, Option, length, take, vec_len, vec_capacity, slice_set, option_map, MatchOption, Some, None};
+//! Changes of the innermost frames.
+ghost use Rattle.std.specs.Prelude.{◌≡◌, ℕ, ◌+◌, ◌-◌, ◌<◌, ◌≤◌, ◌++◌, ◌∷◌, [], List, Option, length, take, vec_len, vec_capacity, true, false, None, Some, Contains};
 ghost use Rattle.sim_model.specs.LogicValues.declared.kinds.Value.{Value as Kept};
-ghost use Rattle.sim_model.specs.FlatDesign.Code.{Arena};
-ghost use Rattle.kernel_bodies.specs.Changed.{IsAnswered, IsFrameSet, IsSet};
-ghost use Rattle.kernel_bodies.specs.Layers.{end_shown, EndsWith};
-ghost use Rattle.kernel_bodies.specs.Room.{own_or, own_room, room_of_own};
+ghost use Rattle.sim_model.specs.FlatDesign.Code.{Arena, arena_of};
+ghost use Rattle.sim_model.specs.Residual as residual;
+ghost use Rattle.sim_model.specs.Residual.{Residual};
+ghost use Rattle.sim_model.specs.Unwinding.{has_exit, returned};
+ghost use Rattle.kernel_bodies.specs.Around.{around_at};
+ghost use Rattle.kernel_bodies.specs.Changed.{IsFrameSet};
+ghost use Rattle.kernel_bodies.specs.Depths.{blocks_of};
+ghost use Rattle.kernel_bodies.specs.Layers.{inside, whole, standing, layers_of, layers_around, statement_of};
+ghost use Rattle.kernel_bodies.specs.Room.{room_of_own, FitsIn, KeepsOwn, SameCall, SameRoom};
+ghost use Rattle.kernel_bodies.specs.Sought.{is_exit};
 
-use crate::layers::{Comes, Frame, Layer};
+use crate::frames::{add_around, add_layers, block_begins};
+use crate::layers::{Comes, Frame, Saved, Spare};
+use crate::program::Program;
+use crate::sought::last_run;
+use sim_model::flat_design_api::{BlockId, StmtId};
 use sim_model::logic_values_api::Value;
 
-/// The vector of the local variables of the body's own call, where a layer is that call.
-fn own_locals(layer: Layer) -> Option<Vec<Value>>
-    ensures { (n : ℕ) → MatchOption result (own_or layer n ≡ n) (λ v. own_or layer n ≡ vec_capacity v) }
+/// Lets a frame go. If it is the body's own call, its vectors are kept.
+fn put_by(saved: Saved, spare: &mut Spare)
+    ensures locals { vec_capacity spare.new.locals ≡ room_of_own saved.frame.call (vec_capacity saved.frame.locals) (vec_capacity spare.old.locals) }
+    ensures blocks { vec_capacity spare.new.blocks ≡ room_of_own saved.frame.call (vec_capacity saved.blocks) (vec_capacity spare.old.blocks) }
 {
-    match layer {
-        Layer::Rest(_) => None,
-        Layer::Again(_) => None,
-        Layer::Owed(_) => None,
-        Layer::Guard(_) => None,
-        Layer::Try(_) => None,
-        Layer::Frame(frame) => own_locals_of(frame),
-        Layer::Shell(frame) => own_locals_of(frame),
-        Layer::Run => None,
-        Layer::Goal(_) => None,
-        Layer::Gone => None,
-    }
-}
-
-/// The vector of the local variables of a call, where it is the body's own.
-fn own_locals_of(frame: Frame) -> Option<Vec<Value>>
-    ensures { (n : ℕ) → MatchOption result (room_of_own frame.call (vec_capacity frame.locals) n ≡ n) (λ v. room_of_own frame.call (vec_capacity frame.locals) n ≡ vec_capacity v) }
-{
+    let Saved {
+        frame,
+        shell: _,
+        blocks,
+    } = saved;
     let Frame {
         body: _,
         locals,
@@ -39,52 +37,85 @@ fn own_locals_of(frame: Frame) -> Option<Vec<Value>>
         via: _,
     } = frame;
     match call {
-        Some(_) => None,
-        None => Some(locals),
+        Some(_) => {}
+        None => *spare = Spare { locals, blocks },
     }
 }
 
-/// Takes the innermost layer away. The vector of the body's own local variables is kept.
-pub fn drop_layer(layers: &mut Vec<Layer>, spare: &mut Vec<Value>)
-    requires { 0 < vec_len layers.old }
-    ensures items { layers.new.items ≡ take (vec_len layers.old - 1) layers.old.items }
-    ensures capacity { vec_capacity layers.new ≡ vec_capacity layers.old }
-    ensures own { own_room (vec_capacity spare.new) layers.new.items ≡ own_room (vec_capacity spare.old) layers.old.items }
+/// Pops the innermost frame. The vectors of the body's own call are kept.
+fn drop_frame(frames: &mut Vec<Saved>, spare: &mut Spare)
+    requires { 0 < vec_len frames.old }
+    ensures items { frames.new.items ≡ take (vec_len frames.old - 1) frames.old.items }
+    ensures capacity { vec_capacity frames.new ≡ vec_capacity frames.old }
+    ensures own { KeepsOwn spare.old spare.new frames.old.items frames.new.items }
 {
-    if let Some(layer) = layers.pop() {
-        if let Some(locals) = own_locals(layer) {
-            *spare = locals;
+    if let Some(saved) = frames.pop() {
+        put_by(saved, spare);
+    }
+}
+
+/// Pops all but the outermost frames.
+pub fn keep_frames(frames: &mut Vec<Saved>, spare: &mut Spare, many: usize)
+    requires { many ≤ vec_len frames.old }
+    ensures items { frames.new.items ≡ take many frames.old.items }
+    ensures capacity { vec_capacity frames.new ≡ vec_capacity frames.old }
+    ensures own { KeepsOwn spare.old spare.new frames.old.items frames.new.items }
+{
+    while frames.len() > many {
+        drop_frame(frames, spare);
+    }
+}
+
+/// Pops all but the outermost blocks of a frame, adds those that come inside them, and gives the statement that comes.
+pub fn fill(saved: &mut Saved, blocks: usize, comes: Comes) -> Option<StmtId>
+    requires { length (take blocks saved.old.blocks.items) + length (layers_of comes) ≤ vec_capacity saved.old.blocks }
+    ensures same { SameCall saved.old saved.new }
+    ensures blocks { saved.new.blocks.items ≡ take blocks saved.old.blocks.items ++ layers_of comes }
+    ensures statement { result ≡ statement_of comes }
+{
+    saved.blocks.truncate(blocks);
+    add_layers(&mut saved.blocks, comes)
+}
+
+/// A statement inside a frame goes on with one of its blocks, and with what it opens around that.
+pub fn begin_in(
+    program: &Program,
+    saved: &mut Saved,
+    statement: StmtId,
+    block: BlockId,
+) -> Option<StmtId>
+    requires room { FitsIn (arena_of program.now.code) program.now.depths.items saved.old (Some statement) }
+    requires inner { Contains (blocks_of (arena_of program.now.code) statement) block }
+    ensures same { SameCall saved.old saved.new }
+    ensures left { inside (arena_of program.now.code) saved.new.blocks.items (standing result) ≡ inside (arena_of program.now.code) saved.old.blocks.items (inside (arena_of program.now.code) (layers_around (around_at (arena_of program.now.code) statement) statement) (residual.block (arena_of program.now.code) block)) }
+    ensures room { FitsIn (arena_of program.now.code) program.now.depths.items saved.new result }
+{
+    add_around(&mut saved.blocks, program.around(statement), statement);
+    let comes = block_begins(program, block);
+    add_layers(&mut saved.blocks, comes)
+}
+
+/// Pops the innermost block of a frame.
+pub fn drop_block(saved: &mut Saved)
+    ensures same { SameCall saved.old saved.new }
+    ensures blocks { saved.new.blocks.items ≡ take (length saved.old.blocks.items - 1) saved.old.blocks.items }
+{
+    let _ = saved.blocks.pop();
+}
+
+/// Ends a frame that a return ends, or its innermost unwind block: a call keeps what it answers.
+pub fn end_in(saved: &mut Saved, answer: Option<Value>)
+    requires { is_exit saved.old ≡ true }
+    ensures left { (a : Arena) (r : Residual) → has_exit r ≡ false → returned answer (whole a saved.old r) ≡ whole a saved.new residual.skip }
+    ensures room { (a : Arena) (depths : List ℕ) → FitsIn a depths saved.old None → FitsIn a depths saved.new None }
+    ensures same { SameRoom saved.old saved.new }
+{
+    match last_run(saved.blocks.as_slice()) {
+        Some(place) => saved.blocks.truncate(place + 1),
+        None => {
+            saved.blocks.clear();
+            saved.frame.answer = answer;
         }
-    }
-}
-
-/// Takes away all but the outermost layers.
-pub fn keep_layers(layers: &mut Vec<Layer>, spare: &mut Vec<Value>, many: usize)
-    requires { many ≤ vec_len layers.old }
-    ensures items { layers.new.items ≡ take many layers.old.items }
-    ensures capacity { vec_capacity layers.new ≡ vec_capacity layers.old }
-    ensures own { own_room (vec_capacity spare.new) layers.new.items ≡ own_room (vec_capacity spare.old) layers.old.items }
-{
-    while layers.len() > many {
-        drop_layer(layers, spare);
-    }
-}
-
-/// Keeps what a call answers; an unwind block answers nothing.
-pub fn set_answer(layer: &mut Layer, answer: Option<Value>)
-    ensures { IsAnswered answer layer.old layer.new }
-{
-    match layer {
-        Layer::Rest(_) => {}
-        Layer::Again(_) => {}
-        Layer::Owed(_) => {}
-        Layer::Guard(_) => {}
-        Layer::Try(_) => {}
-        Layer::Frame(frame) => frame.answer = answer,
-        Layer::Shell(_) => {}
-        Layer::Run => {}
-        Layer::Goal(_) => {}
-        Layer::Gone => {}
     }
 }
 
@@ -97,52 +128,23 @@ fn set_local_of(frame: &mut Frame, number: usize, value: Value)
     }
 }
 
-/// Another value for a local variable of the call that a layer is.
-pub fn set_local_in(layer: &mut Layer, number: usize, value: Value)
-    ensures { IsSet number value layer.old layer.new }
+/// Another value for a local variable of a frame.
+pub fn set_local_in(saved: &mut Saved, number: usize, value: Value)
+    ensures set { IsFrameSet number value saved.old.frame saved.new.frame }
+    ensures shell { saved.new.shell ≡ saved.old.shell }
+    ensures blocks { saved.new.blocks ≡ saved.old.blocks }
 {
-    match layer {
-        Layer::Rest(_) => {}
-        Layer::Again(_) => {}
-        Layer::Owed(_) => {}
-        Layer::Guard(_) => {}
-        Layer::Try(_) => {}
-        Layer::Frame(frame) => set_local_of(frame, number, value),
-        Layer::Shell(frame) => set_local_of(frame, number, value),
-        Layer::Run => {}
-        Layer::Goal(_) => {}
-        Layer::Gone => {}
-    }
+    set_local_of(&mut saved.frame, number, value);
 }
 
-/// The call of a layer that shows its end.
-fn frame_of(layer: Layer) -> Frame
-    requires { end_shown layer ≡ Some Comes.Leave }
-    ensures { layer ≡ Layer.Frame result }
+/// Pops the innermost frame, which is there.
+pub fn take_frame(frames: &mut Vec<Saved>) -> Saved
+    requires { 0 < vec_len frames.old }
+    ensures items { frames.old.items ≡ frames.new.items ++ result ∷ [] }
+    ensures capacity { vec_capacity frames.new ≡ vec_capacity frames.old }
 {
-    match layer {
-        Layer::Rest(_) => unreachable!(),
-        Layer::Again(_) => unreachable!(),
-        Layer::Owed(_) => unreachable!(),
-        Layer::Guard(_) => unreachable!(),
-        Layer::Try(_) => unreachable!(),
-        Layer::Frame(frame) => frame,
-        Layer::Shell(_) => unreachable!(),
-        Layer::Run => unreachable!(),
-        Layer::Goal(_) => unreachable!(),
-        Layer::Gone => unreachable!(),
-    }
-}
-
-/// Takes the innermost layer away, which is a call that shows its end.
-pub fn take_frame(layers: &mut Vec<Layer>) -> Frame
-    requires { EndsWith layers.old.items Comes.Leave }
-    ensures items { layers.old.items ≡ layers.new.items ++ Layer.Frame result ∷ [] }
-    ensures ends { end_shown (Layer.Frame result) ≡ Some Comes.Leave }
-    ensures capacity { vec_capacity layers.new ≡ vec_capacity layers.old }
-{
-    match layers.pop() {
-        Some(layer) => frame_of(layer),
+    match frames.pop() {
+        Some(saved) => saved,
         None => unreachable!(),
     }
 }

@@ -1,4 +1,4 @@
-//! What a call begins with: its local variables, and the layers of its body.
+//! What a call begins with: its local variables, and the open blocks of its body.
 ghost use Rattle.std.specs.Prelude.{◌≡◌, ℕ, ◌+◌, ◌*◌, ◌^◌, ◌<◌, ◌≤◌, ◌++◌, ◌∷◌, [], List, length, vec_len, vec_capacity, Some, None, IfSome};
 ghost use Rattle.sim_model.specs.LogicValues.declared.kinds.Value.{Value as Kept};
 ghost use Rattle.sim_model.specs.FlatDesign.Code.{arena_of, body_at};
@@ -9,7 +9,7 @@ ghost use Rattle.kernel_bodies.specs.Layers.{landed, layers_around, layers_of, s
 ghost use Rattle.kernel_bodies.specs.Room.{Fits, body_depth, begun_in, locals_with};
 
 use crate::landing::first_of;
-use crate::layers::{Comes, Layer};
+use crate::layers::{Comes, Open};
 use crate::{Around, Cursor, Program};
 use sim_model::flat_design_api::{BlockId, CodeId, Local, StmtId, default_value};
 use sim_model::logic_values_api::Value;
@@ -76,7 +76,7 @@ pub fn body_begins(program: &Program, function: CodeId) -> Comes
     }
 }
 
-/// How many layers a block may need inside it.
+/// How many blocks may stand open inside a block.
 fn block_depth(program: &Program, block: BlockId) -> usize
     ensures value { result ≡ depth_of program.now.depths.items block }
     ensures small { result < 2 ^ 34 }
@@ -84,7 +84,7 @@ fn block_depth(program: &Program, block: BlockId) -> usize
     program.depth(block)
 }
 
-/// How many layers the block of a body may need inside it.
+/// How many blocks may stand open inside the block of a body.
 pub fn depth_in(program: &Program, function: CodeId) -> usize
     ensures value { result ≡ body_depth program.now.depths.items (body_at (arena_of program.now.code) function) }
     ensures small { result < 2 ^ 34 }
@@ -95,11 +95,11 @@ pub fn depth_in(program: &Program, function: CodeId) -> usize
     }
 }
 
-/// Adds the layers that come inside the others, and gives the statement that comes inside them.
-pub fn add_layers(layers: &mut Vec<Layer>, comes: Comes) -> Option<StmtId>
-    requires { vec_len layers.old + length (layers_of comes) ≤ vec_capacity layers.old }
-    ensures items { layers.new.items ≡ layers.old.items ++ layers_of comes }
-    ensures capacity { vec_capacity layers.old ≤ vec_capacity layers.new }
+/// Adds the blocks that come inside the others, and gives the statement that comes inside them.
+pub fn add_layers(blocks: &mut Vec<Open>, comes: Comes) -> Option<StmtId>
+    requires { vec_len blocks.old + length (layers_of comes) ≤ vec_capacity blocks.old }
+    ensures items { blocks.new.items ≡ blocks.old.items ++ layers_of comes }
+    ensures capacity { vec_capacity blocks.old ≤ vec_capacity blocks.new }
     ensures statement { result ≡ statement_of comes }
 {
     match comes {
@@ -109,27 +109,27 @@ pub fn add_layers(layers: &mut Vec<Layer>, comes: Comes) -> Option<StmtId>
         Comes::Goal(_) => None,
         Comes::Statement(statement) => Some(statement),
         Comes::InBlock(statement, rest) => {
-            place(layers, Layer::Rest(rest));
+            place(blocks, Open::Rest(rest));
             Some(statement)
         }
         Comes::InUnwind(statement, rest) => {
-            place(layers, Layer::Run);
-            place(layers, Layer::Rest(rest));
+            place(blocks, Open::Run);
+            place(blocks, Open::Rest(rest));
             Some(statement)
         }
     }
 }
 
-/// Adds the layer that a statement puts around its block.
-pub fn add_around(layers: &mut Vec<Layer>, around: Around, statement: StmtId)
-    requires { vec_len layers.old + length (layers_around around statement) ≤ vec_capacity layers.old }
-    ensures items { layers.new.items ≡ layers.old.items ++ layers_around around statement }
-    ensures capacity { vec_capacity layers.old ≤ vec_capacity layers.new }
+/// Adds what a statement opens around its block.
+pub fn add_around(blocks: &mut Vec<Open>, around: Around, statement: StmtId)
+    requires { vec_len blocks.old + length (layers_around around statement) ≤ vec_capacity blocks.old }
+    ensures items { blocks.new.items ≡ blocks.old.items ++ layers_around around statement }
+    ensures capacity { vec_capacity blocks.old ≤ vec_capacity blocks.new }
 {
     match around {
         Around::Nothing => {}
-        Around::Loop => place(layers, Layer::Again(statement)),
-        Around::Guard(unwind) => place(layers, Layer::Guard(unwind)),
-        Around::Try => place(layers, Layer::Try(statement)),
+        Around::Loop => place(blocks, Open::Again(statement)),
+        Around::Guard(unwind) => place(blocks, Open::Guard(unwind)),
+        Around::Try => place(blocks, Open::Try(statement)),
     }
 }

@@ -1,12 +1,14 @@
 //! Where a body goes on once finished parts have fallen away.
-ghost use Rattle.std.specs.Prelude.{◌≡◌, ℕ, ◌+◌, ◌≤◌, ◌++◌, List, length, take, None, Some, IfSome, Contains};
-ghost use Rattle.sim_model.specs.FlatDesign.Code.{arena_of, block_at};
+ghost use Rattle.std.specs.Prelude.{◌≡◌, ℕ, ◌+◌, ◌-◌, ◌<◌, ◌≤◌, ◌++◌, List, [], length, take, None, Some, IfNone, IfSome, Contains};
+ghost use Rattle.sim_model.specs.FlatDesign.Code.{Arena, arena_of, block_at};
 ghost use Rattle.sim_model.specs.Residual as residual;
-ghost use Rattle.kernel_bodies.specs.Layers.{around, inside, standing, landed, layers_of, statement_of, begins, shown, shown_by, rest_at, first_then, frame_ends, end_shown, IsBegun, EndsIn};
+ghost use Rattle.kernel_bodies.specs.Landings.{Lands, LandsIn};
+ghost use Rattle.kernel_bodies.specs.Layers.{around, inside, inside_frames, whole, held, standing, landed, layers_of, statement_of, begins, shown_by, rest_at, first_then, frame_ends, end_shown, under_goal, IsBegun, Settled, EndsBlocks};
 ghost use Rattle.kernel_bodies.specs.Room.{Fits, FitsIf, FitsLayer};
 
-use crate::layers::{Comes, Landing, Layer, Next};
+use crate::layers::{Comes, Landing, Next, Open, Saved, Stand};
 use crate::{Cursor, Program};
+use sim_model::Goal;
 use sim_model::flat_design_api::StmtId;
 
 /// What shows at the end of a call, or of the body.
@@ -19,21 +21,18 @@ fn frame_ends(call: Option<StmtId>) -> Comes
     }
 }
 
-/// What shows at a layer that stands with nothing left inside it: none falls away but calls and unwindings.
-fn end_shown(layer: &Layer) -> Option<Comes>
-    ensures { result ≡ end_shown layer.now }
+/// What shows at a block that stands with nothing left inside it: all fall away but unwindings.
+fn end_shown(block: &Open) -> Option<Comes>
+    ensures { result ≡ end_shown block.now }
 {
-    match layer {
-        Layer::Rest(_) => None,
-        Layer::Again(_) => None,
-        Layer::Owed(_) => None,
-        Layer::Guard(_) => None,
-        Layer::Try(_) => None,
-        Layer::Frame(frame) => Some(frame_ends(frame.call)),
-        Layer::Shell(_) => None,
-        Layer::Run => None,
-        Layer::Goal(goal) => Some(Comes::Goal(*goal)),
-        Layer::Gone => None,
+    match block {
+        Open::Rest(_) => None,
+        Open::Again(_) => None,
+        Open::Owed(_) => None,
+        Open::Guard(_) => None,
+        Open::Try(_) => None,
+        Open::Run => None,
+        Open::Goal(goal) => Some(Comes::Goal(*goal)),
     }
 }
 
@@ -54,72 +53,124 @@ pub fn first_of(program: &Program, cursor: Cursor) -> Option<(StmtId, Cursor)>
     }
 }
 
-/// What begins in place of a layer that falls away with nothing left inside it.
-fn first_in(program: &Program, layer: &Layer) -> Option<Comes>
-    requires { end_shown layer.now ≡ None }
-    ensures value { residual.settle (arena_of program.now.code) (around (arena_of program.now.code) layer.now residual.skip) ≡ begins (arena_of program.now.code) result }
+/// What begins in place of a block that falls away with nothing left inside it.
+fn first_in(program: &Program, block: &Open) -> Option<Comes>
+    requires { end_shown block.now ≡ None }
+    ensures value { residual.settle (arena_of program.now.code) (around (arena_of program.now.code) block.now residual.skip) ≡ begins (arena_of program.now.code) result }
     ensures begun { IfSome result IsBegun }
     ensures few { IfSome result (λ c. length (layers_of c) ≤ 2) }
-    ensures room { (most t i : ℕ) → FitsLayer (arena_of program.now.code) program.now.depths.items most t i layer.now → FitsIf (arena_of program.now.code) program.now.depths.items most t i result }
+    ensures room { (most t i : ℕ) → FitsLayer (arena_of program.now.code) program.now.depths.items most t i block.now → FitsIf (arena_of program.now.code) program.now.depths.items most t i result }
 {
-    match layer {
-        Layer::Rest(cursor) => match first_of(program, *cursor) {
+    match block {
+        Open::Rest(cursor) => match first_of(program, *cursor) {
             Some((statement, rest)) => Some(Comes::InBlock(statement, rest)),
             None => None,
         },
-        Layer::Again(statement) => Some(Comes::Statement(*statement)),
-        Layer::Owed(block) => match first_of(
+        Open::Again(statement) => Some(Comes::Statement(*statement)),
+        Open::Owed(unwind) => match first_of(
             program,
             Cursor {
-                block: *block,
+                block: *unwind,
                 place: 0,
             },
         ) {
             Some((statement, rest)) => Some(Comes::InUnwind(statement, rest)),
             None => None,
         },
-        Layer::Guard(_) => None,
-        Layer::Try(_) => None,
-        Layer::Frame(_) => None,
-        Layer::Shell(_) => None,
-        Layer::Run => None,
-        Layer::Goal(_) => None,
-        Layer::Gone => None,
+        Open::Guard(_) => None,
+        Open::Try(_) => None,
+        Open::Run => None,
+        Open::Goal(_) => None,
     }
 }
 
-/// How many layers stand once finished parts have fallen away, and what comes inside them.
-pub fn land(program: &Program, layers: &[Layer], statement: Option<StmtId>) -> Landing
-    ensures settled { residual.settle (arena_of program.now.code) (inside (arena_of program.now.code) layers.now (standing statement)) ≡ inside (arena_of program.now.code) (take result.stand layers.now) (landed (arena_of program.now.code) result.comes) }
-    ensures shows { shown (residual.next_of (residual.settle (arena_of program.now.code) (inside (arena_of program.now.code) layers.now (standing statement)))) ≡ shown_by result.comes }
-    ensures few { result.stand ≤ length layers.now }
-    ensures grows { result.stand + length (layers_of result.comes) ≤ length layers.now + 1 }
-    ensures ends { EndsIn (take result.stand layers.now) result.comes }
-    ensures room { (most : ℕ) → Fits (arena_of program.now.code) program.now.depths.items most 1 0 layers.now statement → Fits (arena_of program.now.code) program.now.depths.items most 1 0 (take result.stand layers.now ++ layers_of result.comes) (statement_of result.comes) }
+/// How many blocks of a frame stand once finished parts have fallen away, and what comes inside them; nothing where all of them
+/// fall away.
+fn land_blocks(program: &Program, blocks: &[Open]) -> Option<Stand>
+    ensures falls { IfNone result (residual.settle (arena_of program.now.code) (inside (arena_of program.now.code) blocks.now residual.skip) ≡ residual.skip) }
+    ensures settled { IfSome result (λ s. Settled (arena_of program.now.code) (inside (arena_of program.now.code) blocks.now residual.skip) (inside (arena_of program.now.code) (take s.blocks blocks.now) (landed (arena_of program.now.code) s.comes)) (shown_by s.comes)) }
+    ensures few { IfSome result (λ s. s.blocks ≤ length blocks.now) }
+    ensures ends { IfSome result (λ s. EndsBlocks (take s.blocks blocks.now) s.comes) }
+    ensures room { (most : ℕ) → Fits (arena_of program.now.code) program.now.depths.items most 1 0 blocks.now None → IfSome result (λ s. Fits (arena_of program.now.code) program.now.depths.items most 1 0 (take s.blocks blocks.now ++ layers_of s.comes) (statement_of s.comes)) }
 {
-    let mut stand = layers.len();
-    if let Some(statement) = statement {
-        return Landing {
-            stand,
-            comes: Comes::Statement(statement),
-        };
-    }
+    let mut stand = blocks.len();
     while stand > 0 {
-        let layer = &layers[stand - 1];
-        if let Some(comes) = end_shown(layer) {
-            return Landing { stand, comes };
+        let block = &blocks[stand - 1];
+        if let Some(comes) = end_shown(block) {
+            return Some(Stand {
+                blocks: stand,
+                comes,
+            });
         }
         stand -= 1;
-        if let Some(comes) = first_in(program, layer) {
-            return Landing { stand, comes };
+        if let Some(comes) = first_in(program, block) {
+            return Some(Stand {
+                blocks: stand,
+                comes,
+            });
         }
     }
-    Landing {
-        stand,
-        comes: Comes::Nothing,
+    None
+}
+
+/// The same of a frame, with nothing left inside its blocks: a call stands, and one that is being unwound falls away.
+fn land_in(program: &Program, saved: &Saved) -> Option<Stand>
+    ensures falls { IfNone result (residual.settle (arena_of program.now.code) (whole (arena_of program.now.code) saved.now residual.skip) ≡ residual.skip) }
+    ensures lands { IfSome result (LandsIn (arena_of program.now.code) program.now.depths.items saved.now None) }
+{
+    match land_blocks(program, saved.blocks.as_slice()) {
+        Some(stand) => Some(stand),
+        None => {
+            if saved.shell {
+                None
+            } else {
+                Some(Stand {
+                    blocks: 0,
+                    comes: frame_ends(saved.frame.call),
+                })
+            }
+        }
     }
 }
 
+/// Where frames go on that have a statement inside them; nothing where there is no frame.
+fn land_statement(frames: &[Saved], statement: StmtId) -> Option<Landing>
+    ensures falls { IfNone result (frames.now ≡ []) }
+    ensures lands { IfSome result (λ l. (a : Arena) (depths : List ℕ) → Lands a depths frames.now (Some statement) (residual.one statement) l) }
+{
+    let many = frames.len();
+    if many == 0 {
+        return None;
+    }
+    Some(Landing {
+        outside: many - 1,
+        blocks: frames[many - 1].blocks.len(),
+        comes: Comes::Statement(statement),
+    })
+}
+
+/// Where frames go on once finished parts have fallen away; nothing where all of them fall away.
+pub fn land(program: &Program, frames: &[Saved], statement: Option<StmtId>) -> Option<Landing>
+    ensures falls { IfNone result (residual.settle (arena_of program.now.code) (inside_frames (arena_of program.now.code) frames.now (standing (held frames.now statement))) ≡ residual.skip) }
+    ensures lands { IfSome result (Lands (arena_of program.now.code) program.now.depths.items frames.now statement (standing (held frames.now statement))) }
+{
+    if let Some(statement) = statement {
+        return land_statement(frames, statement);
+    }
+    let mut many = frames.len();
+    while many > 0 {
+        let saved = &frames[many - 1];
+        if let Some(stand) = land_in(program, saved) {
+            return Some(Landing {
+                outside: many - 1,
+                blocks: stand.blocks,
+                comes: stand.comes,
+            });
+        }
+        many -= 1;
+    }
+    None
+}
 /// What shows of what comes.
 pub fn next_shown(comes: Comes) -> Next
     ensures { result ≡ shown_by comes }
@@ -132,5 +183,23 @@ pub fn next_shown(comes: Comes) -> Next
         Comes::Statement(statement) => Next::Statement(statement),
         Comes::InBlock(statement, _) => Next::Statement(statement),
         Comes::InUnwind(statement, _) => Next::Statement(statement),
+    }
+}
+
+/// What comes, where all that is left stands before the goal of an unwinding.
+pub fn under_goal(goal: Option<Goal>, comes: Comes) -> Comes
+    ensures { result ≡ under_goal goal comes }
+{
+    match goal {
+        None => comes,
+        Some(goal) => match comes {
+            Comes::Nothing => Comes::Goal(goal),
+            Comes::Leave => Comes::Leave,
+            Comes::Done => Comes::Done,
+            Comes::Goal(inner) => Comes::Goal(inner),
+            Comes::Statement(statement) => Comes::Statement(statement),
+            Comes::InBlock(statement, rest) => Comes::InBlock(statement, rest),
+            Comes::InUnwind(statement, rest) => Comes::InUnwind(statement, rest),
+        },
     }
 }

@@ -18,9 +18,9 @@ pub struct Frame {
     pub via: Option<Via>,
 }
 
-/// What stands around what is left of a body, layer by layer.
+/// What stands open in a call around what is left of it.
 #[derive(Drop)]
-pub enum Layer {
+pub enum Open {
     /// The rest of a block follows.
     Rest(Cursor),
     /// This statement follows, which is a loop.
@@ -31,16 +31,30 @@ pub enum Layer {
     Guard(BlockId),
     /// A `try`, by its statement.
     Try(StmtId),
-    /// A call.
-    Frame(Frame),
-    /// A call that is being unwound.
-    Shell(Frame),
     /// An unwind block.
     Run,
     /// An unwinding, which ends in this.
     Goal(Goal),
-    /// Nothing.
-    Gone,
+}
+
+/// A call as it is saved between two steps of its body.
+#[derive(Drop)]
+pub struct Saved {
+    /// The call.
+    pub frame: Frame,
+    /// Whether it is being unwound.
+    pub shell: bool,
+    /// What stands open in it, the outermost first. Its cursor is the innermost rest of a block.
+    pub blocks: Vec<Open>,
+}
+
+/// The vectors of a body's own call, while they are not in use.
+#[derive(Drop)]
+pub struct Spare {
+    /// The one of its local variables.
+    pub locals: Vec<Value>,
+    /// The one of what stands open in it.
+    pub blocks: Vec<Open>,
 }
 
 /// What comes next in a body.
@@ -63,11 +77,11 @@ pub enum Next {
 pub enum Comes {
     /// Nothing is left.
     Nothing,
-    /// The innermost layer that stands is a call.
+    /// The innermost call has nothing left in it.
     Leave,
-    /// It is the body itself.
+    /// The body itself has nothing left in it.
     Done,
-    /// It is an unwinding.
+    /// An unwinding has nothing left in it.
     Goal(Goal),
     /// A statement.
     Statement(StmtId),
@@ -77,26 +91,22 @@ pub enum Comes {
     InUnwind(StmtId, Cursor),
 }
 
-/// How many layers stand once finished parts have fallen away, and what comes inside them.
+/// Where the blocks of a call go on once finished parts have fallen away.
 #[derive(Clone, Copy)]
-pub struct Landing {
-    /// How many layers stand, the outermost ones.
-    pub stand: usize,
+pub struct Stand {
+    /// How many blocks stand, the outermost ones.
+    pub blocks: usize,
     /// What comes inside them.
     pub comes: Comes,
 }
 
-/// A kind of layers.
+/// Where a body goes on once finished parts have fallen away.
 #[derive(Clone, Copy)]
-pub enum Sought {
-    /// A call, also one that is being unwound.
-    Call,
-    /// What a return ends.
-    Exit,
-    /// A transport call, also one that is being unwound.
-    Transport,
-    /// A non-blocking transport call that is not being unwound.
-    NonBlocking,
-    /// An unwinding.
-    Goal,
+pub struct Landing {
+    /// How many calls stand outside the innermost one that stands.
+    pub outside: usize,
+    /// How many blocks of that one stand, the outermost ones.
+    pub blocks: usize,
+    /// What comes inside them.
+    pub comes: Comes,
 }

@@ -4,8 +4,8 @@
 //! The code of a design as bodies go through it: blocks statement by statement, what stands around an inner block, and how
 //! deep blocks nest.
 //!
-//! What stands around what is left of a process's body, layer by layer: open calls, guards, tries and the rests of blocks;
-//! what of it falls away, what comes next, and the room that it needs.
+//! Calls as they are saved between two steps of a body: each with its local variables and what stands open in it; what of
+//! that falls away, what comes next, what an unwinding leaves of it, and the room that it needs.
 #![tactic(auto)]
 
 mod around;
@@ -20,26 +20,33 @@ mod stripped;
 mod unwinding;
 
 pub use around::{Around, Cursor};
-pub use changes::{drop_layer, keep_layers, set_answer, set_local_in, take_frame};
-pub use frames::{
-    add_around, add_layers, add_locals, block_begins, body_begins, depth_in, locals_in,
-    many_locals, place,
-};
-pub use landing::{land, next_shown};
-pub use layers::{Comes, Frame, Landing, Layer, Next, Sought};
+pub use changes::{begin_in, drop_block, end_in, fill, keep_frames, set_local_in, take_frame};
+pub use frames::{add_layers, add_locals, body_begins, depth_in, locals_in, many_locals, place};
+pub use landing::{land, next_shown, under_goal};
+pub use layers::{Comes, Frame, Landing, Next, Open, Saved, Spare, Stand};
 pub use program::Program;
-pub use sought::{frame_in, last, last_try, via_in};
+pub use sought::{
+    last_call, last_exit, last_handler, last_try, last_via, many_calls, some_nonblocking,
+    some_unwinds,
+};
 pub use stripped::{numbers_change_nothing, numbers_show_nowhere};
-pub use unwinding::{begin_unwinding, handler_in, left_by};
+pub use unwinding::{left_by, raise_in, unwind_frames};
 
 /// What is passed on of flat_design.
 pub mod flat_design_api {
-    pub use sim_model::flat_design_api::{BlockId, CodeId, Local, NameId, StmtId};
+    pub use sim_model::flat_design_api::{
+        BlockId, Code, CodeId, Handler, Local, NameId, Statement, StmtId,
+    };
 }
 
 /// What is passed on of logic_values.
 pub mod logic_values_api {
     pub use sim_model::logic_values_api::Value;
+}
+
+/// What is passed on of plain_lists.
+pub mod plain_lists_api {
+    pub use sim_model::plain_lists_api::Items;
 }
 
 /// What is passed on of sim_model.

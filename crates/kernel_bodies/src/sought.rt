@@ -1,68 +1,14 @@
-//! The innermost layer of a kind.
-ghost use Rattle.std.specs.Prelude.{◌≡◌, ◌<◌, length, option_map, IfSome};
+//! Open blocks and frames of a kind, and the innermost of them.
+ghost use Rattle.std.specs.Prelude.{◌≡◌, ◌<◌, ◌≤◌, length, option_map, IfSome};
 ghost use Rattle.sim_model.specs.FlatDesign.Code.{arena_of};
 ghost use Rattle.sim_model.specs.Residual as residual;
 ghost use Rattle.kernel_bodies.specs.Layers.{call_of};
-ghost use Rattle.kernel_bodies.specs.Sought.{frame_in, via_in, is_exit, is_open_nonblocking, is_goal, is_sought, is_handling, IsLast};
+ghost use Rattle.kernel_bodies.specs.Sought.{among, is_exit, is_goal, is_handling, is_open_nonblocking, is_run, has_handler, last_call, last_via, many_calls, open_nonblocking, unwinds, IsLast};
 
 use crate::Program;
-use crate::layers::{Frame, Layer, Sought};
+use crate::layers::{Frame, Open, Saved};
 use sim_model::Via;
-use sim_model::flat_design_api::NameId;
-
-/// The call of a layer, also of one that is being unwound.
-pub fn frame_in(layer: &Layer) -> Option<&Frame>
-    ensures { option_map (λ x. call_of x.now) result ≡ frame_in layer.now }
-{
-    match layer {
-        Layer::Rest(_) => None,
-        Layer::Again(_) => None,
-        Layer::Owed(_) => None,
-        Layer::Guard(_) => None,
-        Layer::Try(_) => None,
-        Layer::Frame(frame) => Some(frame),
-        Layer::Shell(frame) => Some(frame),
-        Layer::Run => None,
-        Layer::Goal(_) => None,
-        Layer::Gone => None,
-    }
-}
-
-/// The transport call of a layer, also of one that is being unwound.
-pub fn via_in(layer: &Layer) -> Option<Via>
-    ensures { result ≡ via_in layer.now }
-{
-    match layer {
-        Layer::Rest(_) => None,
-        Layer::Again(_) => None,
-        Layer::Owed(_) => None,
-        Layer::Guard(_) => None,
-        Layer::Try(_) => None,
-        Layer::Frame(frame) => frame.via,
-        Layer::Shell(frame) => frame.via,
-        Layer::Run => None,
-        Layer::Goal(_) => None,
-        Layer::Gone => None,
-    }
-}
-
-/// Whether a return ends this layer.
-fn is_exit(layer: &Layer) -> bool
-    ensures { result ≡ is_exit layer.now }
-{
-    match layer {
-        Layer::Rest(_) => false,
-        Layer::Again(_) => false,
-        Layer::Owed(_) => false,
-        Layer::Guard(_) => false,
-        Layer::Try(_) => false,
-        Layer::Frame(_) => true,
-        Layer::Shell(_) => false,
-        Layer::Run => true,
-        Layer::Goal(_) => false,
-        Layer::Gone => false,
-    }
-}
+use sim_model::flat_design_api::{NameId, StmtId};
 
 /// Whether this is a non-blocking transport call.
 fn is_nonblocking(via: Option<Via>) -> bool
@@ -74,99 +20,237 @@ fn is_nonblocking(via: Option<Via>) -> bool
     }
 }
 
-/// Whether a layer is a non-blocking transport call that is not being unwound.
-fn is_open_nonblocking(layer: &Layer) -> bool
-    ensures { result ≡ is_open_nonblocking layer.now }
+/// Whether a frame is a non-blocking transport call that is not being unwound.
+fn is_open_nonblocking(saved: &Saved) -> bool
+    ensures { result ≡ is_open_nonblocking saved.now }
 {
-    match layer {
-        Layer::Rest(_) => false,
-        Layer::Again(_) => false,
-        Layer::Owed(_) => false,
-        Layer::Guard(_) => false,
-        Layer::Try(_) => false,
-        Layer::Frame(frame) => is_nonblocking(frame.via),
-        Layer::Shell(_) => false,
-        Layer::Run => false,
-        Layer::Goal(_) => false,
-        Layer::Gone => false,
+    if saved.shell {
+        false
+    } else {
+        is_nonblocking(saved.frame.via)
     }
 }
 
-/// Whether a layer is an unwinding.
-fn is_goal(layer: &Layer) -> bool
-    ensures { result ≡ is_goal layer.now }
+/// Whether some frame is a non-blocking transport call that is not being unwound.
+pub fn some_nonblocking(frames: &[Saved]) -> bool
+    ensures { result ≡ among is_open_nonblocking frames.now }
 {
-    match layer {
-        Layer::Rest(_) => false,
-        Layer::Again(_) => false,
-        Layer::Owed(_) => false,
-        Layer::Guard(_) => false,
-        Layer::Try(_) => false,
-        Layer::Frame(_) => false,
-        Layer::Shell(_) => false,
-        Layer::Run => false,
-        Layer::Goal(_) => true,
-        Layer::Gone => false,
-    }
-}
-
-/// Whether a layer is of a kind.
-fn is_sought(sought: Sought, layer: &Layer) -> bool
-    ensures { result ≡ is_sought sought layer.now }
-{
-    match sought {
-        Sought::Call => frame_in(layer).is_some(),
-        Sought::Exit => is_exit(layer),
-        Sought::Transport => via_in(layer).is_some(),
-        Sought::NonBlocking => is_open_nonblocking(layer),
-        Sought::Goal => is_goal(layer),
-    }
-}
-
-/// Whether a layer is a `try` that has a handler for an exception.
-fn is_handling(program: &Program, name: NameId, layer: &Layer) -> bool
-    ensures { result ≡ is_handling (arena_of program.now.code) name layer.now }
-{
-    match layer {
-        Layer::Rest(_) => false,
-        Layer::Again(_) => false,
-        Layer::Owed(_) => false,
-        Layer::Guard(_) => false,
-        Layer::Try(statement) => program.handler(*statement, name).is_some(),
-        Layer::Frame(_) => false,
-        Layer::Shell(_) => false,
-        Layer::Run => false,
-        Layer::Goal(_) => false,
-        Layer::Gone => false,
-    }
-}
-
-/// The place of the innermost layer of a kind.
-pub fn last(layers: &[Layer], sought: Sought) -> Option<usize>
-    ensures last { IsLast (is_sought sought) layers.now result }
-    ensures within { IfSome result (λ i. i < length layers.now) }
-{
-    let mut place = layers.len();
+    let mut place = frames.len();
     while place > 0 {
         place -= 1;
-        if is_sought(sought, &layers[place]) {
+        if is_open_nonblocking(&frames[place]) {
+            return true;
+        }
+    }
+    false
+}
+
+/// Whether a block is an unwind block that is begun.
+fn is_run(block: &Open) -> bool
+    ensures { result ≡ is_run block.now }
+{
+    match block {
+        Open::Rest(_) => false,
+        Open::Again(_) => false,
+        Open::Owed(_) => false,
+        Open::Guard(_) => false,
+        Open::Try(_) => false,
+        Open::Run => true,
+        Open::Goal(_) => false,
+    }
+}
+
+/// The place of the innermost unwind block that is begun.
+pub(crate) fn last_run(blocks: &[Open]) -> Option<usize>
+    ensures last { IsLast is_run blocks.now result }
+    ensures within { IfSome result (λ i. i < length blocks.now) }
+{
+    let mut place = blocks.len();
+    while place > 0 {
+        place -= 1;
+        if is_run(&blocks[place]) {
             return Some(place);
         }
     }
     None
+}
+
+/// Whether a return ends this frame, or an unwind block in it.
+fn is_exit(saved: &Saved) -> bool
+    ensures { result ≡ is_exit saved.now }
+{
+    let begun = last_run(saved.blocks.as_slice()).is_some();
+    begun || !saved.shell
+}
+
+/// The place of the innermost frame that a return ends, or an unwind block in it.
+pub fn last_exit(frames: &[Saved]) -> Option<usize>
+    ensures last { IsLast is_exit frames.now result }
+    ensures within { IfSome result (λ i. i < length frames.now) }
+{
+    let mut place = frames.len();
+    while place > 0 {
+        place -= 1;
+        if is_exit(&frames[place]) {
+            return Some(place);
+        }
+    }
+    None
+}
+
+/// Whether a block is an unwinding.
+fn is_goal(block: &Open) -> bool
+    ensures { result ≡ is_goal block.now }
+{
+    match block {
+        Open::Rest(_) => false,
+        Open::Again(_) => false,
+        Open::Owed(_) => false,
+        Open::Guard(_) => false,
+        Open::Try(_) => false,
+        Open::Run => false,
+        Open::Goal(_) => true,
+    }
+}
+
+/// Whether some block is an unwinding.
+fn some_goal(blocks: &[Open]) -> bool
+    ensures { result ≡ among is_goal blocks.now }
+{
+    let mut place = blocks.len();
+    while place > 0 {
+        place -= 1;
+        if is_goal(&blocks[place]) {
+            return true;
+        }
+    }
+    false
+}
+
+/// Whether some frame has an unwinding.
+pub fn some_unwinds(frames: &[Saved]) -> bool
+    ensures { result ≡ among unwinds frames.now }
+{
+    let mut place = frames.len();
+    while place > 0 {
+        place -= 1;
+        if some_goal(frames[place].blocks.as_slice()) {
+            return true;
+        }
+    }
+    false
+}
+
+/// Whether the `try` that this statement is has a handler for an exception.
+fn handles(program: &Program, statement: StmtId, name: NameId) -> bool
+    ensures { result ≡ is_handling (arena_of program.now.code) name (Open.Try statement) }
+{
+    program.handler(statement, name).is_some()
+}
+
+/// Whether a block is a `try` that has a handler for an exception.
+fn is_handling(program: &Program, name: NameId, block: &Open) -> bool
+    ensures { result ≡ is_handling (arena_of program.now.code) name block.now }
+{
+    match block {
+        Open::Rest(_) => false,
+        Open::Again(_) => false,
+        Open::Owed(_) => false,
+        Open::Guard(_) => false,
+        Open::Try(statement) => handles(program, *statement, name),
+        Open::Run => false,
+        Open::Goal(_) => false,
+    }
 }
 
 /// The place of the innermost `try` that has a handler for an exception.
-pub fn last_try(program: &Program, layers: &[Layer], name: NameId) -> Option<usize>
-    ensures last { IsLast (is_handling (arena_of program.now.code) name) layers.now result }
-    ensures within { IfSome result (λ i. i < length layers.now) }
+pub fn last_try(program: &Program, blocks: &[Open], name: NameId) -> Option<usize>
+    ensures last { IsLast (is_handling (arena_of program.now.code) name) blocks.now result }
+    ensures within { IfSome result (λ i. i < length blocks.now) }
 {
-    let mut place = layers.len();
+    let mut place = blocks.len();
     while place > 0 {
         place -= 1;
-        if is_handling(program, name, &layers[place]) {
+        if is_handling(program, name, &blocks[place]) {
             return Some(place);
         }
     }
     None
+}
+
+/// Whether a frame has such a `try`.
+fn has_handler(program: &Program, name: NameId, saved: &Saved) -> bool
+    ensures { result ≡ has_handler (arena_of program.now.code) name saved.now }
+{
+    last_try(program, saved.blocks.as_slice(), name).is_some()
+}
+
+/// The place of the innermost frame that has a `try` with a handler for an exception.
+pub fn last_handler(program: &Program, frames: &[Saved], name: NameId) -> Option<usize>
+    ensures last { IsLast (has_handler (arena_of program.now.code) name) frames.now result }
+    ensures within { IfSome result (λ i. i < length frames.now) }
+{
+    let mut place = frames.len();
+    while place > 0 {
+        place -= 1;
+        if has_handler(program, name, &frames[place]) {
+            return Some(place);
+        }
+    }
+    None
+}
+
+/// The innermost call, also one that is being unwound.
+pub fn last_call(frames: &[Saved]) -> Option<&Frame>
+    ensures { option_map (λ x. call_of x.now) result ≡ last_call frames.now }
+{
+    let many = frames.len();
+    if many == 0 {
+        None
+    } else {
+        Some(&frames[many - 1].frame)
+    }
+}
+
+/// The transport call that a frame serves.
+fn via_of(saved: &Saved) -> Option<Via>
+    ensures { result ≡ saved.now.frame.via }
+{
+    saved.frame.via
+}
+
+/// The innermost transport call, also one that is being unwound.
+pub fn last_via(frames: &[Saved]) -> Option<Via>
+    ensures { result ≡ last_via frames.now }
+{
+    let mut place = frames.len();
+    while place > 0 {
+        place -= 1;
+        if let Some(via) = via_of(&frames[place]) {
+            return Some(via);
+        }
+    }
+    None
+}
+
+/// One for a call, and none for the body.
+fn one_call(frame: &Frame) -> usize
+    ensures value { result ≡ residual.counted_call frame.now.call }
+    ensures few { result ≤ 1 }
+{
+    match frame.call {
+        Some(_) => 1,
+        None => 0,
+    }
+}
+
+/// How many calls there are, the body not counted.
+pub fn many_calls(frames: &[Saved]) -> usize
+    ensures { result ≡ many_calls frames.now }
+{
+    let mut calls = 0;
+    for saved in frames {
+        calls += one_call(&saved.frame);
+    }
+    calls
 }

@@ -1,8 +1,10 @@
-pub mod Putting
-pub mod Keeping
+pub mod Frames
 pub mod Stepping
-pub mod Unwinds
-pub mod Shows
-pub mod Numbers
-pub mod Forgetting
 pub mod KernelBodies
+pub mod Relation
+pub mod Settled
+pub mod Unwinding
+pub mod Returning
+pub mod Leave
+pub mod Showing
+pub mod Drawn

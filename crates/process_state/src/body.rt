@@ -1,5 +1,5 @@
 //! Bodies.
-ghost use Rattle.std.specs.Prelude.{◌≡◌, ℕ, ◌+◌, ◌≤◌, length, Contains, vec_capacity};
+ghost use Rattle.std.specs.Prelude.{◌≡◌, ℕ, ◌+◌, ◌≤◌, length, Contains, vec_len, vec_capacity};
 ghost use Rattle.kernel_bodies.specs.FlatDesign.Code.{Arena, arena_of};
 ghost use Rattle.kernel_bodies.specs.SimModel.Residual as residual;
 ghost use Rattle.kernel_bodies.specs.SimModel.Residual.{next_of, put, skip, in_innermost};
@@ -9,14 +9,15 @@ ghost use Rattle.kernel_bodies.specs.Depths.{blocks_of};
 ghost use Rattle.kernel_bodies.specs.Around.{around_at};
 ghost use Rattle.kernel_bodies.specs.SimModel.declared.plain.Goal.{Goal as Aim};
 ghost use Rattle.kernel_bodies.specs.declared.program.Program.{Program as Whole};
-ghost use Rattle.kernel_bodies.specs.Layers.{call_of, shown_by, statement_of, EndsIn};
-ghost use Rattle.process_state.specs.Bodies.{left_of, left_in, settled_in, next_in, IsSound, Keeps, IsStatement, IsGoal, enclosed};
+ghost use Rattle.kernel_bodies.specs.Layers.{call_of, shown_by, statement_of};
+ghost use Rattle.process_state.specs.Bodies.{left_of, left_in, settled_in, next_in, IsSound, Keeps, IsStatement, IsGoal, EndsIn, enclosed};
 
 use kernel_bodies::flat_design_api::{BlockId, CodeId, StmtId};
 use kernel_bodies::logic_values_api::Value;
+use kernel_bodies::sim_model_api::Goal;
 use kernel_bodies::{
-    Comes, Frame, Layer, Next, Program, Sought, add_around, add_layers, block_begins, drop_layer,
-    keep_layers, land, last, next_shown, set_answer, set_local_in, take_frame,
+    Comes, Frame, Next, Open, Program, Saved, Spare, begin_in, drop_block, end_in, fill,
+    keep_frames, land, last_exit, next_shown, set_local_in, take_frame, under_goal,
 };
 
 /// What is left of a body, with the number of its code and its first arguments, which a restart begins it with. It is used
@@ -27,31 +28,46 @@ pub struct Body {
     pub(crate) code: CodeId,
     /// Its first arguments.
     pub(crate) arguments: Vec<Value>,
-    /// What stands around what is left, the outermost first.
-    pub(crate) layers: Vec<Layer>,
-    /// The statement inside all layers, where there is one.
+    /// How an unwinding of all that is left ends, where all of it is unwound.
+    pub(crate) goal: Option<Goal>,
+    /// The open calls, the body's own first: the frames of a coroutine that is set aside.
+    pub(crate) frames: Vec<Saved>,
+    /// The statement inside all of them, where there is one.
     pub(crate) statement: Option<StmtId>,
-    /// A vector for the body's own local variables, while they are not in use.
-    pub(crate) spare: Vec<Value>,
+    /// The vectors of the body's own call, while they are not in use.
+    pub(crate) spare: Spare,
+    /// A vector for what stands open in the next call.
+    pub(crate) room: Vec<Open>,
 }
 
 impl Body {
     /// Lets finished parts fall away, and tells what comes then.
     pub(crate) fn settle_to(&mut self, program: &Program) -> Comes
         requires { IsSound program.now self.old }
-        ensures grows { length self.new.layers.items ≤ length self.old.layers.items + 1 }
-        ensures room { vec_capacity self.old.layers ≤ vec_capacity self.new.layers }
+        ensures fewer { vec_len self.new.frames ≤ vec_len self.old.frames }
+        ensures room { vec_capacity self.old.frames ≤ vec_capacity self.new.frames }
+        ensures call_room { vec_capacity self.new.room ≡ vec_capacity self.old.room }
         ensures left { left_in program.now self.new ≡ settled_in program.now self.old }
         ensures shows { next_in program.now self.old ≡ shown_by result }
         ensures statement { self.new.statement ≡ statement_of result }
-        ensures ends { EndsIn self.new.layers.items result }
+        ensures ends { EndsIn self.new.goal self.new.frames.items result }
         ensures sound { IsSound program.now self.new }
         ensures kept { Keeps self.old self.new }
     {
-        let landing = land(program, self.layers.as_slice(), self.statement);
-        keep_layers(&mut self.layers, &mut self.spare, landing.stand);
-        self.statement = add_layers(&mut self.layers, landing.comes);
-        landing.comes
+        match land(program, self.frames.as_slice(), self.statement) {
+            Some(landing) => {
+                let place = landing.outside;
+                keep_frames(&mut self.frames, &mut self.spare, place + 1);
+                let comes = landing.comes;
+                self.statement = fill(&mut self.frames[place], landing.blocks, comes);
+                comes
+            }
+            None => {
+                keep_frames(&mut self.frames, &mut self.spare, 0);
+                self.statement = None;
+                under_goal(self.goal, Comes::Nothing)
+            }
+        }
     }
 
     /// Lets finished parts fall away.
@@ -72,8 +88,10 @@ impl Body {
         ensures done { result ≡ Next.Done → next_of (settled_in program.now self.now) ≡ residual.done }
         ensures nothing { result ≡ Next.Nothing → next_of (settled_in program.now self.now) ≡ residual.nothing }
     {
-        let landing = land(program, self.layers.as_slice(), self.statement);
-        next_shown(landing.comes)
+        match land(program, self.frames.as_slice(), self.statement) {
+            Some(landing) => next_shown(landing.comes),
+            None => next_shown(under_goal(self.goal, Comes::Nothing)),
+        }
     }
 
     /// The statement in place is past.
@@ -99,9 +117,8 @@ impl Body {
     {
         let _ = self.settle_to(program);
         if let Some(statement) = self.statement {
-            add_around(&mut self.layers, program.around(statement), statement);
-            let comes = block_begins(program, block);
-            self.statement = add_layers(&mut self.layers, comes);
+            let place = self.frames.len() - 1;
+            self.statement = begin_in(program, &mut self.frames[place], statement, block);
         }
     }
 
@@ -115,7 +132,13 @@ impl Body {
         ensures kept { Keeps self.old self.new }
     {
         let _ = self.settle_to(program);
-        take_frame(&mut self.layers)
+        let Saved {
+            frame,
+            shell: _,
+            blocks,
+        } = take_frame(&mut self.frames);
+        self.room = blocks;
+        frame
     }
 
     /// The goal of an unwinding is reached: the body goes on behind it.
@@ -127,7 +150,12 @@ impl Body {
         ensures kept { Keeps self.old self.new }
     {
         let _ = self.settle_to(program);
-        drop_layer(&mut self.layers, &mut self.spare);
+        let many = self.frames.len();
+        if many == 0 {
+            self.goal = None;
+        } else {
+            drop_block(&mut self.frames[many - 1]);
+        }
     }
 
     /// A return: it ends the innermost call, which keeps the answer, or the innermost unwind block, which drops it.
@@ -138,9 +166,9 @@ impl Body {
         ensures kept { Keeps self.old self.new }
     {
         let _ = self.settle_to(program);
-        if let Some(place) = last(self.layers.as_slice(), Sought::Exit) {
-            keep_layers(&mut self.layers, &mut self.spare, place + 1);
-            set_answer(&mut self.layers[place], answer);
+        if let Some(place) = last_exit(self.frames.as_slice()) {
+            keep_frames(&mut self.frames, &mut self.spare, place + 1);
+            end_in(&mut self.frames[place], answer);
             self.statement = None;
         }
     }
@@ -151,8 +179,9 @@ impl Body {
         ensures sound { (p : Whole) → IsSound p self.old → IsSound p self.new }
         ensures kept { Keeps self.old self.new }
     {
-        if let Some(place) = last(self.layers.as_slice(), Sought::Call) {
-            set_local_in(&mut self.layers[place], number, value);
+        let many = self.frames.len();
+        if many > 0 {
+            set_local_in(&mut self.frames[many - 1], number, value);
         }
     }
 }

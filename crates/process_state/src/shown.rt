@@ -5,91 +5,41 @@ ghost use Rattle.kernel_bodies.specs.SimModel.Residual as residual;
 ghost use Rattle.kernel_bodies.specs.SimModel.Residual.{Residual};
 ghost use Rattle.kernel_bodies.specs.SimModel.Unwinding as unwinding;
 ghost use Rattle.kernel_bodies.specs.SimModel.Reading.{locals_of};
-ghost use Rattle.kernel_bodies.specs.Layers.{call_of, inside, IsStandingOf};
-ghost use Rattle.kernel_bodies.specs.Sought.{calls_in};
+ghost use Rattle.kernel_bodies.specs.Layers.{call_of};
+ghost use Rattle.kernel_bodies.specs.Sought.{last_call, last_via, many_calls};
 ghost use Rattle.process_state.specs.Bodies.{left_of, left_in, settled_in, via_of, answer_of, body_of};
 
 use crate::body::Body;
 use kernel_bodies::flat_design_api::{CodeId, NameId};
 use kernel_bodies::logic_values_api::Value;
 use kernel_bodies::sim_model_api::Via;
-use kernel_bodies::{Frame, Layer, Program, Sought, frame_in, land, last, last_try, via_in};
-
-/// The innermost call of layers, also one that is being unwound.
-fn innermost_of(layers: &[Layer]) -> Option<&Frame>
-    ensures { (a : Arena) (r : Residual) → residual.innermost r ≡ None → option_map (λ x. call_of x.now) result ≡ residual.innermost (inside a layers.now r) }
-{
-    match last(layers, Sought::Call) {
-        Some(place) => frame_in(&layers[place]),
-        None => None,
-    }
-}
-
-/// The innermost transport call of layers, also one that is being unwound.
-fn within_of(layers: &[Layer]) -> Option<Via>
-    ensures { (a : Arena) (r : Residual) → residual.within r ≡ None → result ≡ residual.within (inside a layers.now r) }
-{
-    match last(layers, Sought::Transport) {
-        Some(place) => via_in(&layers[place]),
-        None => None,
-    }
-}
-
-/// One for a call, and none for the body.
-fn one_call(frame: &Frame) -> usize
-    ensures { result ≡ residual.counted_call frame.now.call }
-{
-    match frame.call {
-        Some(_) => 1,
-        None => 0,
-    }
-}
-
-/// How many calls a layer is: one at most.
-fn calls_in(layer: &Layer) -> usize
-    ensures value { result ≡ calls_in layer.now }
-    ensures few { result ≤ 1 }
-{
-    match layer {
-        Layer::Rest(_) => 0,
-        Layer::Again(_) => 0,
-        Layer::Owed(_) => 0,
-        Layer::Guard(_) => 0,
-        Layer::Try(_) => 0,
-        Layer::Frame(frame) => one_call(frame),
-        Layer::Shell(frame) => one_call(frame),
-        Layer::Run => 0,
-        Layer::Goal(_) => 0,
-        Layer::Gone => 0,
-    }
-}
-
-/// How many calls are open, the body not counted.
-fn calls_of(layers: &[Layer]) -> usize
-    ensures { (a : Arena) (r : Residual) → residual.open_frames r ≡ 0 → result ≡ residual.open_frames (inside a layers.now r) }
-{
-    let mut calls = 0;
-    for layer in layers {
-        calls += calls_in(layer);
-    }
-    calls
-}
+use kernel_bodies::{
+    Frame, Program, Saved, land, last_call, last_handler, last_try, last_via, many_calls,
+    some_nonblocking, some_unwinds,
+};
 
 impl Body {
-    /// The layers that stand once finished parts have fallen away.
-    fn standing(&self, program: &Program) -> &[Layer]
-        ensures { IsStandingOf (arena_of program.now.code) (settled_in program.now self.now) result.now }
+    /// The frames that stand once finished parts have fallen away.
+    fn standing(&self, program: &Program) -> &[Saved]
+        ensures calls { last_call result.now ≡ residual.innermost (settled_in program.now self.now) }
+        ensures transports { last_via result.now ≡ residual.within (settled_in program.now self.now) }
+        ensures many { many_calls result.now ≡ residual.open_frames (settled_in program.now self.now) }
     {
-        let layers = self.layers.as_slice();
-        let (standing, _) = layers.split_at(land(program, layers, self.statement).stand);
-        standing
+        let frames = self.frames.as_slice();
+        match land(program, frames, self.statement) {
+            Some(landing) => {
+                let (standing, _) = frames.split_at(landing.outside + 1);
+                standing
+            }
+            None => &[],
+        }
     }
 
     /// The value of a local variable of the innermost call, once finished parts have fallen away, if there is such a variable.
     pub fn local(&self, program: &Program, number: usize) -> Option<Value>
         ensures { result ≡ slice_get (locals_of (residual.innermost (settled_in program.now self.now))) number }
     {
-        match innermost_of(self.standing(program)) {
+        match last_call(self.standing(program)) {
             Some(frame) => frame.locals.as_slice().get(number).copied(),
             None => None,
         }
@@ -106,14 +56,14 @@ impl Body {
     pub fn innermost(&self, program: &Program) -> Option<&Frame>
         ensures { option_map (λ x. call_of x.now) result ≡ residual.innermost (settled_in program.now self.now) }
     {
-        innermost_of(self.standing(program))
+        last_call(self.standing(program))
     }
 
     /// The number of the code of the innermost call, once finished parts have fallen away.
     pub fn function(&self, program: &Program) -> Option<CodeId>
         ensures { result ≡ body_of (residual.innermost (settled_in program.now self.now)) }
     {
-        match innermost_of(self.standing(program)) {
+        match last_call(self.standing(program)) {
             Some(frame) => Some(frame.body),
             None => None,
         }
@@ -124,21 +74,30 @@ impl Body {
     pub fn within(&self, program: &Program) -> Option<Via>
         ensures { result ≡ residual.within (settled_in program.now self.now) }
     {
-        within_of(self.standing(program))
+        last_via(self.standing(program))
     }
 
     /// The innermost transport call, of what is left as it stands.
     pub fn within_now(&self) -> Option<Via>
         ensures { (a : Arena) → result ≡ residual.within (left_of a self.now) }
     {
-        within_of(self.layers.as_slice())
+        last_via(self.frames.as_slice())
     }
 
     /// Whether some `try` has a handler for an exception, once finished parts have fallen away.
     pub fn catches(&self, program: &Program, name: NameId) -> bool
         ensures { result ≡ unwinding.catches (settled_in program.now self.now) name }
     {
-        last_try(program, self.standing(program), name).is_some()
+        let frames = self.frames.as_slice();
+        match land(program, frames, self.statement) {
+            Some(landing) => {
+                let (blocks, _) = frames[landing.outside].blocks.split_at(landing.blocks);
+                let (outer, _) = frames.split_at(landing.outside);
+                last_try(program, blocks, name).is_some()
+                    || last_handler(program, outer, name).is_some()
+            }
+            None => false,
+        }
     }
 
     /// How many calls are open once finished parts have fallen away. The body is not counted; calls that are being unwound
@@ -146,14 +105,14 @@ impl Body {
     pub fn open_calls(&self, program: &Program) -> usize
         ensures { result ≡ residual.open_frames (settled_in program.now self.now) }
     {
-        calls_of(self.standing(program))
+        many_calls(self.standing(program))
     }
 
     /// The transport call that the innermost call serves, of what is left as it stands.
     pub fn via(&self) -> Option<Via>
         ensures { (a : Arena) → result ≡ via_of (residual.innermost (left_of a self.now)) }
     {
-        match innermost_of(self.layers.as_slice()) {
+        match last_call(self.frames.as_slice()) {
             Some(frame) => frame.via,
             None => None,
         }
@@ -163,7 +122,7 @@ impl Body {
     pub fn answered(&self) -> Option<Value>
         ensures { (a : Arena) → result ≡ answer_of (residual.innermost (left_of a self.now)) }
     {
-        match innermost_of(self.layers.as_slice()) {
+        match last_call(self.frames.as_slice()) {
             Some(frame) => frame.answer,
             None => None,
         }
@@ -173,13 +132,13 @@ impl Body {
     pub fn in_nb(&self) -> bool
         ensures { (a : Arena) → result ≡ residual.in_nb (left_of a self.now) }
     {
-        last(self.layers.as_slice(), Sought::NonBlocking).is_some()
+        some_nonblocking(self.frames.as_slice())
     }
 
     /// Whether the body is being unwound, or its goal is not passed yet.
     pub fn has_goal(&self) -> bool
         ensures { (a : Arena) → result ≡ residual.has_goal (left_of a self.now) }
     {
-        last(self.layers.as_slice(), Sought::Goal).is_some()
+        self.goal.is_some() || some_unwinds(self.frames.as_slice())
     }
 }

@@ -7,17 +7,17 @@ ghost use Rattle.kernel_bodies.specs.SimModel.Residual.{next_of, put, skip, begu
 ghost use Rattle.kernel_bodies.specs.SimModel.Calls.{frame_limit};
 ghost use Rattle.kernel_bodies.specs.Depths.{locals_at};
 ghost use Rattle.kernel_bodies.specs.declared.program.Program.{Program as Whole};
-ghost use Rattle.kernel_bodies.specs.Layers.{call_of, inside, standing, layers_of, statement_of};
-ghost use Rattle.kernel_bodies.specs.Room.{Fits, FitsAll, kept_along, own_room, locals_with, body_depth, begun_in};
-ghost use Rattle.process_state.specs.Bodies.{left_of, left_in, settled_in, next_in, IsSound, Keeps, IsStatement, HasRoomFor};
+ghost use Rattle.kernel_bodies.specs.Layers.{call_of};
+ghost use Rattle.kernel_bodies.specs.Room.{locals_with, body_depth, begun_in};
+ghost use Rattle.process_state.specs.Bodies.{left_of, left_in, settled_in, next_in, IsSound, Keeps, IsStatement, HasRoomFor, Begins};
 
 use crate::body::Body;
 use kernel_bodies::flat_design_api::{CodeId, Local, StmtId};
 use kernel_bodies::logic_values_api::Value;
 use kernel_bodies::sim_model_api::Via;
 use kernel_bodies::{
-    Frame, Layer, Program, add_layers, add_locals, body_begins, depth_in, keep_layers, locals_in,
-    many_locals, place,
+    Frame, Open, Program, Saved, Spare, add_layers, add_locals, body_begins, depth_in, keep_frames,
+    locals_in, many_locals, place,
 };
 use std::alloc::{AllocError, Global};
 use std::mem;
@@ -34,17 +34,31 @@ pub enum EnterStop {
 /// As many calls as may be open, the body not counted.
 const FRAME_LIMIT: usize = 64;
 
-/// Begins the body of a call inside layers, and gives its first statement.
-fn begin_call(program: &Program, layers: &mut Vec<Layer>, frame: Frame) -> Option<StmtId>
-    requires { vec_len layers.old + 2 ≤ vec_capacity layers.old }
-    ensures left { inside (arena_of program.now.code) layers.new.items (standing result) ≡ inside (arena_of program.now.code) layers.old.items (residual.frame (begun_in (arena_of program.now.code) (body_at (arena_of program.now.code) frame.body)) (call_of frame)) }
-    ensures room { (most : ℕ) → FitsAll (arena_of program.now.code) program.now.depths.items most 1 0 layers.old.items → length layers.old.items + body_depth program.now.depths.items (body_at (arena_of program.now.code) frame.body) + 3 ≤ most → Fits (arena_of program.now.code) program.now.depths.items most 1 0 layers.new.items result }
-    ensures own { (spare : ℕ) → own_room spare layers.new.items ≡ own_room spare (layers.old.items ++ Layer.Frame frame ∷ []) }
-    ensures capacity { vec_capacity layers.old ≤ vec_capacity layers.new }
+/// Begins the body of a call inside frames, with a vector for what stands open in it, and gives its first statement.
+fn begin_call(
+    program: &Program,
+    frames: &mut Vec<Saved>,
+    frame: Frame,
+    blocks: Vec<Open>,
+) -> Option<StmtId>
+    requires place { vec_len frames.old < vec_capacity frames.old }
+    requires room { body_depth program.now.depths.items (body_at (arena_of program.now.code) frame.body) + 3 ≤ vec_capacity blocks }
+    ensures begun { Begins program.now frames.old.items frame (vec_capacity blocks) result frames.new.items }
+    ensures capacity { vec_capacity frames.old ≤ vec_capacity frames.new }
 {
+    let mut inner = blocks;
+    inner.clear();
     let comes = body_begins(program, frame.body);
-    place(layers, Layer::Frame(frame));
-    add_layers(layers, comes)
+    let first = add_layers(&mut inner, comes);
+    place(
+        frames,
+        Saved {
+            frame,
+            shell: false,
+            blocks: inner,
+        },
+    );
+    first
 }
 
 /// The first values of the local variables of a call, in a vector that has room for them.
@@ -56,6 +70,23 @@ fn begin_locals(values: &mut Vec<Value>, arguments: &[Value], locals: &[Local])
     values.clear();
     let _ = values.extend_from_slice(arguments);
     add_locals(values, locals);
+}
+
+/// The vector for local variables that is kept. An empty one stays.
+fn take_locals(spare: &mut Spare) -> Vec<Value>
+    ensures taken { result ≡ spare.old.locals }
+    ensures blocks { spare.new.blocks ≡ spare.old.blocks }
+{
+    let none = Vec::new(*spare.locals.allocator());
+    mem::replace(&mut spare.locals, none)
+}
+
+/// The vector for what stands open in a call. An empty one stays.
+fn take_blocks(room: &mut Vec<Open>) -> Vec<Open>
+    ensures { result ≡ room.old }
+{
+    let none = Vec::new(*room.allocator());
+    mem::replace(room, none)
 }
 
 impl Body {
@@ -70,15 +101,18 @@ impl Body {
         ensures sound { IfOk result (λ b. IsSound program.now b) }
         ensures kept { IfOk result (λ b. (b.code ≡ code) × (b.arguments.items ≡ arguments.items)) }
     {
-        let layers = Vec::with_capacity(alloc, depth_in(program, code) + 3)?;
+        let frames = Vec::with_capacity(alloc, 1)?;
+        let blocks = Vec::with_capacity(alloc, depth_in(program, code) + 3)?;
         let many = many_locals(program, code, arguments.as_slice());
-        let spare = Vec::with_capacity(alloc, many)?;
+        let locals = Vec::with_capacity(alloc, many)?;
         Ok(Body {
             code,
             arguments,
-            layers,
+            goal: None,
+            frames,
             statement: None,
-            spare,
+            spare: Spare { locals, blocks },
+            room: Vec::new(alloc),
         })
     }
 
@@ -89,9 +123,10 @@ impl Body {
         ensures sound { IsSound program.now self.new }
         ensures kept { Keeps self.old self.new }
     {
-        keep_layers(&mut self.layers, &mut self.spare, 0);
-        let none = Vec::new(*self.spare.allocator());
-        let mut locals = mem::replace(&mut self.spare, none);
+        keep_frames(&mut self.frames, &mut self.spare, 0);
+        self.goal = None;
+        let mut locals = take_locals(&mut self.spare);
+        let blocks = take_blocks(&mut self.spare.blocks);
         begin_locals(
             &mut locals,
             self.arguments.as_slice(),
@@ -104,7 +139,7 @@ impl Body {
             call: None,
             via: None,
         };
-        self.statement = begin_call(program, &mut self.layers, frame);
+        self.statement = begin_call(program, &mut self.frames, frame, blocks);
     }
 
     /// Makes the body one that was not begun. It keeps its first arguments, and takes no memory.
@@ -113,11 +148,12 @@ impl Body {
         ensures sound { (p : Whole) → IsSound p self.old → IsSound p self.new }
         ensures kept { Keeps self.old self.new }
     {
-        keep_layers(&mut self.layers, &mut self.spare, 0);
+        keep_frames(&mut self.frames, &mut self.spare, 0);
+        self.goal = None;
         self.statement = None;
     }
 
-    /// Makes room for the layers of a call of this code. It is refused where as many calls are open as may be once finished
+    /// Makes room for a call of this code. It is refused where as many calls are open as may be once finished
     /// parts have fallen away, and where memory is. What is left stays as it is.
     pub fn reserve(&mut self, program: &Program, function: CodeId) -> Result<(), EnterStop>
         requires { IsSound program.now self.old }
@@ -133,7 +169,12 @@ impl Body {
         if self.open_calls(program) >= FRAME_LIMIT {
             return Err(EnterStop::TooDeep);
         }
-        match self.layers.reserve(depth_in(program, function) + 4) {
+        match self.frames.reserve(1) {
+            Ok(()) => {}
+            Err(_) => return Err(EnterStop::NoMemory),
+        }
+        self.room.clear();
+        match self.room.reserve(depth_in(program, function) + 3) {
             Ok(()) => Ok(()),
             Err(_) => Err(EnterStop::NoMemory),
         }
@@ -199,6 +240,7 @@ impl Body {
             call: self.statement,
             via,
         };
-        self.statement = begin_call(program, &mut self.layers, frame);
+        let blocks = take_blocks(&mut self.room);
+        self.statement = begin_call(program, &mut self.frames, frame, blocks);
     }
 }

@@ -1,16 +1,14 @@
-use Rattle.std.proofs.Common.{◌≡◌, ℕ, ◌≤◌, length, take, None}
+use Rattle.std.proofs.Common.{◌≡◌, ◌≤◌, length, take}
 use Rattle.sim_model.specs.FlatDesign.Code.{arena_of}
 use Rattle.sim_model.specs.Residual.{skip, settle}
-use Rattle.kernel_bodies.specs.Layers.{inside}
-use Rattle.kernel_bodies.specs.Room.{Fits}
+use Rattle.kernel_bodies.specs.Layers.{inside_frames}
 use Rattle.kernel_bodies.proofs.landing.land.Given as goal
 
-abbrev pub invariant-loop-stand : goal.invariant-loop-stand
-invariant-loop-stand l = record {
-  few : l.stand ≤ length l.layers;
-  settled : settle (arena_of l.program.code) (inside (arena_of l.program.code) l.layers skip) ≡ settle (arena_of l.program.code) (inside (arena_of l.program.code) (take l.stand l.layers) skip);
-  room : (most : ℕ) → Fits (arena_of l.program.code) l.program.depths.items most 1 0 l.layers None → Fits (arena_of l.program.code) l.program.depths.items most 1 0 (take l.stand l.layers) None;
+abbrev pub invariant-loop-many : goal.invariant-loop-many
+invariant-loop-many l = record {
+  few : l.many ≤ length l.frames;
+  settled : settle (arena_of l.program.code) (inside_frames (arena_of l.program.code) l.frames skip) ≡ settle (arena_of l.program.code) (inside_frames (arena_of l.program.code) (take l.many l.frames) skip);
 }
 
-abbrev pub decreases-loop-stand : goal.decreases-loop-stand
-decreases-loop-stand l = l.stand
+abbrev pub decreases-loop-many : goal.decreases-loop-many
+decreases-loop-many l = l.many

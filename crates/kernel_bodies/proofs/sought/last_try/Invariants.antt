@@ -5,8 +5,8 @@ use Rattle.kernel_bodies.proofs.sought.last_try.Given as goal
 
 abbrev pub invariant-loop-place : goal.invariant-loop-place
 invariant-loop-place l = record {
-  few : l.place ≤ length l.layers;
-  none : NoneIs (is_handling (arena_of l.program.code) l.name) (drop l.place l.layers);
+  few : l.place ≤ length l.blocks;
+  none : NoneIs (is_handling (arena_of l.program.code) l.name) (drop l.place l.blocks);
 }
 
 abbrev pub decreases-loop-place : goal.decreases-loop-place

@@ -1,35 +1,46 @@
-use Rattle.std.proofs.Common.{◌≡◌, ◌+◌, ◌≤◌, suc, List, None, take, get_or, set, refl, subst, sym, ap, ◌∙◌, arith}
+use Rattle.std.proofs.Common.{◌≡◌, ◌+◌, ◌<◌, ◌≤◌, ◌∷◌, ◌++◌, [], suc, List, None, length, take, get_or, set, refl, subst, sym, ap, ◌∙◌, arith}
 use Rattle.std.specs.Vec.{vec_capacity}
 use Rattle.kernel_bodies.specs.FlatDesign.Code.{arena_of}
 use Rattle.kernel_bodies.specs.SimModel.Residual.{skip}
 use Rattle.kernel_bodies.specs.SimModel.Unwinding.{returned}
-use Rattle.kernel_bodies.specs.declared.layers.Layer.{Layer}
-use Rattle.kernel_bodies.specs.declared.layers.Sought.TheVariants as sought
-use Rattle.kernel_bodies.specs.Layers.{inside, standing}
-use Rattle.kernel_bodies.specs.Sought.{is_sought, LastIs, NoneIs}
-use Rattle.kernel_bodies.specs.Room.{Fits, own_room}
-use Rattle.kernel_bodies.specs.Changed.{IsAnswered}
-use Rattle.process_state.proofs.Putting.{returned_last, returned_none}
-use Rattle.process_state.proofs.Keeping.{fits_at_cap, fits_set, fits_taken, own_set, answered_room, taken_at}
-use Rattle.process_state.proofs.Stepping.{le_to, exit_standing, returned_standing}
+use Rattle.kernel_bodies.specs.declared.layers.Saved.{Saved}
+use Rattle.kernel_bodies.specs.Layers.{inside_frames, under, held, standing}
+use Rattle.kernel_bodies.specs.Sought.{is_exit, LastIs, NoneIs}
+use Rattle.kernel_bodies.specs.Room.{FitsIn}
+use Rattle.kernel_bodies.proofs.Rooms.{fits_there}
+use Rattle.kernel_bodies.proofs.Seeking.{last_true}
+use Rattle.process_state.proofs.Frames.{le_to, front_at, front_set, front_is, same_there, left_nothing, fits_join, each_take, own_changed, blocks_changed}
+use Rattle.process_state.proofs.Returning.{returned_under, returned_frames, returned_none}
+use Rattle.process_state.proofs.Settled.{one_more}
+use Rattle.process_state.proofs.Stepping.{exit_standing, returned_standing}
 use Rattle.process_state.proofs.body.Body.answer.Goals as goal
+
+pub end_in-requires : goal.end_in-requires
+end_in-requires c =
+    let xs = c.settle_to.new.self.frames.items in
+    let i = c.in-Some.place in
+    let d = c.index_mut.result.now in
+    let P : List Saved → Type 0 = λ zs. LastIs is_exit zs i in
+    ap is_exit (c.index_mut.ensures.value ∙ ap (λ zs. get_or zs i d) (c.keep_frames.ensures.items ∙ ap (λ n. take n xs) (one_more i)) ∙ front_at xs i d) ∙ last_true is_exit xs i d (subst P c.as_slice.ensures.value c.in-Some.ensures.last)
 
 pub returns-in-Some-clause-left : goal.returns-in-Some-clause-left
 returns-in-Some-clause-left c =
     let a = arena_of c.args.program.now.code in
     let b = c.settle_to.new.self in
-    let ls = b.layers.items in
+    let xs = b.frames.items in
     let v = c.args.answer in
     let i = c.in-Some.place in
     let d = c.index_mut.result.now in
-    let m = c.set_answer.new.layer in
-    let P : List Layer → Type 0 = λ ks. LastIs (is_sought sought.Exit) ks i in
-    let Q : Layer → Type 0 = λ l. IsAnswered v l m in
-    let next : i + 1 ≡ suc i = omega arith in
-    let kept : c.keep_layers.new.layers.items ≡ take (suc i) ls = c.keep_layers.ensures.items ∙ ap (λ k. take k ls) next in
-    let at : d ≡ get_or ls i d = c.index_mut.ensures.value ∙ ap (λ ks. get_or ks i d) kept ∙ taken_at ls i d in
-    ap (λ ks. inside a (set ks i m) skip) kept
-    ∙ sym (returned_last a v ls (standing b.statement) i d m (subst P c.as_slice.ensures.value c.in-Some.ensures.last) (subst Q at c.set_answer.ensures) (exit_standing b.statement))
+    let y = c.end_in.new.saved in
+    let P : List Saved → Type 0 = λ zs. LastIs is_exit zs i in
+    let within : i < length xs = omega (arith, c.in-Some.ensures.within, ap length c.as_slice.ensures.value) in
+    let kept : c.keep_frames.new.frames.items ≡ take (suc i) xs = c.keep_frames.ensures.items ∙ ap (λ n. take n xs) (one_more i) in
+    let at : d ≡ get_or xs i d = c.index_mut.ensures.value ∙ ap (λ zs. get_or zs i d) kept ∙ front_at xs i d in
+    let new : set c.keep_frames.new.frames.items i y ≡ take i xs ++ y ∷ [] = ap (λ zs. set zs i y) kept ∙ front_set xs i y within in
+    left_nothing a b.goal (set c.keep_frames.new.frames.items i y)
+    ∙ ap (λ zs. under b.goal (inside_frames a zs skip)) new
+    ∙ ap (under b.goal) (sym (returned_frames a v xs i d y (standing (held xs b.statement)) (subst P c.as_slice.ensures.value c.in-Some.ensures.last) at c.end_in.ensures.left (exit_standing (held xs b.statement))))
+    ∙ sym (returned_under v b.goal (inside_frames a xs (standing (held xs b.statement))))
     ∙ ap (returned v) c.settle_to.ensures.left
 
 pub returns-in-Some-clause-sound : goal.returns-in-Some-clause-sound
@@ -37,29 +48,34 @@ returns-in-Some-clause-sound c =
     let a = arena_of c.args.program.now.code in
     let ds = c.args.program.now.depths.items in
     let b = c.settle_to.new.self in
-    let ls = b.layers.items in
-    let v = c.args.answer in
+    let xs = b.frames.items in
     let i = c.in-Some.place in
     let d = c.index_mut.result.now in
-    let m = c.set_answer.new.layer in
-    let ks = c.keep_layers.new.layers.items in
-    let cap = vec_capacity b.layers in
-    let spare = vec_capacity c.keep_layers.new.spare in
-    let Q : Layer → Type 0 = λ l. IsAnswered v l m in
-    let same = answered_room v (get_or ks i d) m (subst Q c.index_mut.ensures.value c.set_answer.ensures) in
-    let P : List Layer → Type 0 = λ ms. Fits a ds cap 1 0 ms None in
-    let kept = subst P (sym c.keep_layers.ensures.items) (fits_taken a ds cap ls (i + 1) b.statement (omega (arith, c.settle_to.ensures.sound.first)) c.settle_to.ensures.sound.room) in
-    let fits = fits_set a ds cap ks i d m None same kept in
-    let wide : cap ≤ vec_capacity c.keep_layers.new.layers = omega (arith, c.keep_layers.ensures.capacity) in record {
-      room = fits_at_cap a ds cap (vec_capacity c.keep_layers.new.layers) (set ks i m) (set ks i m) None None wide refl refl fits;
-      own = le_to _ (own_room spare (set ks i m)) _ (own_set spare ks i d m same ∙ c.keep_layers.ensures.own) c.settle_to.ensures.sound.own;
-      first = omega (arith, c.settle_to.ensures.sound.first, wide);
+    let y = c.end_in.new.saved in
+    let zs = c.keep_frames.new.frames.items in
+    let m = vec_capacity c.keep_frames.new.spare.locals in
+    let n = vec_capacity c.keep_frames.new.spare.blocks in
+    let within : i < length xs = omega (arith, c.in-Some.ensures.within, ap length c.as_slice.ensures.value) in
+    let kept : zs ≡ take (suc i) xs = c.keep_frames.ensures.items ∙ ap (λ k. take k xs) (one_more i) in
+    let at : d ≡ get_or xs i d = c.index_mut.ensures.value ∙ ap (λ ws. get_or ws i d) kept ∙ front_at xs i d in
+    let new : set zs i y ≡ take i xs ++ y ∷ [] = ap (λ ws. set ws i y) kept ∙ front_set xs i y within in
+    let old : zs ≡ take i xs ++ d ∷ [] = kept ∙ front_is xs i d within at in
+    let h = c.settle_to.ensures.sound in
+    let same = c.end_in.ensures.same in record {
+      room = fits_join a ds (set zs i y) (take i xs) y None new (each_take a ds i xs h.room.each) (c.end_in.ensures.room a ds (fits_there a ds xs b.statement i d within at h.room));
+      locals = omega (arith, h.locals, c.keep_frames.ensures.own.locals, own_changed m zs (set zs i y) (take i xs) d y old new same);
+      blocks = omega (arith, h.blocks, c.keep_frames.ensures.own.blocks, blocks_changed n zs (set zs i y) (take i xs) d y old new same);
+      first = omega (arith, h.first, c.keep_frames.ensures.capacity);
     }
 
 pub returns-in_default-clause-left : goal.returns-in_default-clause-left
 returns-in_default-clause-left c =
     let a = arena_of c.args.program.now.code in
     let b = c.settle_to.new.self in
+    let xs = b.frames.items in
     let v = c.args.answer in
-    let P : List Layer → Type 0 = λ ks. NoneIs (is_sought sought.Exit) ks in
-    sym (returned_none a v b.layers.items (standing b.statement) (returned_standing v b.statement) (subst P c.as_slice.ensures.value c.in_default.ensures.last)) ∙ ap (returned v) c.settle_to.ensures.left
+    let o = held xs b.statement in
+    let P : List Saved → Type 0 = λ zs. NoneIs is_exit zs in
+    ap (under b.goal) (sym (returned_none a v xs (standing o) (returned_standing v o) (subst P c.as_slice.ensures.value c.in_default.ensures.last)))
+    ∙ sym (returned_under v b.goal (inside_frames a xs (standing o)))
+    ∙ ap (returned v) c.settle_to.ensures.left

@@ -1,69 +1,65 @@
-use Rattle.std.proofs.Common.{◌≡◌, ℕ, ◌≤◌, ◌++◌, Option, length, subst, sym, ap, ◌∙◌, arith, length-append}
+use Rattle.std.proofs.Common.{◌≡◌, ℕ, ◌-◌, ◌<◌, ◌≤◌, suc, Some, Option, length, get_or, set, take, refl, subst, sym, ap, ◌∙◌, arith}
 use Rattle.std.specs.Vec.{vec_capacity}
 use Rattle.kernel_bodies.specs.FlatDesign.Code.{arena_of}
 use Rattle.kernel_bodies.specs.SimModel.Residual as residual
 use Rattle.kernel_bodies.specs.SimModel.Residual.{Residual, next_of, put, block}
 use Rattle.kernel_bodies.specs.Around.{around_at}
-use Rattle.kernel_bodies.specs.Layers.{shown, inside, standing, landed, layers_of, layers_around, statement_of}
-use Rattle.kernel_bodies.specs.Room.{Fits, own_room}
+use Rattle.kernel_bodies.specs.Layers.{inside, inside_frames, whole, held, under, shown, standing, layers_around}
+use Rattle.kernel_bodies.specs.Room.{FitsFrames}
+use Rattle.kernel_bodies.proofs.Lands.{held_some}
+use Rattle.kernel_bodies.proofs.Rooms.{fits_last}
 use Rattle.process_state.specs.Bodies.{settled_in, enclosed}
-use Rattle.kernel_bodies.proofs.Settling.{inside_append}
-use Rattle.process_state.proofs.Keeping.{fits_at_cap, own_comes, own_around}
-use Rattle.process_state.proofs.Stepping.{le_to, statement_comes, put_statement, around_few, enclosed_inside, enclosing_room, enclosing_fits, some_same, statement_same}
+use Rattle.process_state.proofs.Frames.{le_to, ends_inside, put_statement, changed_left, whole_same, last_set, last_is, fits_join, each_take, same_room, own_changed, blocks_changed, held_last}
+use Rattle.process_state.proofs.Stepping.{statement_comes, enclosed_inside, some_same, statement_same}
 use Rattle.process_state.proofs.body.Body.begin_block.Goals as goal
 
-pub add_around-requires : goal.add_around-requires
-add_around-requires c =
-    let a = arena_of c.args.program.now.code in
-    let ds = c.args.program.now.depths.items in
+pub overflow_sub-place : goal.overflow_sub-place
+overflow_sub-place c =
     let b = c.settle_to.new.self in
-    let cap = vec_capacity b.layers in
-    let r = settled_in c.args.program.now c.args.self.now in
-    let w = statement_comes (next_of r) c.settle_to.result c.requires.statement c.settle_to.ensures.shows in
-    let s = c.in-Some.statement in
-    let same : w.0 ≡ s = some_same w.0 s (sym (c.settle_to.ensures.statement ∙ w.1) ∙ c.in-Some.is) in
-    let P : Option ℕ → Type 0 = λ o. Fits a ds cap 1 0 b.layers.items o in
-    let h = subst P c.in-Some.is c.settle_to.ensures.sound.room in
-    let room = enclosing_room a ds cap b.layers.items s c.args.block c.around.result (sym c.around.ensures) h (c.requires.inner s (ap shown (w.2 ∙ ap residual.statement same))) in
-    omega (arith, room, around_few c.around.result s, b.layers.ok.0)
+    let some : 0 < length b.frames.items = ends_inside b.goal b.frames.items c.settle_to.result c.in-Some.statement (sym c.settle_to.ensures.statement ∙ c.in-Some.is) c.settle_to.ensures.ends in
+    omega (arith, some, b.frames.ok.0)
 
-pub add_layers-self-requires : goal.add_layers-self-requires
-add_layers-self-requires c =
-    let a = arena_of c.args.program.now.code in
-    let ds = c.args.program.now.depths.items in
+pub begin_in-self-requires-clause-room : goal.begin_in-self-requires-clause-room
+begin_in-self-requires-clause-room c =
+    let p = c.args.program.now in
     let b = c.settle_to.new.self in
-    let cap = vec_capacity b.layers in
+    let d = c.index_mut.result.now in
+    let some : 0 < length b.frames.items = ends_inside b.goal b.frames.items c.settle_to.result c.in-Some.statement (sym c.settle_to.ensures.statement ∙ c.in-Some.is) c.settle_to.ensures.ends in
+    let P : Option ℕ → Type 0 = λ o. FitsFrames (arena_of p.code) p.depths.items b.frames.items o in
+    fits_last (arena_of p.code) p.depths.items b.frames.items (Some c.in-Some.statement) (c.len-place.result - 1) d (omega (arith, some, b.frames.ok.0)) c.index_mut.ensures.value (subst P c.in-Some.is c.settle_to.ensures.sound.room)
+
+pub begin_in-self-requires-clause-inner : goal.begin_in-self-requires-clause-inner
+begin_in-self-requires-clause-inner c =
     let r = settled_in c.args.program.now c.args.self.now in
     let w = statement_comes (next_of r) c.settle_to.result c.requires.statement c.settle_to.ensures.shows in
     let s = c.in-Some.statement in
     let same : w.0 ≡ s = some_same w.0 s (sym (c.settle_to.ensures.statement ∙ w.1) ∙ c.in-Some.is) in
-    let P : Option ℕ → Type 0 = λ o. Fits a ds cap 1 0 b.layers.items o in
-    let h = subst P c.in-Some.is c.settle_to.ensures.sound.room in
-    let room = enclosing_room a ds cap b.layers.items s c.args.block c.around.result (sym c.around.ensures) h (c.requires.inner s (ap shown (w.2 ∙ ap residual.statement same))) in
-    omega (arith, room, around_few c.around.result s, length-append b.layers.items (layers_around c.around.result s), ap length c.add_around.ensures.items, c.add_around.ensures.capacity, c.block_begins-comes.ensures.few, b.layers.ok.0, c.add_around.new.layers.ok.0)
+    c.requires.inner s (ap shown (w.2 ∙ ap residual.statement same))
 
 pub returns-in-Some-clause-left : goal.returns-in-Some-clause-left
 returns-in-Some-clause-left c = λ n next.
     let a = arena_of c.args.program.now.code in
     let b = c.settle_to.new.self in
+    let xs = b.frames.items in
+    let i = c.len-place.result - 1 in
+    let d = c.index_mut.result.now in
+    let y = c.begin_in-self.new.saved in
+    let o = c.begin_in-self.result in
+    let zs = set xs i y in
     let r = settled_in c.args.program.now c.args.self.now in
     let w = statement_comes (next_of r) c.settle_to.result c.requires.statement c.settle_to.ensures.shows in
     let s = c.in-Some.statement in
-    let v = c.around.result in
-    let comes = c.block_begins-comes.result in
     let same : w.0 ≡ s = some_same w.0 s (sym (c.settle_to.ensures.statement ∙ w.1) ∙ c.in-Some.is) in
     let named : s ≡ n = statement_same s n (sym (w.2 ∙ ap residual.statement same) ∙ next) in
-    let inner : Residual = enclosed a s v (block a c.args.block) in
-    let there : inside a c.add_layers-self.new.layers.items (standing c.add_layers-self.result) ≡ inside a b.layers.items inner =
-    ap (λ ms. inside a ms (standing c.add_layers-self.result)) (c.add_layers-self.ensures.items ∙ ap (λ ks. ks ++ layers_of comes) c.add_around.ensures.items)
-    ∙ ap (λ o. inside a (b.layers.items ++ layers_around v s ++ layers_of comes) (standing o)) c.add_layers-self.ensures.statement
-    ∙ inside_append a (b.layers.items ++ layers_around v s) (layers_of comes) (standing (statement_of comes))
-    ∙ inside_append a b.layers.items (layers_around v s) (landed a comes)
-    ∙ ap (λ q. inside a b.layers.items (inside a (layers_around v s) q)) c.block_begins-comes.ensures.value
-    ∙ ap (inside a b.layers.items) (enclosed_inside a v s (block a c.args.block)) in
-    there
-    ∙ sym (put_statement a b.layers.items b.statement s r inner c.settle_to.ensures.left c.in-Some.is)
-    ∙ ap (λ x. put r (enclosed a s x (block a c.args.block))) c.around.ensures
+    let some : 0 < length xs = ends_inside b.goal xs c.settle_to.result s (sym c.settle_to.ensures.statement ∙ c.in-Some.is) c.settle_to.ensures.ends in
+    let last : suc i ≡ length xs = omega (arith, some, b.frames.ok.0) in
+    let inner : Residual = inside a (layers_around (around_at a s) s) (block a c.args.block) in
+    let there : inside_frames a zs (standing o) ≡ inside_frames a xs inner =
+    changed_left a xs zs i d y (standing o) inner last c.index_mut.ensures.value refl (whole_same a d y (standing o) inner c.begin_in-self.ensures.same c.begin_in-self.ensures.left) in
+    ap (λ p. under b.goal (inside_frames a zs (standing p))) (held_last zs (take i xs) y o (last_set xs i y last))
+    ∙ ap (under b.goal) there
+    ∙ sym (put_statement a b.goal xs b.statement s r inner c.settle_to.ensures.left c.in-Some.is some)
+    ∙ ap (put r) (enclosed_inside a (around_at a s) s (block a c.args.block))
     ∙ ap (λ m. put r (enclosed a m (around_at a m) (block a c.args.block))) named
 
 pub returns-in-Some-clause-sound : goal.returns-in-Some-clause-sound
@@ -71,22 +67,19 @@ returns-in-Some-clause-sound c =
     let a = arena_of c.args.program.now.code in
     let ds = c.args.program.now.depths.items in
     let b = c.settle_to.new.self in
-    let cap = vec_capacity b.layers in
-    let spare = vec_capacity b.spare in
-    let r = settled_in c.args.program.now c.args.self.now in
-    let w = statement_comes (next_of r) c.settle_to.result c.requires.statement c.settle_to.ensures.shows in
-    let s = c.in-Some.statement in
-    let v = c.around.result in
-    let comes = c.block_begins-comes.result in
-    let same : w.0 ≡ s = some_same w.0 s (sym (c.settle_to.ensures.statement ∙ w.1) ∙ c.in-Some.is) in
-    let P : Option ℕ → Type 0 = λ o. Fits a ds cap 1 0 b.layers.items o in
-    let h = subst P c.in-Some.is c.settle_to.ensures.sound.room in
-    let fits = enclosing_fits a ds cap b.layers.items s c.args.block v (sym c.around.ensures) h (c.requires.inner s (ap shown (w.2 ∙ ap residual.statement same))) comes (c.block_begins-comes.ensures.room cap) in
-    let items : c.add_layers-self.new.layers.items ≡ b.layers.items ++ layers_around v s ++ layers_of comes = c.add_layers-self.ensures.items ∙ ap (λ ks. ks ++ layers_of comes) c.add_around.ensures.items in
-    let wide : cap ≤ vec_capacity c.add_layers-self.new.layers = omega (arith, c.add_around.ensures.capacity, c.add_layers-self.ensures.capacity) in
-    let owns : own_room spare c.add_layers-self.new.layers.items ≡ own_room spare b.layers.items =
-    ap (own_room spare) items ∙ own_comes spare (b.layers.items ++ layers_around v s) comes ∙ own_around spare b.layers.items v s in record {
-      room = fits_at_cap a ds cap (vec_capacity c.add_layers-self.new.layers) (b.layers.items ++ layers_around v s ++ layers_of comes) c.add_layers-self.new.layers.items (statement_of comes) c.add_layers-self.result wide items c.add_layers-self.ensures.statement fits;
-      own = le_to _ (own_room spare c.add_layers-self.new.layers.items) _ owns c.settle_to.ensures.sound.own;
-      first = omega (arith, c.settle_to.ensures.sound.first, wide);
+    let xs = b.frames.items in
+    let i = c.len-place.result - 1 in
+    let d = c.index_mut.result.now in
+    let y = c.begin_in-self.new.saved in
+    let zs = set xs i y in
+    let some : 0 < length xs = ends_inside b.goal xs c.settle_to.result c.in-Some.statement (sym c.settle_to.ensures.statement ∙ c.in-Some.is) c.settle_to.ensures.ends in
+    let last : suc i ≡ length xs = omega (arith, some, b.frames.ok.0) in
+    let old = last_is xs i d last c.index_mut.ensures.value in
+    let new = last_set xs i y last in
+    let h = c.settle_to.ensures.sound in
+    let same = same_room d y c.begin_in-self.ensures.same in record {
+      room = fits_join a ds zs (take i xs) y c.begin_in-self.result new (each_take a ds i xs h.room.each) c.begin_in-self.ensures.room;
+      locals = le_to _ _ _ (own_changed (vec_capacity b.spare.locals) xs zs (take i xs) d y old new same) h.locals;
+      blocks = omega (arith, h.blocks, blocks_changed (vec_capacity b.spare.blocks) xs zs (take i xs) d y old new same);
+      first = h.first;
     }

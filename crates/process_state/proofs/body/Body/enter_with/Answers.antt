@@ -1,46 +1,51 @@
-use Rattle.std.proofs.Common.{◌≡◌, ℕ, ◌≤◌, Option, Some, None, refl, sym, ap, ◌∙◌, arith}
+use Rattle.std.proofs.Common.{◌≡◌, ℕ, ◌<◌, ◌≤◌, Option, Some, None, length, refl, sym, ap, ◌∙◌, arith}
 use Rattle.std.specs.Vec.{vec_capacity}
 use Rattle.kernel_bodies.specs.FlatDesign.Code.{arena_of, body_at}
 use Rattle.kernel_bodies.specs.SimModel.Residual as residual
 use Rattle.kernel_bodies.specs.SimModel.Residual.{Residual, next_of, put}
-use Rattle.kernel_bodies.specs.declared.layers.Layer.TheVariants as layer
-use Rattle.kernel_bodies.specs.declared.layers.Frame.{Frame}
-use Rattle.kernel_bodies.specs.Layers.{inside}
-use Rattle.kernel_bodies.specs.Room.{begun_in, own_room}
+use Rattle.kernel_bodies.specs.declared.layers.Frame.{Frame as Kept}
+use Rattle.kernel_bodies.specs.Layers.{inside_frames, under, held, standing}
+use Rattle.kernel_bodies.specs.Room.{begun_in}
 use Rattle.process_state.specs.Bodies.{settled_in}
-use Rattle.kernel_bodies.proofs.Rooms.{own_less}
-use Rattle.process_state.proofs.Keeping.{fits_at_cap}
-use Rattle.process_state.proofs.Stepping.{le_to, statement_comes, statement_same, put_statement, room_of_call}
+use Rattle.process_state.proofs.Frames.{ends_inside, put_statement, held_last, frames_last, fits_join, own_of_call}
+use Rattle.process_state.proofs.Stepping.{statement_comes, statement_same}
 use Rattle.process_state.proofs.body.Body.enter_with.Goals as goal
 
 pub returns-clause-left : goal.returns-clause-left
 returns-clause-left c = λ s next.
     let a = arena_of c.args.program.now.code in
     let b = c.settle_to.new.self in
+    let xs = b.frames.items in
     let r = settled_in c.args.program.now c.args.self.now in
     let w = statement_comes (next_of r) c.settle_to.result c.requires.statement c.settle_to.ensures.shows in
     let same : w.0 ≡ s = statement_same w.0 s (sym w.2 ∙ next) in
     let calls : b.statement ≡ Some s = c.settle_to.ensures.statement ∙ w.1 ∙ ap Some same in
-    let inner : Option ℕ → Residual = λ o. residual.frame (begun_in a (body_at a c.args.function)) (record { body = c.args.function; locals = c.args.locals.items; answer = None; call = o; via = c.args.via }) in
-    c.begin_call-self.ensures.left ∙ ap (λ o. inside a b.layers.items (inner o)) calls ∙ sym (put_statement a b.layers.items b.statement s r (inner (Some s)) c.settle_to.ensures.left calls)
+    let some : 0 < length xs = ends_inside b.goal xs c.settle_to.result w.0 w.1 c.settle_to.ensures.ends in
+    let begun = c.begin_call-self.ensures.begun in
+    let zs = c.begin_call-self.new.frames.items in
+    let o = c.begin_call-self.result in
+    let inner : Option ℕ → Residual = λ p. residual.frame (begun_in a (body_at a c.args.function)) (record { body = c.args.function; locals = c.args.locals.items; answer = None; call = p; via = c.args.via }) in
+    ap (λ p. under b.goal (inside_frames a zs (standing p))) (held_last zs xs begun.inner o begun.frames)
+    ∙ ap (under b.goal) (frames_last a zs xs begun.inner (standing o) begun.frames ∙ ap (inside_frames a xs) (begun.left ∙ ap inner calls))
+    ∙ sym (put_statement a b.goal xs b.statement s r (inner (Some s)) c.settle_to.ensures.left calls some)
 
 pub returns-clause-sound : goal.returns-clause-sound
 returns-clause-sound c =
     let a = arena_of c.args.program.now.code in
     let ds = c.args.program.now.depths.items in
     let b = c.settle_to.new.self in
-    let cap = vec_capacity b.layers in
-    let spare = vec_capacity b.spare in
+    let xs = b.frames.items in
     let r = settled_in c.args.program.now c.args.self.now in
     let w = statement_comes (next_of r) c.settle_to.result c.requires.statement c.settle_to.ensures.shows in
     let calls : b.statement ≡ Some w.0 = c.settle_to.ensures.statement ∙ w.1 in
-    let new = c.begin_call-self.new.layers in
-    let x : Frame = record { body = c.args.function; locals = c.args.locals; answer = None; call = b.statement; via = c.args.via } in
-    let wide : cap ≤ vec_capacity new = c.begin_call-self.ensures.capacity in
-    let owns : own_room spare new.items ≡ own_room spare b.layers.items =
-    c.begin_call-self.ensures.own spare ∙ own_less spare b.layers.items (layer.Frame x) ∙ ap (λ n. own_room n b.layers.items) (room_of_call b.statement w.0 (vec_capacity c.args.locals) spare calls) in
-    let fits = c.begin_call-self.ensures.room cap c.settle_to.ensures.sound.room.0 (omega (arith, c.requires.room, c.settle_to.ensures.grows, c.settle_to.ensures.room)) in record {
-      room = fits_at_cap a ds cap (vec_capacity new) new.items new.items c.begin_call-self.result c.begin_call-self.result wide refl refl fits;
-      own = le_to _ (own_room spare new.items) _ owns c.settle_to.ensures.sound.own;
-      first = omega (arith, c.settle_to.ensures.sound.first, wide);
+    let begun = c.begin_call-self.ensures.begun in
+    let zs = c.begin_call-self.new.frames.items in
+    let h = c.settle_to.ensures.sound in
+    let call : begun.inner.frame.call ≡ Some w.0 = ap (λ (f : Kept). f.call) begun.call ∙ calls in
+    let locals = (own_of_call (vec_capacity b.spare.locals) zs xs begun.inner w.0 begun.frames call).0 in
+    let blocks = (own_of_call (vec_capacity b.spare.blocks) zs xs begun.inner w.0 begun.frames call).1 in record {
+      room = fits_join a ds zs xs begun.inner c.begin_call-self.result begun.frames h.room.each begun.fits;
+      locals = omega (arith, h.locals, locals);
+      blocks = omega (arith, h.blocks, blocks);
+      first = omega (arith, h.first, c.begin_call-self.ensures.capacity);
     }

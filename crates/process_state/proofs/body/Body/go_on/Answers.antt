@@ -1,42 +1,65 @@
-use Rattle.std.proofs.Common.{◌≡◌, ◌≤◌, List, None, refl, subst, ap, ◌∙◌, arith}
+use Rattle.std.proofs.Common.{◌≡◌, ℕ, ◌-◌, ◌<◌, ◌≤◌, suc, List, Option, None, length, take, get_or, set, refl, subst, sym, ap, ◌∙◌, arith}
 use Rattle.std.specs.Vec.{vec_capacity}
 use Rattle.kernel_bodies.specs.FlatDesign.Code.{arena_of}
 use Rattle.kernel_bodies.specs.SimModel.Residual.{next_of}
-use Rattle.kernel_bodies.specs.declared.layers.Layer.{Layer}
 use Rattle.kernel_bodies.specs.declared.layers.Comes.{Comes}
-use Rattle.kernel_bodies.specs.Layers.{statement_of, EndsIn}
-use Rattle.kernel_bodies.specs.Room.{Fits, own_room}
-use Rattle.process_state.specs.Bodies.{settled_in}
-use Rattle.kernel_bodies.proofs.Rooms.{fits_less}
-use Rattle.process_state.proofs.Keeping.{fits_at_cap}
-use Rattle.process_state.proofs.Stepping.{le_to, goal_comes, goal_put}
+use Rattle.kernel_bodies.specs.Layers.{statement_of}
+use Rattle.kernel_bodies.specs.Room.{FitsIn, FitsFrames}
+use Rattle.kernel_bodies.proofs.Rooms.{fits_at_cap, fits_take, fits_there}
+use Rattle.process_state.specs.Bodies.{settled_in, EndsIn}
+use Rattle.process_state.proofs.Frames.{le_to, last_set, last_is, fits_join, each_take, same_room, own_changed, blocks_changed}
+use Rattle.process_state.proofs.Leave.{goal_alone, goal_left}
+use Rattle.process_state.proofs.Stepping.{goal_comes}
 use Rattle.process_state.proofs.body.Body.go_on.Goals as goal
 
-pub returns-clause-left : goal.returns-clause-left
-returns-clause-left c =
+pub returns-then-many-eq0-clause-left : goal.returns-then-many-eq0-clause-left
+returns-then-many-eq0-clause-left c =
     let b = c.settle_to.new.self in
     let r = settled_in c.args.program.now c.args.self.now in
     let w = goal_comes (next_of r) c.settle_to.result c.requires.reaches c.settle_to.ensures.shows in
-    let none : b.statement ≡ None = c.settle_to.ensures.statement ∙ ap statement_of w.1 in
-    let P : Comes → Type 0 = λ d. EndsIn b.layers.items d in
-    (goal_put (arena_of c.args.program.now.code) b.layers.items c.drop_layer.new.layers.items b.statement w.0 b.layers.len r c.settle_to.ensures.left none (subst P w.1 c.settle_to.ensures.ends) b.layers.ok.0 c.drop_layer.ensures.items).0
+    let P : Comes → Type 0 = λ d. EndsIn b.goal b.frames.items d in
+    goal_alone (arena_of c.args.program.now.code) b.goal b.frames.items b.statement w.0 r c.settle_to.ensures.left (omega (arith, b.frames.ok.0)) (subst P w.1 c.settle_to.ensures.ends)
 
-pub returns-clause-sound : goal.returns-clause-sound
-returns-clause-sound c =
+pub returns-else-many-eq0-clause-left : goal.returns-else-many-eq0-clause-left
+returns-else-many-eq0-clause-left c =
+    let b = c.settle_to.new.self in
+    let xs = b.frames.items in
+    let i = c.len-many.result - 1 in
+    let d = c.index_mut.result.now in
+    let y = c.drop_block.new.saved in
+    let r = settled_in c.args.program.now c.args.self.now in
+    let w = goal_comes (next_of r) c.settle_to.result c.requires.reaches c.settle_to.ensures.shows in
+    let none : b.statement ≡ None = c.settle_to.ensures.statement ∙ ap statement_of w.1 in
+    let P : Comes → Type 0 = λ d. EndsIn b.goal xs d in
+    let last : suc i ≡ length xs = omega (arith, b.frames.ok.0) in
+    goal_left (arena_of c.args.program.now.code) b.goal xs (set xs i y) b.statement w.0 r i d y c.settle_to.ensures.left none last c.index_mut.ensures.value refl c.drop_block.ensures.same c.drop_block.ensures.blocks (subst P w.1 c.settle_to.ensures.ends)
+
+pub returns-else-many-eq0-clause-sound : goal.returns-else-many-eq0-clause-sound
+returns-else-many-eq0-clause-sound c =
     let a = arena_of c.args.program.now.code in
     let ds = c.args.program.now.depths.items in
     let b = c.settle_to.new.self in
-    let ms = c.drop_layer.new.layers.items in
-    let cap = vec_capacity b.layers in
+    let xs = b.frames.items in
+    let i = c.len-many.result - 1 in
+    let d = c.index_mut.result.now in
+    let y = c.drop_block.new.saved in
+    let zs = set xs i y in
     let r = settled_in c.args.program.now c.args.self.now in
     let w = goal_comes (next_of r) c.settle_to.result c.requires.reaches c.settle_to.ensures.shows in
     let none : b.statement ≡ None = c.settle_to.ensures.statement ∙ ap statement_of w.1 in
-    let P : Comes → Type 0 = λ d. EndsIn b.layers.items d in
-    let last = goal_put a b.layers.items ms b.statement w.0 b.layers.len r c.settle_to.ensures.left none (subst P w.1 c.settle_to.ensures.ends) b.layers.ok.0 c.drop_layer.ensures.items in
-    let Q : List Layer → Type 0 = λ ks. Fits a ds cap 1 0 ks b.statement in
-    let fits = (fits_less a ds cap ms last.1 b.statement (subst Q last.2 c.settle_to.ensures.sound.room)).0 in
-    let wide : cap ≤ vec_capacity c.drop_layer.new.layers = omega (arith, c.drop_layer.ensures.capacity) in record {
-      room = fits_at_cap a ds cap (vec_capacity c.drop_layer.new.layers) ms ms None b.statement wide refl none fits;
-      own = le_to _ (own_room (vec_capacity c.drop_layer.new.spare) ms) _ c.drop_layer.ensures.own c.settle_to.ensures.sound.own;
-      first = omega (arith, c.settle_to.ensures.sound.first, wide);
+    let last : suc i ≡ length xs = omega (arith, b.frames.ok.0) in
+    let within : i < length xs = omega (arith, last) in
+    let old = last_is xs i d last c.index_mut.ensures.value in
+    let new = last_set xs i y last in
+    let h = c.settle_to.ensures.sound in
+    let same = same_room d y c.drop_block.ensures.same in
+    let n = length d.blocks.items - 1 in
+    let fits : FitsIn a ds y None =
+    fits_at_cap a ds (vec_capacity d.blocks) (vec_capacity y.blocks) (take n d.blocks.items) y.blocks.items None None same.room c.drop_block.ensures.blocks refl
+    (fits_take a ds (vec_capacity d.blocks) n d.blocks.items None (fits_there a ds xs b.statement i d within c.index_mut.ensures.value h.room)) in
+    let Q : Option ℕ → Type 0 = λ o. FitsFrames a ds zs o in record {
+      room = subst Q (sym none) (fits_join a ds zs (take i xs) y None new (each_take a ds i xs h.room.each) fits);
+      locals = le_to _ _ _ (own_changed (vec_capacity b.spare.locals) xs zs (take i xs) d y old new same) h.locals;
+      blocks = omega (arith, h.blocks, blocks_changed (vec_capacity b.spare.blocks) xs zs (take i xs) d y old new same);
+      first = h.first;
     }

@@ -1,15 +1,10 @@
-use Rattle.std.proofs.Common.{List, ◌∙◌, subst}
-use Rattle.kernel_bodies.specs.SimModel.Residual as residual
-use Rattle.kernel_bodies.specs.declared.layers.Layer.{Layer}
-use Rattle.kernel_bodies.specs.declared.layers.Sought.TheVariants as sought
-use Rattle.kernel_bodies.specs.Layers.{standing}
-use Rattle.kernel_bodies.specs.Sought.{is_sought, IsLast}
-use Rattle.kernel_bodies.proofs.Seeking.{goal_tests}
-use Rattle.process_state.proofs.Shows.{tested, goal_standing}
+use Rattle.std.proofs.Common.{sym, ap, ◌∙◌}
+use Rattle.kernel_bodies.specs.Layers.{held}
+use Rattle.kernel_bodies.specs.Sought.{among, unwinds}
+use Rattle.process_state.proofs.Showing.{goal_else}
 use Rattle.process_state.proofs.body.Body.has_goal.Goals as goal
 
-pub returns : goal.returns
-returns c = λ a.
+pub returns-else-is_some : goal.returns-else-is_some
+returns-else-is_some c = λ a.
     let b = c.args.self.now in
-    let P : List Layer → Type 0 = λ ks. IsLast (is_sought sought.Goal) ks c.last.result in
-    c.is_some.ensures ∙ tested residual.has_goal (is_sought sought.Goal) goal_tests a b.layers.items (standing b.statement) c.last.result (goal_standing b.statement) (subst P c.as_slice.ensures.value c.last.ensures.last)
+    c.some_unwinds.ensures ∙ ap (among unwinds) c.as_slice.ensures.value ∙ sym (goal_else a b.goal b.frames.items (held b.frames.items b.statement) (sym c.is_some.ensures ∙ c.if-is_some.false))

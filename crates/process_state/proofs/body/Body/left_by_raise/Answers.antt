@@ -1,30 +1,37 @@
 use Rattle.std.proofs.Common.{◌≡◌, ◌+◌, suc, List, drop, subst, sym, ap, ◌∙◌, arith}
 use Rattle.std.specs.Prelude.{slice_get}
 use Rattle.kernel_bodies.specs.FlatDesign.Code.{arena_of}
-use Rattle.kernel_bodies.specs.SimModel.Residual.{skip}
-use Rattle.kernel_bodies.specs.SimModel.Unwinding.{left_by_unw}
-use Rattle.kernel_bodies.specs.declared.layers.Layer.{Layer}
-use Rattle.kernel_bodies.specs.Layers.{inside}
-use Rattle.kernel_bodies.specs.Sought.{is_handling, LastIs, NoneIs}
-use Rattle.kernel_bodies.proofs.Leaving.{left_standing}
-use Rattle.process_state.proofs.Unwinds.{left_raise_last, left_raise_none}
+use Rattle.kernel_bodies.specs.declared.layers.Saved.{Saved}
+use Rattle.kernel_bodies.specs.Layers.{inside_frames, held, standing}
+use Rattle.kernel_bodies.specs.Sought.{has_handler, LastIs, NoneIs}
+use Rattle.kernel_bodies.specs.Unwound.{left_all}
+use Rattle.process_state.proofs.Settled.{one_more}
+use Rattle.process_state.proofs.Stepping.{catches_standing, left_standing, left_raise_standing}
+use Rattle.process_state.proofs.Unwinding.{left_raise_under, left_raise_frames, left_raise_none}
 use Rattle.process_state.proofs.body.Body.left_by_raise.Goals as goal
 
 pub returns-in-Some-clause-value : goal.returns-in-Some-clause-value
 returns-in-Some-clause-value c =
     let a = arena_of c.args.program.now.code in
     let b = c.args.self.now in
+    let xs = b.frames.items in
     let i = c.in-Some.place in
-    let next : i + 1 ≡ suc i = omega arith in
-    let P : List Layer → Type 0 = λ ks. LastIs (is_handling a c.args.name) ks i in
-    c.left_by.ensures.value a
-    ∙ ap (λ ks. slice_get (left_by_unw (inside a ks skip)) c.args.number) (c.split_at.ensures.back ∙ ap (drop (i + 1)) c.as_slice-in-Some.ensures.value)
-    ∙ ap (λ n. slice_get (left_by_unw (inside a (drop n b.layers.items) skip)) c.args.number) next
-    ∙ ap (λ vs. slice_get vs c.args.number) (sym (left_raise_last a b.layers.items b.statement c.args.name i (subst P c.as_slice.ensures.value c.in-Some.ensures.last) ∙ left_standing a (drop (suc i) b.layers.items) b.statement))
+    let e = c.args.name in
+    let o = held xs b.statement in
+    let P : List Saved → Type 0 = λ zs. LastIs (has_handler a e) zs i in
+    c.left_by.ensures.value
+    ∙ ap (λ zs. slice_get (left_all zs) c.args.number) (c.split_at.ensures.back ∙ ap (drop (i + 1)) c.as_slice-in-Some.ensures.value ∙ ap (λ n. drop n xs) (one_more i))
+    ∙ ap (λ vs. slice_get vs c.args.number)
+    (sym (left_raise_under b.goal (inside_frames a xs (standing o)) e ∙ left_raise_frames a e xs i (standing o) (subst P c.as_slice.ensures.value c.in-Some.ensures.last) (catches_standing o e) (left_standing o)))
 
 pub returns-in-None-clause-value : goal.returns-in-None-clause-value
 returns-in-None-clause-value c =
     let a = arena_of c.args.program.now.code in
     let b = c.args.self.now in
-    let P : List Layer → Type 0 = λ ks. NoneIs (is_handling a c.args.name) ks in
-    sym (ap (λ vs. slice_get vs c.args.number) (left_raise_none a b.layers.items b.statement c.args.name (subst P c.as_slice.ensures.value c.in-None.ensures.last)))
+    let xs = b.frames.items in
+    let e = c.args.name in
+    let o = held xs b.statement in
+    let P : List Saved → Type 0 = λ zs. NoneIs (has_handler a e) zs in
+    sym
+    (ap (λ vs. slice_get vs c.args.number)
+    (left_raise_under b.goal (inside_frames a xs (standing o)) e ∙ left_raise_none a e xs (standing o) (subst P c.as_slice.ensures.value c.in-None.ensures.last) (catches_standing o e) (left_raise_standing o e)))

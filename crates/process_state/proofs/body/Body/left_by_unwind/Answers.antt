@@ -1,11 +1,17 @@
 use Rattle.std.proofs.Common.{sym, ap, ◌∙◌}
 use Rattle.std.specs.Prelude.{slice_get}
-use Rattle.kernel_bodies.specs.SimModel.Residual.{skip}
-use Rattle.kernel_bodies.specs.SimModel.Unwinding.{left_by_unw}
-use Rattle.kernel_bodies.specs.Layers.{inside}
-use Rattle.kernel_bodies.proofs.Leaving.{left_standing}
+use Rattle.kernel_bodies.specs.Layers.{inside_frames, held, standing}
+use Rattle.kernel_bodies.specs.Unwound.{left_all}
+use Rattle.kernel_bodies.proofs.Seeking.{left_frames}
+use Rattle.process_state.proofs.Stepping.{left_standing}
+use Rattle.process_state.proofs.Unwinding.{left_under}
 use Rattle.process_state.proofs.body.Body.left_by_unwind.Goals as goal
 
 pub returns-clause-value : goal.returns-clause-value
 returns-clause-value c = λ a.
-    c.left_by.ensures.value a ∙ ap (λ ks. slice_get (left_by_unw (inside a ks skip)) c.args.number) c.as_slice.ensures.value ∙ ap (λ vs. slice_get vs c.args.number) (sym (left_standing a c.args.self.now.layers.items c.args.self.now.statement))
+    let b = c.args.self.now in
+    let xs = b.frames.items in
+    let o = held xs b.statement in
+    c.left_by.ensures.value
+    ∙ ap (λ zs. slice_get (left_all zs) c.args.number) c.as_slice.ensures.value
+    ∙ ap (λ vs. slice_get vs c.args.number) (sym (left_under b.goal (inside_frames a xs (standing o)) ∙ left_frames a xs (standing o) (left_standing o)))

@@ -1,46 +1,62 @@
-use Rattle.std.proofs.Common.{List, get_or, set, subst, sym}
+use Rattle.std.proofs.Common.{◌≡◌, ◌-◌, ◌<◌, ◌≤◌, ◌∷◌, ◌++◌, [], suc, List, Option, length, take, get_or, set, refl, sym, ap, ◌∙◌, arith}
 use Rattle.std.specs.Vec.{vec_capacity}
 use Rattle.kernel_bodies.specs.FlatDesign.Code.{arena_of}
 use Rattle.kernel_bodies.specs.SimModel.Storing.{with_local}
-use Rattle.kernel_bodies.specs.declared.layers.Layer.{Layer}
-use Rattle.kernel_bodies.specs.declared.layers.Sought.TheVariants as sought
-use Rattle.kernel_bodies.specs.Layers.{standing}
-use Rattle.kernel_bodies.specs.Sought.{is_sought, LastIs, NoneIs}
-use Rattle.kernel_bodies.specs.Room.{own_room}
-use Rattle.kernel_bodies.specs.Changed.{IsSet}
-use Rattle.process_state.proofs.Putting.{set_last, set_none}
-use Rattle.process_state.proofs.Keeping.{fits_set, own_set, set_room}
-use Rattle.process_state.proofs.Stepping.{le_to, innermost_standing, set_standing}
+use Rattle.kernel_bodies.specs.SimModel.Residual.{Frame, in_innermost}
+use Rattle.kernel_bodies.specs.Layers.{call_of, inside, inside_frames, under, held, standing, wrapped}
+use Rattle.kernel_bodies.specs.Room.{SameRoom}
+use Rattle.kernel_bodies.proofs.Rooms.{fits_at_cap, fits_last}
+use Rattle.process_state.proofs.Frames.{le_to, last_set, last_is, held_last, fits_join, each_take, own_changed, blocks_changed}
+use Rattle.process_state.proofs.Returning.{set_under, set_frames}
+use Rattle.process_state.proofs.Stepping.{innermost_standing, set_standing}
 use Rattle.process_state.proofs.body.Body.set_local.Goals as goal
 
-pub returns-in-Some-clause-left : goal.returns-in-Some-clause-left
-returns-in-Some-clause-left c = λ a.
+pub returns-then-many-gt0-clause-left : goal.returns-then-many-gt0-clause-left
+returns-then-many-gt0-clause-left c = λ a.
     let b = c.args.self.now in
-    let i = c.in-Some.place in
+    let xs = b.frames.items in
+    let i = c.len-many.result - 1 in
     let d = c.index_mut.result.now in
-    let m = c.set_local_in.new.layer in
-    let P : List Layer → Type 0 = λ ks. LastIs (is_sought sought.Call) ks i in
-    let Q : Layer → Type 0 = λ l. IsSet c.args.number c.args.value l m in
-    sym
-    (set_last a c.args.number c.args.value b.layers.items (standing b.statement) i d m (subst P c.as_slice.ensures.value c.in-Some.ensures.last) (subst Q c.index_mut.ensures.value c.set_local_in.ensures) (innermost_standing b.statement) (set_standing (with_local c.args.number c.args.value) b.statement))
-
-pub returns-in-Some-clause-sound : goal.returns-in-Some-clause-sound
-returns-in-Some-clause-sound c = λ p sound.
-    let a = arena_of p.code in
-    let b = c.args.self.now in
-    let i = c.in-Some.place in
-    let d = c.index_mut.result.now in
-    let m = c.set_local_in.new.layer in
-    let Q : Layer → Type 0 = λ l. IsSet c.args.number c.args.value l m in
-    let same = set_room c.args.number c.args.value (get_or b.layers.items i d) m (subst Q c.index_mut.ensures.value c.set_local_in.ensures) in record {
-      room = fits_set a p.depths.items (vec_capacity b.layers) b.layers.items i d m b.statement same sound.room;
-      own = le_to _ (own_room (vec_capacity b.spare) (set b.layers.items i m)) _ (own_set (vec_capacity b.spare) b.layers.items i d m same) sound.own;
-      first = sound.first;
-    }
-
-pub returns-in_default-clause-left : goal.returns-in_default-clause-left
-returns-in_default-clause-left c = λ a.
-    let b = c.args.self.now in
+    let y = c.set_local_in.new.saved in
+    let zs = set xs i y in
     let f = with_local c.args.number c.args.value in
-    let P : List Layer → Type 0 = λ ks. NoneIs (is_sought sought.Call) ks in
-    sym (set_none a f b.layers.items (standing b.statement) (set_standing f b.statement) (subst P c.as_slice.ensures.value c.in_default.ensures.last))
+    let last : suc i ≡ length xs = omega (arith, b.frames.ok.0) in
+    let old = last_is xs i d last c.index_mut.ensures.value in
+    let new = last_set xs i y last in
+    let o = b.statement in
+    let here : wrapped d.shell (f (call_of d.frame)) (inside a d.blocks.items (standing o)) ≡ wrapped y.shell (call_of y.frame) (inside a y.blocks.items (standing o)) =
+    ap (λ z. wrapped d.shell z (inside a d.blocks.items (standing o))) (sym c.set_local_in.ensures.set.0)
+    ∙ ap (λ s. wrapped s (call_of y.frame) (inside a d.blocks.items (standing o))) (sym c.set_local_in.ensures.shell)
+    ∙ ap (λ ls. wrapped y.shell (call_of y.frame) (inside a ls.items (standing o))) (sym c.set_local_in.ensures.blocks) in
+    ap (λ p. under b.goal (inside_frames a zs (standing p))) (held_last zs (take i xs) y o new)
+    ∙ ap (λ ws. under b.goal (inside_frames a ws (standing o))) new
+    ∙ ap (under b.goal) (sym (set_frames a f (take i xs) d y (standing o) (innermost_standing o) (set_standing f o) here))
+    ∙ sym (set_under f b.goal (inside_frames a (take i xs ++ d ∷ []) (standing o)))
+    ∙ ap (λ ws. in_innermost f (under b.goal (inside_frames a ws (standing o)))) (sym old)
+    ∙ ap (λ p. in_innermost f (under b.goal (inside_frames a xs (standing p)))) (sym (held_last xs (take i xs) d o old))
+
+pub returns-then-many-gt0-clause-sound : goal.returns-then-many-gt0-clause-sound
+returns-then-many-gt0-clause-sound c = λ p h.
+    let a = arena_of p.code in
+    let ds = p.depths.items in
+    let b = c.args.self.now in
+    let xs = b.frames.items in
+    let i = c.len-many.result - 1 in
+    let d = c.index_mut.result.now in
+    let y = c.set_local_in.new.saved in
+    let zs = set xs i y in
+    let last : suc i ≡ length xs = omega (arith, b.frames.ok.0) in
+    let old = last_is xs i d last c.index_mut.ensures.value in
+    let new = last_set xs i y last in
+    let same : SameRoom d y = record {
+      call = ap (λ (z : Frame). z.call) c.set_local_in.ensures.set.0;
+      locals = c.set_local_in.ensures.set.1;
+      room = omega (arith, ap vec_capacity c.set_local_in.ensures.blocks);
+    } in record {
+      room =
+          fits_join a ds zs (take i xs) y b.statement new (each_take a ds i xs h.room.each)
+          (fits_at_cap a ds (vec_capacity d.blocks) (vec_capacity y.blocks) d.blocks.items y.blocks.items b.statement b.statement same.room (ap (λ v. v.items) c.set_local_in.ensures.blocks) refl (fits_last a ds xs b.statement i d last c.index_mut.ensures.value h.room));
+      locals = le_to _ _ _ (own_changed (vec_capacity b.spare.locals) xs zs (take i xs) d y old new same) h.locals;
+      blocks = omega (arith, h.blocks, blocks_changed (vec_capacity b.spare.blocks) xs zs (take i xs) d y old new same);
+      first = h.first;
+    }

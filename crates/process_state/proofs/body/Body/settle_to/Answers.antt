@@ -1,42 +1,125 @@
-use Rattle.std.proofs.Common.{◌≡◌, ◌≤◌, List, ◌++◌, take, subst, sym, ap, ◌∙◌, arith}
-use Rattle.std.specs.Vec.{vec_capacity}
+use Rattle.std.proofs.Common.{◌≡◌, ℕ, ◌+◌, ◌<◌, ◌≤◌, suc, List, Option, Some, None, length, take, get_or, set, refl, subst, sym, ap, ◌∙◌, arith}
+use Rattle.std.specs.Vec.{vec_capacity, vec_len}
 use Rattle.kernel_bodies.specs.FlatDesign.Code.{arena_of}
-use Rattle.kernel_bodies.specs.SimModel.Residual.{settle}
-use Rattle.kernel_bodies.specs.declared.layers.Layer.{Layer}
-use Rattle.kernel_bodies.specs.Layers.{inside, standing, landed, layers_of, statement_of}
-use Rattle.kernel_bodies.specs.Room.{Fits, own_room}
-use Rattle.kernel_bodies.proofs.Settling.{inside_append}
-use Rattle.process_state.proofs.Keeping.{fits_at_cap, own_comes}
-use Rattle.process_state.proofs.Stepping.{le_to}
+use Rattle.kernel_bodies.specs.declared.layers.Saved.{Saved}
+use Rattle.kernel_bodies.specs.Landings.{Lands}
+use Rattle.kernel_bodies.specs.SimModel.Residual.{skip, settle}
+use Rattle.kernel_bodies.specs.declared.layers.Comes.{Comes}
+use Rattle.kernel_bodies.specs.Layers.{held, inside_frames, standing, under, statement_of, shown_by}
+use Rattle.kernel_bodies.specs.Room.{FitsFrames}
+use Rattle.process_state.specs.Bodies.{EndsIn}
+use Rattle.process_state.proofs.Settled.{land_shows, land_few, land_left, land_ends, land_fits, land_locals, land_blocks, falls_settled, falls_shows, falls_ends}
+use Rattle.process_state.proofs.Stepping.{under_nothing}
 use Rattle.process_state.proofs.body.Body.settle_to.Goals as goal
 
-pub returns-clause-left : goal.returns-clause-left
-returns-clause-left c =
-    let a = arena_of c.args.program.now.code in
-    let comes = c.land-landing.result.comes in
-    let stand = c.land-landing.result.stand in
-    ap (λ ms. inside a ms (standing c.add_layers-self.result)) (c.add_layers-self.ensures.items ∙ ap (λ ks. ks ++ layers_of comes) c.keep_layers.ensures.items)
-    ∙ ap (λ o. inside a (take stand c.args.self.now.layers.items ++ layers_of comes) (standing o)) c.add_layers-self.ensures.statement
-    ∙ inside_append a (take stand c.args.self.now.layers.items) (layers_of comes) (standing (statement_of comes))
-    ∙ ap (λ ks. inside a (take stand ks) (landed a comes)) (sym c.as_slice.ensures.value)
-    ∙ sym c.land-landing.ensures.settled
-    ∙ ap (λ ks. settle a (inside a ks (standing c.args.self.now.statement))) c.as_slice.ensures.value
+pub keep_frames-requires : goal.keep_frames-requires
+keep_frames-requires c = omega (arith, c.in-Some.ensures.lands.within, ap length c.as_slice.ensures.value, c.args.self.now.frames.ok.0)
 
-pub returns-clause-sound : goal.returns-clause-sound
-returns-clause-sound c =
+pub fill-self-requires : goal.fill-self-requires
+fill-self-requires c =
     let a = arena_of c.args.program.now.code in
     let ds = c.args.program.now.depths.items in
-    let comes = c.land-landing.result.comes in
-    let stand = c.land-landing.result.stand in
-    let cap = vec_capacity c.args.self.now.layers in
-    let spare = vec_capacity c.keep_layers.new.spare in
-    let P : List Layer → Type 0 = λ ks. Fits a ds cap 1 0 ks c.args.self.now.statement in
-    let items : c.add_layers-self.new.layers.items ≡ take stand c.as_slice.result.now ++ layers_of comes =
-    c.add_layers-self.ensures.items ∙ ap (λ ks. ks ++ layers_of comes) (c.keep_layers.ensures.items ∙ ap (take stand) (sym c.as_slice.ensures.value)) in
-    let wide : cap ≤ vec_capacity c.add_layers-self.new.layers = omega (arith, c.keep_layers.ensures.capacity, c.add_layers-self.ensures.capacity) in
-    let owns : own_room spare c.add_layers-self.new.layers.items ≡ own_room (vec_capacity c.args.self.now.spare) c.args.self.now.layers.items =
-    ap (own_room spare) c.add_layers-self.ensures.items ∙ own_comes spare c.keep_layers.new.layers.items comes ∙ c.keep_layers.ensures.own in record {
-      room = fits_at_cap a ds cap (vec_capacity c.add_layers-self.new.layers) (take stand c.as_slice.result.now ++ layers_of comes) c.add_layers-self.new.layers.items (statement_of comes) c.add_layers-self.result wide items c.add_layers-self.ensures.statement (c.land-landing.ensures.room cap (subst P (sym c.as_slice.ensures.value) c.requires.room));
-      own = le_to _ (own_room spare c.add_layers-self.new.layers.items) _ owns c.requires.own;
-      first = omega (arith, c.requires.first, wide);
+    let b = c.args.self.now in
+    let o = held b.frames.items b.statement in
+    let P : List Saved → Type 0 = λ zs. Lands a ds zs b.statement (standing (held zs b.statement)) c.in-Some.landing in
+    let lands = subst P c.as_slice.ensures.value c.in-Some.ensures.lands in
+    land_few a ds b.goal b.frames.items b.statement (standing o) c.in-Some.landing lands c.keep_frames.new.frames.items c.index_mut.result.now c.keep_frames.ensures.items c.index_mut.ensures.value c.requires.room
+
+pub returns-in-Some-clause-left : goal.returns-in-Some-clause-left
+returns-in-Some-clause-left c =
+    let a = arena_of c.args.program.now.code in
+    let ds = c.args.program.now.depths.items in
+    let b = c.args.self.now in
+    let l = c.in-Some.landing in
+    let ys = c.keep_frames.new.frames.items in
+    let d = c.index_mut.result.now in
+    let y = c.fill-self.new.saved in
+    let zs = set ys l.outside y in
+    let P : List Saved → Type 0 = λ ws. Lands a ds ws b.statement (standing (held ws b.statement)) l in
+    let lands = subst P c.as_slice.ensures.value c.in-Some.ensures.lands in
+    ap (λ o. under b.goal (inside_frames a zs (standing (held zs o)))) c.fill-self.ensures.statement
+    ∙ land_left a ds b.goal b.frames.items b.statement (standing (held b.frames.items b.statement)) l lands ys d c.keep_frames.ensures.items c.index_mut.ensures.value zs y refl c.fill-self.ensures.same c.fill-self.ensures.blocks
+
+pub returns-in-Some-clause-shows : goal.returns-in-Some-clause-shows
+returns-in-Some-clause-shows c =
+    let a = arena_of c.args.program.now.code in
+    let ds = c.args.program.now.depths.items in
+    let b = c.args.self.now in
+    let l = c.in-Some.landing in
+    let P : List Saved → Type 0 = λ ws. Lands a ds ws b.statement (standing (held ws b.statement)) l in
+    land_shows a ds b.goal b.frames.items b.statement (standing (held b.frames.items b.statement)) l (subst P c.as_slice.ensures.value c.in-Some.ensures.lands)
+
+pub returns-in-Some-clause-ends : goal.returns-in-Some-clause-ends
+returns-in-Some-clause-ends c =
+    let a = arena_of c.args.program.now.code in
+    let ds = c.args.program.now.depths.items in
+    let b = c.args.self.now in
+    let l = c.in-Some.landing in
+    let ys = c.keep_frames.new.frames.items in
+    let d = c.index_mut.result.now in
+    let y = c.fill-self.new.saved in
+    let P : List Saved → Type 0 = λ ws. Lands a ds ws b.statement (standing (held ws b.statement)) l in
+    let lands = subst P c.as_slice.ensures.value c.in-Some.ensures.lands in
+    land_ends a ds b.goal b.frames.items b.statement (standing (held b.frames.items b.statement)) l lands ys d c.keep_frames.ensures.items c.index_mut.ensures.value (set ys l.outside y) y refl c.fill-self.ensures.same c.fill-self.ensures.blocks
+
+pub returns-in-Some-clause-sound : goal.returns-in-Some-clause-sound
+returns-in-Some-clause-sound c =
+    let a = arena_of c.args.program.now.code in
+    let ds = c.args.program.now.depths.items in
+    let b = c.args.self.now in
+    let l = c.in-Some.landing in
+    let r = standing (held b.frames.items b.statement) in
+    let ys = c.keep_frames.new.frames.items in
+    let d = c.index_mut.result.now in
+    let y = c.fill-self.new.saved in
+    let zs = set ys l.outside y in
+    let m = vec_capacity c.keep_frames.new.spare.locals in
+    let n = vec_capacity c.keep_frames.new.spare.blocks in
+    let P : List Saved → Type 0 = λ ws. Lands a ds ws b.statement (standing (held ws b.statement)) l in
+    let Q : Option ℕ → Type 0 = λ o. FitsFrames a ds zs o in
+    let lands = subst P c.as_slice.ensures.value c.in-Some.ensures.lands in
+    let kept = c.keep_frames.ensures.items in
+    let at = c.index_mut.ensures.value in
+    let same = c.fill-self.ensures.same in
+    let filled = c.fill-self.ensures.blocks in record {
+      room = subst Q (sym c.fill-self.ensures.statement) (land_fits a ds b.goal b.frames.items b.statement r l lands ys d kept at zs y refl same filled c.requires.room);
+      locals = omega (arith, c.requires.locals, c.keep_frames.ensures.own.locals, land_locals a ds b.goal b.frames.items b.statement r l lands ys d kept at zs y refl same filled m);
+      blocks = omega (arith, c.requires.blocks, c.keep_frames.ensures.own.blocks, land_blocks a ds b.goal b.frames.items b.statement r l lands ys d kept at zs y refl same filled n);
+      first = omega (arith, c.requires.first, c.keep_frames.ensures.capacity);
+    }
+
+pub returns-in-None-clause-left : goal.returns-in-None-clause-left
+returns-in-None-clause-left c =
+    let a = arena_of c.args.program.now.code in
+    let b = c.args.self.now in
+    let P : List Saved → Type 0 = λ zs. settle a (inside_frames a zs (standing (held zs b.statement))) ≡ skip in
+    ap (λ zs. under b.goal (inside_frames a zs (standing (held zs None)))) c.keep_frames-in-None.ensures.items
+    ∙ sym (falls_settled a b.goal b.frames.items (standing (held b.frames.items b.statement)) (subst P c.as_slice.ensures.value c.in-None.ensures.falls))
+
+pub returns-in-None-clause-shows : goal.returns-in-None-clause-shows
+returns-in-None-clause-shows c =
+    let a = arena_of c.args.program.now.code in
+    let b = c.args.self.now in
+    let P : List Saved → Type 0 = λ zs. settle a (inside_frames a zs (standing (held zs b.statement))) ≡ skip in
+    falls_shows a b.goal b.frames.items (standing (held b.frames.items b.statement)) (subst P c.as_slice.ensures.value c.in-None.ensures.falls)
+    ∙ ap shown_by (sym c.under_goal.ensures)
+
+pub returns-in-None-clause-statement : goal.returns-in-None-clause-statement
+returns-in-None-clause-statement c = sym (ap statement_of c.under_goal.ensures ∙ (under_nothing (arena_of c.args.program.now.code) c.args.self.now.goal).2)
+
+pub returns-in-None-clause-ends : goal.returns-in-None-clause-ends
+returns-in-None-clause-ends c =
+    let b = c.args.self.now in
+    let P : Comes → Type 0 = λ d. EndsIn b.goal c.keep_frames-in-None.new.frames.items d in
+    subst P (sym c.under_goal.ensures) (falls_ends b.goal c.keep_frames-in-None.new.frames.items c.keep_frames-in-None.ensures.items)
+
+pub returns-in-None-clause-sound : goal.returns-in-None-clause-sound
+returns-in-None-clause-sound c =
+    let a = arena_of c.args.program.now.code in
+    let ds = c.args.program.now.depths.items in
+    let P : List Saved → Type 0 = λ zs. FitsFrames a ds zs None in record {
+      room = subst P (sym c.keep_frames-in-None.ensures.items) (record { each = tt; last = tt });
+      locals = omega (arith, c.requires.locals, c.keep_frames-in-None.ensures.own.locals);
+      blocks = omega (arith, c.requires.blocks, c.keep_frames-in-None.ensures.own.blocks);
+      first = omega (arith, c.requires.first, c.keep_frames-in-None.ensures.capacity);
     }
