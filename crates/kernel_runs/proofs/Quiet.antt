@@ -1,5 +1,5 @@
 -- The phases keep the design and the script's rest, and tell nothing.
-use Rattle.std.proofs.Common.{◌==◌, ◌++◌, ℕ, suc, Bool, true, List, [], ◌∷◌, Option, Some, None, refl, sym, ap, subst}
+use Rattle.std.proofs.Common.{◌==◌, ◌++◌, ℕ, suc, Bool, List, [], ◌∷◌, Option, Some, None, refl, sym, ap, subst}
 use Rattle.std.specs.Prelude.{map, unwrap_or}
 use Rattle.kernel_phases.specs.EventCore.declared.event.Ev.{Ev}
 use Rattle.kernel_phases.specs.EventCore.declared.notifications.Pending.{Pending}

@@ -7,7 +7,7 @@ ghost use Rattle.kernel_runs.specs.Asked.{MayStep};
 ghost use Rattle.kernel_runs.specs.Made.{Makes, Asks};
 
 use crate::answers::{Made, Telling, of_instance};
-use crate::takings::take_next;
+use crate::takings::take;
 use kernel_phases::kernel_bodies_api::Program;
 use kernel_phases::kernel_processes_api::top;
 use kernel_phases::kernel_state_api::Kernel;
@@ -30,7 +30,7 @@ fn evaluate_next<C: Chooser>(k: &mut Kernel, chooser: &mut C) -> Made
             update(k);
             Made::Went(Telling::Nothing)
         }
-        Some(_) => match take_next(k, chooser) {
+        Some(_) => match take(k, chooser) {
             Some(p) => Made::Took(p),
             None => Made::NotReady,
         },

@@ -16,6 +16,7 @@ use kernel_phases::kernel_bodies_api::Program;
 use kernel_phases::kernel_state_api::Kernel;
 use kernel_phases::sim_model_api::{Command, Phase};
 use kernel_phases::{Chooser, delta, initialize, timed};
+use kernel_sound::SoundKernel;
 use std::alloc::{AllocError, Global};
 
 /// Room for all events in a list without members.
@@ -106,11 +107,8 @@ fn go_on<C: Chooser>(
     }
 }
 
-/// Makes the next step of a session: the next command of the script where the kernel is idle, else the step of its phase
-/// (IEEE 1666-2011, 4.2.1). The chooser is asked once where the step takes a process, and in no other step. `place` counts the
-/// commands that were carried out; `events` is a list without members, whose room is used again. The program is the kernel's own,
-/// held apart, so that no statement is copied.
-pub fn make_step<C: Chooser>(
+/// The next step, of a kernel that is sound.
+fn make<C: Chooser>(
     k: &mut Kernel,
     program: &Program,
     alloc: Global,
@@ -136,4 +134,36 @@ pub fn make_step<C: Chooser>(
         Phase::Idle => next_command(k, script, place),
         _ => go_on(k, program, alloc, chooser, events),
     }
+}
+
+/// Makes the next step of a session: the next command of the script where the kernel is idle, else the step of its phase
+/// (IEEE 1666-2011, 4.2.1). The chooser is asked once where the step takes a process, and in no other step. `place` counts the
+/// commands that were carried out; `events` is a list without members, whose room is used again. The program is the kernel's own,
+/// held apart, so that no statement is copied.
+pub fn make_step<C: Chooser>(
+    k: &mut SoundKernel,
+    program: &Program,
+    alloc: Global,
+    script: &[Command],
+    place: &mut usize,
+    chooser: &mut C,
+    events: &mut Vec<u32>,
+) -> Made
+    requires asked { MayStep k.old.kernel program.now }
+    requires within { place.old ≤ length script.now }
+    requires none { events.old.items ≡ [] }
+    ensures steps { StepsOn k.old.kernel k.new.kernel (drop place.old script.now) (drop place.new script.now) result spec.step }
+    ensures asks { Asks C.picks C.later k.old.kernel chooser.old chooser.new result spec.step }
+    ensures within { place.new ≤ length script.now }
+    ensures none { events.new.items ≡ [] }
+{
+    make(
+        &mut k.kernel,
+        program,
+        alloc,
+        script,
+        place,
+        chooser,
+        events,
+    )
 }

@@ -1,5 +1,5 @@
 -- The processes of a design before the first command.
-use Rattle.std.proofs.Common.{◌≡◌, ◌≢◌, ◌<◌, ◌+◌, ◌||◌, not, ℕ, zero, suc, Bool, true, false, List, [], ◌∷◌, ◌++◌, take, length, reverse, map, get_or, slice_get, Option, Some, None, option_map, refl, sym, ap, ◌∙◌, subst, arith, true≢false, ⊎_elim}
+use Rattle.std.proofs.Common.{◌≡◌, ◌<◌, ◌+◌, ℕ, zero, suc, true, false, List, [], ◌∷◌, ◌++◌, take, length, reverse, map, get_or, slice_get, Option, Some, None, option_map, refl, sym, ap, ◌∙◌, subst, arith, true≢false, ⊎_elim}
 use Rattle.std.specs.Prelude.{is_some, unwrap_or}
 use Rattle.std.proofs.lemmas.Bool.{cases_eq}
 use Rattle.std.proofs.lemmas.List.{map-append}
@@ -8,12 +8,10 @@ use Rattle.std.specs.FinSet as set
 use Rattle.kernel_state.specs.EventCore.declared.event.Ev.{Ev}
 use Rattle.kernel_state.specs.InstanceTable.declared.instances.Instance.{Instance as Entry}
 use Rattle.kernel_state.specs.InstanceTable.declared.instances.ProcessKind.{ProcessKind}
-use Rattle.kernel_state.specs.FlatDesign.Code.{arena_of}
 use Rattle.kernel_state.specs.FlatDesign.declared.design.Design.{Design}
 use Rattle.kernel_state.specs.FlatDesign.declared.design.ProcessPart.{ProcessPart}
 use Rattle.kernel_state.specs.SimModel.Residual.{skip}
-use Rattle.kernel_state.specs.SimModel.Configuration.{Instance, Processes, first_instance, path_of}
-use Rattle.kernel_state.specs.SimModel.Waits.{holds}
+use Rattle.kernel_state.specs.SimModel.Configuration.{first_instance}
 use Rattle.kernel_state.specs.KernelBodies.declared.program.Program.{Program}
 use Rattle.kernel_state.specs.ProcessState.Bodies as bodies
 use Rattle.kernel_state.specs.ProcessState.Bodies.{left_in}

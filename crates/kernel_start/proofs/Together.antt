@@ -1,6 +1,5 @@
 -- The parts that a kernel begins with, together.
-use Rattle.std.proofs.Common.{◌≡◌, ◌≤◌, ◌+◌, ◌^◌, List, [], length, map, replicate, refl, sym, ap, ◌∙◌, subst, arith}
-use Rattle.std.specs.Global.{Vec}
+use Rattle.std.proofs.Common.{◌≡◌, ◌≤◌, List, [], length, map, replicate, refl, sym, ap, ◌∙◌, subst, arith}
 use Rattle.kernel_state.specs.InstanceTable.declared.TheConstants.{MAX_LIVE}
 use Rattle.kernel_state.specs.EventCore.declared.notifications.Pending.TheVariants as pending
 use Rattle.kernel_state.specs.QuantumKeeper.Keepers.{at_start}

@@ -12,6 +12,11 @@ pub mod kernel_bodies_api {
     pub use kernel_state::kernel_bodies_api::Program;
 }
 
+/// What is passed on of kernel_sound.
+pub mod kernel_sound_api {
+    pub use kernel_sound::SoundKernel;
+}
+
 /// What is passed on of kernel_state.
 pub mod kernel_state_api {
     pub use kernel_state::Kernel;

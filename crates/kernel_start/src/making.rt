@@ -6,11 +6,12 @@ ghost use Rattle.kernel_state.specs.FlatDesign.Code.{arena_of};
 ghost use Rattle.kernel_state.specs.FlatDesign.Reach.{IsIn, inner_blocks};
 ghost use Rattle.kernel_state.specs.SimModel.Configuration.{start};
 ghost use Rattle.kernel_state.specs.SimModel.declared.plain.Command.{Command};
-ghost use Rattle.kernel_state.specs.Kernel.{StandsFor, IsSound, cycle_of};
+ghost use Rattle.kernel_state.specs.Kernel.{StandsFor, cycle_of};
 ghost use Rattle.kernel_start.specs.Made.{first_cycle};
 
 use crate::parts::{First, first_parts};
 use crate::processes::first_processes;
+use kernel_sound::SoundKernel;
 use kernel_state::flat_design_api::{Code, Design};
 use kernel_state::kernel_bodies_api::Program;
 use kernel_state::kernel_processes_api::Schedule;
@@ -89,13 +90,13 @@ fn assembled(design: Design, program: Program, schedule: Schedule<Kept>, first: 
     }
 }
 
-/// The kernel of a sound design before the first command: no run has begun, it is time 0, and each value is the first.
-pub fn first_kernel(alloc: Global, design: Design) -> Result<Kernel, AllocError>
+/// The kernel of a sound design before the first command: no run has begun, it is time 0, and each value is the first. Its parts
+/// agree, as its type states.
+pub fn first_kernel(alloc: Global, design: Design) -> Result<SoundKernel, AllocError>
     requires nested { (b j : ℕ) (s : code.Statement) → IsIn (arena_of design.code) b s → Contains (inner_blocks s) j → j < b }
     requires few { length design.processes ≤ MAX_LIVE }
-    ensures first { IfOk result (λ k. (script : List Command) → StandsFor k (start design script)) }
-    ensures sound { IfOk result IsSound }
-    ensures made { IfOk result (λ k. k.made ≡ 0) }
+    ensures first { IfOk result (λ k. (script : List Command) → StandsFor k.kernel (start design script)) }
+    ensures made { IfOk result (λ k. k.kernel.made ≡ 0) }
 {
     let first = match first_parts(alloc, &design) {
         Ok(first) => first,
@@ -107,7 +108,9 @@ pub fn first_kernel(alloc: Global, design: Design) -> Result<Kernel, AllocError>
         Err(_) => return Err(AllocError),
     };
     match first_processes(alloc, &program, design.processes.as_slice()) {
-        Ok(schedule) => Ok(assembled(design, program, schedule, first)),
+        Ok(schedule) => Ok(SoundKernel {
+            kernel: assembled(design, program, schedule, first),
+        }),
         Err(_) => Err(AllocError),
     }
 }

@@ -3,7 +3,7 @@ ghost use Rattle.std.specs.Prelude.{◌≡◌, ◌<◌, ◌-◌, ◌^◌};
 ghost use Rattle.flat_design.specs.Code.{arena_of};
 ghost use Rattle.kernel_start.specs.KernelBodies.declared.program.Program.{Program};
 ghost use Rattle.vcd_trace.specs.SimModel.Configuration.{Config};
-ghost use Rattle.kernel_start.specs.KernelState.Kernel.{StandsFor, IsSound};
+ghost use Rattle.kernel_start.specs.KernelState.Kernel.{StandsFor};
 ghost use Rattle.kernel_start.specs.KernelState.declared.kernel.Kernel.{Kernel};
 ghost use Rattle.laws_reached.specs.Reached.{IsReached};
 ghost use Rattle.kernel_runs.specs.Asked.{MayStep};

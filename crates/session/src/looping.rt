@@ -4,7 +4,7 @@ ghost use Rattle.flat_design.specs.Code.{arena_of};
 ghost use Rattle.flat_design.specs.Sound.{SoundDesign};
 ghost use Rattle.kernel_start.specs.InstanceTable.declared.TheConstants.{MAX_LIVE};
 ghost use Rattle.vcd_trace.specs.SimModel.Configuration.{Config, start};
-ghost use Rattle.kernel_start.specs.KernelState.Kernel.{StandsFor, IsSound};
+ghost use Rattle.kernel_start.specs.KernelState.Kernel.{StandsFor};
 ghost use Rattle.sim_io.specs.Keeps.{WriteKeeps};
 ghost use Rattle.laws_reached.specs.Reached.{IsReached};
 ghost use Rattle.session.specs.Course.{Ran};
@@ -20,7 +20,7 @@ use flat_design::{Choices, Design};
 use kernel_runs::{Made, make_step};
 use kernel_start::first_kernel;
 use kernel_start::kernel_bodies_api::Program;
-use kernel_start::kernel_state_api::Kernel;
+use kernel_start::kernel_sound_api::SoundKernel;
 use laws_reached::kernel_phases_api::Choosing;
 use laws_reached::runs_begin;
 use sim_io::{Shelf, Sink, Trouble};
@@ -31,18 +31,17 @@ use vcd_trace::sim_model_api::{Command, Stop};
 /// Carries a script out until it ends, the budget is used up, or a step is a fault.
 fn run_on<S: Shelf, O: Sink>(
     alloc: Global,
-    k: &mut Kernel,
+    k: &mut SoundKernel,
     program: &Program,
     script: &[Command],
     plan: Plan,
     shelf: &mut S,
     out: &mut O,
 ) -> Outcome
-    requires sound { IsSound k.old }
-    requires begun { HasBegun k.old program.now script.now }
+    requires begun { HasBegun k.old.kernel program.now script.now }
     requires created { IfSome plan.vcd (S.created shelf.old) }
     requires listed { IfSome plan.choices (S.created shelf.old) }
-    ensures ran { (first : Config) → StandsFor k.old first → IsFirst first script.now → IsReached first
+    ensures ran { (first : Config) → StandsFor k.old.kernel first → IsFirst first script.now → IsReached first
         → Ran first plan result.choices result.steps result.stop (Took (AreNames S.stands shelf.old plan.vcd plan.choices)
         (outer_of S.files O.holds shelf.old out.old) (outer_of S.files O.holds shelf.new out.new)) }
     ensures kept { WriteKeeps S.files S.reads S.reading S.created S.stands shelf.old shelf.new }
@@ -63,12 +62,12 @@ fn run_on<S: Shelf, O: Sink>(
     let mut events = Vec::new(alloc);
     let mut steps = 0;
     let mut place = 0;
-    match record_begin(alloc, k, vcd, shelf, out) {
+    match record_begin(alloc, &k.kernel, vcd, shelf, out) {
         Ok(()) => {}
         Err(trouble) => return Outcome::cut(trouble, choices, steps),
     }
     while steps < budget {
-        let time = k.now();
+        let time = k.kernel.now();
         match make_step(
             k,
             program,
@@ -80,7 +79,7 @@ fn run_on<S: Shelf, O: Sink>(
         ) {
             Made::Went(told) => {
                 steps += 1;
-                match record_step(alloc, k, told, time, vcd, &mut tracing, shelf, out) {
+                match record_step(alloc, &k.kernel, told, time, vcd, &mut tracing, shelf, out) {
                     Ok(()) => {}
                     Err(trouble) => return Outcome::cut(trouble, choices, steps),
                 }
@@ -91,16 +90,16 @@ fn run_on<S: Shelf, O: Sink>(
                     Ok(()) => steps += 1,
                     Err(_) => return Outcome::cut(Trouble::NoMemory, choices, steps),
                 }
-                match record_turn(alloc, k, log, serial, shelf, out) {
+                match record_turn(alloc, &k.kernel, log, serial, shelf, out) {
                     Ok(()) => {}
                     Err(trouble) => return Outcome::cut(trouble, choices, steps),
                 }
             }
             Made::Ended => {
-                let ending = ended_as(k);
+                let ending = ended_as(&k.kernel);
                 return finish(
                     alloc,
-                    k,
+                    &k.kernel,
                     ending,
                     choices,
                     steps,
@@ -115,7 +114,7 @@ fn run_on<S: Shelf, O: Sink>(
                 let ending = Stop::Fault(fault);
                 return finish(
                     alloc,
-                    k,
+                    &k.kernel,
                     ending,
                     choices,
                     steps,
@@ -130,7 +129,7 @@ fn run_on<S: Shelf, O: Sink>(
                 let ending = not_ready(&choices);
                 return finish(
                     alloc,
-                    k,
+                    &k.kernel,
                     ending,
                     choices,
                     steps,
@@ -144,10 +143,10 @@ fn run_on<S: Shelf, O: Sink>(
             Made::NoMemory => return Outcome::cut(Trouble::NoMemory, choices, steps),
         }
     }
-    let ending = end_at_budget(k, script, place);
+    let ending = end_at_budget(&k.kernel, script, place);
     finish(
         alloc,
-        k,
+        &k.kernel,
         ending,
         choices,
         steps,

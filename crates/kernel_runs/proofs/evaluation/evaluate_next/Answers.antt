@@ -16,22 +16,22 @@ returns-in-None-clause-asks g c =
     update_asks c.args.k.now c.requires.nobody
     (λ q. ap (λ s. set.contains s q) (c.least_of_a_set.ensures.none _ (sym c.least.ensures ∙ c.in-None.is)) ∙ set.contains-empty nat_cmp q) g.C.Chooser.picks g.C.Chooser.later c.args.chooser.now (made.Went telling.Nothing)
 
-pub returns-in-Some-take_next-clause-makes : goal.returns-in-Some-take_next-clause-makes
-returns-in-Some-take_next-clause-makes g c =
+pub returns-in-Some-take-clause-makes : goal.returns-in-Some-take-clause-makes
+returns-in-Some-take-clause-makes g c =
     took_made c.args.k.now c.requires.nobody c.in-Some.field-0 (c.least_of_a_set.ensures.least _ c.in-Some.field-0 (sym c.least.ensures ∙ c.in-Some.is)).member
-    c.take_next.new.k (g.C.Chooser.picks c.args.chooser.now (rising c.args.k.now.schedule.ready.members)) c.requires.sound c.in-Some-take_next.p c.in-Some-take_next.ensures.takes
+    c.take.new.k (g.C.Chooser.picks c.args.chooser.now (rising c.args.k.now.schedule.ready.members)) c.requires.sound c.in-Some-take.p c.in-Some-take.ensures.takes
 
-pub returns-in-Some-take_next-clause-asks : goal.returns-in-Some-take_next-clause-asks
-returns-in-Some-take_next-clause-asks g c = rw c.in-Some-take_next.ensures.held
+pub returns-in-Some-take-clause-asks : goal.returns-in-Some-take-clause-asks
+returns-in-Some-take-clause-asks g c = rw c.in-Some-take.ensures.held
     (took_asks c.args.k.now c.requires.nobody c.in-Some.field-0 (c.least_of_a_set.ensures.least _ c.in-Some.field-0 (sym c.least.ensures ∙ c.in-Some.is)).member
-    g.C.Chooser.picks g.C.Chooser.later c.args.chooser.now c.take_next.new.k c.in-Some-take_next.p c.in-Some-take_next.ensures.takes)
+    g.C.Chooser.picks g.C.Chooser.later c.args.chooser.now c.take.new.k c.in-Some-take.p c.in-Some-take.ensures.takes)
 
-pub returns-in-None-take_next-clause-makes : goal.returns-in-None-take_next-clause-makes
-returns-in-None-take_next-clause-makes g c =
+pub returns-in-None-take-clause-makes : goal.returns-in-None-take-clause-makes
+returns-in-None-take-clause-makes g c =
     untaken_made c.args.k.now c.requires.nobody c.in-Some.field-0 (c.least_of_a_set.ensures.least _ c.in-Some.field-0 (sym c.least.ensures ∙ c.in-Some.is)).member
-    c.take_next.new.k (g.C.Chooser.picks c.args.chooser.now (rising c.args.k.now.schedule.ready.members)) c.in-None-take_next.ensures.takes
+    c.take.new.k (g.C.Chooser.picks c.args.chooser.now (rising c.args.k.now.schedule.ready.members)) c.in-None-take.ensures.takes
 
-pub returns-in-None-take_next-clause-asks : goal.returns-in-None-take_next-clause-asks
-returns-in-None-take_next-clause-asks g c = rw c.in-None-take_next.ensures.held
+pub returns-in-None-take-clause-asks : goal.returns-in-None-take-clause-asks
+returns-in-None-take-clause-asks g c = rw c.in-None-take.ensures.held
     (untaken_asks c.args.k.now c.requires.nobody c.in-Some.field-0 (c.least_of_a_set.ensures.least _ c.in-Some.field-0 (sym c.least.ensures ∙ c.in-Some.is)).member
-    g.C.Chooser.picks g.C.Chooser.later c.args.chooser.now c.take_next.new.k c.in-None-take_next.ensures.takes)
+    g.C.Chooser.picks g.C.Chooser.later c.args.chooser.now c.take.new.k c.in-None-take.ensures.takes)

@@ -1,4 +1,4 @@
-use Rattle.std.proofs.Common.{sym, ap, ◌∙◌}
+use Rattle.std.proofs.Common.{◌∙◌}
 use Rattle.kernel_state.specs.FlatDesign.Code.{arena_of}
 use Rattle.kernel_start.proofs.FirstOnes.{adds, adds_made}
 use Rattle.kernel_start.proofs.processes.add_process.Goals as goal

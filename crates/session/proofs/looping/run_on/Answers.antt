@@ -10,11 +10,10 @@ use Rattle.session.proofs.looping.run_on.Goals as goal
 
 pub returns-in-Err-clause-ran : goal.returns-in-Err-clause-ran
 returns-in-Err-clause-ran g c = λ first h s r. rw (c.cut.ensures, c.new-choices.ensures)
-    (cut_in_header c.args.plan first c.args.k.now c.args.script.now c.new-tracing.result (AreNames g.S.Shelf.stands c.args.shelf.now c.args.plan.vcd c.args.plan.choices) _ _ h s.nothing_told s.nothing_seen c.in-Err.trouble (c.in-Err.ensures.records c.args.plan.choices))
+    (cut_in_header c.args.plan first c.args.k.now.kernel c.args.script.now c.new-tracing.result (AreNames g.S.Shelf.stands c.args.shelf.now c.args.plan.vcd c.args.plan.choices) _ _ h s.nothing_told s.nothing_seen c.in-Err.trouble (c.in-Err.ensures.records c.args.plan.choices))
 
 pub loop-steps-init : goal.loop-steps-init
 loop-steps-init g c = record {
-  sound = c.requires.sound;
   within = omega arith;
   in_script = omega arith;
   none = c.new-events.ensures.items;
@@ -22,7 +21,7 @@ loop-steps-init g c = record {
   writes_later = c.in-Ok.ensures.cause.writes_later;
   kept = c.in-Ok.ensures.kept;
   going = λ first h s r. rw (c.new-choosing.ensures, c.new-choices.ensures)
-      (begins c.args.plan first c.args.k.now c.args.script.now c.new-tracing.result (AreNames g.S.Shelf.stands c.args.shelf.now c.args.plan.vcd c.args.plan.choices) _ _ h s.nothing_told s.nothing_seen s.script_left r
+      (begins c.args.plan first c.args.k.now.kernel c.args.script.now c.new-tracing.result (AreNames g.S.Shelf.stands c.args.shelf.now c.args.plan.vcd c.args.plan.choices) _ _ h s.nothing_told s.nothing_seen s.script_left r
       (first_keeps c.args.plan.vcd c.new-tracing.result first.trace.snapshots c.new-tracing.ensures s.nothing_seen) (c.in-Ok.ensures.records c.args.plan.choices));
 }
 
@@ -30,13 +29,12 @@ pub make_step-requires-clause-asked : goal.make_step-requires-clause-asked
 make_step-requires-clause-asked g c =
     let begun = c.requires.begun in
     let so_far = c.loop-steps.invariant.going begun.first begun.stands begun.is_first begun.reached in
-    c.runs_may_step.ensures c.loop-steps.k c.args.program.now so_far.at so_far.stands so_far.sound
+    c.runs_may_step.ensures c.loop-steps.k.kernel c.args.program.now so_far.at so_far.stands so_far.sound
     (subst (λ d. d.events < 2 ^ 32 - 1) (sym so_far.design) begun.events)
     (begun.code ∙ ap (λ d. arena_of d.code) (sym so_far.design))
 
 pub loop-steps-preserved-in-Ok-record_step : goal.loop-steps-preserved-in-Ok-record_step
 loop-steps-preserved-in-Ok-record_step g c = record {
-  sound = c.in-Went.ensures.sound;
   within = omega arith;
   in_script = c.in-Went.ensures.within;
   none = c.in-Went.ensures.none;
@@ -61,7 +59,6 @@ returns-in-Err-push-clause-ran g c = λ first h s r. rw (c.cut-in-Err-push.ensur
 
 pub loop-steps-preserved : goal.loop-steps-preserved
 loop-steps-preserved g c = record {
-  sound = c.in-Took.ensures.sound;
   within = omega arith;
   in_script = c.in-Took.ensures.within;
   none = c.in-Took.ensures.none;

@@ -1,7 +1,7 @@
 use Rattle.std.proofs.Common.{sym, ◌∙◌}
 use Rattle.kernel_phases.specs.ReadySet.Ready.{rising}
 use Rattle.kernel_runs.proofs.Picked.{none_picked, not_runnable, is_taken}
-use Rattle.kernel_runs.proofs.takings.take_next.Goals as goal
+use Rattle.kernel_runs.proofs.takings.take.Goals as goal
 
 pub returns-in-None-clause-takes : goal.returns-in-None-clause-takes
 returns-in-None-clause-takes g c = none_picked c.args.k.now (g.C.Chooser.picks c.args.chooser.now (rising c.args.k.now.schedule.ready.members)) (sym c.choose.ensures.answer ∙ c.in-None.is)
