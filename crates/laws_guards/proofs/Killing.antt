@@ -17,7 +17,7 @@ use Rattle.laws_unwinding.proofs.LawsRuns.ResidualLemmas.{guards-unwound}
 use Rattle.laws_unwinding.proofs.LawsRuns.Changes.{change-here}
 use Rattle.laws_unwinding.proofs.LawsRuns.Stacks.{top-is}
 use Rattle.laws_unwinding.proofs.Parts.{Parts}
-use Rattle.laws_unwinding.proofs.KeptControls.{left-parts}
+use Rattle.laws_unwinding.proofs.KeptMoves.{left-parts}
 use Rattle.laws_guards.specs.Once.{guards_below, IsOnTop, UnwindsAll}
 use Rattle.laws_guards.specs.Tops.{topped_by}
 

@@ -15,7 +15,7 @@ use Rattle.laws_unwinding.specs.SimModel.declared.plain.Command.{Command}
 use Rattle.laws_unwinding.proofs.LawsRuns.Splits.{joined}
 use Rattle.laws_unwinding.proofs.LawsRuns.Times.{times-holds, times-here}
 use Rattle.laws_unwinding.proofs.LawsRuns.Fits.{stands-at}
-use Rattle.laws_unwinding.proofs.LawsRuns.Wakes.{fire-fits, fire-leaves}
+use Rattle.laws_unwinding.proofs.LawsRuns.Wakes.{fire-fits, fire-ended}
 use Rattle.laws_unwinding.proofs.LawsRuns.CleanRuns.{good-after, live-taken, ended-nowhere, ended-free}
 use Rattle.laws_unwinding.proofs.KeptRuns.{sound-run, kept-after}
 use Rattle.laws_unwinding.proofs.Fits.{In, in-front, count-cons, one-more, count-in}
@@ -66,7 +66,7 @@ module _ (design : Design) (script : List Command) (n : ℕ) (choices : List ℕ
 
   fired_not : (e : Ev) → times q (fire c e).processes.runnable ≡ 0
   fired_not e =
-      let there = (fire-leaves c e).waitless q h.instance h.is free.wait in
+      let there = fire-ended q h.instance h.over free.wait c e h.is in
       let stands = stands-at (fire c e).processes q h.instance there (fire-fits c e (good-after design script n choices c reached).0) in
       by (times q (fire c e).processes.runnable) refl (λ lt. true≢false (sym h.over ∙ stands.lives (omega (arith, lt))))
     where
@@ -78,7 +78,7 @@ module _ (design : Design) (script : List Command) (n : ℕ) (choices : List ℕ
   named-nowhere = record {
     runnable = not_held c.processes.runnable q (let none = nowhere in omega (arith, none));
     active = not_held c.processes.stack q (let none = nowhere in omega (arith, none));
-    events = λ e. (fire-leaves c e).waitless q h.instance h.is free.wait ∙ sym h.is;
+    events = λ e. fire-ended q h.instance h.over free.wait c e h.is ∙ sym h.is;
     joins_by_none = λ e. not_held (fire c e).processes.runnable q (fired_not e);
     wakes = woken_not (instance_at c q) refl;
     timers = λ due none. due_lacks due c.processes.instances q 0 q h.instance (omega arith) h.is (ap due free.deadline ∙ none);

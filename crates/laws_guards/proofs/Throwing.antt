@@ -17,7 +17,7 @@ use Rattle.laws_unwinding.specs.SimModel.declared.plain.Goal.TheVariants as goal
 use Rattle.laws_unwinding.proofs.LawsRuns.GuardLemmas.{guards-raise}
 use Rattle.laws_unwinding.proofs.LawsRuns.Changes.{change-here}
 use Rattle.laws_unwinding.proofs.Parts.{Parts}
-use Rattle.laws_unwinding.proofs.KeptControls.{left-parts}
+use Rattle.laws_unwinding.proofs.KeptMoves.{left-parts}
 use Rattle.laws_guards.specs.Once.{guards_below, IsOnTop}
 use Rattle.laws_guards.specs.Tops.{topped_by}
 use Rattle.laws_guards.specs.Throws.{UnwindsInTry}

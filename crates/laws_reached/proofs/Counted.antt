@@ -46,7 +46,7 @@ use Rattle.laws_unwinding.specs.SimModel.Unwinding.{unw, left_by_unw, returned, 
 use Rattle.laws_unwinding.specs.SimModel.Configuration.{Config, Instance, Wait, changed_at, waits_for_nothing, waits_statically, waits_for_any, waits_for_all, line, change_instance, with_residual, with_runnable, with_marks, with_told, instance_at, arena}
 use Rattle.laws_unwinding.specs.SimModel.Reading.{Here, here, denotes, keeper_at, val, val_if, place_in, payload_number, live_payload, memory_here, memory_number}
 use Rattle.laws_unwinding.specs.SimModel.Storing.{passes, bytes_in, set_local, set_name, set_denoted, set_memory, set_payload, with_field, with_byte, low_byte, first_value, stored, stored_if, chosen, looped, print_line, do_assign}
-use Rattle.laws_unwinding.specs.SimModel.Waits.{holds, without, wake_all, fire_all, is_active, is_among, freed, joined, woken, struck, wake, wake_instance, left_of_all, reaches, reach_instance, fire_each, fire, leaves_stack, waits, notify}
+use Rattle.laws_unwinding.specs.SimModel.Waits.{holds, without, is_active, is_among, freed, joined, woken, struck, wake, wake_instance, left_of_all, reaches, reach_instance, fire_each, fire, leaves_stack, waits, notify}
 use Rattle.laws_unwinding.specs.SimModel.Waiting.{awaited, channel_event, event_number, on_event, notified_now, cancelled, when_after}
 use Rattle.laws_unwinding.specs.SimModel.Channels.{channel_in, blocks, set_fifo, set_mutex, set_semaphore, with_fifo, taken_from, written_unless, write_signal, write_fifo, write_channel, read_value, read_fifo, fifo_here, fifo_of, mutex_of, semaphore_of, nb_read_value, nb_read_fifo, nb_write_fifo, answered, lock_mutex, lock_at, trylock_mutex, trylock_at, unlock_mutex, unlock_at, sem_wait_value, sem_wait_at, sem_trywait_value, sem_trywait_at, post_value, post_at}
 use Rattle.laws_unwinding.specs.SimModel.Calls.{argument_values, locals_in, may_enter, enters, final_value, given_back, call_ends, answer_of, with_entry, with_left, thrown, cut_answer, answer_type, first_arguments, may_spawn, new_instance, added, runnable_unless, handle_stored, spawns}
@@ -137,14 +137,6 @@ module _ (c : Config) where
 
   pub fire_near : (d : Config) (e : Ev) → Near c d → Near c (fire d e)
   fire_near d e k = fire_each_near e 0 d.processes.instances d k
-
-  pub fire_all_near : (es : List Ev) (d : Config) → Near c d → Near c (fire_all es d)
-  fire_all_near [] d k = k
-  fire_all_near (e ∷ es) d k = fire_all_near es (fire d e) (fire_near d e k)
-
-  pub wake_all_near : (ps : List ℕ) (d : Config) → Near c d → Near c (wake_all ps d)
-  wake_all_near [] d k = k
-  wake_all_near (p ∷ ps) d k = wake_all_near ps (wake d p) (wake_near d p (instance_at d p) k)
 
   pub notify_near : (d : Config) (e : ℕ) (w : When) → Near c d → Near c (notify d e w)
   notify_near d e w k = (changed_length d.events e (notified w) (slice_get d.events e) ∙ k.0, k.1)

@@ -1,59 +1,16 @@
 -- What the phases of the scheduler do to the processes.
-use Rattle.std.proofs.Common.{◌≡◌, ◌≢◌, ◌+◌, ◌==◌, ◌<◌, ℕ, suc, Bool, true, false, cond, List, [], ◌∷◌, ◌++◌, length, map, slice_get, Option, Some, None, option_map, refl, sym, ap, ◌∙◌, subst, arith, ⊎_elim}
+use Rattle.std.proofs.Common.{◌≡◌, ◌≢◌, ◌+◌, ◌<◌, ℕ, suc, Bool, true, false, cond, List, [], ◌∷◌, ◌++◌, length, map, slice_get, Option, Some, None, option_map, refl, sym, ap, ◌∙◌, subst, arith, ⊎_elim}
 use Rattle.std.proofs.lemmas.Option.{slice_get-map, slice_get_cases}
-use Rattle.sim_model.specs.EventCore.declared.notifications.Pending.{Pending}
-use Rattle.sim_model.specs.SignalChannel.Drivers.{Driven}
-use Rattle.sim_model.specs.SignalChannel.declared.signal.Signal.{Signal}
-use Rattle.sim_model.specs.SignalChannel.declared.signal.Changed.{Changed}
-use Rattle.sim_model.specs.FifoSync.Fifos.{Queued}
-use Rattle.sim_model.specs.FlatDesign.declared.design.SignalPart.{SignalPart}
-use Rattle.sim_model.specs.FlatDesign.declared.design.ResolvedPart.{ResolvedPart}
-use Rattle.sim_model.specs.FlatDesign.declared.design.FifoPart.{FifoPart}
 use Rattle.sim_model.specs.FlatDesign.declared.design.ProcessPart.{ProcessPart}
 use Rattle.sim_model.specs.FlatDesign.declared.design.Design.{Design}
 use Rattle.sim_model.specs.Configuration.{Config, Instance, Processes, Deadline, no_deadline, change, change_instance, with_runnable, first_instance}
 use Rattle.sim_model.specs.Waits.{freed}
-use Rattle.sim_model.specs.Phases.{was_some, notified_if, announced, announce_signals, announce_resolved, announce_fifos, update_phase, due_events, due_instances, without_pending, without_deadline, fire_due, initialize_each, now_becomes}
+use Rattle.sim_model.specs.Phases.{without_deadline, initialize_each}
 use Rattle.sim_model.specs.Clean.{times}
 use Rattle.laws_runs.proofs.Times.{times-last_here, times-last_other}
 use Rattle.laws_runs.proofs.Changes.{change-here, change-other}
 use Rattle.laws_runs.proofs.Fits.{Stands, Fits, AllFit, Moved, never, stands-free, moved-to}
-use Rattle.laws_runs.proofs.Wakes.{wake_all-fits, wake_all-cycle, fire_all-fits, fire_all-cycle}
 use Rattle.laws_runs.proofs.Start.{first_processes}
-
--- ---- the update phase moves no process
-
-pub record Still (c d : Config) : Type 0 where
-  pub processes : d.processes ≡ c.processes
-  pub cycle : d.cycle ≡ c.cycle
-
-notified_still : (b : Bool) (e : ℕ) (c d : Config) → Still c d → Still c (notified_if b e d)
-notified_still true e c d h = record { processes = h.processes; cycle = h.cycle }
-notified_still false e c d h = h
-
-announced_still : (x : Changed) (events : ℕ) (c d : Config) → Still c d → Still c (announced x events d)
-announced_still x events c d h = notified_still x.neg _ c _ (notified_still x.pos _ c _ (notified_still x.changed _ c d h))
-
-signals_still : (ps : List SignalPart) (ss : List Signal) (c d : Config) → Still c d → Still c (announce_signals ps ss d)
-signals_still [] ss c d h = h
-signals_still (p ∷ ps) [] c d h = h
-signals_still (p ∷ ps) (s ∷ ss) c d h = signals_still ps ss c _ (announced_still _ p.events c d h)
-
-resolved_still : (ps : List ResolvedPart) (rs : List Driven) (bs : List Bool) (c d : Config) → Still c d → Still c (announce_resolved ps rs bs d)
-resolved_still [] rs bs c d h = h
-resolved_still (p ∷ ps) [] bs c d h = h
-resolved_still (p ∷ ps) (r ∷ rs) [] c d h = h
-resolved_still (p ∷ ps) (r ∷ rs) (b ∷ bs) c d h = resolved_still ps rs bs c _ (announced_still _ p.events c d h)
-
-fifos_still : (ps : List FifoPart) (qs : List Queued) (c d : Config) → Still c d → Still c (announce_fifos ps qs d)
-fifos_still [] qs c d h = h
-fifos_still (p ∷ ps) [] c d h = h
-fifos_still (p ∷ ps) (q ∷ qs) c d h = fifos_still ps qs c _ (notified_still (was_some q.read) (p.events + 1) c _ (notified_still (was_some q.written) p.events c d h))
-
-pub update-still : (c : Config) → Still c (update_phase c)
-update-still c =
-    let h = fifos_still c.design.fifos c.channels.fifos c _ (resolved_still c.design.resolved c.channels.resolved c.channels.resolved_asked c _ (signals_still c.design.signals c.channels.signals c c (record { processes = refl; cycle = refl }))) in
-    record { processes = h.processes; cycle = h.cycle }
 
 -- ---- what is due fires together
 
@@ -78,30 +35,10 @@ timeless_at : (time : Deadline → Bool) (o : Option Instance) (r s : ℕ) → F
 timeless_at time None r s h = h
 timeless_at time (Some i) r s h = timeless_if (time i.deadline) i r s h
 
-timeless_fits : (time : Deadline → Bool) (ps : Processes) → AllFit ps → AllFit (record ps { instances = map (without_deadline time) ps.instances })
-timeless_fits time ps fits p =
+pub timeless-fits : (time : Deadline → Bool) (ps : Processes) → AllFit ps → AllFit (record ps { instances = map (without_deadline time) ps.instances })
+timeless-fits time ps fits p =
     subst (λ o. Fits o (times p ps.runnable) (times p ps.stack)) (sym (slice_get-map (without_deadline time) ps.instances p))
     (timeless_at time (slice_get ps.instances p) (times p ps.runnable) (times p ps.stack) (fits p))
-
-pub due-fits : (test : Pending → Bool) (time : Deadline → Bool) (c : Config) → AllFit c.processes → AllFit (fire_due test time c).processes
-due-fits test time c fits =
-    wake_all-fits (due_instances time 0 c.processes.instances) _
-    (fire_all-fits (due_events test 0 c.events) (record c { events = map (without_pending test) c.events; processes = record c.processes { instances = map (without_deadline time) c.processes.instances } })
-    (timeless_fits time c.processes fits))
-
-pub due-cycle : (test : Pending → Bool) (time : Deadline → Bool) (c : Config) → (fire_due test time c).cycle ≡ c.cycle
-due-cycle test time c =
-    wake_all-cycle (due_instances time 0 c.processes.instances) _
-    ∙ fire_all-cycle (due_events test 0 c.events) (record c { events = map (without_pending test) c.events; processes = record c.processes { instances = map (without_deadline time) c.processes.instances } })
-
--- ---- now moves no process
-
-becomes_still : (b : Bool) (c d : Config) → d.processes ≡ c.processes → d.cycle.begun ≡ c.cycle.begun → ((cond b c d).processes ≡ c.processes) × ((cond b c d).cycle.begun ≡ c.cycle.begun)
-becomes_still true c d same begun = (refl, refl)
-becomes_still false c d same begun = (same, begun)
-
-pub now-still : (c : Config) (t : ℕ) → ((now_becomes c t).processes ≡ c.processes) × ((now_becomes c t).cycle.begun ≡ c.cycle.begun)
-now-still c t = becomes_still (t == c.cycle.now) c _ refl refl
 
 -- ---- initialization
 

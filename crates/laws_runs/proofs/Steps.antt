@@ -1,8 +1,7 @@
 -- Each step and each taking keeps the processes as they have to be.
-use Rattle.std.proofs.Common.{◌≡◌, ◌+◌, ℕ, Bool, true, false, cond, List, [], ◌∷◌, slice_get, Option, Some, None, refl, sym, ap, ◌∙◌, subst, arith, true≢false}
+use Rattle.std.proofs.Common.{◌≡◌, ◌+◌, ℕ, Bool, true, false, cond, List, [], ◌∷◌, slice_get, Option, Some, None, refl, sym, ap, ◌∙◌, subst, true≢false}
 use Rattle.std.proofs.lemmas.Option.{none-some, same_Some}
 use Rattle.std.specs.Prelude.{Result, Ok, Err}
-use Rattle.std.specs.Result.{IfOk}
 use Rattle.sim_model.specs.LogicValues.declared.kinds.Value.{Value}
 use Rattle.sim_model.specs.SimTime.declared.moments.Time.{Time}
 use Rattle.sim_model.specs.FlatDesign.declared.design.Visible.{Visible}
@@ -13,21 +12,25 @@ use Rattle.sim_model.specs.Values.{on_ok, time_within}
 use Rattle.sim_model.specs.Configuration.{Config, Cycle, Instance, Processes, Told, turn, change_instance, instance_at, with_runnable, with_stack, with_told}
 use Rattle.sim_model.specs.Waits.{holds, without}
 use Rattle.sim_model.specs.Control.{begins}
-use Rattle.sim_model.specs.Statements.{statement_step}
-use Rattle.sim_model.specs.Phases.{initialization, update_phase, session_stopped, delta_phase, delta_step, timed_at, fired_at, run_over, phase_after, phase_at, is_end, is_past, is_at, is_due_at, is_delta, is_zero_timeout, initialize_each, now_becomes, earliest}
-use Rattle.sim_model.specs.Steps.{Outcome, went, faulted, takes, ended, as_outcome, shows, sets, sets_visible, first_phase, run_begun, begin_run, carry_out, next_command, evaluate, step_in, step, turn_line, instance_taken, taken_if, taking}
-use Rattle.sim_model.specs.Clean.{times}
+use Rattle.sim_model.specs.Steps.{Outcome, went, faulted, takes, ended, as_outcome, shows, sets, sets_visible, first_phase, run_begun, begin_run, carry_out, next_command, step_in, step, turn_line, instance_taken, taken_if, taking}
 use Rattle.sim_model.specs.declared.plain.Phase.{Phase}
 use Rattle.sim_model.specs.declared.plain.Phase.TheVariants as phase
 use Rattle.sim_model.specs.declared.plain.Command.{Command}
 use Rattle.sim_model.specs.declared.plain.Command.TheVariants as command
-use Rattle.laws_runs.proofs.Times.{times-here, times-other, times-cut_here, times-cut_other, times-holds}
-use Rattle.laws_runs.proofs.Fits.{AllFit, Moved, stands-at, never, stands-free, moved-to, alike-fits}
-use Rattle.laws_runs.proofs.Moves.{Sound}
-use Rattle.laws_runs.proofs.Goals.{begins-fits}
-use Rattle.laws_runs.proofs.Statements.{statement-sound}
 use Rattle.laws_runs.proofs.Start.{first_processes}
-use Rattle.laws_runs.proofs.PhaseMoves.{update-still, due-fits, due-cycle, now-still, UnbegunFrom, initialize-fits, initialize-cycle, first-unbegun}
+use Rattle.sim_model.specs.Unwinding.{left_by_raise, left_by_unw}
+use Rattle.sim_model.specs.Calls.{with_entry, with_left, runnable_unless}
+use Rattle.sim_model.specs.Control.{is_top}
+use Rattle.sim_model.specs.Statements.{settled_in}
+use Rattle.sim_model.specs.Phases.{initialize_each}
+use Rattle.sim_model.specs.declared.plain.Via.{Via}
+use Rattle.laws_moves.specs.Moves as move
+use Rattle.laws_moves.specs.Moves.{time_moved, IsLater, Moves, StepMoves, in_turn, between, initializing, moving_now}
+use Rattle.laws_moves.proofs.Kept.{EachKeeps, moves-keep}
+use Rattle.laws_moves.proofs.RunSteps.{step-moves}
+use Rattle.laws_runs.proofs.Fits.{AllFit, never, alike-fits}
+use Rattle.laws_runs.proofs.PhaseMoves.{initialize-fits, initialize-cycle, UnbegunFrom, first-unbegun}
+use Rattle.laws_runs.proofs.MovesFit.{each-fits, top_residual-fits, begins-fits, alone-fits}
 
 -- before the first run begins, all processes are as they were at the start
 abbrev pub IsFresh : Config → Type 0
@@ -49,22 +52,6 @@ IfWent (went d) P = P d
 IfWent (faulted f) P = Unit {0}
 IfWent takes P = Unit {0}
 IfWent ended P = Unit {0}
-
--- ---- the phases that a step may leave behind
-
-fits_idle : (b : Bool) (c : Config) → b ≡ true → FitsPhase phase.Idle b c
-fits_idle b c begun = λ e. never b e begun
-
-fits_after : (xs : List ℕ) (b : Bool) (c : Config) → b ≡ true → FitsPhase (phase_after xs) b c
-fits_after [] b c begun = begun
-fits_after (x ∷ xs) b c begun = begun
-
-fits_either : (e : Bool) (one two : Phase) (b : Bool) (c : Config) → FitsPhase one b c → FitsPhase two b c → FitsPhase (cond e one two) b c
-fits_either true one two b c f g = f
-fits_either false one two b c f g = g
-
-fits_at : (t : ℕ) (end : Option ℕ) (xs : List ℕ) (b : Bool) (c : Config) → b ≡ true → FitsPhase (phase_at t end xs) b c
-fits_at t end xs b c begun = fits_either (is_end t end) phase.Idle (phase_after xs) b c (fits_idle b c begun) (fits_after xs b c begun)
 
 -- ---- the commands of the script
 
@@ -107,79 +94,83 @@ script_good : (c : Config) (ks : List Command) → c.cycle.phase ≡ phase.Idle 
 script_good c [] now fits fresh = tt
 script_good c (k ∷ ks) now fits fresh = command_good (record c { script = ks }) k now fits fresh
 
--- ---- initialization
+-- ---- a run that has begun, past its start
 
-init_good : (c : Config) → c.cycle.begun ≡ true → IsFresh c → AllFit c.processes → Good (initialization c)
-init_good c begun fresh fits =
-    let u = update_phase c in
-    let still = update-still c in
-    let made = initialize_each 0 c.design.processes u in
-    let from : UnbegunFrom 0 c.design.processes u.processes = subst (λ ps. UnbegunFrom 0 c.design.processes ps) (sym (still.processes ∙ fresh)) (first-unbegun c.design) in (
-      due-fits is_delta is_zero_timeout made (initialize-fits 0 c.design.processes u from (subst AllFit (sym still.processes) fits)),
-      ap (λ (y : Cycle). y.begun) (due-cycle is_delta is_zero_timeout made ∙ initialize-cycle 0 c.design.processes u ∙ still.cycle) ∙ begun,
-    )
+module _ (L : Phase → Type 0) (later : (ph : Phase) → IsLater ph → L ph) where
+  abbrev Begun : Config → Type 0
+  Begun c = (c.cycle.begun ≡ true) × L c.cycle.phase
 
--- ---- evaluation
+  begun_if : (b : Bool) (c d : Config) → Begun c → Begun d → Begun (cond b c d)
+  begun_if true c d one two = one
+  begun_if false c d one two = two
 
-went_good : (m : Result Config RunFault) → IfOk m Sound → IfWent (as_outcome m) Good
-went_good (Ok d) s = (s.0, subst (λ ph. FitsPhase ph d.cycle.begun d) (sym s.1.1) s.1.0)
-went_good (Err f) s = tt
+  left_begun : (vias : List Via) (c : Config) → Begun c → Begun (with_left c vias)
+  left_begun [] c h = h
+  left_begun (via ∷ more) c h = left_begun more (with_entry c via.hop _) h
 
-update_if : (b : Bool) (c : Config) → c.cycle.begun ≡ true → c.cycle.phase ≡ phase.Evaluate → AllFit c.processes
-    → Good (cond b (session_stopped (update_phase c)) (record (update_phase c) { cycle = record (update_phase c).cycle { phase = phase.Notify } }))
-update_if true c begun now fits =
-    let u = update_phase c in
-    let still = update-still c in (
-      subst AllFit (sym still.processes) fits,
-      subst (λ ph. FitsPhase ph u.cycle.begun (session_stopped u)) (sym (ap (λ (y : Cycle). y.phase) still.cycle ∙ now)) (ap (λ (y : Cycle). y.begun) still.cycle ∙ begun),
-    )
-update_if false c begun now fits = (subst AllFit (sym (update-still c).processes) fits, ap (λ (y : Cycle). y.begun) (update-still c).cycle ∙ begun)
+  unless_begun : (b : Bool) (q : ℕ) (c : Config) → Begun c → Begun (runnable_unless b q c)
+  unless_begun true q c h = h
+  unless_begun false q c h = h
 
-evaluate_good : (c : Config) (stack runnable : List ℕ) → c.processes.stack ≡ stack → c.cycle.begun ≡ true → c.cycle.phase ≡ phase.Evaluate → AllFit c.processes → IfWent (evaluate c stack runnable) Good
-evaluate_good c (p ∷ rest) runnable top begun now fits = went_good (statement_step c p) (statement-sound c p rest top (fits, (begun, now)))
-evaluate_good c [] (q ∷ runnable) top begun now fits = tt
-evaluate_good c [] [] top begun now fits = update_if c.cycle.stop_asked c begun now fits
+  each_begun : (w : Option ℕ) → EachKeeps w Begun
+  each_begun w c (move.throwing p r e) may h = left_begun (left_by_raise r e) _ h
+  each_begun w c (move.injecting q i e) may h = left_begun (left_by_raise i.residual e) _ h
+  each_begun w c (move.unwinding q i k) may h = left_begun (left_by_unw i.residual) _ (begun_if (is_top c q) _ _ h h)
+  each_begun w c (move.spawning p r x y args) may h = unless_begun y.dont_initialize _ _ h
+  each_begun w c (move.entering_phase ph) may h = (h.0, later ph may.1)
+  each_begun w c (move.beginning_run end) may h = (refl, subst (λ b. L (first_phase b)) (sym h.0) (later phase.Evaluate tt))
+  each_begun w c other may h = h
 
--- ---- the phases of notifications
+fits_later : (ph : Phase) (b : Bool) (c : Config) → b ≡ true → IsLater ph → FitsPhase ph b c
+fits_later phase.Idle b c begun later = λ e. never b e begun
+fits_later phase.Start b c begun later = absurd later
+fits_later phase.Evaluate b c begun later = begun
+fits_later phase.Notify b c begun later = begun
+fits_later phase.Timed b c begun later = begun
 
-delta_good : (c : Config) → c.cycle.begun ≡ true → AllFit c.processes → Good (delta_step c)
-delta_good c begun fits =
-    (due-fits is_delta is_zero_timeout c fits, fits_after (delta_phase c).processes.runnable _ (delta_step c) (ap (λ (y : Cycle). y.begun) (due-cycle is_delta is_zero_timeout c) ∙ begun))
+-- ---- a step by its moves
 
-over_good : (c : Config) (t : ℕ) → c.cycle.begun ≡ true → AllFit c.processes → Good (record (now_becomes c t) { cycle = record (now_becomes c t).cycle { phase = phase.Idle } })
-over_good c t begun fits = (subst AllFit (sym (now-still c t).0) fits, fits_idle _ (record (now_becomes c t) { cycle = record (now_becomes c t).cycle { phase = phase.Idle } }) ((now-still c t).1 ∙ begun))
+module _ (c : Config) (fits : AllFit c.processes) (begun : c.cycle.begun ≡ true) where
+  -- from a configuration that is at the same phase
+  goes : (w : Option ℕ) (d e : Config) → AllFit d.processes → (d.cycle.begun ≡ true) × IsLater d.cycle.phase → Moves w d e → Good e
+  goes w d e fit on ms =
+      let at = moves-keep w (Begun IsLater (λ ph h. h)) (each_begun IsLater (λ ph h. h) w) d e ms on in
+      (moves-keep w (λ (x : Config). AllFit x.processes) (each-fits w) d e ms fit, fits_later e.cycle.phase e.cycle.begun e at.0 at.1)
 
-fired_good : (c : Config) (t : ℕ) → c.cycle.begun ≡ true → AllFit c.processes
-    → Good (record (fired_at c t) { cycle = record (fired_at c t).cycle { phase = phase_at t c.cycle.end (fired_at c t).processes.runnable } })
-fired_good c t begun fits = (
-  due-fits (is_at t) (is_due_at t) (now_becomes c t) (subst AllFit (sym (now-still c t).0) fits),
-  fits_at t c.cycle.end (fired_at c t).processes.runnable _ (record (fired_at c t) { cycle = record (fired_at c t).cycle { phase = phase_at t c.cycle.end (fired_at c t).processes.runnable } })
-      (ap (λ (y : Cycle). y.begun) (due-cycle (is_at t) (is_due_at t) (now_becomes c t)) ∙ (now-still c t).1 ∙ begun),
-)
+  moved_good : (d : Config) → (c.cycle.phase ≡ phase.Start → IsFresh c) → StepMoves c d → Good d
+  moved_good _ fresh (in_turn p rest i d now top at ms is) = goes (Some p) (settled_in c p i.residual) d (top_residual-fits c p rest top fits _) (begun, subst IsLater (sym now) tt) ms
+  moved_good _ fresh (between d later ms) = goes None c d fits (begun, later) ms
+  moved_good _ fresh (moving_now t d now apart ms same) = goes None (time_moved c t) d fits (begun, subst IsLater (sym now) tt) ms
+  moved_good _ fresh (initializing d e now ms same cycle more after) =
+      let from : UnbegunFrom 0 c.design.processes d.processes = subst (λ ps. UnbegunFrom 0 c.design.processes ps) (sym (same ∙ fresh now)) (first-unbegun c.design) in
+      let made = initialize_each 0 c.design.processes d in
+      let fit = moves-keep None (λ (x : Config). AllFit x.processes) (each-fits None) made e more (initialize-fits 0 c.design.processes d from (subst AllFit (sym same) fits)) in
+      let on = moves-keep None (Begun (λ ph. Unit {0}) (λ ph h. tt)) (each_begun (λ ph. Unit {0}) (λ ph h. tt) None) made e more
+      (ap (λ (y : Cycle). y.begun) (initialize-cycle 0 c.design.processes d ∙ cycle) ∙ begun, tt) in
+      (fit, fits_later e.cycle.phase e.cycle.begun e on.0 (subst IsLater (sym after) tt))
 
-good_either : (b : Bool) (c d : Config) → Good c → Good d → Good (cond b c d)
-good_either true c d one two = one
-good_either false c d one two = two
-
-timed_good : (c : Config) (t : Option ℕ) → c.cycle.begun ≡ true → AllFit c.processes → Good (timed_at c t)
-timed_good c None begun fits = over_good c _ begun fits
-timed_good c (Some t) begun fits = good_either (is_past t c.cycle.end) (run_over c) _ (over_good c _ begun fits) (fired_good c t begun fits)
-
--- ---- the step of a phase
-
-phase_good : (c : Config) (ph : Phase) → c.cycle.phase ≡ ph → AllFit c.processes → FitsPhase ph c.cycle.begun c → IfWent (step_in c ph) Good
-phase_good c phase.Idle now fits h = script_good c c.script now fits h
-phase_good c phase.Start now fits h = init_good c h.0 h.1 fits
-phase_good c phase.Evaluate now fits h = evaluate_good c c.processes.stack c.processes.runnable refl h now fits
-phase_good c phase.Notify now fits h = delta_good c h fits
-phase_good c phase.Timed now fits h = timed_good c (earliest c) h fits
+if_went : (o : Outcome) (P : Config → Type 0) → ((d : Config) → o ≡ went d → P d) → IfWent o P
+if_went (went d) P h = h d refl
+if_went (faulted f) P h = tt
+if_went takes P h = tt
+if_went ended P h = tt
 
 unless_stopped : (b : Bool) (o : Outcome) → IfWent o Good → IfWent (cond b ended o) Good
 unless_stopped true o h = tt
 unless_stopped false o h = h
 
+no_start : (ph : Phase) (c : Config) → c.cycle.phase ≡ ph → (ph ≡ phase.Start → ⊥) → c.cycle.phase ≡ phase.Start → IsFresh c
+no_start ph c now not is = absurd (not (sym now ∙ is))
+
+phase_good : (c : Config) (ph : Phase) → c.cycle.phase ≡ ph → AllFit c.processes → FitsPhase ph c.cycle.begun c → IfWent (step c) Good
+phase_good c phase.Idle now fits h = unless_stopped c.cycle.stopped (step_in c c.cycle.phase) (subst (λ ph. IfWent (step_in c ph) Good) (sym now) (script_good c c.script now fits h))
+phase_good c phase.Start now fits h = if_went (step c) Good (λ d to. moved_good c fits h.0 d (λ is. h.1) (step-moves c d to))
+phase_good c phase.Evaluate now fits h = if_went (step c) Good (λ d to. moved_good c fits h d (no_start phase.Evaluate c now (λ e. cc)) (step-moves c d to))
+phase_good c phase.Notify now fits h = if_went (step c) Good (λ d to. moved_good c fits h d (no_start phase.Notify c now (λ e. cc)) (step-moves c d to))
+phase_good c phase.Timed now fits h = if_went (step c) Good (λ d to. moved_good c fits h d (no_start phase.Timed c now (λ e. cc)) (step-moves c d to))
+
 pub step-good : (c : Config) → Good c → IfWent (step c) Good
-step-good c h = unless_stopped c.cycle.stopped (step_in c c.cycle.phase) (phase_good c c.cycle.phase refl h.0 h.1)
+step-good c h = phase_good c c.cycle.phase refl h.0 h.1
 
 -- ---- a taking
 
@@ -198,28 +189,12 @@ still_phased phase.Timed b c d not h = h
 abbrev alone : Config → ℕ → Told → Config
 alone c p t = with_told (with_stack (with_runnable c (without c.processes.runnable p)) (p ∷ [])) t
 
-alone_move : (c : Config) (p : ℕ) (t : Told) → Moved p c.processes (alone c p t).processes
-alone_move c p t = record {
-  others = λ q apart. refl;
-  runnable = λ q apart. let same = times-cut_other p q c.processes.runnable apart in omega (arith, same);
-  active = λ q apart. let none = times-other q p [] (λ same. apart (sym same)) in omega (arith, none);
-}
-
-alone_fits : (c : Config) (p : ℕ) (t : Told) (i : Instance) → instance_at c p ≡ Some i → holds c.processes.runnable p ≡ true → AllFit c.processes → AllFit (alone c p t).processes
-alone_fits c p t i at is fits =
-    let h = stands-at c.processes p i at fits in
-    let n = times-holds p c.processes.runnable is in
-    let cut = times-cut_here p c.processes.runnable in
-    let one = times-here p [] in
-    moved-to p c.processes _ i (alone_move c p t) at fits
-    (stands-free i (times p (without c.processes.runnable p)) (times p (p ∷ [])) (omega (arith, cut, one)) (h.free (omega (arith, n))) (h.lives (omega (arith, n))) (λ e. cut))
-
 untriggered_fits : (c : Config) (p : ℕ) → AllFit c.processes → AllFit (change_instance c p (λ j. record j { trigger = None })).processes
 untriggered_fits c p fits = alike-fits c.processes p _ (λ i at. record { wait = refl; deadline = refl; kept = refl; suspended = refl; ended = refl; left = λ e over. over }) fits
 
 begun_fits : (b : Bool) (c : Config) (p : ℕ) (i : Instance) → c.processes.stack ≡ p ∷ [] → AllFit c.processes → AllFit (cond b c (begins (change_instance c p (λ j. record j { trigger = None })) p i)).processes
 begun_fits true c p i top fits = fits
-begun_fits false c p i top fits = begins-fits (change_instance c p (λ j. record j { trigger = None })) p [] top (untriggered_fits c p fits) i
+begun_fits false c p i top fits = begins-fits (change_instance c p (λ j. record j { trigger = None })) p [] top (untriggered_fits c p fits) _ (λ j. refl) (λ j. refl) (λ j. refl) (λ j. refl) (λ j. refl)
 
 begun_cycle : (b : Bool) (c : Config) (p : ℕ) (i : Instance) → (cond b c (begins (change_instance c p (λ j. record j { trigger = None })) p i)).cycle ≡ c.cycle
 begun_cycle true c p i = refl
@@ -230,7 +205,7 @@ taken_good c p None at is h = h
 taken_good c p (Some i) at is h =
     let t = turn (turn_line c.cycle.now i.path p) in
     let d = alone c p t in (
-      begun_fits i.started d p i refl (alone_fits c p t i at is h.0),
+      begun_fits i.started d p i refl (alone-fits c p i at is h.0),
       subst (λ (y : Cycle). FitsPhase y.phase y.begun (instance_taken c p (Some i))) (sym (begun_cycle i.started d p i)) (still_phased c.cycle.phase c.cycle.begun c (instance_taken c p (Some i)) (not_fresh c p is) h.1),
     )
 

@@ -13,3 +13,4 @@ pub mod QuantumKeeper
 pub mod ModelTree
 pub mod FlatDesign
 pub mod SimModel
+pub mod LawsMoves

@@ -1,91 +1,31 @@
 -- Each step and each taking keeps what each of its moves keeps.
-use Rattle.std.proofs.Common.{◌≡◌, ◌+◌, ◌==◌, ℕ, suc, Bool, true, false, cond, List, [], ◌∷◌, ◌++◌, map, slice_get, Option, Some, None, refl, sym, ◌∙◌, subst, true≢false}
-use Rattle.std.specs.Prelude.{Result, Ok, Err}
+use Rattle.std.proofs.Common.{◌≡◌, ℕ, suc, Bool, true, false, cond, List, [], ◌∷◌, ◌++◌, Option, Some, None, refl, sym, ◌∙◌, subst, true≢false}
+use Rattle.std.specs.Prelude.{Ok}
 use Rattle.std.specs.Result.{IfOk}
 use Rattle.std.proofs.lemmas.Option.{none-some, same_Some}
-use Rattle.laws_runs.specs.LogicValues.declared.kinds.Value.{Value}
-use Rattle.laws_runs.specs.SimTime.declared.moments.Time.{Time}
-use Rattle.laws_runs.specs.EventCore.declared.notifications.Pending.{Pending}
-use Rattle.laws_runs.specs.SignalChannel.Drivers.{Driven}
-use Rattle.laws_runs.specs.SignalChannel.declared.signal.Signal.{Signal}
-use Rattle.laws_runs.specs.SignalChannel.declared.signal.Changed.{Changed}
-use Rattle.laws_runs.specs.FifoSync.Fifos.{Queued}
-use Rattle.laws_runs.specs.FlatDesign.declared.design.SignalPart.{SignalPart}
-use Rattle.laws_runs.specs.FlatDesign.declared.design.ResolvedPart.{ResolvedPart}
-use Rattle.laws_runs.specs.FlatDesign.declared.design.FifoPart.{FifoPart}
 use Rattle.laws_runs.specs.FlatDesign.declared.design.ProcessPart.{ProcessPart}
-use Rattle.laws_runs.specs.FlatDesign.declared.design.Visible.{Visible}
-use Rattle.laws_runs.specs.FlatDesign.declared.design.VisibleId.{VisibleId}
-use Rattle.laws_runs.specs.FlatDesign.declared.design.VisibleId.TheVariants as visible_id
-use Rattle.laws_runs.specs.FlatDesign.declared.faults.RunFault.{RunFault}
-use Rattle.laws_runs.specs.SimModel.Values.{on_ok, time_within}
-use Rattle.laws_runs.specs.SimModel.Configuration.{Config, Instance, Deadline, no_deadline, turn, change_instance, instance_at, with_runnable, with_stack, with_told}
-use Rattle.laws_runs.specs.SimModel.Waits.{freed, without, holds, fire_all}
+use Rattle.laws_runs.specs.SimModel.Configuration.{Config, Instance, turn, change_instance, instance_at, with_runnable, with_stack, with_told}
+use Rattle.laws_runs.specs.SimModel.Waits.{freed, without, holds}
 use Rattle.laws_runs.specs.SimModel.Control.{begins}
-use Rattle.laws_runs.specs.SimModel.Statements.{statement_step}
-use Rattle.laws_runs.specs.SimModel.Phases.{was_some, notified_if, announced, announce_signals, announce_resolved, announce_fifos, update_phase, session_stopped, update_step, due_events, due_instances, without_pending, without_deadline, fire_due, initialize_each, now_becomes, run_over, timed_at, is_past, is_at, is_due_at, is_delta, is_zero_timeout, earliest}
-use Rattle.laws_runs.specs.SimModel.Steps.{Outcome, ended, as_outcome, shows, sets, sets_visible, run_begun, begin_run, carry_out, next_command, evaluate, step_in, step, turn_line, instance_taken, taken_if, taking}
-use Rattle.laws_runs.specs.SimModel.declared.plain.Phase.{Phase}
-use Rattle.laws_runs.specs.SimModel.declared.plain.Phase.TheVariants as phase
-use Rattle.laws_runs.specs.SimModel.declared.plain.Command.{Command}
-use Rattle.laws_runs.specs.SimModel.declared.plain.Command.TheVariants as command
+use Rattle.laws_runs.specs.SimModel.Statements.{settled_in, statement_step}
+use Rattle.laws_runs.specs.SimModel.Phases.{initialize_each}
+use Rattle.laws_runs.specs.SimModel.Steps.{step, turn_line, instance_taken, taken_if, taking}
+use Rattle.laws_runs.specs.LawsMoves.Moves.{time_moved, Moves, StepMoves, in_turn, between, initializing, moving_now}
+use Rattle.laws_runs.proofs.LawsMoves.Kept.{moves-keep}
 use Rattle.laws_runs.proofs.Changes.{change-here}
 use Rattle.laws_unwinding.proofs.Moves.{Sound}
-use Rattle.laws_unwinding.proofs.Steps.{IfWent}
+use Rattle.laws_unwinding.proofs.Steps.{IfWent, goes-to, settled-sound}
 use Rattle.laws_unwinding.proofs.Parts.{Parts, parts, Kept, Alike, IsKept, IsSettled, IsKeptBetween, IsKeptByTakings}
-use Rattle.laws_unwinding.proofs.KeptWakes as wakes
-use Rattle.laws_unwinding.proofs.KeptStatements as statements
+use Rattle.laws_unwinding.proofs.KeptMoves.{each-between}
+use Rattle.laws_unwinding.proofs.KeptStatements.{moves-kept}
 
-module _ (Q : Parts → Type 0) (between : IsKeptBetween Q) where
+module _ (Q : Parts → Type 0) (between_moves : IsKeptBetween Q) where
   kept-if : (b : Bool) (c d : Config) → Kept Q c → Kept Q d → Kept Q (cond b c d)
   kept-if true c d one two = one
   kept-if false c d one two = two
 
   same-kept : (c : Config) (q : ℕ) (f : Instance → Instance) → ((i : Instance) → Alike i (f i)) → Kept Q c → Kept Q (change_instance c q f)
-  same-kept c q f alike s = between.same (parts c) q f alike s
-
-  -- ---- the update phase
-
-  notified_kept : (b : Bool) (e : ℕ) (c : Config) → Kept Q c → Kept Q (notified_if b e c)
-  notified_kept true e c s = s
-  notified_kept false e c s = s
-
-  announced_kept : (x : Changed) (events : ℕ) (c : Config) → Kept Q c → Kept Q (announced x events c)
-  announced_kept x events c s = notified_kept x.neg _ _ (notified_kept x.pos _ _ (notified_kept x.changed _ c s))
-
-  signals_kept : (ps : List SignalPart) (ss : List Signal) (c : Config) → Kept Q c → Kept Q (announce_signals ps ss c)
-  signals_kept [] ss c s = s
-  signals_kept (p ∷ ps) [] c s = s
-  signals_kept (p ∷ ps) (x ∷ ss) c s = signals_kept ps ss _ (announced_kept _ p.events c s)
-
-  resolved_kept : (ps : List ResolvedPart) (rs : List Driven) (bs : List Bool) (c : Config) → Kept Q c → Kept Q (announce_resolved ps rs bs c)
-  resolved_kept [] rs bs c s = s
-  resolved_kept (p ∷ ps) [] bs c s = s
-  resolved_kept (p ∷ ps) (r ∷ rs) [] c s = s
-  resolved_kept (p ∷ ps) (r ∷ rs) (b ∷ bs) c s = resolved_kept ps rs bs _ (announced_kept _ p.events c s)
-
-  fifos_kept : (ps : List FifoPart) (qs : List Queued) (c : Config) → Kept Q c → Kept Q (announce_fifos ps qs c)
-  fifos_kept [] qs c s = s
-  fifos_kept (p ∷ ps) [] c s = s
-  fifos_kept (p ∷ ps) (q ∷ qs) c s = fifos_kept ps qs _ (notified_kept (was_some q.read) (p.events + 1) _ (notified_kept (was_some q.written) p.events c s))
-
-  update_kept : (c : Config) → Kept Q c → Kept Q (update_phase c)
-  update_kept c s = fifos_kept c.design.fifos c.channels.fifos _ (resolved_kept c.design.resolved c.channels.resolved c.channels.resolved_asked _ (signals_kept c.design.signals c.channels.signals c s))
-
-  -- ---- what is due fires together
-
-  due_kept : (test : Pending → Bool) (time : Deadline → Bool) (c : Config) → Kept Q c → Kept Q (fire_due test time c)
-  due_kept test time c s =
-      let cleared = record c { events = map (without_pending test) c.events; processes = record c.processes { instances = map (without_deadline time) c.processes.instances } } in
-      let fired = fire_all (due_events test 0 c.events) cleared in
-      wakes.wake_all-kept Q between.same (due_instances time 0 c.processes.instances) fired (wakes.fire_all-kept Q between.same (due_events test 0 c.events) cleared (between.alike (parts c) (without_deadline time) (timeless time) s))
-    where
-      timeless_if : (b : Bool) (i : Instance) → Alike i (cond b (record i { deadline = no_deadline }) i)
-      timeless_if true i = record { kind = refl; home = refl; code = refl; residual = refl; started = refl; ended = refl }
-      timeless_if false i = record { kind = refl; home = refl; code = refl; residual = refl; started = refl; ended = refl }
-
-      timeless : (time : Deadline → Bool) (i : Instance) → Alike i (without_deadline time i)
-      timeless time i = timeless_if (time i.deadline) i
+  same-kept c q f alike s = between_moves.same (parts c) q f alike s
 
   initialize_kept : (p : ℕ) (xs : List ProcessPart) (c : Config) → Kept Q c → Kept Q (initialize_each p xs c)
   initialize_kept p [] c s = s
@@ -94,77 +34,27 @@ module _ (Q : Parts → Type 0) (between : IsKeptBetween Q) where
       (initialize_kept (suc p) xs c s)
       (initialize_kept (suc p) xs (with_runnable (change_instance c p freed) (c.processes.runnable ++ p ∷ [])) (same-kept c p freed (λ i. record { kind = refl; home = refl; code = refl; residual = refl; started = refl; ended = refl }) s))
 
-  now_kept : (c : Config) (t : ℕ) → Kept Q c → Kept Q (now_becomes c t)
-  now_kept c t s = kept-if (t == c.cycle.now) c _ s s
+  between-kept : (c d : Config) → Moves None c d → Kept Q c → Kept Q d
+  between-kept c d ms h = moves-keep None (Kept Q) (each-between Q between_moves) c d ms h
 
-  over_kept : (c : Config) → Kept Q c → Kept Q (run_over c)
-  over_kept c s = now_kept c _ s
+  -- ---- a step: in a turn by what is told of it, and else by its moves
 
-  timed_kept : (c : Config) (t : Option ℕ) → Kept Q c → Kept Q (timed_at c t)
-  timed_kept c None s = over_kept c s
-  timed_kept c (Some t) s = kept-if (is_past t c.cycle.end) (run_over c) _ (over_kept c s) (due_kept (is_at t) (is_due_at t) (now_becomes c t) (now_kept c t s))
-
-  update_step_kept : (c : Config) → Kept Q c → Kept Q (update_step c)
-  update_step_kept c s = kept-if c.cycle.stop_asked (session_stopped (update_phase c)) _ (update_kept c s) (update_kept c s)
-
-  -- ---- commands
-
-  until_kept : (c : Config) (m : Result ℕ RunFault) → Kept Q c → IfWent (as_outcome (on_ok m (λ end. Ok (run_begun c (Some end))))) (Kept Q)
-  until_kept c (Ok end) s = s
-  until_kept c (Err f) s = tt
-
-  begin_kept : (c : Config) (d : Option Time) → Kept Q c → IfWent (as_outcome (begin_run c d)) (Kept Q)
-  begin_kept c None s = s
-  begin_kept c (Some d) s = until_kept c (time_within (c.cycle.now + d.0)) s
-
-  shown_kept : (c : Config) (v : Option Visible) → Kept Q c → Kept Q (shows c v)
-  shown_kept c None s = s
-  shown_kept c (Some v) s = s
-
-  set_kept : (c : Config) (v : Value) (x : VisibleId) → Kept Q c → Kept Q (sets c v x)
-  set_kept c v (visible_id.Signal n) s = s
-  set_kept c v (visible_id.Resolved n) s = s
-
-  set_visible_kept : (c : Config) (v : Value) (x : Option Visible) → Kept Q c → Kept Q (sets_visible c v x)
-  set_visible_kept c v None s = s
-  set_visible_kept c v (Some x) s = set_kept c v x.id s
-
-  command_kept : (c : Config) (k : Command) → Kept Q c → IfWent (as_outcome (carry_out c k)) (Kept Q)
-  command_kept c (command.Run d) s = begin_kept c d s
-  command_kept c (command.Set i v) s = set_visible_kept c v (slice_get c.design.visible i) s
-  command_kept c (command.Show i) s = shown_kept c (slice_get c.design.visible i) s
-
-  script_kept : (c : Config) (ks : List Command) → Kept Q c → IfWent (next_command c ks) (Kept Q)
-  script_kept c [] s = tt
-  script_kept c (k ∷ ks) s = command_kept (record c { script = ks }) k s
-
-  -- ---- steps
-
-  went_kept : (m : Result Config RunFault) → IfOk m (Kept Q) → IfWent (as_outcome m) (Kept Q)
-  went_kept (Ok d) s = s
-  went_kept (Err f) s = tt
-
-  evaluate_kept : (c : Config) (stack runnable : List ℕ) → c.processes.stack ≡ stack → ((p : ℕ) (rest : List ℕ) → c.processes.stack ≡ p ∷ rest → IfOk (statement_step c p) (Kept Q)) → Kept Q c → IfWent (evaluate c stack runnable) (Kept Q)
-  evaluate_kept c (p ∷ rest) runnable top moves s = went_kept (statement_step c p) (moves p rest top)
-  evaluate_kept c [] (q ∷ runnable) top moves s = tt
-  evaluate_kept c [] [] top moves s = update_step_kept c s
-
-  phase_kept : (c : Config) (ph : Phase) → ((p : ℕ) (rest : List ℕ) → c.processes.stack ≡ p ∷ rest → IfOk (statement_step c p) (Kept Q)) → Kept Q c → IfWent (step_in c ph) (Kept Q)
-  phase_kept c phase.Idle moves s = script_kept c c.script s
-  phase_kept c phase.Start moves s = due_kept is_delta is_zero_timeout (initialize_each 0 c.design.processes (update_phase c)) (initialize_kept 0 c.design.processes (update_phase c) (update_kept c s))
-  phase_kept c phase.Evaluate moves s = evaluate_kept c c.processes.stack c.processes.runnable refl moves s
-  phase_kept c phase.Notify moves s = due_kept is_delta is_zero_timeout c s
-  phase_kept c phase.Timed moves s = timed_kept c (earliest c) s
-
-  unless_stopped : (b : Bool) (o : Outcome) → IfWent o (Kept Q) → IfWent (cond b ended o) (Kept Q)
-  unless_stopped true o h = tt
-  unless_stopped false o h = h
+  step_kept : (c d : Config) → StepMoves c d → ((p : ℕ) (rest : List ℕ) → c.processes.stack ≡ p ∷ rest → (i : Instance) → instance_at c p ≡ Some i → Moves (Some p) (settled_in c p i.residual) d → statement_step c p ≡ Ok d → Kept Q d)
+      → Kept Q c → Kept Q d
+  step_kept c _ (in_turn p rest i d now top at ms is) turns h = turns p rest top i at ms is
+  step_kept c _ (between d later ms) turns h = between-kept c d ms h
+  step_kept c _ (initializing d e now ms same cycle more after) turns h =
+      between-kept (initialize_each 0 c.design.processes d) e more (initialize_kept 0 c.design.processes d (between-kept c d ms h))
+  step_kept c _ (moving_now t d now apart ms same) turns h = between-kept (time_moved c t) d ms h
 
   pub step-by : (c : Config) → ((p : ℕ) (rest : List ℕ) → c.processes.stack ≡ p ∷ rest → IfOk (statement_step c p) (Kept Q)) → Kept Q c → IfWent (step c) (Kept Q)
-  step-by c moves s = unless_stopped c.cycle.stopped (step_in c c.cycle.phase) (phase_kept c c.cycle.phase moves s)
+  step-by c turns h = goes-to c (Kept Q) (λ d ms. step_kept c d ms (λ p rest top i at more is. subst (λ m. IfOk m (Kept Q)) is (turns p rest top)) h)
 
   pub step-kept : (c : Config) → Sound c → ((p : ℕ) (rest : List ℕ) → c.processes.stack ≡ p ∷ rest → IsKept p Q × IsSettled p Q) → Kept Q c → IfWent (step c) (Kept Q)
-  step-kept c sound moves s = step-by c (λ p rest top. let m = moves p rest top in statements.statement-kept p Q m.0 c rest top sound m.1 s) s
+  step-kept c sound turns h =
+      goes-to c (Kept Q)
+      (λ d ms. step_kept c d ms
+      (λ p rest top i at more is. let k = turns p rest top in moves-kept p Q k.0 (settled_in c p i.residual) d more (settled-sound c sound p rest i top at) (k.1 (parts c) i at h)) h)
 
   -- ---- a taking, where nothing is on the stack
 

@@ -1,20 +1,13 @@
 pub mod Fine
 pub mod Wakes
 pub mod Moves
-pub mod Controls
-pub mod Ends
 pub mod New
-pub mod Forms
-pub mod Statements
 pub mod Steps
 pub mod Runs
 pub mod Parts
-pub mod KeptWakes
-pub mod KeptControls
-pub mod Values
 pub mod News
-pub mod KeptForms
-pub mod KeptEnds
+pub mod MovesFine
+pub mod KeptMoves
 pub mod KeptStatements
 pub mod KeptSteps
 pub mod KeptRuns
@@ -29,3 +22,4 @@ pub mod Opened
 pub mod MarkedRuns
 pub mod TransportPhases
 pub mod LawsRuns
+pub mod LawsMoves

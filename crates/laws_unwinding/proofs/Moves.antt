@@ -1,16 +1,11 @@
 -- The moves of instances in a sound design.
-use Rattle.std.proofs.Common.{◌≡◌, ◌≢◌, ◌<◌, ℕ, Bool, true, false, cond, List, ◌∷◌, drop, Option, Some, refl, sym, ap, ◌∙◌, subst, arith, true≢false}
-use Rattle.std.specs.Prelude.{Result, Ok, Err}
-use Rattle.std.specs.Result.{IfOk}
+use Rattle.std.proofs.Common.{◌≡◌, ◌≢◌, ◌<◌, ℕ, Bool, true, false, cond, List, ◌∷◌, drop, Some, refl, sym, ap, ◌∙◌, subst, arith, true≢false}
 use Rattle.std.proofs.lemmas.Option.{same_Some}
 use Rattle.laws_runs.specs.LogicValues.declared.kinds.Value.{Value}
-use Rattle.laws_runs.specs.EventCore.declared.event.Ev.{Ev}
 use Rattle.laws_runs.specs.FlatDesign.Sound.{SoundDesign}
-use Rattle.laws_runs.specs.FlatDesign.declared.faults.RunFault.{RunFault}
-use Rattle.laws_runs.specs.SimModel.Values.{on_ok}
 use Rattle.laws_runs.specs.SimModel.Residual.{Residual, in_innermost, has_goal}
-use Rattle.laws_runs.specs.SimModel.Configuration.{Config, Instance, Trigger, change_instance, instance_at, with_residual}
-use Rattle.laws_runs.specs.SimModel.Waits.{fire, leaves_stack}
+use Rattle.laws_runs.specs.SimModel.Configuration.{Config, Instance, change_instance, instance_at, with_residual}
+use Rattle.laws_runs.specs.SimModel.Waits.{leaves_stack}
 use Rattle.laws_runs.specs.SimModel.Storing.{with_local, set_local}
 use Rattle.laws_runs.specs.SimModel.Clean.{times}
 use Rattle.laws_runs.proofs.Times.{times-here, times-other}
@@ -18,29 +13,15 @@ use Rattle.laws_runs.specs.Standing.{IsStanding}
 use Rattle.laws_runs.proofs.Kept.{local-standing}
 use Rattle.laws_runs.proofs.Tight.{goal-local}
 use Rattle.laws_unwinding.proofs.Fine.{Fine, AllFine, Same, moved-fine, same-fine, residual-fine}
-use Rattle.laws_unwinding.proofs.Wakes.{fire-keeps}
 
 abbrev pub Sound : Config → Type 0
 Sound c = SoundDesign c.design × AllFine c.design c.processes
 
 -- ---- answers
 
-pub if-ok : {A : Type 0} (m : Result A RunFault) (f : A → Result Config RunFault) → ((x : A) → IfOk (f x) Sound) → IfOk (on_ok m f) Sound
-if-ok (Ok x) f h = h x
-if-ok (Err e) f h = tt
-
 pub sound-if : (b : Bool) (c d : Config) → Sound c → Sound d → Sound (cond b c d)
 sound-if true c d one two = one
 sound-if false c d one two = two
-
-pub ok-if : (b : Bool) (m n : Result Config RunFault) → IfOk m Sound → IfOk n Sound → IfOk (cond b m n) Sound
-ok-if true m n one two = one
-ok-if false m n one two = two
-
--- ---- events
-
-pub fire-sound : (c : Config) (e : Ev) → Sound c → Sound (fire c e)
-fire-sound c e h = let k = fire-keeps c e in (subst SoundDesign (sym k.0) h.0, subst (λ d. AllFine d (fire c e).processes) (sym k.0) (k.1 h.1))
 
 -- ---- instances that stay where they are
 
@@ -50,9 +31,6 @@ same-sound c p f same h = (
   moved-fine c.design c.processes p f c.processes.runnable c.processes.stack (λ q apart n. n)
       (λ i at fine. same-fine c.design i (f i) (times p c.processes.stack) (times p c.processes.stack) (same i) (λ n. n) fine) h.1,
 )
-
-pub trigger-sound : (c : Config) (p : ℕ) (t : Option Trigger) → Sound c → Sound (change_instance c p (λ i. record i { trigger = t }))
-trigger-sound c p t h = same-sound c p _ (λ i. record { home = refl; code = refl; residual = refl }) h
 
 pub local-sound : (c : Config) (p n : ℕ) (v : Value) → Sound c → Sound (set_local c p n v)
 local-sound c p n v h = (

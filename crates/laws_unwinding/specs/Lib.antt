@@ -13,3 +13,4 @@ pub mod ModelTree
 pub mod FlatDesign
 pub mod SimModel
 pub mod LawsRuns
+pub mod LawsMoves

@@ -1,0 +1,1 @@
+pub use Rattle.laws_moves.specs.Moves as Moves

@@ -1,0 +1,1 @@
+pub use Rattle.laws_runs.specs.LawsMoves.Moves as Moves
