@@ -1,3 +1,3 @@
 pub mod Places
-pub mod Orders
 pub mod Served
+pub mod OneAnswer

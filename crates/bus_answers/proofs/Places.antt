@@ -8,8 +8,8 @@ use Rattle.bus_router.specs.AddressMap.declared.TargetRange.{TargetRange}
 use Rattle.bus_router.specs.AddressMap.Ranges.{has}
 use Rattle.bus_router.specs.TrafficFile.declared.Bus.{Bus}
 use Rattle.bus_router.specs.TrafficFile.Traffic.{line_at}
-use Rattle.bus_router.specs.TrafficFile.declared.BusAction.{BusAction}
-use Rattle.bus_router.specs.TrafficFile.declared.BusAction.TheVariants.{Get, Put}
+use Rattle.bus_router.specs.TrafficWords.declared.BusAction.{BusAction}
+use Rattle.bus_router.specs.TrafficWords.declared.BusAction.TheVariants.{Get, Put}
 use Rattle.dmi_map.specs.PayloadPool.declared.payload.Payload.{Payload}
 use Rattle.bus_answers.specs.Answers.{asked_by, asked, low_of}
 

@@ -11,8 +11,8 @@ use Rattle.dmi_map.specs.PayloadPool.declared.payload.TheConstants.{READ, WRITE,
 use Rattle.dmi_map.specs.Accesses.{accessed, memory_accessed}
 use Rattle.bus_router.specs.AddressMap.declared.TargetRange.{TargetRange}
 use Rattle.bus_router.specs.TrafficFile.declared.Bus.{Bus}
-use Rattle.bus_router.specs.TrafficFile.declared.BusAction.{BusAction}
-use Rattle.bus_router.specs.TrafficFile.declared.BusAction.TheVariants.{Get, Put}
+use Rattle.bus_router.specs.TrafficWords.declared.BusAction.{BusAction}
+use Rattle.bus_router.specs.TrafficWords.declared.BusAction.TheVariants.{Get, Put}
 use Rattle.bus_router.specs.TrafficFile.Traffic.{line_at, target_at, range_of_line, home_of}
 use Rattle.bus_router.specs.declared.rows.BusRow.{BusRow}
 use Rattle.bus_router.specs.Times.{Table}

@@ -1,2 +1,3 @@
 pub mod Regions
 pub mod Found
+pub mod OneSet

@@ -16,7 +16,7 @@ use Rattle.bus_router.specs.Times.{Table}
 use Rattle.bus_grants.specs.Leaving.{LeavesOf, Leaves, granted_by, AreLeft}
 use Rattle.bus_grants.specs.Sofar.{IsMore, LeftSofar}
 
-same_is : (one other : Region) → same one other ≡ true → one ≡ other
+pub same_is : (one other : Region) → same one other ≡ true → one ≡ other
 same_is one other is =
     let i : one.initiator ≡ other.initiator = grind (arith, nat_tests) in
     let t : one.target ≡ other.target = grind (arith, nat_tests) in
@@ -27,7 +27,7 @@ same_is one other is =
     ∙ ap (λ n. record { initiator = other.initiator; target = other.target; low = n; size = one.size }) l
     ∙ ap (λ n. record { initiator = other.initiator; target = other.target; low = other.low; size = n }) s
 
-same_self : (one : Region) → same one one ≡ true
+pub same_self : (one : Region) → same one one ≡ true
 same_self one = grind (arith, nat_tests)
 
 held_step : (region other : Region) (regions : List Region) (b : Bool) → same region other ≡ b → (list_any (same region) regions ≡ true → Contains regions region)

@@ -1,6 +1,8 @@
 //! The grants of direct access that stand when all traffic is over.
 #![tactic(auto)]
 
+mod laws;
+
 ghost use Rattle.std.specs.Prelude.{◌≡◌, ◌<◌, ◌-◌, ◌^◌, ◌↔◌, IsTrue, IfOk, OnOk, length};
 ghost use Rattle.bus_router.specs.TrafficFile.Traffic.{CanRun};
 ghost use Rattle.bus_router.specs.TrafficFile.Traffic as traffic;
@@ -12,6 +14,7 @@ use bus_router::address_map_api::TargetRange;
 use bus_router::traffic_file_api::Bus;
 use bus_router::{BusRow, holds_all, initiator_at, line_at, reaches};
 use dmi_map::Grants;
+pub use laws::one_set_of_grants;
 use std::alloc::{AllocError, Global};
 
 // Whether no invalidation at this time or later shares an address with the range.

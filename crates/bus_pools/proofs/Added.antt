@@ -1,17 +1,21 @@
 -- A pool with one payload more.
-use Rattle.std.proofs.Common.{◌≡◌, ◌≢◌, ℕ, ◌+◌, List, [], ◌∷◌, ◌++◌, length, Some, refl, sym, ap, ◌∙◌, inl, inr, arith}
+use Rattle.std.proofs.Common.{◌≡◌, ◌≢◌, ℕ, ◌+◌, List, [], ◌∷◌, ◌++◌, length, Option, Some, refl, sym, ap, ◌∙◌, inl, inr, arith}
 use Rattle.std.specs.FinMap as map
 use Rattle.std.specs.Ordering.{nat_cmp}
 use Rattle.std.proofs.lemmas.Bool.{cases_lt}
 use Rattle.std.proofs.lemmas.List.{get_or_append_left, get_or_push, length-append}
 use Rattle.lemmas.proofs.MapLemmas.{get-insert_same, get-insert_other}
-use Rattle.dmi_map.specs.PayloadPool.Payloads.{Payloads, payload_in, with_made, with_payload, with_counted, rewritten, new_payload}
+use Rattle.dmi_map.specs.PayloadPool.Payloads.{Payloads, with_made, with_payload, with_counted, rewritten, new_payload}
 use Rattle.dmi_map.specs.PayloadPool.declared.payload.Payload.{Payload}
+use Rattle.dmi_map.specs.PayloadPool.declared.pool.Counted.{Counted}
 use Rattle.dmi_map.specs.PayloadPool.declared.payload.TheConstants.{IGNORE, INCOMPLETE}
 use Rattle.bus_pools.specs.Pools.{IsPoolOf}
 
 abbrev no_payload : Payload
 no_payload = record { command = IGNORE; address = 0; bytes = []; enables = []; width = 0; status = INCOMPLETE }
+
+abbrev held_once : Payload → Option Counted
+held_once p = Some (record { payload = p; count = 1 })
 
 module _ (pool : Payloads) (p : Payload) where
   abbrev made : Payloads
@@ -45,11 +49,11 @@ module _ (pool : Payloads) (p : Payload) where
     each = λ k below. elim (cases_lt k (length payloads)) [
       | inl earlier ↦
           let next = it.made in
-          ap payload_in (elsewhere k (λ e. absurd (omega arith))) ∙ it.each k earlier ∙ ap Some (sym (get_or_append_left payloads (p ∷ []) no_payload k earlier))
+          elsewhere k (λ e. absurd (omega arith)) ∙ it.each k earlier ∙ ap held_once (sym (get_or_append_left payloads (p ∷ []) no_payload k earlier))
       | inr from ↦
           let long = length-append payloads (p ∷ []) in
           let e : length payloads ≡ k = omega arith in
-          ap payload_in (there k (sym e ∙ sym it.made)) ∙ ap Some (sym (get_or_push payloads p no_payload k e))
+          there k (sym e ∙ sym it.made) ∙ ap held_once (sym (get_or_push payloads p no_payload k e))
     ];
     none = λ k past.
         let long = length-append payloads (p ∷ []) in

@@ -6,10 +6,10 @@ use Rattle.dmi_map.specs.PayloadPool.declared.payload.Payload.{Payload}
 use Rattle.dmi_map.specs.PayloadPool.declared.payload.TheConstants.{IGNORE, INCOMPLETE}
 use Rattle.bus_answers.specs.Answers.{payload_at}
 
--- so many payloads were made, each of these is live under its place, and no other is
+-- so many payloads were made, each of these is live under its place, held once, and no other is
 pub record IsPoolOf (payloads : List Payload) (pool : Payloads) : Type 0 where
   pub made : pool.next ≡ length payloads
-  pub each : (k : ℕ) → k < length payloads → payload_of pool k ≡ Some (payload_at payloads k)
+  pub each : (k : ℕ) → k < length payloads → map.get pool.live k ≡ Some (record { payload = payload_at payloads k; count = 1 })
   pub none : (k : ℕ) → length payloads ≤ k → map.get pool.live k ≡ None
 
 -- the payload of a number; where none is live one that no definition looks at

@@ -10,3 +10,4 @@ pub mod Begins
 pub mod Serves
 pub mod Held
 pub mod Plans
+pub mod TrafficFile

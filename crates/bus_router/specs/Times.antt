@@ -8,7 +8,8 @@ use Rattle.traffic_file.specs.AddressMap.declared.TargetRange.{TargetRange}
 use Rattle.traffic_file.specs.declared.Bus.{Bus}
 use Rattle.traffic_file.specs.declared.BusLine.{BusLine}
 use Rattle.traffic_file.specs.declared.Invalidate.{Invalidate}
-use Rattle.traffic_file.specs.Traffic.{line_at, target_at, initiator_at, invalidate_at, length_of, initiator_of, range_of_line, home_of}
+use Rattle.traffic_file.specs.TrafficWords.Words.{length_of}
+use Rattle.traffic_file.specs.Traffic.{line_at, target_at, initiator_at, invalidate_at, initiator_of, range_of_line, home_of}
 use Rattle.bus_router.specs.declared.rows.BusRow.{BusRow}
 
 -- the times of each access, by its place in the file

@@ -16,8 +16,13 @@ pub use tables::times_of;
 /// What is passed on of traffic_file.
 pub mod traffic_file_api {
     pub use traffic_file::{
-        Bus, BusAction, BusInitiator, BusKind, BusLine, BusStop, BusTarget, Invalidate, read_bus,
+        Bus, BusInitiator, BusKind, BusLine, BusStop, BusTarget, Invalidate, read_bus,
     };
+}
+
+/// What is passed on of traffic_words.
+pub mod traffic_words_api {
+    pub use traffic_file::traffic_words_api::BusAction;
 }
 
 /// What is passed on of address_map.

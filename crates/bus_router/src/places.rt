@@ -1,10 +1,12 @@
 //! What stands at the places of a bus.
 ghost use Rattle.std.specs.Prelude.{◌≡◌, ◌<◌, ◌↔◌, IsTrue, length, max};
+ghost use Rattle.traffic_file.specs.TrafficWords.Words as words;
 ghost use Rattle.traffic_file.specs.Traffic as traffic;
 ghost use Rattle.bus_router.specs.Times as times;
 
 use traffic_file::address_map_api::TargetRange;
-use traffic_file::{Bus, BusAction, BusInitiator, BusLine, BusTarget, Invalidate};
+use traffic_file::traffic_words_api::BusAction;
+use traffic_file::{Bus, BusInitiator, BusLine, BusTarget, Invalidate};
 
 /// Access k, counted from 0.
 pub fn line_at(bus: &Bus, k: usize) -> &BusLine
@@ -32,7 +34,7 @@ pub fn initiator_at(bus: &Bus, i: usize) -> &BusInitiator
 
 // How many bytes the access reads or writes.
 pub(crate) fn length_of(action: &BusAction) -> u64
-    ensures { result ≡ traffic.length_of action.now }
+    ensures { result ≡ words.length_of action.now }
 {
     match action {
         BusAction::Get { len } => u64::from(*len),

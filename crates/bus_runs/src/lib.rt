@@ -1,9 +1,11 @@
 //! Runs of traffic through a router.
 #![tactic(auto)]
 
+mod laws;
 mod runs;
 mod texts;
 
+pub use laws::{one_run, one_run_text, one_written_text};
 pub use runs::{BusRun, run_bus};
 pub use texts::{bus_text, traffic_text};
 

@@ -1,1 +1,4 @@
 pub mod Joined
+pub mod OneList
+pub mod EachOnce
+pub mod OwnHops

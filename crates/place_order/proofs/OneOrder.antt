@@ -1,15 +1,12 @@
 -- Two lists that are in order and have the same places are the same.
-use Rattle.std.proofs.Common.{◌≡◌, ℕ, zero, suc, ◌↔◌, ◌⊎◌, List, [], ◌∷◌, get_or, refl, sym, ap, ◌∙◌, subst, inl, inr, arith}
+use Rattle.std.proofs.Common.{◌≡◌, ℕ, suc, ◌↔◌, List, [], ◌∷◌, get_or, refl, sym, ap, ◌∙◌, subst, inl, inr, arith}
 use Rattle.std.specs.Prelude.{Contains}
 use Rattle.std.proofs.lemmas.Bool.{false≢true}
 use Rattle.std.proofs.lemmas.List.{get_or_default}
 use Rattle.place_order.specs.declared.Rank.{Rank}
 use Rattle.place_order.specs.Ranks.{is_before, ComesBefore, AreInOrder}
 use Rattle.place_order.proofs.Orders.{before_trans, never_itself}
-
-split : (p x : ℕ) (ps : List ℕ) → Contains (p ∷ ps) x → (p ≡ x) ⊎ Contains ps x
-split p x ps (zero, below, is) = inl is
-split p x ps (suc k, below, is) = inr (k, omega arith, is)
+use Rattle.place_order.proofs.Kept.{split}
 
 first : (p : ℕ) (ps : List ℕ) → Contains (p ∷ ps) p
 first p ps = (0, omega arith, refl)

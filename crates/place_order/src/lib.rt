@@ -3,7 +3,7 @@
 
 mod laws;
 
-ghost use Rattle.std.specs.Prelude.{◌≡◌, ℕ, ◌<◌, ◌≤◌, ◌∷◌, OnOk, length, slice_index};
+ghost use Rattle.std.specs.Prelude.{◌≡◌, ℕ, ◌<◌, ◌≤◌, ◌∷◌, OnErr, OnOk, length, slice_index};
 ghost use Rattle.std.specs.List.Sorted.{IsPermutation};
 ghost use Rattle.place_order.specs.Ranks as spec;
 
@@ -57,12 +57,13 @@ fn count_before(order: &[u32], ranks: &[Rank], k: u32) -> usize
     at
 }
 
-/// Puts a place among lesser ones that are in order, so that all are.
+/// Puts a place among lesser ones that are in order, so that all are. Where memory is refused they stay as they were.
 pub fn put_in_order(order: &mut Vec<u32>, ranks: &[Rank], k: u32) -> Result<(), AllocError>
     requires sorted { spec.AreInOrder (spec.rank_at ranks.now) order.old.items }
     requires fresh { (i : ℕ) → i < length order.old.items → slice_index order.old.items i < k }
     ensures sorted { OnOk result (spec.AreInOrder (spec.rank_at ranks.now) order.new.items) }
     ensures same { OnOk result (IsPermutation (k ∷ order.old.items) order.new.items) }
+    ensures kept { OnErr result (order.new.items ≡ order.old.items) }
 {
     let at = count_before(order.as_slice(), ranks, k);
     order.insert(at, k)?;

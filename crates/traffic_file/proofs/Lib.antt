@@ -1,3 +1,2 @@
-pub mod FormRanges
 pub mod Runnable
 pub mod Answered

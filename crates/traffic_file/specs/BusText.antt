@@ -4,20 +4,20 @@ use Rattle.std.specs.List.{list_any}
 use Rattle.address_map.specs.declared.MapStop.{MapStop}
 use Rattle.address_map.specs.declared.MapStop.TheVariants as map_stop
 use Rattle.address_map.specs.Ranges.{range_of, refusal}
-use Rattle.text_lines.specs.Lines.{lines, line_number}
+use Rattle.traffic_lines.specs.TextLines.Lines.{lines, line_number}
+use Rattle.traffic_lines.specs.TrafficWords.declared.BusAction.{BusAction}
+use Rattle.traffic_lines.specs.declared.forms.LineForm.{LineForm}
+use Rattle.traffic_lines.specs.declared.forms.LineForm.TheVariants as line
+use Rattle.traffic_lines.specs.LineForms.{line_form}
 use Rattle.traffic_file.specs.declared.Bus.{Bus}
 use Rattle.traffic_file.specs.declared.BusTarget.{BusTarget}
 use Rattle.traffic_file.specs.declared.BusInitiator.{BusInitiator}
 use Rattle.traffic_file.specs.declared.BusLine.{BusLine}
-use Rattle.traffic_file.specs.declared.BusAction.{BusAction}
-use Rattle.traffic_file.specs.declared.forms.LineForm.{LineForm}
-use Rattle.traffic_file.specs.declared.forms.LineForm.TheVariants as line
 use Rattle.traffic_file.specs.declared.judging.SoFar.{SoFar}
 use Rattle.traffic_file.specs.declared.stops.BusKind.{BusKind}
 use Rattle.traffic_file.specs.declared.stops.BusKind.TheVariants as kind
 use Rattle.traffic_file.specs.declared.stops.BusStop.{BusStop}
 use Rattle.traffic_file.specs.declared.stops.BusStop.TheVariants as stop
-use Rattle.traffic_file.specs.LineForms.{line_form}
 
 -- ---- names
 

@@ -1,5 +1,6 @@
 pub mod Traffic
-pub mod LineForms
 pub mod BusText
 pub mod Stops
 pub mod AddressMap
+pub mod TrafficLines
+pub mod TrafficWords

@@ -2,12 +2,12 @@
 use Rattle.std.specs.Prelude.{◌≡◌, ℕ, ◌^◌, ◌<◌, ◌≤◌, false, [], Option, option_map, length, slice_index_or}
 use Rattle.address_map.specs.declared.TargetRange.{TargetRange}
 use Rattle.address_map.specs.Ranges.{range_of, range_with}
+use Rattle.traffic_lines.specs.TrafficWords.Words.{length_of}
+use Rattle.traffic_lines.specs.TrafficWords.declared.BusAction.TheVariants.{Get}
 use Rattle.traffic_file.specs.declared.Bus.{Bus}
 use Rattle.traffic_file.specs.declared.BusTarget.{BusTarget}
 use Rattle.traffic_file.specs.declared.BusInitiator.{BusInitiator}
 use Rattle.traffic_file.specs.declared.BusLine.{BusLine}
-use Rattle.traffic_file.specs.declared.BusAction.{BusAction}
-use Rattle.traffic_file.specs.declared.BusAction.TheVariants.{Get, Put}
 use Rattle.traffic_file.specs.declared.Invalidate.{Invalidate}
 
 -- ---- what stands at a place, counted from 0; past the end something that no definition looks at
@@ -28,11 +28,6 @@ abbrev pub range_at : Bus → ℕ → TargetRange
 range_at bus t = slice_index_or bus.map t (range_of 0 0 0)
 
 -- ---- one access
-
--- how many bytes it reads or writes
-abbrev pub length_of : BusAction → ℕ
-length_of (Get len) = len
-length_of (Put bytes) = length bytes
 
 -- the initiator of access k
 abbrev pub initiator_of : Bus → ℕ → ℕ

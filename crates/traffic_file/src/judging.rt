@@ -2,19 +2,19 @@
 ghost use Rattle.std.specs.Prelude.{◌≡◌, ◌+◌, ◌≤◌, ◌<◌, length};
 ghost use Rattle.std.specs.List.{list_any};
 ghost use Rattle.address_map.specs.Ranges.{refusal};
-ghost use Rattle.text_lines.specs.Lines.{line_number};
+ghost use Rattle.traffic_lines.specs.TextLines.Lines.{line_number};
 ghost use Rattle.traffic_file.specs.BusText as spec;
 ghost use Rattle.traffic_file.specs.Stops.{IsJudgedAs};
 
-use super::forms::LineForm;
-use super::numbers::text_of;
 use super::stops::{BusKind, BusStop};
-use super::{Bus, BusAction, BusInitiator, BusLine, BusTarget, Invalidate};
+use super::{Bus, BusInitiator, BusLine, BusTarget, Invalidate};
 use address_map::{AddressMap, MapStop};
 use model_tree::logic_values_api::Text;
 use model_tree::plain_lists_api::Items;
 use std::alloc::Global;
-use text_lines::line_number;
+use traffic_lines::LineForm;
+use traffic_lines::text_lines_api::line_number;
+use traffic_lines::traffic_words_api::{BusAction, text_of};
 
 /// The greatest number of targets, and of initiators.
 const NAMED_LIMIT: usize = 256;

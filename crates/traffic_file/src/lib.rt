@@ -1,10 +1,7 @@
 //! Traffic through a router: the targets and initiators that there are, their accesses in order, and what takes grants away.
 #![tactic(auto)]
 
-mod forms;
 mod judging;
-mod lines;
-mod numbers;
 mod reading;
 mod stops;
 
@@ -13,10 +10,16 @@ use model_tree::logic_values_api::Text;
 use model_tree::plain_lists_api::Items;
 pub use reading::read_bus;
 pub use stops::{BusKind, BusStop};
+use traffic_lines::traffic_words_api::BusAction;
 
 /// What is passed on of address_map.
 pub mod address_map_api {
     pub use address_map::TargetRange;
+}
+
+/// What is passed on of traffic_words.
+pub mod traffic_words_api {
+    pub use traffic_lines::traffic_words_api::BusAction;
 }
 
 /// What is passed on of plain_lists.
@@ -42,24 +45,6 @@ pub struct BusInitiator {
     pub name: Text,
     /// Whether it keeps grants to reach a memory directly.
     pub dmi: bool,
-}
-
-/// Bytes in order.
-pub type Bytes = Items<u8>;
-
-/// What an access does.
-#[derive(Drop)]
-pub enum BusAction {
-    /// It reads.
-    Get {
-        /// So many bytes.
-        len: u16,
-    },
-    /// It writes.
-    Put {
-        /// These bytes.
-        bytes: Bytes,
-    },
 }
 
 /// One access.

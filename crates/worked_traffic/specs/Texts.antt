@@ -5,8 +5,8 @@ use Rattle.traffic_file.specs.declared.Bus.{Bus}
 use Rattle.traffic_file.specs.declared.BusTarget.{BusTarget}
 use Rattle.traffic_file.specs.declared.BusInitiator.{BusInitiator}
 use Rattle.traffic_file.specs.declared.BusLine.{BusLine}
-use Rattle.traffic_file.specs.declared.BusAction.{BusAction}
-use Rattle.traffic_file.specs.declared.BusAction.TheVariants.{Get, Put}
+use Rattle.traffic_file.specs.TrafficWords.declared.BusAction.{BusAction}
+use Rattle.traffic_file.specs.TrafficWords.declared.BusAction.TheVariants.{Get, Put}
 use Rattle.traffic_file.specs.declared.Invalidate.{Invalidate}
 use Rattle.traffic_file.specs.declared.judging.SoFar.{SoFar}
 

@@ -1,11 +1,11 @@
-use Rattle.std.proofs.Common.{◌≡◌, ◌+◌, ◌<◌, Some, length, refl, sym, ap, ◌∙◌, subst, arith, true≢false}
+use Rattle.std.proofs.Common.{◌≡◌, ◌+◌, ◌<◌, Some, length, refl, sym, ap, ◌∙◌, subst, arith, true≢false, false}
 use Rattle.std.specs.Prelude.{option_map}
 use Rattle.place_order.specs.Ranks.{rank_at, AreInOrder}
 use Rattle.bus_router.specs.AddressMap.declared.TargetRange.{TargetRange}
 use Rattle.bus_router.specs.TrafficFile.Traffic.{home_of}
 use Rattle.bus_router.specs.Times.{row_at}
 use Rattle.bus_answers.specs.Answers.{served_rank}
-use Rattle.bus_answers.proofs.Orders.{HoldsBelow, all_below, one_more, none_more, rank_of_row, order_by_same}
+use Rattle.place_order.proofs.Kept.{HoldsBelow, all_below, one_more, none_more, rank_of, order_by_same}
 use Rattle.bus_answers.proofs.homes.order_at.Goals as goal
 use Rattle.bus_answers.proofs.homes.order_at.Goals.{then-is_home+in_ok-put_in_order, else-is_home}
 
@@ -47,6 +47,6 @@ returns c =
         λ of. (held k).1 ((let there = of.there in omega arith), of.home_is),
       );
       order = order_by_same (rank_at c.args.ranks.now) (λ k. served_rank (row_at c.args.rows.now k))
-          (λ k. ap (λ ranks. rank_at ranks k) c.requires.ranked ∙ rank_of_row served_rank c.args.rows.now k refl)
+          (λ k. ap (λ ranks. rank_at ranks k) c.requires.ranked ∙ rank_of served_rank (record { b = 0; a = 0; s = 0; e = 0; r = 0; direct = false }) c.args.rows.now k refl)
           c.loop-k.order.items c.loop-k.invariant.sorted;
     }

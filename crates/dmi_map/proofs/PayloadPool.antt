@@ -1,0 +1,1 @@
+pub use Rattle.payload_pool.proofs.LawLemmas as LawLemmas

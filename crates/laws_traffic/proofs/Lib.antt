@@ -1,0 +1,4 @@
+pub mod Turns
+pub mod Routed
+pub mod Direct
+pub mod Whole

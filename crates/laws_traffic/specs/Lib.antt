@@ -1,0 +1,3 @@
+pub mod Routed
+pub mod Direct
+pub mod Turns

@@ -1,0 +1,2 @@
+pub use Rattle.traffic_lines.specs.LineForms as LineForms
+pub use Rattle.traffic_lines.specs.declared as declared
