@@ -39,6 +39,8 @@ impl SinkForm {
 pub struct Case {
     /// What it shows.
     pub name: String,
+    /// Its number, where it is one of a range of cases.
+    pub number: Option<u64>,
     /// The words of the command line.
     pub words: Vec<String>,
     /// The files on the shelf.
@@ -76,6 +78,7 @@ impl Case {
     pub fn new(alloc: Global, name: &str) -> Result<Case, AllocError> {
         Ok(Case {
             name: String::from_str(alloc, name)?,
+            number: None,
             words: usual_words(alloc)?,
             files: Vec::new(alloc),
             failing: Vec::new(alloc),
@@ -85,6 +88,14 @@ impl Case {
             is_given: false,
             wanted: Vec::new(alloc),
         })
+    }
+
+    /// That of this number of a range of cases of this name.
+    pub fn of_range(alloc: Global, name: &str, number: u64) -> Result<Case, AllocError> {
+        let name = format!(in alloc; "{name}, N = {number}")?;
+        let mut case = Case::new(alloc, name.as_str())?;
+        case.number = Some(number);
+        Ok(case)
     }
 }
 

@@ -1,16 +1,17 @@
 -- A session as far as it has come, and how it may end there.
-use Rattle.std.proofs.Common.{◌≡◌, ◌<◌, ◌≤◌, ◌+◌, ℕ, zero, suc, true, false, nat_le, List, [], ◌∷◌, ◌++◌, length, drop, Option, Some, None, Result, Ok, Err, refl, sym, ◌∙◌, ap, subst, arith, append_assoc, append-nil}
+use Rattle.std.proofs.Common.{◌≡◌, ◌<◌, ◌≤◌, ◌+◌, ℕ, zero, suc, true, false, nat_le, List, [], ◌∷◌, ◌++◌, length, drop, Option, Some, None, Result, Ok, Err, refl, sym, ◌∙◌, ap, subst, arith, append_assoc, append-nil, length-append}
 use Rattle.std.specs.Prelude.{slice_get, if◌then◌else◌}
 use Rattle.std.specs.List.{flat_map}
 use Rattle.std.proofs.lemmas.Bool.Decides.{nat_tests}
-use Rattle.sim_io.specs.declared.outside.Trouble.{Trouble}
-use Rattle.sim_io.specs.declared.outside.Trouble.TheVariants as trouble
+use Rattle.write_buffer.specs.SimIo.declared.outside.Trouble.{Trouble}
+use Rattle.write_buffer.specs.SimIo.declared.outside.Trouble.TheVariants as trouble
 use Rattle.flat_design.specs.declared.faults.RunFault.{RunFault}
 use Rattle.flat_design.specs.declared.design.Design.{Design}
 use Rattle.flat_design.specs.declared.design.Visible.{Visible}
 use Rattle.vcd_trace.specs.SimModel.Configuration.{Config, Snapshot, Told}
 use Rattle.vcd_trace.specs.SimModel.Steps.{Outcome, went, faulted, takes, ended, step}
-use Rattle.vcd_trace.specs.SimModel.Runs.{Chooser, least, greatest, seeded, listed, chooser_of, picked, held_then, first_of, rest_of, missing, stop_at, stop_taking, stop_within}
+use Rattle.vcd_trace.specs.SimModel.Runs as run
+use Rattle.vcd_trace.specs.SimModel.Runs.{after, Chooser, least, greatest, seeded, listed, chooser_of, picked, held_then, first_of, rest_of, missing, stop_at, stop_taking, stop_within}
 use Rattle.vcd_trace.specs.SimModel.Texts.{shown, closing, choice_text}
 use Rattle.vcd_trace.specs.SimModel.Trace.{header, all_values, each_later, first_values, later_values, trace_text}
 use Rattle.vcd_trace.specs.SimModel.declared.plain.Command.{Command}
@@ -32,20 +33,30 @@ use Rattle.kernel_runs.specs.declared.answers.Telling.TheVariants as telling
 use Rattle.kernel_runs.specs.declared.answers.Made.TheVariants as made
 use Rattle.kernel_runs.proofs.Ruled.{AskedRule, AsksRule, rule_picked, rule_missed, only_lists_miss}
 use Rattle.session.specs.Cut.{cut_by}
-use Rattle.session.specs.Outputs.{Texts, behind, no_texts, Outer, Names, Took, IsFront, AreFronts, text_for}
-use Rattle.session.specs.Telling.{text_so_far, TextOf, TextOfTurn, TextFor, KeepsIf, HeaderOf, PointOf, LastPointOf, IsClosing, IsListOf, Recorded, Nothing, Finishes, stopped_by}
+use Rattle.session.specs.Outputs.{Texts, behind, no_texts, Outer, Names, Took, IsFront, AreFronts, IsNear, Given, FitsRoom, LetGo, text_for}
+use Rattle.session.specs.Telling.{text_so_far, TextOf, TextOfTurn, TextFor, KeepsIf, HeaderOf, PointOf, LastPointOf, IsClosing, IsLineOf, Recorded, Nothing, AllOut, Closes, Finishes, stopped_by}
 use Rattle.session.specs.Begun.{GoesOn}
-use Rattle.session.specs.Course.{Ran, Wrote, IsEnd, IsEndedAs, all_but_last, texts_at, end_of}
+use Rattle.session.specs.Course.{Ran, Wrote, LacksLittle, IsEnd, IsEndedAs, texts_at, end_of}
 use Rattle.session.specs.declared.plans.Plan.{Plan}
-use Rattle.session.proofs.Outputs.{cut_short, cut_somewhere, took_whole, took_as, took_on, took_nothing}
-use Rattle.session.proofs.Reached.{Reached, held_after, starts, by_step, by_taking, run_of, ruled_of}
-use Rattle.session.proofs.Fronts.{texts-push, split, all_but_pushed}
+use Rattle.session.proofs.Outputs.{cut_short, cut_somewhere, front_as, front_on, front_same, given_on, near_given, only_let_go, took_nothing, took_on, took_whole}
+use Rattle.session.proofs.Reached.{Reached, held_after, starts, by_step, by_taking, run_of, run_once, ruled_of}
+use Rattle.session.proofs.Fronts.{choices-push, texts-push}
 
 -- the texts so far
-abbrev pub so_far : Plan → Config → Texts
-so_far plan c = texts_at plan c [] None
+abbrev pub so_far : Plan → Config → List ℕ → Texts
+so_far plan c choices = texts_at plan c choices None
 
-pub record Going (plan : Plan) (first : Config) (held : Chooser) (choices : List ℕ) (steps : ℕ) (k : Kernel) (script : List Command) (tracing : Tracing) (AreNamed : Names → Type 0) (old now : Outer) : Type 0 where
+-- each text is no longer than the other
+pub record NoLonger (a b : Texts) : Type 0 where
+  pub report : length a.report ≤ length b.report
+  pub trace : length a.trace ≤ length b.trace
+  pub choices : length a.choices ≤ length b.choices
+
+-- the texts of all steps but the last are no longer than these
+abbrev pub Lasts : Plan → Config → List ℕ → ℕ → Texts → Type 0
+Lasts plan first choices steps base = (m : ℕ) → steps ≡ suc m → (before : Config) (used left : List ℕ) → choices ≡ used ++ left → after m used first ≡ Some before → NoLonger (so_far plan before used) base
+
+pub record Going (plan : Plan) (first : Config) (held : Chooser) (choices : List ℕ) (steps : ℕ) (k : Kernel) (script : List Command) (tracing : Tracing) (AreNamed : Names → Type 0) (old now : Outer) (due : Texts) : Type 0 where
   pub at : Config
   pub stands : StandsFor k at
   pub left : at.script ≡ script
@@ -53,40 +64,23 @@ pub record Going (plan : Plan) (first : Config) (held : Chooser) (choices : List
   pub sound : IsReached at
   pub design : at.design ≡ first.design
   pub keeps : KeepsIf plan.vcd tracing at.trace.snapshots
-  pub written : Took AreNamed old now (so_far plan at)
+  pub given : Given AreNamed old now due (so_far plan at choices)
+  pub lasts : Lasts plan first choices steps (so_far plan at choices)
 
 -- ---- what a step adds
 
--- from what was told to the next configuration: the text is longer, and the text before lacks at most that of one that was told
-pub record Longer (log : Log) (ts : List Told) (to : Config) : Type 0 where
-  pub more : List ℕ
-  pub adds : text_so_far log to ≡ flat_map (shown log) ts ++ more
-  pub last : List ℕ
-  pub before : flat_map (shown log) ts ≡ flat_map (shown log) (all_but_last to.trace.told) ++ last
+-- to what was told at most one is added
+longer_by_one : (log : Log) (at to : Config) (t : Told) → to.trace.told ≡ at.trace.told ++ t ∷ [] → IsFront (text_so_far log at) (text_so_far log to)
+longer_by_one log at to t is = (shown log t, ap (flat_map (shown log)) is ∙ texts-push log at.trace.told t)
 
-longer_by_one : (log : Log) (at to : Config) (t : Told) → to.trace.told ≡ at.trace.told ++ t ∷ [] → Longer log at.trace.told to
-longer_by_one log at to t is = record {
-  more = shown log t;
-  adds = ap (flat_map (shown log)) is ∙ texts-push log at.trace.told t;
-  last = [];
-  before = sym (ap (λ ts. flat_map (shown log) (all_but_last ts)) is ∙ ap (flat_map (shown log)) (all_but_pushed at.trace.told t)) ∙ sym (append-nil _);
-}
+longer_by_none : (log : Log) (at to : Config) → to.trace.told ≡ at.trace.told → IsFront (text_so_far log at) (text_so_far log to)
+longer_by_none log at to is = ([], ap (flat_map (shown log)) is ∙ sym (append-nil _))
 
-longer_by_none : (log : Log) (at to : Config) → to.trace.told ≡ at.trace.told → Longer log at.trace.told to
-longer_by_none log at to is =
-    let cut = split log at.trace.told in
-    record {
-      more = [];
-      adds = ap (flat_map (shown log)) is ∙ sym (append-nil _);
-      last = cut.0;
-      before = cut.1 ∙ ap (λ ts. flat_map (shown log) (all_but_last ts) ++ cut.0) (sym is);
-    }
-
-longer_by_show : (log : Log) (at to : Config) (o : Option Visible) → to.trace.told ≡ at.trace.told ++ told_by_show to o → Longer log at.trace.told to
+longer_by_show : (log : Log) (at to : Config) (o : Option Visible) → to.trace.told ≡ at.trace.told ++ told_by_show to o → IsFront (text_so_far log at) (text_so_far log to)
 longer_by_show log at to None is = longer_by_none log at to (is ∙ append-nil _)
 longer_by_show log at to (Some v) is = longer_by_one log at to _ is
 
-longer : (log : Log) (at to : Config) (t : Telling) → TellsOf at to t → Longer log at.trace.told to
+longer : (log : Log) (at to : Config) (t : Telling) → TellsOf at to t → IsFront (text_so_far log at) (text_so_far log to)
 longer log at to telling.Nothing is = longer_by_none log at to is
 longer log at to (telling.Print p s v) adds = longer_by_one log at to _ adds.told
 longer log at to (telling.Show i) is = longer_by_show log at to (slice_get to.design.visible i) is
@@ -142,27 +136,63 @@ nothing_on (Some id) tracing at to same seen keeps text none = record {
   keeps = subst (Keeps tracing) (sym seen) keeps;
 }
 
+-- ---- the choices
+
+-- what the line of a choice adds to the list
+pub listed_on : (v : Option ℕ) (choices : List ℕ) (p : ℕ) (text : List ℕ) → TextFor v (IsLineOf p) text → text_for v (choice_text (choices ++ p ∷ [])) ≡ text_for v (choice_text choices) ++ text
+listed_on None choices p text none = sym none
+listed_on (Some id) choices p text is = choices-push choices p ∙ ap (λ x. choice_text choices ++ x) (sym is)
+
+listed_front : (v : Option ℕ) (choices : List ℕ) (p : ℕ) → IsFront (text_for v (choice_text choices)) (text_for v (choice_text (choices ++ p ∷ [])))
+listed_front None choices p = ([], refl)
+listed_front (Some id) choices p = (choice_text (p ∷ []), choices-push choices p)
+
 -- ---- one step more
 
+no_longer_same : (a : Texts) → NoLonger a a
+no_longer_same a = record { report = omega arith; trace = omega arith; choices = omega arith }
+
+front_length : (a b : List ℕ) → IsFront a b → length a ≤ length b
+front_length a b (rest, is) = omega (arith, ap length is, length-append a rest)
+
+no_longer_on : (a b c : Texts) → NoLonger a b → AreFronts b c → NoLonger a c
+no_longer_on a b c less fronts = record {
+  report = omega (arith, less.report, front_length b.report c.report fronts.report);
+  trace = omega (arith, less.trace, front_length b.trace c.trace fronts.trace);
+  choices = omega (arith, less.choices, front_length b.choices c.choices fronts.choices);
+}
+
+-- the configuration before the last step is the one that it was made in
+before_last : (plan : Plan) (first : Config) (choices more later : List ℕ) (steps : ℕ) (at : Config) → after steps choices first ≡ Some at → later ≡ choices ++ more → Lasts plan first later (steps + 1) (so_far plan at choices)
+before_last plan first choices more later steps at run is m one before used left splits there =
+    let same_steps : m ≡ steps = omega (arith, one) in
+    let same = run_once steps choices used more left first at before run (subst (λ n. after n used first ≡ Some before) same_steps there) (sym is ∙ splits) in
+    subst (λ c. NoLonger (so_far plan c used) (so_far plan at choices)) (sym same.config)
+    (subst (λ cs. NoLonger (so_far plan at cs) (so_far plan at choices)) (sym same.choices) (no_longer_same (so_far plan at choices)))
+
 -- a step led here, and of the texts that it adds this is known
-pub record Advanced (plan : Plan) (first : Config) (held : Chooser) (choices : List ℕ) (steps : ℕ) (at : Config) (k : Kernel) (script : List Command) (after : Tracing) (T P : List ℕ → Type 0) : Type 0 where
+pub record Advanced (plan : Plan) (first : Config) (held : Chooser) (choices later : List ℕ) (steps : ℕ) (at : Config) (k : Kernel) (script : List Command) (after : Tracing) (T P C : List ℕ → Type 0) : Type 0 where
   pub to : Config
   pub stands : StandsFor k to
   pub left : to.script ≡ script
-  pub reached : Reached plan.rule first held choices steps to
+  pub reached : Reached plan.rule first held later steps to
   pub sound : IsReached to
   pub design : to.design ≡ at.design
-  pub grown : Longer plan.log at.trace.told to
+  pub grown : AreFronts (so_far plan at choices) (so_far plan to later)
+  pub lasts : Lasts plan first later steps (so_far plan at choices)
   pub adds : (text : List ℕ) → T text → text_so_far plan.log to ≡ text_so_far plan.log at ++ text
-  pub traced : IsFront (text_for plan.vcd (trace_so_far at)) (text_for plan.vcd (trace_so_far to))
   pub traces : (text : List ℕ) → P text → Traced plan.vcd at to after text
+  pub lists : (text : List ℕ) → C text → (so_far plan to later).choices ≡ (so_far plan at choices).choices ++ text
 
-module _ (goes_on : GoesOn) (plan : Plan) (first : Config) (held : Chooser) (choices : List ℕ) (steps : ℕ) (k k' : Kernel) (script script' : List Command) (before after : Tracing) (AreNamed : Names → Type 0) (old mid : Outer) (g : Going plan first held choices steps k script before AreNamed old mid) where
+module _ (goes_on : GoesOn) (plan : Plan) (first : Config) (held : Chooser) (choices : List ℕ) (steps : ℕ) (k k' : Kernel) (script script' : List Command) (before after : Tracing) (AreNamed : Names → Type 0) (old mid : Outer) (due : Texts) (g : Going plan first held choices steps k script before AreNamed old mid due) where
+  run_here : run.after steps choices first ≡ Some g.at
+  run_here = run_of plan.rule first held choices steps g.at g.reached
+
   pub went_on : (t : Telling) (time : ℕ) → ((c : Config) → StandsFor k c → time ≡ c.cycle.now) → StepsOn k k' script script' (made.Went t) step
-      → Advanced plan first held choices (steps + 1) g.at k' script' after (TextOf k' t) (TextFor plan.vcd (PointOf k' time before after))
+      → Advanced plan first held choices choices (steps + 1) g.at k' script' after (TextOf k' t) (TextFor plan.vcd (PointOf k' time before after)) Nothing
   went_on t time now moves = from (step g.at) refl (moves g.at g.stands g.left)
     where
-      from : (o : Outcome) → step g.at ≡ o → GoesTo k' t (record g.at { script = script' }) o → Advanced plan first held choices (steps + 1) g.at k' script' after (TextOf k' t) (TextFor plan.vcd (PointOf k' time before after))
+      from : (o : Outcome) → step g.at ≡ o → GoesTo k' t (record g.at { script = script' }) o → Advanced plan first held choices choices (steps + 1) g.at k' script' after (TextOf k' t) (TextFor plan.vcd (PointOf k' time before after)) Nothing
       from (went d) e h = record {
         to = d;
         stands = h.0;
@@ -170,10 +200,15 @@ module _ (goes_on : GoesOn) (plan : Plan) (first : Config) (held : Chooser) (cho
         reached = by_step plan.rule first held choices steps g.at d g.reached e;
         sound = goes_on.steps g.at d g.sound e;
         design = goes_on.keeps g.at d g.sound e;
-        grown = longer plan.log (record g.at { script = script' }) d t h.2;
+        grown = record {
+          report = longer plan.log (record g.at { script = script' }) d t h.2;
+          trace = trace_on plan.vcd g.at d (added g.at d) (goes_on.keeps g.at d g.sound e) (goes_on.sees g.at d e);
+          choices = front_same _;
+        };
+        lasts = before_last plan first choices [] choices steps g.at run_here (sym (append-nil choices));
         adds = λ text is. is plan.log (record g.at { script = script' }) d h.0 h.2;
-        traced = trace_on plan.vcd g.at d (added g.at d) (goes_on.keeps g.at d g.sound e) (goes_on.sees g.at d e);
         traces = point_on plan.vcd k' time before after g.at d e h.0 (sym (now g.at g.stands)) (goes_on.keeps g.at d g.sound e) g.keeps;
+        lists = λ text none. sym (ap (λ x. text_for plan.choices (choice_text choices) ++ x) none ∙ append-nil _);
       }
       from (faulted f) e h = absurd h
       from takes e h = absurd h
@@ -190,10 +225,10 @@ module _ (goes_on : GoesOn) (plan : Plan) (first : Config) (held : Chooser) (cho
       from ended h asked = absurd h
 
   pub took_one : (p : ℕ) (next : Chooser) → StepsOn k k' script script' (made.Took p) step → AsksRule k held next (made.Took p)
-      → Advanced plan first next (choices ++ p ∷ []) (steps + 1) g.at k' script' before (TextOfTurn k' plan.log p) Nothing
+      → Advanced plan first next choices (choices ++ p ∷ []) (steps + 1) g.at k' script' before (TextOfTurn k' plan.log p) Nothing (TextFor plan.choices (IsLineOf p))
   took_one p next moves asks = from (step g.at) refl (moves g.at g.stands g.left)
     where
-      from : (o : Outcome) → step g.at ≡ o → TookTo k' p g.at o × (script' ≡ g.at.script) → Advanced plan first next (choices ++ p ∷ []) (steps + 1) g.at k' script' before (TextOfTurn k' plan.log p) Nothing
+      from : (o : Outcome) → step g.at ≡ o → TookTo k' p g.at o × (script' ≡ g.at.script) → Advanced plan first next choices (choices ++ p ∷ []) (steps + 1) g.at k' script' before (TextOfTurn k' plan.log p) Nothing (TextFor plan.choices (IsLineOf p))
       from (went d) e h = absurd h.0
       from (faulted f) e h = absurd h.0
       from takes e h =
@@ -209,10 +244,15 @@ module _ (goes_on : GoesOn) (plan : Plan) (first : Config) (held : Chooser) (cho
             reached = subst (λ x. Reached plan.rule first x (choices ++ p ∷ []) (steps + 1) took.to) (sym asked.1) (by_taking plan.rule first held choices steps g.at took.to p g.reached e took.taken picks);
             sound = goes_on.takings g.at took.to p g.sound e took.taken;
             design = same;
-            grown = longer_by_one plan.log g.at took.to _ took.turn.told;
+            grown = record {
+              report = longer_by_one plan.log g.at took.to _ took.turn.told;
+              trace = trace_on plan.vcd g.at took.to [] same (seen ∙ sym (append-nil g.at.trace.snapshots));
+              choices = listed_front plan.choices choices p;
+            };
+            lasts = before_last plan first choices (p ∷ []) (choices ++ p ∷ []) steps g.at run_here refl;
             adds = λ text is. is g.at took.to took.stands took.turn;
-            traced = trace_on plan.vcd g.at took.to [] same (seen ∙ sym (append-nil g.at.trace.snapshots));
             traces = nothing_on plan.vcd before g.at took.to same seen g.keeps;
+            lists = listed_on plan.choices choices p;
           }
       from ended e h = absurd h.0
 
@@ -233,22 +273,40 @@ trace_begins : (plan : Plan) (c : Config) (choices : List ℕ) (e : Option Stop)
 trace_begins plan c choices None = ([], sym (append-nil _))
 trace_begins plan c choices (Some s) = trace_whole plan.vcd c
 
-texts_begin : (plan : Plan) (c : Config) (choices : List ℕ) (e : Option Stop) → AreFronts (so_far plan c) (texts_at plan c choices e)
-texts_begin plan c choices e = record { report = report_begins plan c choices e; trace = trace_begins plan c choices e; choices = (_, refl) }
+choices_begin : (plan : Plan) (c : Config) (choices : List ℕ) (e : Option Stop) → IsFront (text_for plan.choices (choice_text choices)) (texts_at plan c choices e).choices
+choices_begin plan c choices None = front_same _
+choices_begin plan c choices (Some s) = front_same _
 
-front_on : (a b c : List ℕ) → IsFront a b → IsFront b c → IsFront a c
-front_on a b c (x, is) (y, at) = (x ++ y, at ∙ ap (λ z. z ++ y) is ∙ append_assoc a x y)
+texts_begin : (plan : Plan) (c : Config) (choices : List ℕ) (e : Option Stop) → AreFronts (so_far plan c choices) (texts_at plan c choices e)
+texts_begin plan c choices e = record { report = report_begins plan c choices e; trace = trace_begins plan c choices e; choices = choices_begin plan c choices e }
 
-front_more : (a b c : List ℕ) → IsFront a b → IsFront a (b ++ c)
-front_more a b c front = front_on a b (b ++ c) front (c, refl)
+nothing_more : (base text whole : List ℕ) → Nothing text → IsFront base whole → IsFront (base ++ text) whole
+nothing_more base text whole none front = subst (λ x. IsFront x whole) (sym (ap (λ x. base ++ x) none ∙ append-nil base)) front
 
-front_as : (a b c : List ℕ) → a ≡ b → IsFront b c → IsFront a c
-front_as a b c same front = subst (λ x. IsFront x c) (sym same) front
+fronts_on : (a b c : Texts) → AreFronts a b → AreFronts b c → AreFronts a c
+fronts_on a b c x y = record { report = front_on a.report b.report c.report x.report y.report; trace = front_on a.trace b.trace c.trace x.trace y.trace; choices = front_on a.choices b.choices c.choices x.choices y.choices }
 
-module _ (plan : Plan) (first : Config) (held next : Chooser) (choices later : List ℕ) (steps now_steps : ℕ) (k k' : Kernel) (script script' : List Command) (before after : Tracing) (AreNamed : Names → Type 0) (old mid now : Outer) (T P : List ℕ → Type 0)
-    (g : Going plan first held choices steps k script before AreNamed old mid) (a : Advanced plan first next later now_steps g.at k' script' after T P) where
-  -- its texts were written whole
-  pub goes_one_on : Recorded T P Nothing AreNamed mid now (Ok tt) → Going plan first next later now_steps k' script' after AreNamed old now
+-- ---- how little was not taken
+
+longer_still : (n a b c : ℕ) → a ≤ b → b ≤ c + n → a ≤ c + n
+longer_still n a b c h k = omega (arith, h, k)
+
+near_from : (plan : Plan) (first : Config) (choices : List ℕ) (steps : ℕ) (TookIt : Texts → Type 0) (base front : Texts) → Lasts plan first choices steps base → TookIt front → IsNear 65536 front base → LacksLittle plan first choices steps TookIt
+near_from plan first choices steps TookIt base front lasts took near m one before used left splits there =
+    let less = lasts m one before used left splits there in (
+      front,
+      took,
+      record {
+        report = longer_still 65536 _ _ (length front.report) less.report near.report;
+        trace = longer_still 65536 _ _ (length front.trace) less.trace near.trace;
+        choices = longer_still 65536 _ _ (length front.choices) less.choices near.choices;
+      },
+    )
+
+module _ (plan : Plan) (first : Config) (held next : Chooser) (choices later : List ℕ) (steps now_steps : ℕ) (k k' : Kernel) (script script' : List Command) (before after : Tracing) (AreNamed : Names → Type 0) (old mid now : Outer) (due left : Texts) (T P C : List ℕ → Type 0)
+    (g : Going plan first held choices steps k script before AreNamed old mid due) (a : Advanced plan first next choices later now_steps g.at k' script' after T P C) where
+  -- its texts were given whole
+  pub goes_one_on : Recorded T P C AreNamed mid now due left (Ok tt) → Going plan first next later now_steps k' script' after AreNamed old now left
   goes_one_on r = record {
     at = a.to;
     stands = a.stands;
@@ -256,8 +314,9 @@ module _ (plan : Plan) (first : Config) (held next : Chooser) (choices later : L
     reached = a.reached;
     sound = a.sound;
     design = a.design ∙ g.design;
-    keeps = (a.traces r.texts.trace r.parts.1).keeps;
-    written = took_whole T P Nothing AreNamed old mid now (so_far plan g.at) (so_far plan a.to) a.adds (λ text is. (a.traces text is).adds) (λ text none. sym none) g.written r;
+    keeps = (a.traces r.parts.1.0 r.parts.1.1).keeps;
+    given = given_on T P C AreNamed old mid now due left (so_far plan g.at choices) (so_far plan a.to later) a.adds (λ text is. (a.traces text is).adds) a.lists g.given r;
+    lasts = λ m one c used rest splits there. no_longer_on (so_far plan c used) (so_far plan g.at choices) (so_far plan a.to later) (a.lasts m one c used rest splits there) a.grown;
   }
 
   ending : Option Stop
@@ -266,43 +325,39 @@ module _ (plan : Plan) (first : Config) (held next : Chooser) (choices later : L
   whole : Texts
   whole = texts_at plan a.to later ending
 
-  begun : AreFronts (so_far plan g.at) whole
+  begun : AreFronts (so_far plan g.at choices) whole
   unfolding whole ending
-  begun = record {
-    report = front_on _ _ _ (a.grown.more, a.grown.adds) (report_begins plan a.to later ending);
-    trace = front_on _ _ _ a.traced (trace_begins plan a.to later ending);
-    choices = (_, refl);
-  }
+  begun = fronts_on (so_far plan g.at choices) (so_far plan a.to later) (texts_at plan a.to later (end_of plan a.to later now_steps)) a.grown (texts_begin plan a.to later (end_of plan a.to later now_steps))
 
-  reports : (text : List ℕ) → T text → IsFront ((so_far plan g.at).report ++ text) whole.report
+  reports : (text : List ℕ) → T text → IsFront ((so_far plan g.at choices).report ++ text) whole.report
   unfolding whole ending
   reports text is = front_as _ _ _ (sym (a.adds text is)) (report_begins plan a.to later ending)
 
-  traces : (text : List ℕ) → P text → IsFront ((so_far plan g.at).trace ++ text) whole.trace
+  traces : (text : List ℕ) → P text → IsFront ((so_far plan g.at choices).trace ++ text) whole.trace
   unfolding whole ending
   traces text is = front_as _ _ _ (sym (a.traces text is).adds) (trace_begins plan a.to later ending)
 
-  lists : (text : List ℕ) → Nothing text → IsFront text whole.choices
+  lists : (text : List ℕ) → C text → IsFront ((so_far plan g.at choices).choices ++ text) whole.choices
   unfolding whole ending
-  lists text none = front_as _ _ _ none (_, refl)
+  lists text is = front_as _ _ _ (sym (a.lists text is)) (choices_begin plan a.to later ending)
 
-  ran_so : (s : Stop) → now_steps ≤ plan.budget → Wrote (Took AreNamed old now) (end_of plan a.to later now_steps) (texts_at plan a.to later (end_of plan a.to later now_steps)) s → (t : Texts) → Took AreNamed mid now t → Ran first plan later now_steps s (Took AreNamed old now)
-  ran_so s within wrote t more = record {
+  ran_so : (s : Stop) → now_steps ≤ plan.budget → Wrote (Took AreNamed old now) (end_of plan a.to later now_steps) (texts_at plan a.to later (end_of plan a.to later now_steps)) s → FitsRoom due → (t : Texts) → Took AreNamed mid now t → Ran first plan later now_steps s (Took AreNamed old now)
+  ran_so s within wrote few t more = record {
     last = a.to;
     is_run = run_of plan.rule first next later now_steps a.to a.reached;
     ruled = ruled_of plan.rule first next later now_steps a.to a.reached;
     within = within;
     wrote = wrote;
-    earlier = (behind (so_far plan g.at) t, took_on AreNamed old mid now (so_far plan g.at) t g.written more, front_more _ _ t.report (a.grown.last, a.grown.before));
+    near = near_from plan first later now_steps (Took AreNamed old now) (so_far plan g.at choices) (behind g.given.front t) a.lasts (took_on AreNamed old mid now g.given.front t g.given.took more) (near_given AreNamed old mid due (so_far plan g.at choices) t g.given few);
   }
 
-  -- it was cut while they were written
-  pub cut_in_texts : (e : Trouble) → now_steps ≤ plan.budget → Recorded T P Nothing AreNamed mid now (Err e) → Ran first plan later now_steps (cut_by e) (Took AreNamed old now)
+  -- it was cut while they were given
+  pub cut_in_texts : (e : Trouble) → now_steps ≤ plan.budget → FitsRoom due → Recorded T P C AreNamed mid now due left (Err e) → Ran first plan later now_steps (cut_by e) (Took AreNamed old now)
   unfolding whole ending
-  cut_in_texts trouble.Failed within r =
-      ran_so stop.WriteFault within (cut_short T P Nothing AreNamed old mid now (so_far plan g.at) whole begun reports traces lists g.written r) r.texts r.took
-  cut_in_texts trouble.NoMemory within r =
-      ran_so stop.NoMemory within (cut_somewhere T P Nothing AreNamed old mid now (so_far plan g.at) whole begun reports traces lists g.written r) r.texts r.took
+  cut_in_texts trouble.Failed within few r =
+      ran_so stop.WriteFault within (cut_short T P C AreNamed old mid now due left (so_far plan g.at choices) whole begun reports traces lists g.given r) few r.taken r.took
+  cut_in_texts trouble.NoMemory within few r =
+      ran_so stop.NoMemory within (cut_somewhere T P C AreNamed old mid now due left (so_far plan g.at choices) whole begun reports traces lists g.given r) few r.taken r.took
 
 -- ---- a rule that picked none that is runnable is a replayed list, whose next choice is missing or not runnable
 
@@ -362,95 +417,89 @@ last_point : (v : Option ℕ) (k : Kernel) (tracing : Tracing) (c : Config) → 
 last_point None k tracing c stands keeps text none = sym none
 last_point (Some id) k tracing c stands keeps text is = sym (is c stands keeps)
 
-listed_whole : (v : Option ℕ) (choices text : List ℕ) → TextFor v (IsListOf choices) text → text_for v (choice_text choices) ≡ text
-listed_whole None choices text none = sym none
-listed_whole (Some id) choices text is = sym is
-
-module _ (plan : Plan) (first : Config) (held : Chooser) (choices : List ℕ) (steps : ℕ) (AreNamed : Names → Type 0) (old : Outer) where
+module _ (plan : Plan) (first : Config) (held : Chooser) (choices : List ℕ) (steps : ℕ) (AreNamed : Names → Type 0) (old : Outer) (due : Texts) where
   Ends : Kernel → Tracing → Outer → Outer → Stop → Stop → Type 0
-  Ends k tracing mid now s s' = Finishes (Recorded (IsClosing k s) (TextFor plan.vcd (LastPointOf k tracing)) (TextFor plan.choices (IsListOf choices)) AreNamed mid now) s s'
+  Ends k tracing mid now s s' = Finishes (Closes (IsClosing k s) (TextFor plan.vcd (LastPointOf k tracing)) plan.vcd plan.choices AreNamed mid now due) s s'
 
-  module _ (k : Kernel) (script : List Command) (tracing : Tracing) (mid now : Outer) (s : Stop) (g : Going plan first held choices steps k script tracing AreNamed old mid) where
+  module _ (k : Kernel) (script : List Command) (tracing : Tracing) (mid now : Outer) (s : Stop) (g : Going plan first held choices steps k script tracing AreNamed old mid due) where
     T : List ℕ → Type 0
     T = IsClosing k s
 
     P : List ℕ → Type 0
     P = TextFor plan.vcd (LastPointOf k tracing)
 
-    C : List ℕ → Type 0
-    C = TextFor plan.choices (IsListOf choices)
-
     all_texts : Texts
     all_texts = texts_at plan g.at choices (Some s)
 
-    report_whole : (text : List ℕ) → T text → all_texts.report ≡ (so_far plan g.at).report ++ text
+    report_whole : (text : List ℕ) → T text → all_texts.report ≡ (so_far plan g.at choices).report ++ text
     unfolding T all_texts
     report_whole text is = ap (λ x. text_so_far plan.log g.at ++ x) (sym (is g.at g.stands))
 
-    trace_of : (text : List ℕ) → P text → all_texts.trace ≡ (so_far plan g.at).trace ++ text
+    trace_of : (text : List ℕ) → P text → all_texts.trace ≡ (so_far plan g.at choices).trace ++ text
     unfolding P all_texts
     trace_of text is = last_point plan.vcd k tracing g.at g.stands g.keeps text is
 
-    list_of : (text : List ℕ) → C text → all_texts.choices ≡ text
-    unfolding C all_texts
-    list_of text is = listed_whole plan.choices choices text is
+    list_of : (text : List ℕ) → Nothing text → all_texts.choices ≡ (so_far plan g.at choices).choices ++ text
+    unfolding all_texts
+    list_of text none = sym (ap (λ x. text_for plan.choices (choice_text choices) ++ x) none ∙ append-nil _)
 
     as_front : (a b : List ℕ) → b ≡ a → IsFront a b
     as_front a b same = ([], same ∙ sym (append-nil a))
 
-    ran_to : (x : Stop) → steps ≤ plan.budget → end_of plan g.at choices steps ≡ Some s → Wrote (Took AreNamed old now) (Some s) all_texts x → (t : Texts) → Took AreNamed mid now t → Ran first plan choices steps x (Took AreNamed old now)
+    ran_to : (x : Stop) → steps ≤ plan.budget → end_of plan g.at choices steps ≡ Some s → Wrote (Took AreNamed old now) (Some s) all_texts x → FitsRoom due → (t : Texts) → Took AreNamed mid now t → Ran first plan choices steps x (Took AreNamed old now)
     unfolding all_texts
-    ran_to x within ending wrote t more =
-        let cut = split plan.log g.at.trace.told in
-        record {
-          last = g.at;
-          is_run = run_of plan.rule first held choices steps g.at g.reached;
-          ruled = ruled_of plan.rule first held choices steps g.at g.reached;
-          within = within;
-          wrote = subst (λ e. Wrote (Took AreNamed old now) e (texts_at plan g.at choices e) x) (sym ending) wrote;
-          earlier = (behind (so_far plan g.at) t, took_on AreNamed old mid now (so_far plan g.at) t g.written more, front_more _ _ t.report cut);
-        }
+    ran_to x within ending wrote few t more = record {
+      last = g.at;
+      is_run = run_of plan.rule first held choices steps g.at g.reached;
+      ruled = ruled_of plan.rule first held choices steps g.at g.reached;
+      within = within;
+      wrote = subst (λ e. Wrote (Took AreNamed old now) e (texts_at plan g.at choices e) x) (sym ending) wrote;
+      near = near_from plan first choices steps (Took AreNamed old now) (so_far plan g.at choices) (behind g.given.front t) g.lasts (took_on AreNamed old mid now g.given.front t g.given.took more) (near_given AreNamed old mid due (so_far plan g.at choices) t g.given few);
+    }
 
-    ends_by : (s' : Stop) (written : Result Unit Trouble) → IsEnd s → steps ≤ plan.budget → end_of plan g.at choices steps ≡ Some s → Recorded T P C AreNamed mid now written → s' ≡ stopped_by s written → Ran first plan choices steps s' (Took AreNamed old now)
+    ends_by : (s' : Stop) (written : Result Unit Trouble) → IsEnd s → steps ≤ plan.budget → end_of plan g.at choices steps ≡ Some s → FitsRoom due → (left : Texts) → Recorded T P Nothing AreNamed mid now due left written → AllOut plan.vcd plan.choices left written → s' ≡ stopped_by s written → Ran first plan choices steps s' (Took AreNamed old now)
     unfolding all_texts
-    ends_by s' (Ok u) end within ending r is = subst (λ x. Ran first plan choices steps x (Took AreNamed old now)) (sym is)
-        (ran_to s within ending (wrote_whole (Took AreNamed old now) s all_texts end (took_whole T P C AreNamed old mid now (so_far plan g.at) all_texts report_whole trace_of list_of g.written r)) r.texts r.took)
-    ends_by s' (Err trouble.Failed) end within ending r is = subst (λ x. Ran first plan choices steps x (Took AreNamed old now)) (sym is)
-        (ran_to stop.WriteFault within ending (cut_short T P C AreNamed old mid now (so_far plan g.at) all_texts (texts_begin plan g.at choices (Some s)) (λ text h. as_front _ _ (report_whole text h)) (λ text h. as_front _ _ (trace_of text h)) (λ text h. as_front _ _ (list_of text h)) g.written r) r.texts r.took)
-    ends_by s' (Err trouble.NoMemory) end within ending r is = subst (λ x. Ran first plan choices steps x (Took AreNamed old now)) (sym is)
-        (ran_to stop.NoMemory within ending (cut_somewhere T P C AreNamed old mid now (so_far plan g.at) all_texts (texts_begin plan g.at choices (Some s)) (λ text h. as_front _ _ (report_whole text h)) (λ text h. as_front _ _ (trace_of text h)) (λ text h. as_front _ _ (list_of text h)) g.written r) r.texts r.took)
+    ends_by s' (Ok u) end within ending few left r out is = subst (λ x. Ran first plan choices steps x (Took AreNamed old now)) (sym is)
+        (ran_to s within ending (wrote_whole (Took AreNamed old now) s all_texts end
+        (took_whole plan.vcd plan.choices AreNamed old now left all_texts.report (trace_text g.at) (choice_text choices) out (given_on T P Nothing AreNamed old mid now due left (so_far plan g.at choices) all_texts report_whole trace_of list_of g.given r))) few r.taken r.took)
+    ends_by s' (Err trouble.Failed) end within ending few left r out is = subst (λ x. Ran first plan choices steps x (Took AreNamed old now)) (sym is)
+        (ran_to stop.WriteFault within ending (cut_short T P Nothing AreNamed old mid now due left (so_far plan g.at choices) all_texts (texts_begin plan g.at choices (Some s)) (λ text h. as_front _ _ (report_whole text h)) (λ text h. as_front _ _ (trace_of text h)) (λ text h. as_front _ _ (list_of text h)) g.given r) few r.taken r.took)
+    ends_by s' (Err trouble.NoMemory) end within ending few left r out is = subst (λ x. Ran first plan choices steps x (Took AreNamed old now)) (sym is)
+        (ran_to stop.NoMemory within ending (cut_somewhere T P Nothing AreNamed old mid now due left (so_far plan g.at choices) all_texts (texts_begin plan g.at choices (Some s)) (λ text h. as_front _ _ (report_whole text h)) (λ text h. as_front _ _ (trace_of text h)) (λ text h. as_front _ _ (list_of text h)) g.given r) few r.taken r.took)
 
   -- a session that has come to an end of its own
-  finished : (k : Kernel) (script : List Command) (tracing : Tracing) (mid now : Outer) (s s' : Stop) (g : Going plan first held choices steps k script tracing AreNamed old mid) → IsEnd s → steps ≤ plan.budget → end_of plan g.at choices steps ≡ Some s
+  finished : (k : Kernel) (script : List Command) (tracing : Tracing) (mid now : Outer) (s s' : Stop) (g : Going plan first held choices steps k script tracing AreNamed old mid due) → IsEnd s → steps ≤ plan.budget → end_of plan g.at choices steps ≡ Some s → FitsRoom due
       → Ends k tracing mid now s s' → Ran first plan choices steps s' (Took AreNamed old now)
-  unfolding Ends T P C
-  finished k script tracing mid now s s' g end within ending (written, recorded, is) = ends_by k script tracing mid now s g s' written end within ending recorded is
+  unfolding Ends T P
+  finished k script tracing mid now s s' g end within ending few (written, (left, recorded, out), is) = ends_by k script tracing mid now s g s' written end within ending few left recorded out is
 
-  -- out of memory between two steps
-  pub cut_before_step : (k : Kernel) (script : List Command) (tracing : Tracing) (now : Outer) → Going plan first held choices steps k script tracing AreNamed old now → steps ≤ plan.budget → Ran first plan choices steps stop.NoMemory (Took AreNamed old now)
-  cut_before_step k script tracing now g within =
-      let cut = split plan.log g.at.trace.told in
+  -- out of memory between two steps, and what was due let go
+  pub cut_before_step : (k : Kernel) (script : List Command) (tracing : Tracing) (mid now : Outer) → Going plan first held choices steps k script tracing AreNamed old mid due → steps ≤ plan.budget → FitsRoom due → LetGo AreNamed mid now due → Ran first plan choices steps stop.NoMemory (Took AreNamed old now)
+  cut_before_step k script tracing mid now g within few goes =
+      let r = only_let_go Nothing Nothing Nothing AreNamed mid now due goes in
+      let whole = texts_at plan g.at choices (end_of plan g.at choices steps) in
+      let fronts = texts_begin plan g.at choices (end_of plan g.at choices steps) in
       record {
         last = g.at;
         is_run = run_of plan.rule first held choices steps g.at g.reached;
         ruled = ruled_of plan.rule first held choices steps g.at g.reached;
         within = within;
-        wrote = record { front = so_far plan g.at; fronts = texts_begin plan g.at choices (end_of plan g.at choices steps); took = g.written };
-        earlier = (so_far plan g.at, g.written, cut);
+        wrote = cut_somewhere Nothing Nothing Nothing AreNamed old mid now due no_texts (so_far plan g.at choices) whole fronts (λ text none. nothing_more _ text _ none fronts.report) (λ text none. nothing_more _ text _ none fronts.trace) (λ text none. nothing_more _ text _ none fronts.choices) g.given r;
+        near = near_from plan first choices steps (Took AreNamed old now) (so_far plan g.at choices) (behind g.given.front r.taken) g.lasts (took_on AreNamed old mid now g.given.front r.taken g.given.took r.took) (near_given AreNamed old mid due (so_far plan g.at choices) r.taken g.given few);
       }
 
-  module _ (goes_on : GoesOn) (k k' : Kernel) (script script' : List Command) (tracing : Tracing) (mid now : Outer) (s' : Stop) (g : Going plan first held choices steps k script tracing AreNamed old mid) where
+  module _ (goes_on : GoesOn) (k k' : Kernel) (script script' : List Command) (tracing : Tracing) (mid now : Outer) (s' : Stop) (few : FitsRoom due) (g : Going plan first held choices steps k script tracing AreNamed old mid due) where
     -- a kernel that stands for the same configuration
-    moved : StandsFor k' g.at → script' ≡ g.at.script → Going plan first held choices steps k' script' tracing AreNamed old mid
-    moved stands same = record { at = g.at; stands = stands; left = sym same; reached = g.reached; sound = g.sound; design = g.design; keeps = g.keeps; written = g.written }
+    moved : StandsFor k' g.at → script' ≡ g.at.script → Going plan first held choices steps k' script' tracing AreNamed old mid due
+    moved stands same = record { at = g.at; stands = stands; left = sym same; reached = g.reached; sound = g.sound; design = g.design; keeps = g.keeps; given = g.given; lasts = g.lasts }
 
     ends_so : (s : Stop) → IsEnd s → StandsFor k' g.at → script' ≡ g.at.script → steps < plan.budget → end_of plan g.at choices steps ≡ Some s → Ends k' tracing mid now s s' → Ran first plan choices steps s' (Took AreNamed old now)
     unfolding moved
-    ends_so s end stands same below ending closes = finished k' script' tracing mid now s s' (moved stands same) end (omega (arith, below)) ending closes
+    ends_so s end stands same below ending closes = finished k' script' tracing mid now s s' (moved stands same) end (omega (arith, below)) ending few closes
 
     -- no step is left
     pub ended_run : (s : Stop) → IsEnd s → StepsOn k k' script script' made.Ended step → steps < plan.budget → IsEndedAs k' s
-        → Finishes (Recorded (IsClosing k' s) (TextFor plan.vcd (LastPointOf k' tracing)) (TextFor plan.choices (IsListOf choices)) AreNamed mid now) s s' → Ran first plan choices steps s' (Took AreNamed old now)
+        → Finishes (Closes (IsClosing k' s) (TextFor plan.vcd (LastPointOf k' tracing)) plan.vcd plan.choices AreNamed mid now due) s s' → Ran first plan choices steps s' (Took AreNamed old now)
     unfolding Ends
     ended_run s end over below how closes = from (step g.at) refl (over g.at g.stands g.left)
       where
@@ -465,7 +514,7 @@ module _ (plan : Plan) (first : Config) (held : Chooser) (choices : List ℕ) (s
 
     -- the next step is a fault
     pub faulted_run : (f : RunFault) → StepsOn k k' script script' (made.Fault f) step → steps < plan.budget
-        → Finishes (Recorded (IsClosing k' (stop.Fault f)) (TextFor plan.vcd (LastPointOf k' tracing)) (TextFor plan.choices (IsListOf choices)) AreNamed mid now) (stop.Fault f) s' → Ran first plan choices steps s' (Took AreNamed old now)
+        → Finishes (Closes (IsClosing k' (stop.Fault f)) (TextFor plan.vcd (LastPointOf k' tracing)) plan.vcd plan.choices AreNamed mid now due) (stop.Fault f) s' → Ran first plan choices steps s' (Took AreNamed old now)
     unfolding Ends
     faulted_run f fault below closes = from (step g.at) refl (fault g.at g.stands g.left)
       where
@@ -480,7 +529,7 @@ module _ (plan : Plan) (first : Config) (held : Chooser) (choices : List ℕ) (s
 
     -- a listed choice is missing or not runnable
     pub unready_run : (place : ℕ) (next : Chooser) → place ≡ length choices + 1 → StepsOn k k' script script' made.NotReady step → AsksRule k held next made.NotReady → steps < plan.budget
-        → Finishes (Recorded (IsClosing k' (stop.Replay place)) (TextFor plan.vcd (LastPointOf k' tracing)) (TextFor plan.choices (IsListOf choices)) AreNamed mid now) (stop.Replay place) s' → Ran first plan choices steps s' (Took AreNamed old now)
+        → Finishes (Closes (IsClosing k' (stop.Replay place)) (TextFor plan.vcd (LastPointOf k' tracing)) plan.vcd plan.choices AreNamed mid now due) (stop.Replay place) s' → Ran first plan choices steps s' (Took AreNamed old now)
     unfolding Ends
     unready_run place next at_place none asks below closes = from (step g.at) refl (none g.at g.stands g.left)
       where
@@ -500,11 +549,11 @@ module _ (plan : Plan) (first : Config) (held : Chooser) (choices : List ℕ) (s
         from ended e h = absurd h.0
 
   -- the budget is used up
-  pub spent_run : (k : Kernel) (script : List Command) (tracing : Tracing) (mid now : Outer) (s s' : Stop) (g : Going plan first held choices steps k script tracing AreNamed old mid) → IsEnd s → steps ≤ plan.budget → plan.budget ≤ steps → stop_within g.at plan.rule (length choices) true (step g.at) ≡ Some s
-      → Finishes (Recorded (IsClosing k s) (TextFor plan.vcd (LastPointOf k tracing)) (TextFor plan.choices (IsListOf choices)) AreNamed mid now) s s' → Ran first plan choices steps s' (Took AreNamed old now)
+  pub spent_run : (k : Kernel) (script : List Command) (tracing : Tracing) (mid now : Outer) (s s' : Stop) (g : Going plan first held choices steps k script tracing AreNamed old mid due) → FitsRoom due → IsEnd s → steps ≤ plan.budget → plan.budget ≤ steps → stop_within g.at plan.rule (length choices) true (step g.at) ≡ Some s
+      → Finishes (Closes (IsClosing k s) (TextFor plan.vcd (LastPointOf k tracing)) plan.vcd plan.choices AreNamed mid now due) s s' → Ran first plan choices steps s' (Took AreNamed old now)
   unfolding Ends
-  spent_run k script tracing mid now s s' g end within spent ending closes =
-      finished k script tracing mid now s s' g end within (ap (λ b. stop_within g.at plan.rule (length choices) b (step g.at)) (used_up steps plan.budget spent) ∙ ending) closes
+  spent_run k script tracing mid now s s' g few end within spent ending closes =
+      finished k script tracing mid now s s' g end within (ap (λ b. stop_within g.at plan.rule (length choices) b (step g.at)) (used_up steps plan.budget spent) ∙ ending) few closes
 
 -- ---- the beginning
 
@@ -519,18 +568,30 @@ pub first_keeps : (v : Option ℕ) (tracing : Tracing) (ss : List Snapshot) → 
 first_keeps None tracing ss keeps none = tt
 first_keeps (Some id) tracing ss keeps none = subst (Keeps tracing) (sym none) keeps
 
-module _ (plan : Plan) (first : Config) (k : Kernel) (script : List Command) (tracing : Tracing) (AreNamed : Names → Type 0) (old now : Outer) (stands : StandsFor k first) (nothing_told : first.trace.told ≡ []) (nothing_seen : first.trace.snapshots ≡ []) where
-  -- with the header of the trace written
-  pub begins : first.script ≡ script → IsReached first → KeepsIf plan.vcd tracing first.trace.snapshots → Recorded Nothing (TextFor plan.vcd (HeaderOf k)) Nothing AreNamed old now (Ok tt) → Going plan first (chooser_of plan.rule) [] 0 k script tracing AreNamed old now
-  begins left sound keeps r = record {
+-- before the first step there is nothing
+nothing_given : (AreNamed : Names → Type 0) (outer : Outer) → Given AreNamed outer outer no_texts no_texts
+nothing_given AreNamed outer = record { front = no_texts; took = took_nothing AreNamed outer; report = refl; trace = refl; choices = refl }
+
+none_before : (plan : Plan) (first : Config) (base : Texts) → Lasts plan first [] 0 base
+none_before plan first base m one = absurd (omega (arith, one))
+
+no_choices : (v : Option ℕ) → text_for v (choice_text []) ≡ []
+no_choices None = refl
+no_choices (Some id) = refl
+
+module _ (plan : Plan) (first : Config) (k : Kernel) (script : List Command) (tracing : Tracing) (AreNamed : Names → Type 0) (old now : Outer) (left : Texts) (stands : StandsFor k first) (nothing_told : first.trace.told ≡ []) (nothing_seen : first.trace.snapshots ≡ []) where
+  -- with the header of the trace given
+  pub begins : first.script ≡ script → IsReached first → KeepsIf plan.vcd tracing first.trace.snapshots → Recorded Nothing (TextFor plan.vcd (HeaderOf k)) Nothing AreNamed old now no_texts left (Ok tt) → Going plan first (chooser_of plan.rule) [] 0 k script tracing AreNamed old now left
+  begins is_left sound keeps r = record {
     at = first;
     stands = stands;
-    left = left;
+    left = is_left;
     reached = starts plan.rule first;
     sound = sound;
     design = refl;
     keeps = keeps;
-    written = took_as AreNamed old now r.texts (so_far plan first) (r.parts.0 ∙ sym (first_report plan first nothing_told)) (sym (first_trace plan.vcd k first stands nothing_seen r.texts.trace r.parts.1)) r.parts.2 r.took;
+    given = given_on Nothing (TextFor plan.vcd (HeaderOf k)) Nothing AreNamed old old now no_texts left no_texts (so_far plan first []) (λ text none. first_report plan first nothing_told ∙ sym none) (first_trace plan.vcd k first stands nothing_seen) (λ text none. no_choices plan.choices ∙ sym none) (nothing_given AreNamed old) r;
+    lasts = none_before plan first (so_far plan first []);
   }
 
   header_ends : Option Stop
@@ -549,30 +610,29 @@ module _ (plan : Plan) (first : Config) (k : Kernel) (script : List Command) (tr
   header_nothing : (text other : List ℕ) → Nothing text → IsFront text other
   header_nothing text other none = front_as _ _ _ none (other, refl)
 
-  header_ran : (s : Stop) → Wrote (Took AreNamed old now) header_ends header_texts s → (t : Texts) → Took AreNamed old now t → Ran first plan [] 0 s (Took AreNamed old now)
+  header_ran : (s : Stop) → Wrote (Took AreNamed old now) header_ends header_texts s → Ran first plan [] 0 s (Took AreNamed old now)
   unfolding header_texts header_ends
-  header_ran s wrote t took = record {
+  header_ran s wrote = record {
     last = first;
     is_run = refl;
     ruled = refl;
     within = omega arith;
     wrote = wrote;
-    earlier = (t, took, subst (λ ts. IsFront (flat_map (shown plan.log) (all_but_last ts)) t.report) (sym nothing_told) (t.report, refl));
+    near = λ m one. absurd (omega (arith, one));
   }
 
   -- cut in that header
-  pub cut_in_header : (e : Trouble) → Recorded Nothing (TextFor plan.vcd (HeaderOf k)) Nothing AreNamed old now (Err e) → Ran first plan [] 0 (cut_by e) (Took AreNamed old now)
-  unfolding header_texts header_ends
-  cut_in_header trouble.Failed r = header_ran stop.WriteFault (cut_short Nothing (TextFor plan.vcd (HeaderOf k)) Nothing AreNamed old old now no_texts header_texts header_begun (λ text h. header_nothing text _ h) header_traces (λ text h. header_nothing text _ h) (took_nothing AreNamed old) r) r.texts r.took
-  cut_in_header trouble.NoMemory r = header_ran stop.NoMemory (cut_somewhere Nothing (TextFor plan.vcd (HeaderOf k)) Nothing AreNamed old old now no_texts header_texts header_begun (λ text h. header_nothing text _ h) header_traces (λ text h. header_nothing text _ h) (took_nothing AreNamed old) r) r.texts r.took
+  pub cut_in_header : (e : Trouble) → Recorded Nothing (TextFor plan.vcd (HeaderOf k)) Nothing AreNamed old now no_texts left (Err e) → Ran first plan [] 0 (cut_by e) (Took AreNamed old now)
+  cut_in_header trouble.Failed r = header_ran stop.WriteFault (cut_short Nothing (TextFor plan.vcd (HeaderOf k)) Nothing AreNamed old old now no_texts left no_texts header_texts header_begun (λ text h. header_nothing text _ h) header_traces (λ text h. header_nothing text _ h) (nothing_given AreNamed old) r)
+  cut_in_header trouble.NoMemory r = header_ran stop.NoMemory (cut_somewhere Nothing (TextFor plan.vcd (HeaderOf k)) Nothing AreNamed old old now no_texts left no_texts header_texts header_begun (λ text h. header_nothing text _ h) header_traces (λ text h. header_nothing text _ h) (nothing_given AreNamed old) r)
 
 -- out of memory before the first step
-pub never_began : (plan : Plan) (first : Config) (AreNamed : Names → Type 0) (outer : Outer) → first.trace.told ≡ [] → Ran first plan [] 0 stop.NoMemory (Took AreNamed outer outer)
-never_began plan first AreNamed outer empty = record {
+pub never_began : (plan : Plan) (first : Config) (AreNamed : Names → Type 0) (outer : Outer) → Ran first plan [] 0 stop.NoMemory (Took AreNamed outer outer)
+never_began plan first AreNamed outer = record {
   last = first;
   is_run = refl;
   ruled = refl;
   within = omega arith;
   wrote = record { front = no_texts; fronts = record { report = (_, refl); trace = (_, refl); choices = (_, refl) }; took = took_nothing AreNamed outer };
-  earlier = (no_texts, took_nothing AreNamed outer, subst (λ ts. IsFront (flat_map (shown plan.log) (all_but_last ts)) []) (sym empty) ([], refl));
+  near = λ m one. absurd (omega (arith, one));
 }

@@ -1,10 +1,51 @@
 -- How far a run has come: what it leads to from here is what it led to from the start, and what the rule picks from here
 -- on it picks from the start on.
-use Rattle.std.proofs.Common.{◌≡◌, ◌+◌, ℕ, zero, suc, List, [], ◌∷◌, ◌++◌, length, Some, refl, sym, ◌∙◌, ap, subst, arith, append_assoc, append-nil, zero-add, add-zero, length-append}
+use Rattle.std.proofs.Common.{◌≡◌, ◌+◌, ℕ, zero, suc, List, [], ◌∷◌, ◌++◌, drop, length, Option, None, Some, refl, sym, ◌∙◌, ap, subst, arith, append_assoc, append-nil, zero-add, add-zero, length-append}
+use Rattle.std.proofs.lemmas.Option.{none-some, same_Some}
 use Rattle.vcd_trace.specs.SimModel.Configuration.{Config}
-use Rattle.vcd_trace.specs.SimModel.Steps.{went, takes, step, taking}
+use Rattle.vcd_trace.specs.SimModel.Steps.{Outcome, went, faulted, takes, ended, step, taking}
 use Rattle.vcd_trace.specs.SimModel.Runs.{after, and_then, took, Chooser, chooser_of, picked, held_then, Ruled, RuledFrom, ruled_on, took_as}
 use Rattle.vcd_trace.specs.SimModel.declared.plain.Rule.{Rule}
+
+-- ---- of one run so many steps lead to one configuration, with the choices that are its own
+
+pub record IsSame (a b : Config) (xs ys : List ℕ) : Type 0 where
+  pub config : b ≡ a
+  pub choices : ys ≡ xs
+
+push_same : (a b : Config) (p : ℕ) (xs ys : List ℕ) → IsSame a b xs ys → IsSame a b (p ∷ xs) (p ∷ ys)
+push_same a b p xs ys same = record { config = same.config; choices = ap (λ zs. p ∷ zs) same.choices }
+
+head_or : ℕ → List ℕ → ℕ
+head_or d [] = d
+head_or d (x ∷ xs) = x
+
+head_same : (p q : ℕ) (xs ys : List ℕ) → p ∷ xs ≡ q ∷ ys → p ≡ q
+unfolding head_or
+head_same p q xs ys e = ap (head_or 0) e
+
+abbrev pub OneRun : ℕ → Type 0
+OneRun n = (xs ys left more : List ℕ) (c a b : Config) → after n xs c ≡ Some a → after n ys c ≡ Some b → xs ++ left ≡ ys ++ more → IsSame a b xs ys
+
+taken_once : (n : ℕ) → OneRun n → (o : Option Config) (p q : ℕ) (xs ys left more : List ℕ) (a b : Config) → took o (after n xs) ≡ Some a → took o (after n ys) ≡ Some b → p ∷ (xs ++ left) ≡ q ∷ (ys ++ more) → IsSame a b (p ∷ xs) (q ∷ ys)
+taken_once n once None p q xs ys left more a b h k e = absurd (none-some a h)
+taken_once n once (Some d) p q xs ys left more a b h k e =
+    let same = push_same a b p xs ys (once xs ys left more d a b h k (ap (drop 1) e)) in
+    record { config = same.config; choices = ap (λ x. x ∷ ys) (sym (head_same p q (xs ++ left) (ys ++ more) e)) ∙ same.choices }
+
+stepped_once : (n : ℕ) → OneRun n → (o : Outcome) (c : Config) (xs ys left more : List ℕ) (a b : Config) → and_then o c xs (after n) ≡ Some a → and_then o c ys (after n) ≡ Some b → xs ++ left ≡ ys ++ more → IsSame a b xs ys
+stepped_once n once (went d) c xs ys left more a b h k e = once xs ys left more d a b h k e
+stepped_once n once (faulted f) c xs ys left more a b h k e = absurd (none-some a h)
+stepped_once n once takes c [] ys left more a b h k e = absurd (none-some a h)
+stepped_once n once takes c (p ∷ xs) [] left more a b h k e = absurd (none-some b k)
+stepped_once n once takes c (p ∷ xs) (q ∷ ys) left more a b h k e = taken_once n once (taking c p) p q xs ys left more a b h (subst (λ r. took (taking c r) (after n ys) ≡ Some b) (sym (head_same p q (xs ++ left) (ys ++ more) e)) k) e
+stepped_once n once ended c xs ys left more a b h k e = absurd (none-some a h)
+
+pub run_once : (n : ℕ) → OneRun n
+run_once zero [] [] left more c a b h k e = record { config = sym (same_Some c b k) ∙ same_Some c a h; choices = refl }
+run_once zero [] (q ∷ ys) left more c a b h k e = absurd (none-some b k)
+run_once zero (p ∷ xs) ys left more c a b h k e = absurd (none-some a h)
+run_once (suc n) xs ys left more c a b h k e = stepped_once n (run_once n) (step c) c xs ys left more a b h k e
 
 -- what a rule holds after so many takings
 abbrev pub held_after : ℕ → Chooser → Chooser

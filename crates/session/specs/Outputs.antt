@@ -1,8 +1,9 @@
 -- What a session writes, and how much of it the outside took.
-use Rattle.std.specs.Prelude.{◌≡◌, ◌≢◌, ◌<◌, ◌≤◌, ◌⊎◌, ℕ, List, [], ◌++◌, length, Option, Some, None, ⊤}
+use Rattle.std.specs.Prelude.{◌≡◌, ◌≢◌, ◌<◌, ◌≤◌, ◌⊎◌, ◌+◌, ℕ, List, [], ◌++◌, length, Option, Some, None, ⊤}
 use Rattle.std.specs.Io.KnownBytes.{append_known}
-use Rattle.sim_io.specs.Cause.{Rose}
-use Rattle.sim_io.specs.Told.{Files, AfterTold, Same, Grows, Grew}
+use Rattle.write_buffer.specs.SimIo.Cause.{Rose}
+use Rattle.write_buffer.specs.SimIo.Told.{Files, AfterTold, Same, Grows, Grew}
+use Rattle.session.specs.declared.buffers.Buffers.{Buffers}
 
 -- the texts of a session: its report; its trace, and the list of its choices, where a file is to get them
 pub record Texts : Type 0 where
@@ -21,6 +22,10 @@ text_for (Some id) text = text
 
 abbrev pub no_texts : Texts
 no_texts = record { report = []; trace = []; choices = [] }
+
+-- what a session holds of its texts
+abbrev pub due_of : Buffers → Texts
+due_of b = record { report = b.report; trace = b.trace; choices = b.choices }
 
 -- the outside of a session at a moment: what the sink of the report holds, and the files, where they are told
 pub record Outer : Type 0 where
@@ -98,6 +103,12 @@ pub record AreFronts (front whole : Texts) : Type 0 where
   pub trace : IsFront front.trace whole.trace
   pub choices : IsFront front.choices whole.choices
 
+-- each of the texts is at most so many bytes longer than what there is of it
+pub record IsNear (most : ℕ) (part whole : Texts) : Type 0 where
+  pub report : length whole.report ≤ length part.report + most
+  pub trace : length whole.trace ≤ length part.trace + most
+  pub choices : length whole.choices ≤ length part.choices + most
+
 -- one of the texts lacks a byte
 abbrev pub LacksByte : Texts → Texts → Type 0
 LacksByte front whole = (length front.report < length whole.report) ⊎ ((length front.trace < length whole.trace) ⊎ (length front.choices < length whole.choices))
@@ -114,3 +125,23 @@ pub record TookShort (TookIt : Texts → Type 0) (whole : Texts) : Type 0 where
   pub fronts : AreFronts front whole
   pub lacks : LacksByte front whole
   pub took : TookIt front
+
+-- ---- what is held
+
+-- of these texts a front was taken, and the rest is due
+pub record Given (AreNamed : Names → Type 0) (old now : Outer) (due whole : Texts) : Type 0 where
+  pub front : Texts
+  pub took : Took AreNamed old now front
+  pub report : front.report ++ due.report ≡ whole.report
+  pub trace : front.trace ++ due.trace ≡ whole.trace
+  pub choices : front.choices ++ due.choices ≡ whole.choices
+
+-- no more of each text is due than a buffer holds
+pub record FitsRoom (due : Texts) : Type 0 where
+  pub report : length due.report ≤ 65536
+  pub trace : length due.trace ≤ 65536
+  pub choices : length due.choices ≤ 65536
+
+-- what was due was written as far as it could be
+abbrev pub LetGo : (Names → Type 0) → Outer → Outer → Texts → Type 0
+LetGo AreNamed old new due = (taken : Texts) × AreFronts taken due × Took AreNamed old new taken

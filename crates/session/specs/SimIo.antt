@@ -1,5 +1,5 @@
-pub use Rattle.sim_io.specs.Cause as Cause
-pub use Rattle.sim_io.specs.Keeps as Keeps
-pub use Rattle.sim_io.specs.Taken as Taken
-pub use Rattle.sim_io.specs.Told as Told
-pub use Rattle.sim_io.specs.declared as declared
+pub use Rattle.write_buffer.specs.SimIo.Cause as Cause
+pub use Rattle.write_buffer.specs.SimIo.Keeps as Keeps
+pub use Rattle.write_buffer.specs.SimIo.Taken as Taken
+pub use Rattle.write_buffer.specs.SimIo.Told as Told
+pub use Rattle.write_buffer.specs.SimIo.declared as declared

@@ -1,8 +1,8 @@
 -- What a step adds to the texts of a session.
-use Rattle.std.specs.Prelude.{◌≡◌, ◌<◌, ◌⊎◌, ℕ, List, [], ◌++◌, length, Option, Some, None, Result, Ok, Err, ⊤}
+use Rattle.std.specs.Prelude.{◌≡◌, ◌<◌, ◌⊎◌, ℕ, List, [], ◌∷◌, ◌++◌, length, Option, Some, None, Result, Ok, Err, ⊤}
 use Rattle.std.specs.List.{flat_map}
-use Rattle.sim_io.specs.declared.outside.Trouble.{Trouble}
-use Rattle.sim_io.specs.declared.outside.Trouble.TheVariants as trouble
+use Rattle.write_buffer.specs.SimIo.declared.outside.Trouble.{Trouble}
+use Rattle.write_buffer.specs.SimIo.declared.outside.Trouble.TheVariants as trouble
 use Rattle.vcd_trace.specs.SimModel.Configuration.{Config, Snapshot}
 use Rattle.vcd_trace.specs.SimModel.Texts.{shown, closing, choice_text}
 use Rattle.vcd_trace.specs.SimModel.Steps.{step, went}
@@ -16,7 +16,7 @@ use Rattle.kernel_start.specs.KernelState.declared.kernel.Kernel.{Kernel}
 use Rattle.kernel_runs.specs.Made.{TellsOf, TellsTurn}
 use Rattle.kernel_runs.specs.declared.answers.Telling.{Telling}
 use Rattle.session.specs.Cut.{cut_by}
-use Rattle.session.specs.Outputs.{Texts, Outer, Names, Took, IsFront}
+use Rattle.session.specs.Outputs.{Texts, behind, no_texts, Outer, Names, Took, IsFront}
 
 -- the bytes of a line, where there is one
 abbrev pub text_if : Option (List ℕ) → List ℕ
@@ -35,40 +35,50 @@ TextOf k t text = (log : Log) (c d : Config) → StandsFor k d → TellsOf c d t
 abbrev pub TextOfTurn : Kernel → Log → ℕ → List ℕ → Type 0
 TextOfTurn k log p text = (c d : Config) → StandsFor k d → TellsTurn c d p → text_so_far log d ≡ text_so_far log c ++ text
 
--- ---- what became of a text of which something is known, T, and of which as much was taken as G says
+-- ---- what became of a text of which something is known, T, that came behind what was due of its kind: what of both is taken or due now,
+-- and of which as much was taken as G says
+
+-- all of it
+abbrev pub With : (List ℕ → Type 0) → List ℕ → List ℕ → Type 0
+With T due given = (text : List ℕ) × T text × (given ≡ due ++ text)
 
 -- a front of it, be it before there was a text
-abbrev pub FrontIf : (List ℕ → Type 0) → List ℕ → Type 0
-FrontIf T part = (part ≡ []) ⊎ ((text : List ℕ) × T text × IsFront part text)
+abbrev pub FrontIf : (List ℕ → Type 0) → List ℕ → List ℕ → Type 0
+FrontIf T due given = IsFront given due ⊎ ((text : List ℕ) × T text × IsFront given (due ++ text))
 
 -- a front of it that lacks a byte
-abbrev pub ShortOf : (List ℕ → Type 0) → List ℕ → Type 0
-ShortOf T part = (text : List ℕ) × T text × IsFront part text × (length part < length text)
+abbrev pub ShortOf : (List ℕ → Type 0) → List ℕ → List ℕ → Type 0
+ShortOf T due given = (text : List ℕ) × T text × IsFront given (due ++ text) × (length given < length (due ++ text))
 
 -- all of it; a front that lacks a byte; or, where memory was refused, any front
-abbrev pub IsPart : (List ℕ → Type 0) → List ℕ → Result Unit Trouble → Type 0
-IsPart T part (Ok u) = T part
-IsPart T part (Err trouble.Failed) = ShortOf T part
-IsPart T part (Err trouble.NoMemory) = FrontIf T part
+abbrev pub IsPart : (List ℕ → Type 0) → List ℕ → List ℕ → Result Unit Trouble → Type 0
+IsPart T due given (Ok u) = With T due given
+IsPart T due given (Err trouble.Failed) = ShortOf T due given
+IsPart T due given (Err trouble.NoMemory) = FrontIf T due given
 
-abbrev pub Into : (List ℕ → Type 0) → (List ℕ → Type 0) → Result Unit Trouble → Type 0
-Into T G result = (part : List ℕ) × IsPart T part result × G part
+abbrev pub Into : (List ℕ → Type 0) → (List ℕ → Type 0) → List ℕ → List ℕ → Result Unit Trouble → Type 0
+Into T G due left result = (taken : List ℕ) × IsPart T due (taken ++ left) result × G taken
 
--- the same of three texts that are written one after another
-pub record Fronts3 (T P C : List ℕ → Type 0) (t : Texts) : Type 0 where
-  pub report : FrontIf T t.report
-  pub trace : FrontIf P t.trace
-  pub choices : FrontIf C t.choices
+-- the same of three texts that are given one after another
+pub record Fronts3 (T P C : List ℕ → Type 0) (due given : Texts) : Type 0 where
+  pub report : FrontIf T due.report given.report
+  pub trace : FrontIf P due.trace given.trace
+  pub choices : FrontIf C due.choices given.choices
 
-abbrev pub AreParts : (T P C : List ℕ → Type 0) → Texts → Result Unit Trouble → Type 0
-AreParts T P C t (Ok u) = T t.report × P t.trace × C t.choices
-AreParts T P C t (Err trouble.Failed) = Fronts3 T P C t × (ShortOf T t.report ⊎ (ShortOf P t.trace ⊎ ShortOf C t.choices))
-AreParts T P C t (Err trouble.NoMemory) = Fronts3 T P C t
+abbrev pub AreParts : (T P C : List ℕ → Type 0) → Texts → Texts → Result Unit Trouble → Type 0
+AreParts T P C due given (Ok u) = With T due.report given.report × With P due.trace given.trace × With C due.choices given.choices
+AreParts T P C due given (Err trouble.Failed) = Fronts3 T P C due given × (ShortOf T due.report given.report ⊎ (ShortOf P due.trace given.trace ⊎ ShortOf C due.choices given.choices))
+AreParts T P C due given (Err trouble.NoMemory) = Fronts3 T P C due given
 
-pub record Recorded (T P C : List ℕ → Type 0) (AreNamed : Names → Type 0) (old new : Outer) (result : Result Unit Trouble) : Type 0 where
-  pub texts : Texts
-  pub took : Took AreNamed old new texts
-  pub parts : AreParts T P C texts result
+pub record Recorded (T P C : List ℕ → Type 0) (AreNamed : Names → Type 0) (old new : Outer) (due left : Texts) (result : Result Unit Trouble) : Type 0 where
+  pub taken : Texts
+  pub took : Took AreNamed old new taken
+  pub parts : AreParts T P C due (behind taken left) result
+
+-- what is due behind a call that lets go where it is cut
+abbrev pub left_by : Texts → Result Unit Trouble → Texts
+left_by left (Ok u) = left
+left_by left (Err e) = no_texts
 
 -- nothing
 abbrev pub Nothing : List ℕ → Type 0
@@ -98,9 +108,23 @@ HeaderOf k text = (c : Config) → StandsFor k c → text ≡ header c.design
 abbrev pub IsClosing : Kernel → Stop → List ℕ → Type 0
 IsClosing k s text = (c : Config) → StandsFor k c → text ≡ closing c s
 
--- the list of these choices
-abbrev pub IsListOf : List ℕ → List ℕ → Type 0
-IsListOf choices text = text ≡ choice_text choices
+-- the line of this choice
+abbrev pub IsLineOf : ℕ → List ℕ → Type 0
+IsLineOf choice text = text ≡ choice_text (choice ∷ [])
+
+-- nothing is due where there is a file
+abbrev pub EmptyFor : Option ℕ → List ℕ → Type 0
+EmptyFor None due = ⊤
+EmptyFor (Some id) due = due ≡ []
+
+-- where all was written, nothing is due
+abbrev pub AllOut : Option ℕ → Option ℕ → Texts → Result Unit Trouble → Type 0
+AllOut trace choices left (Ok u) = (left.report ≡ []) × EmptyFor trace left.trace × EmptyFor choices left.choices
+AllOut trace choices left (Err e) = ⊤
+
+-- the last texts of a session were written so
+abbrev pub Closes : (T P : List ℕ → Type 0) → Option ℕ → Option ℕ → (Names → Type 0) → Outer → Outer → Texts → Result Unit Trouble → Type 0
+Closes T P trace choices AreNamed old new due result = (left : Texts) × Recorded T P Nothing AreNamed old new due left result × AllOut trace choices left result
 
 -- how a session ends whose last texts were due at this end and were written so
 abbrev pub stopped_by : Stop → Result Unit Trouble → Stop

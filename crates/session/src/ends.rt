@@ -7,7 +7,6 @@ ghost use Rattle.vcd_trace.specs.SimModel.declared.plain.Rule.{Rule};
 ghost use Rattle.kernel_start.specs.KernelState.Kernel.{StandsFor};
 ghost use Rattle.session.specs.Course.{IsEnd, IsEndedAs, IsOverAs, is_empty};
 
-use flat_design::Choices;
 use kernel_start::kernel_state_api::Kernel;
 use vcd_trace::sim_model_api::{Command, Phase, Stop};
 
@@ -59,11 +58,11 @@ pub(crate) fn end_at_budget(k: &Kernel, script: &[Command], place: usize) -> Sto
 }
 
 /// How the session ends where no runnable process was picked after these takings.
-pub(crate) fn not_ready(choices: &Choices) -> Stop
+pub(crate) fn not_ready(choices: &[u32]) -> Stop
     ensures place { result ≡ Stop.Replay (length choices.now + 1) }
     ensures end { IsEnd result }
 {
     Stop::Replay {
-        place: choices.as_slice().len() as u64 + 1,
+        place: choices.len() as u64 + 1,
     }
 }

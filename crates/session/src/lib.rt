@@ -1,7 +1,9 @@
 //! A session: a script carried out over a design, with its report.
 #![tactic(auto)]
 
+mod buffers;
 mod ends;
+mod finishing;
 mod laws;
 mod looping;
 mod plans;
@@ -14,7 +16,7 @@ pub use plans::{Outcome, Plan};
 
 /// What is passed on of sim_io.
 pub mod sim_io_api {
-    pub use sim_io::{
+    pub use write_buffer::sim_io_api::{
         HostShelf, HostSink, MemoryShelf, MemorySink, Shelf, Sink, SoundShelf, Trouble, write_all,
     };
 }

@@ -1,20 +1,22 @@
 //! The steps of a session, one after another.
-ghost use Rattle.std.specs.Prelude.{◌≡◌, ◌≤◌, ◌<◌, ◌-◌, ◌^◌, length, IfOk, IfSome};
+ghost use Rattle.std.specs.Prelude.{◌≡◌, ◌≤◌, ◌<◌, ◌-◌, ◌^◌, [], ◌∷◌, ◌++◌, length, IfOk, IfSome, vec_len, vec_capacity};
 ghost use Rattle.flat_design.specs.Code.{arena_of};
 ghost use Rattle.flat_design.specs.Sound.{SoundDesign};
 ghost use Rattle.kernel_start.specs.InstanceTable.declared.TheConstants.{MAX_LIVE};
 ghost use Rattle.vcd_trace.specs.SimModel.Configuration.{Config, start};
 ghost use Rattle.kernel_start.specs.KernelState.Kernel.{StandsFor};
-ghost use Rattle.sim_io.specs.Keeps.{WriteKeeps};
+ghost use Rattle.write_buffer.specs.SimIo.Keeps.{WriteKeeps};
 ghost use Rattle.laws_reached.specs.Reached.{IsReached};
 ghost use Rattle.session.specs.Course.{Ran};
 ghost use Rattle.session.specs.Begun.{HasBegun, IsFirst, IsNested};
 ghost use Rattle.session.specs.Outputs.{AreNames, OneRose, Took, outer_of};
 
+use crate::buffers::Buffers;
 use crate::ends::{end_at_budget, ended_as, not_ready};
+use crate::finishing::{cut_between, finish};
 use crate::laws::{runs_may_step, sound_runs_go_on};
 use crate::plans::{Outcome, Plan};
-use crate::recording::{finish, record_begin, record_step, record_turn};
+use crate::recording::{record_begin, record_step, record_turn};
 use code_copy::copy_code;
 use flat_design::{Choices, Design};
 use kernel_runs::{Made, make_step};
@@ -23,10 +25,18 @@ use kernel_start::kernel_bodies_api::Program;
 use kernel_start::kernel_sound_api::SoundKernel;
 use laws_reached::kernel_phases_api::Choosing;
 use laws_reached::runs_begin;
-use sim_io::{Shelf, Sink, Trouble};
 use std::alloc::{AllocError, Global};
 use vcd_trace::Tracing;
 use vcd_trace::sim_model_api::{Command, Stop};
+use write_buffer::sim_io_api::{Shelf, Sink, Trouble};
+
+/// Adds a choice to those that were taken, in the place that was made for it.
+fn add_choice(choices: &mut Vec<u32>, choice: u32)
+    requires { vec_len choices.old < vec_capacity choices.old }
+    ensures { choices.new.items ≡ choices.old.items ++ choice ∷ [] }
+{
+    let _ = choices.push(choice);
+}
 
 /// Carries a script out until it ends, the budget is used up, or a step is a fault.
 fn run_on<S: Shelf, O: Sink>(
@@ -56,18 +66,27 @@ fn run_on<S: Shelf, O: Sink>(
         vcd,
         choices: list,
     } = plan;
+    let Ok(mut held) = Buffers::new(alloc) else {
+        return Outcome::cut(Trouble::NoMemory, Choices::new(alloc), 0);
+    };
     let mut choosing = Choosing::new(rule);
-    let mut choices = Choices::new(alloc);
+    let mut choices = Vec::new(alloc);
     let mut tracing = Tracing::new();
     let mut events = Vec::new(alloc);
     let mut steps = 0;
     let mut place = 0;
-    match record_begin(alloc, &k.kernel, vcd, shelf, out) {
+    match record_begin(alloc, &k.kernel, vcd, list, &mut held, shelf, out) {
         Ok(()) => {}
-        Err(trouble) => return Outcome::cut(trouble, choices, steps),
+        Err(trouble) => return Outcome::cut(trouble, Choices::from_vec(choices), steps),
     }
     while steps < budget {
+        held.hold_little();
         let time = k.kernel.now();
+        // A step may be a taking: the place of its choice is made before it.
+        match choices.reserve(1) {
+            Ok(()) => {}
+            Err(_) => return cut_between(choices, steps, vcd, list, &mut held, shelf, out),
+        }
         match make_step(
             k,
             program,
@@ -79,20 +98,30 @@ fn run_on<S: Shelf, O: Sink>(
         ) {
             Made::Went(told) => {
                 steps += 1;
-                match record_step(alloc, &k.kernel, told, time, vcd, &mut tracing, shelf, out) {
+                match record_step(
+                    alloc,
+                    &k.kernel,
+                    told,
+                    time,
+                    vcd,
+                    list,
+                    &mut tracing,
+                    &mut held,
+                    shelf,
+                    out,
+                ) {
                     Ok(()) => {}
-                    Err(trouble) => return Outcome::cut(trouble, choices, steps),
+                    Err(trouble) => return Outcome::cut(trouble, Choices::from_vec(choices), steps),
                 }
             }
             Made::Took(serial) => {
-                // The taking whose choice finds no memory is no step of the session.
-                match choices.push(serial) {
-                    Ok(()) => steps += 1,
-                    Err(_) => return Outcome::cut(Trouble::NoMemory, choices, steps),
-                }
-                match record_turn(alloc, &k.kernel, log, serial, shelf, out) {
+                add_choice(&mut choices, serial);
+                steps += 1;
+                match record_turn(
+                    alloc, &k.kernel, log, serial, vcd, list, &mut held, shelf, out,
+                ) {
                     Ok(()) => {}
-                    Err(trouble) => return Outcome::cut(trouble, choices, steps),
+                    Err(trouble) => return Outcome::cut(trouble, Choices::from_vec(choices), steps),
                 }
             }
             Made::Ended => {
@@ -106,6 +135,7 @@ fn run_on<S: Shelf, O: Sink>(
                     vcd,
                     list,
                     &mut tracing,
+                    &mut held,
                     shelf,
                     out,
                 );
@@ -121,12 +151,13 @@ fn run_on<S: Shelf, O: Sink>(
                     vcd,
                     list,
                     &mut tracing,
+                    &mut held,
                     shelf,
                     out,
                 );
             }
             Made::NotReady => {
-                let ending = not_ready(&choices);
+                let ending = not_ready(choices.as_slice());
                 return finish(
                     alloc,
                     &k.kernel,
@@ -136,13 +167,15 @@ fn run_on<S: Shelf, O: Sink>(
                     vcd,
                     list,
                     &mut tracing,
+                    &mut held,
                     shelf,
                     out,
                 );
             }
-            Made::NoMemory => return Outcome::cut(Trouble::NoMemory, choices, steps),
+            Made::NoMemory => return cut_between(choices, steps, vcd, list, &mut held, shelf, out),
         }
     }
+    held.hold_little();
     let ending = end_at_budget(&k.kernel, script, place);
     finish(
         alloc,
@@ -153,6 +186,7 @@ fn run_on<S: Shelf, O: Sink>(
         vcd,
         list,
         &mut tracing,
+        &mut held,
         shelf,
         out,
     )
@@ -175,8 +209,10 @@ fn program_beside(alloc: Global, design: &Design) -> Result<Program, AllocError>
 /// Runs a session: carries the script out over a sound design, and writes the report to `out`. The rule of the plan picks each
 /// process that is taken (IEEE 1666-2011, 4.2.1.2). The files of the plan get the trace (IEEE 1364-2005, 18) and the choices.
 ///
-/// What a step tells, and its point of the trace, are written behind that step; the final and end lines, the last point and the
-/// choices at the end. `WriteFault` comes only where the count of faults of `out` rose, or the shelf's count of writes.
+/// What a step tells, its point of the trace and its choice are given behind that step, each to a buffer of 65,536 bytes of its own; the
+/// final and end lines and the last point at the end, where what is held is written. A piece that does not fit behind what is held is
+/// written behind it, directly. Where the session is cut, what is held is written as far as it can be, but nothing to what failed.
+/// `WriteFault` comes only where the count of faults of `out` rose, or the shelf's count of writes.
 pub fn run_session<S: Shelf, O: Sink>(
     alloc: Global,
     design: Design,

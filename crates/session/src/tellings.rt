@@ -1,8 +1,8 @@
 //! What a report tells of a step.
-ghost use Rattle.std.specs.Prelude.{◌≡◌, IfOk, Err};
-ghost use Rattle.sim_io.specs.Cause.{RoseIf};
-ghost use Rattle.sim_io.specs.Told.{Grew};
-ghost use Rattle.sim_io.specs.Taken.{TookOf};
+ghost use Rattle.std.specs.Prelude.{◌≡◌, [], IfOk, OnOk, Err};
+ghost use Rattle.write_buffer.specs.SimIo.Cause.{RoseIf};
+ghost use Rattle.write_buffer.specs.SimIo.Told.{Grew};
+ghost use Rattle.write_buffer.specs.Moved.{SinkTook};
 ghost use Rattle.session.specs.Course.{IsEnd};
 ghost use Rattle.session.specs.Telling.{Into, IsClosing, TextOf, TextOfTurn, text_if};
 
@@ -10,9 +10,10 @@ use flat_design::Line;
 use kernel_runs::Telling;
 use kernel_start::kernel_state_api::Kernel;
 use report_texts::{closing, printed_line, show, turn_text};
-use sim_io::{Sink, Trouble, write_all};
 use std::alloc::{AllocError, Global};
 use vcd_trace::sim_model_api::{Log, Stop};
+use write_buffer::Held;
+use write_buffer::sim_io_api::{Sink, Trouble};
 
 /// The text that a step adds to a report, where it adds one, by the kernel after it.
 pub(crate) fn text_of(alloc: Global, k: &Kernel, told: Telling) -> Result<Option<Line>, AllocError>
@@ -46,46 +47,48 @@ pub(crate) fn text_of_turn(
     }
 }
 
-/// Writes the text of a line, where there is one.
-fn write_text<O: Sink>(out: &mut O, text: &Option<Line>) -> Result<(), Trouble>
-    ensures took { TookOf (O.holds out.old) (O.holds out.new) (text_if text.now) result }
+/// Gives the text of a line, where there is one.
+fn write_text<O: Sink>(held: &mut Held, out: &mut O, text: &Option<Line>) -> Result<(), Trouble>
+    ensures took { SinkTook (O.holds out.old) (O.holds out.new) held.old (text_if text.now) held.new result }
     ensures cause { RoseIf (O.faults out.old) (O.faults out.new) (result ≡ Err Trouble.Failed) }
 {
     match text {
-        None => write_all(out, b""),
-        Some(line) => write_all(out, line.as_slice()),
+        None => held.put(out, b""),
+        Some(line) => held.put(out, line.as_slice()),
     }
 }
 
-/// Writes what a step adds to a report, by the kernel after it.
+/// Gives what a step adds to a report, by the kernel after it.
 pub(crate) fn tell<O: Sink>(
     alloc: Global,
     k: &Kernel,
     told: Telling,
+    held: &mut Held,
     out: &mut O,
 ) -> Result<(), Trouble>
-    ensures tells { Into (TextOf k.now told) (Grew (O.holds out.old) (O.holds out.new)) result }
+    ensures tells { Into (TextOf k.now told) (Grew (O.holds out.old) (O.holds out.new)) held.old held.new result }
     ensures cause { RoseIf (O.faults out.old) (O.faults out.new) (result ≡ Err Trouble.Failed) }
 {
     match text_of(alloc, k, told) {
-        Ok(text) => write_text(out, &text),
+        Ok(text) => write_text(held, out, &text),
         Err(_) => Err(Trouble::NoMemory),
     }
 }
 
-/// Writes what a taking adds to a report, by the kernel after it.
+/// Gives what a taking adds to a report, by the kernel after it.
 pub(crate) fn tell_turn<O: Sink>(
     alloc: Global,
     k: &Kernel,
     log: Log,
     p: u32,
+    held: &mut Held,
     out: &mut O,
 ) -> Result<(), Trouble>
-    ensures tells { Into (TextOfTurn k.now log p) (Grew (O.holds out.old) (O.holds out.new)) result }
+    ensures tells { Into (TextOfTurn k.now log p) (Grew (O.holds out.old) (O.holds out.new)) held.old held.new result }
     ensures cause { RoseIf (O.faults out.old) (O.faults out.new) (result ≡ Err Trouble.Failed) }
 {
     match text_of_turn(alloc, k, log, p) {
-        Ok(text) => write_text(out, &text),
+        Ok(text) => write_text(held, out, &text),
         Err(_) => Err(Trouble::NoMemory),
     }
 }
@@ -95,14 +98,19 @@ pub(crate) fn tell_end<O: Sink>(
     alloc: Global,
     k: &Kernel,
     stop: Stop,
+    held: &mut Held,
     out: &mut O,
 ) -> Result<(), Trouble>
     requires { IsEnd stop }
-    ensures tells { Into (IsClosing k.now stop) (Grew (O.holds out.old) (O.holds out.new)) result }
+    ensures tells { Into (IsClosing k.now stop) (Grew (O.holds out.old) (O.holds out.new)) held.old held.new result }
+    ensures empty { OnOk result (held.new ≡ []) }
     ensures cause { RoseIf (O.faults out.old) (O.faults out.new) (result ≡ Err Trouble.Failed) }
 {
     match closing(alloc, k, stop) {
-        Ok(text) => write_all(out, text.as_slice()),
+        Ok(text) => match held.put(out, text.as_slice()) {
+            Ok(()) => held.flush(out),
+            Err(trouble) => Err(trouble),
+        },
         Err(_) => Err(Trouble::NoMemory),
     }
 }

@@ -7,6 +7,7 @@ use sim_io::{
 use std::alloc::{AllocError, Global};
 use std::fs;
 use std::test::Fail;
+use write_buffer::Held;
 
 // A shelf with two files of the name `m`, of which the first holds "model". This call of it fails.
 fn make_shelf(alloc: Global, fails_at: u64) -> Result<MemoryShelf, AllocError> {
@@ -78,6 +79,25 @@ fn a_sink_in_memory(rt: HostRuntime) -> Result<(), Fail> {
         assert_eq!(rt; sink.bytes(), want.as_bytes());
         assert_eq!(rt; done.is_ok(), want.len() == 3);
     }
+    Ok(())
+}
+
+#[test]
+fn a_buffer_before_a_sink_and_a_file(rt: HostRuntime) -> Result<(), Fail> {
+    let alloc = rt.alloc();
+    let mut held = Held::new(alloc)?;
+    let mut sink = MemorySink::new(alloc, None, Vec::new(alloc));
+    held.put(&mut sink, b"some")?;
+    assert_eq!(rt; sink.bytes(), b"".as_slice());
+    held.flush(&mut sink)?;
+    assert_eq!(rt; sink.bytes(), b"some".as_slice());
+    let mut shelf = make_shelf(alloc, 9)?;
+    let id = shelf.create("n")?;
+    held.put_file(&mut shelf, id, b"by")?;
+    held.put_file(&mut shelf, id, b"tes")?;
+    held.flush_file(&mut shelf, id)?;
+    let bytes = read_all(alloc, &mut shelf, "n", 5)?;
+    assert_eq!(rt; bytes.as_slice(), b"bytes".as_slice());
     Ok(())
 }
 

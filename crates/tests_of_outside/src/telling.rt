@@ -6,8 +6,9 @@ use sim_io::{Shelf, write_all, write_file};
 use std::alloc::Global;
 use std::test::Fail;
 
-/// Two cases of one run: the first says what comes of it, the second another line, and no number of steps.
-const TWO_CASES: &str = r#"
+/// Cases of one run: the first says what comes of it, the second another line, and no number of steps; and two of a range, of which the
+/// first says one byte too few.
+const CASES: &str = r#"
 case it says what comes
   model "module M { } top M m;"
   script "run"
@@ -34,9 +35,18 @@ case it says something else
     file m.tlm as before
     file s.txt changed
     holds s.txt "y\n"
+
+each 10 11 it says a front of what comes
+  words
+  gives
+    status 0
+    steps 5
+    choices 3 1
+    out first N "end done 0\n"
+    err ""
 "#;
 
-/// What is told of the second.
+/// What is told of the second, and of the first of the range.
 const DIFFERENCE: &str = r#"WRONG it says something else
   wanted
     out "final m.a 0\n"
@@ -46,6 +56,11 @@ const DIFFERENCE: &str = r#"WRONG it says something else
     steps 5
     out "end done 0\n"
     holds s.txt "x\n"
+WRONG it says a front of what comes, N = 10
+  wanted
+    out "end done 0"
+  came
+    out "end done 0\n"
 "#;
 
 /// What the first of them says, as a run answers it.
@@ -68,7 +83,7 @@ fn outcome_of(alloc: Global, case: &Case) -> Result<Outcome, Fail> {
 // A case that says something else than what comes is told.
 #[test]
 fn wrong_cases_are_told(rt: HostRuntime) -> Result<(), Fail> {
-    let cases = read_cases(rt.alloc(), TWO_CASES)?;
+    let cases = read_cases(rt.alloc(), CASES)?;
     let mut told = String::new(rt.alloc());
     let mut counts = Counts::new();
     for case in &cases {
@@ -80,6 +95,6 @@ fn wrong_cases_are_told(rt: HostRuntime) -> Result<(), Fail> {
         }
     }
     assert_eq!(rt; told.as_str(), DIFFERENCE);
-    assert!(rt; counts.right == 1 && counts.wrong == 1);
+    assert!(rt; counts.right == 2 && counts.wrong == 2);
     Ok(())
 }

@@ -34,8 +34,21 @@ ran_with first plan choices steps s A B so r = record {
   ruled = r.ruled;
   within = r.within;
   wrote = wrote_with A B so _ _ s r.wrote;
-  earlier = (r.earlier.0, so r.earlier.0 r.earlier.1, r.earlier.2);
+  near = λ m one before used left splits there. let it = r.near m one before used left splits there in (it.0, so it.0 it.1, it.2);
 }
+
+-- some texts were taken
+wrote_some : (T : Texts → Type 0) (e : Option Stop) (whole : Texts) (s : Stop) → Wrote T e whole s → (t : Texts) × T t
+wrote_some T e whole stop.WriteFault h = (h.front, h.took)
+wrote_some T e whole stop.NoMemory h = (h.front, h.took)
+wrote_some T e whole stop.Done h = (whole, h.1)
+wrote_some T e whole stop.Stopped h = (whole, h.1)
+wrote_some T e whole stop.Budget h = (whole, h.1)
+wrote_some T e whole (stop.Replay place) h = (whole, h.1)
+wrote_some T e whole (stop.Fault f) h = (whole, h.1)
+
+pub ran_some : (first : Config) (plan : Plan) (choices : List ℕ) (steps : ℕ) (s : Stop) (T : Texts → Type 0) → Ran first plan choices steps s T → (t : Texts) × T t
+ran_some first plan choices steps s T r = wrote_some T _ _ s r.wrote
 
 -- before each of its steps a session had no end
 pub no_end : ((rule : Rule) (n more budget : ℕ) (choices : List ℕ) (first last : Config) → after (n + suc more) choices first ≡ Some last → Ruled rule (n + suc more) choices first → n < budget

@@ -138,7 +138,7 @@ pub record Accepted (c : Call) : Type 0 where
 -- The run of a design of the source tree, which is sound, under the script, as the words ask for it, with these choices and steps,
 -- which ended so, and whose texts were taken as T says; each choice is one of the rule; and the run is orderly: what has ended is
 -- named nowhere, unwind blocks run exactly once, and the protocol is kept on each hop. Before each of its steps the run had no end: it
--- ended at its first named cause, or at the budget.
+-- ended at its first named cause, or at the budget. Of the texts of all steps but the last at most 65,536 bytes each were not taken.
 pub record Session (c : Call) (choices : List ℕ) (steps : ℕ) (s : Stop) (T : Mode → Texts → Type 0) : Type 0 where
   pub accepted : Accepted c
   pub orderly : Orderly accepted.design accepted.commands

@@ -1,11 +1,10 @@
 use Rattle.std.proofs.Common.{◌-◌, ◌≡◌, ◌≤◌, [], drop, length}
-use Rattle.std.specs.Prelude.{IfSome}
-use Rattle.sim_io.specs.Keeps.{WriteKeeps}
+use Rattle.write_buffer.specs.SimIo.Keeps.{WriteKeeps}
 use Rattle.vcd_trace.specs.SimModel.Configuration.{Config}
 use Rattle.kernel_start.specs.KernelState.Kernel.{StandsFor}
 use Rattle.laws_reached.specs.Reached.{IsReached}
 use Rattle.session.specs.Begun.{IsFirst}
-use Rattle.session.specs.Outputs.{AreNames, outer_of}
+use Rattle.session.specs.Outputs.{AreNames, due_of, outer_of}
 use Rattle.session.proofs.Going.{Going}
 use Rattle.session.proofs.looping.run_on.Given as goal
 
@@ -19,8 +18,8 @@ invariant-loop-steps g l = record {
   writes_later : g.S.Shelf.writes l.fn.shelf ≤ g.S.Shelf.writes l.shelf;
   kept : WriteKeeps g.S.Shelf.files g.S.Shelf.reads g.S.Shelf.reading g.S.Shelf.created g.S.Shelf.stands l.fn.shelf l.shelf;
   going : (first : Config) → StandsFor l.initial.k.kernel first → IsFirst first l.script → IsReached first
-      → Going l.fn.plan first l.choosing l.choices l.steps l.k.kernel (drop l.place l.script) l.tracing (AreNames g.S.Shelf.stands l.fn.shelf l.fn.plan.vcd l.fn.plan.choices)
-      (outer_of g.S.Shelf.files g.O.Sink.holds l.fn.shelf l.fn.out) (outer_of g.S.Shelf.files g.O.Sink.holds l.shelf l.out);
+      → Going l.fn.plan first l.choosing l.choices.items l.steps l.k.kernel (drop l.place l.script) l.tracing (AreNames g.S.Shelf.stands l.fn.shelf l.fn.plan.vcd l.fn.plan.choices)
+      (outer_of g.S.Shelf.files g.O.Sink.holds l.fn.shelf l.fn.out) (outer_of g.S.Shelf.files g.O.Sink.holds l.shelf l.out) (due_of l.held);
 }
 
 abbrev pub decreases-loop-steps : goal.decreases-loop-steps

@@ -6,7 +6,7 @@ use Rattle.session.proofs.looping.run_session.Goals as goal
 
 pub returns-in-Err-clause-ran : goal.returns-in-Err-clause-ran
 returns-in-Err-clause-ran g c = rw (c.cut.ensures, c.new.ensures)
-    (never_began c.args.plan (start c.args.design c.args.script.now) (AreNames g.S.Shelf.stands c.args.shelf.now c.args.plan.vcd c.args.plan.choices) _ refl)
+    (never_began c.args.plan (start c.args.design c.args.script.now) (AreNames g.S.Shelf.stands c.args.shelf.now c.args.plan.vcd c.args.plan.choices) _)
 
 pub run_on-requires-clause-begun : goal.run_on-requires-clause-begun
 run_on-requires-clause-begun g c = record {
@@ -25,4 +25,4 @@ returns-in-Ok-first_kernel-clause-ran g c =
 
 pub returns-in-Err-first_kernel-clause-ran : goal.returns-in-Err-first_kernel-clause-ran
 returns-in-Err-first_kernel-clause-ran g c = rw (c.cut-in-Err-first_kernel.ensures, c.new-in-Err-first_kernel.ensures)
-    (never_began c.args.plan (start c.args.design c.args.script.now) (AreNames g.S.Shelf.stands c.args.shelf.now c.args.plan.vcd c.args.plan.choices) _ refl)
+    (never_began c.args.plan (start c.args.design c.args.script.now) (AreNames g.S.Shelf.stands c.args.shelf.now c.args.plan.vcd c.args.plan.choices) _)

@@ -1,20 +1,16 @@
-use Rattle.session.specs.Outputs.{AreNames}
-use Rattle.session.specs.Telling.{IsClosing, IsListOf, LastPointOf, TextFor}
-use Rattle.session.proofs.Outputs.{list_recorded, report_cut, trace_cut}
+use Rattle.session.specs.Outputs.{AreNames, due_of, no_texts}
+use Rattle.session.specs.Telling.{IsClosing, LastPointOf, Nothing, TextFor}
+use Rattle.session.proofs.Outputs.{let_go_from, let_go_on}
 use Rattle.session.proofs.recording.record_end.Goals as goal
 
-pub returns-in-Err-clause-records : goal.returns-in-Err-clause-records
-returns-in-Err-clause-records g c =
-    report_cut (IsClosing c.args.k.now c.args.stop) (TextFor c.args.vcd (LastPointOf c.args.k.now c.args.tracing.now)) (TextFor c.args.list (IsListOf c.args.choices.now)) (AreNames g.S.Shelf.stands c.args.shelf.now c.args.vcd c.args.list)
-    _ _ (g.S.Shelf.files c.args.shelf.now) c.in-Err.trouble c.in-Err.ensures.tells
+pub returns-in-Ok-clause-closes : goal.returns-in-Ok-clause-closes
+returns-in-Ok-clause-closes g c = (due_of c.give_end.new.held, c.in-Ok.ensures.records, c.in-Ok.ensures.out)
 
-pub returns-in-Ok-end_trace-clause-records : goal.returns-in-Ok-end_trace-clause-records
-returns-in-Ok-end_trace-clause-records g c =
-    list_recorded g.S.Shelf.files g.S.Shelf.stands c.args.vcd c.args.list c.args.shelf.now c.end_trace.new.shelf c.list_choices.new.shelf _ _ (IsClosing c.args.k.now c.args.stop)
-    (TextFor c.args.vcd (LastPointOf c.args.k.now c.args.tracing.now)) (TextFor c.args.list (IsListOf c.args.choices.now)) c.in-Ok.ensures.tells c.end_trace.ensures.kept.ids.stands c.in-Ok-end_trace.ensures.traces
-    c.list_choices.result c.list_choices.ensures.lists
-
-pub returns-in-Err-end_trace-clause-records : goal.returns-in-Err-end_trace-clause-records
-returns-in-Err-end_trace-clause-records g c =
-    trace_cut g.S.Shelf.files g.S.Shelf.stands c.args.vcd c.args.list c.args.shelf.now c.end_trace.new.shelf c.end_trace.new.shelf _ _ (IsClosing c.args.k.now c.args.stop)
-    (TextFor c.args.vcd (LastPointOf c.args.k.now c.args.tracing.now)) (TextFor c.args.list (IsListOf c.args.choices.now)) c.in-Ok.ensures.tells c.in-Err-end_trace.trouble c.in-Err-end_trace.ensures.traces
+pub returns-in-Err-clause-closes : goal.returns-in-Err-clause-closes
+returns-in-Err-clause-closes g c = (
+  no_texts,
+  let_go_on (IsClosing c.args.k.now c.args.stop) (TextFor c.args.vcd (LastPointOf c.args.k.now c.args.tracing.now)) Nothing (AreNames g.S.Shelf.stands c.args.shelf.now c.args.vcd c.args.list) _ _ _ _ _ c.in-Err.trouble
+      c.in-Err.ensures.records
+      (let_go_from g.S.Shelf.stands c.args.shelf.now c.give_end.new.shelf c.args.vcd c.args.list c.give_end.ensures.kept.ids.stands _ _ _ c.let_go.ensures.goes),
+  tt,
+)

@@ -1,14 +1,13 @@
 use Rattle.session.specs.Outputs.{AreNames}
 use Rattle.session.specs.Telling.{Nothing, PointOf, TextFor, TextOf}
-use Rattle.session.proofs.Outputs.{report_cut, trace_recorded}
+use Rattle.session.proofs.Outputs.{let_go_from, let_go_on}
 use Rattle.session.proofs.recording.record_step.Goals as goal
 
 pub returns-in-Ok-clause-records : goal.returns-in-Ok-clause-records
-returns-in-Ok-clause-records g c = λ list.
-    trace_recorded g.S.Shelf.files g.S.Shelf.stands c.args.vcd list c.args.shelf.now c.trace_step.new.shelf c.trace_step.new.shelf _ _ (TextOf c.args.k.now c.args.told)
-    (TextFor c.args.vcd (PointOf c.args.k.now c.args.time.0 c.args.tracing.now c.trace_step.new.tracing)) Nothing c.in-Ok.ensures.tells c.trace_step.result c.trace_step.ensures.traces (λ text none. none)
+returns-in-Ok-clause-records g c = c.in-Ok.ensures.records c.args.list
 
 pub returns-in-Err-clause-records : goal.returns-in-Err-clause-records
-returns-in-Err-clause-records g c = λ list.
-    report_cut (TextOf c.args.k.now c.args.told) (TextFor c.args.vcd (PointOf c.args.k.now c.args.time.0 c.args.tracing.now c.args.tracing.now)) Nothing (AreNames g.S.Shelf.stands c.args.shelf.now c.args.vcd list) _ _ (g.S.Shelf.files c.args.shelf.now)
-    c.in-Err.trouble c.in-Err.ensures.tells
+returns-in-Err-clause-records g c =
+    let_go_on (TextOf c.args.k.now c.args.told) (TextFor c.args.vcd (PointOf c.args.k.now c.args.time.0 c.args.tracing.now c.give_step.new.tracing)) Nothing (AreNames g.S.Shelf.stands c.args.shelf.now c.args.vcd c.args.list) _ _ _ _ _ c.in-Err.trouble
+    (c.in-Err.ensures.records c.args.list)
+    (let_go_from g.S.Shelf.stands c.args.shelf.now c.give_step.new.shelf c.args.vcd c.args.list c.give_step.ensures.kept.ids.stands _ _ _ c.let_go.ensures.goes)

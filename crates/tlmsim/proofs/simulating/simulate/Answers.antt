@@ -4,7 +4,7 @@ use Rattle.command_line.specs.Line.{Simulate}
 use Rattle.command_line.specs.Seen.{simulation_of}
 use Rattle.session.specs.Outputs.{AreNames}
 use Rattle.tlmsim.specs.Call.{names_in}
-use Rattle.tlmsim.proofs.Courses.{holds_by, ran_with}
+use Rattle.tlmsim.proofs.Courses.{holds_by, ran_some, ran_with}
 use Rattle.tlmsim.proofs.Ends.{copied_text, made_on, named_by, not_begun, only_held, simulated, spared_on, texts_later, unfit_works}
 use Rattle.tlmsim.proofs.Holding.{held_by}
 use Rattle.tlmsim.proofs.simulating.simulate.Goals as goal
@@ -55,5 +55,5 @@ returns-clause-works g c = λ words err err' faults faults' line.
 pub returns-clause-files : goal.returns-clause-files
 returns-clause-files g c =
     let names = names_in (Simulate (simulation_of c.args.simulation)) in
-    let ran = c.run.ensures.ran in
-    only_held names ran.earlier.0 _ _ (held_by (AreNames g.S.Shelf.stands c.create_files.new.shelf c.plan_of-plan.result.vcd c.plan_of-plan.result.choices) names ran.earlier.0 _ _ _ (made_on names _ _ _ c.in-Ok.ensures.files (rw (copied_text c.args.simulation.vcd, copied_text c.args.simulation.choices) at c.in-Ok-create_files.ensures.made)) c.run.ensures.kept.told (named_by g.S.Shelf.stands c.create_files.new.shelf _ _ _ _ names _ c.plan_of-plan.ensures.vcd c.plan_of-plan.ensures.choices (rw (copied_text c.args.simulation.vcd, copied_text c.args.simulation.choices) at c.in-Ok-create_files.ensures.named)) (λ named. ran.earlier.1.files names named))
+    let taken = ran_some _ _ _ _ _ _ c.run.ensures.ran in
+    only_held names taken.0 _ _ (held_by (AreNames g.S.Shelf.stands c.create_files.new.shelf c.plan_of-plan.result.vcd c.plan_of-plan.result.choices) names taken.0 _ _ _ (made_on names _ _ _ c.in-Ok.ensures.files (rw (copied_text c.args.simulation.vcd, copied_text c.args.simulation.choices) at c.in-Ok-create_files.ensures.made)) c.run.ensures.kept.told (named_by g.S.Shelf.stands c.create_files.new.shelf _ _ _ _ names _ c.plan_of-plan.ensures.vcd c.plan_of-plan.ensures.choices (rw (copied_text c.args.simulation.vcd, copied_text c.args.simulation.choices) at c.in-Ok-create_files.ensures.named)) (λ named. taken.1.files names named))

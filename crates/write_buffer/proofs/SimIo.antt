@@ -1,0 +1,1 @@
+pub use Rattle.sim_io.proofs.Chains as Chains
