@@ -14,11 +14,11 @@ use Rattle.lemmas.proofs.MapLemmas.{ties_no_other, get-updated, is_insert, is_re
 use Rattle.numbered_slots.specs.Numbered.{Numbered, with_inserted, HasFreshNext}
 use Rattle.numbered_slots.specs.Layout.{live_of, shown, IsSound}
 
-other_key : (m new : tree.BTreeMap ℕ ℕ) (number : ℕ) (w : Option ℕ) → tree.Updates nat_cmp m new number w
+pub other_key : (m new : tree.BTreeMap ℕ ℕ) (number : ℕ) (w : Option ℕ) → tree.Updates nat_cmp m new number w
     → (q : ℕ) → q ≢ number → tree.get nat_cmp new q ≡ tree.get nat_cmp m q
 other_key m new number w keys q apart = keys.2 q (ties_no_other number q (λ e. apart (sym e)))
 
-none_some : {A : Type 0} {o : Option A} {x : A} → o ≡ None → o ≡ Some x → ⊥
+pub none_some : {A : Type 0} {o : Option A} {x : A} → o ≡ None → o ≡ Some x → ⊥
 none_some none some = cc
 
 same_sum : (a b c : ℕ) → a + c ≡ b + 1 → c ≡ 1 → a ≡ b

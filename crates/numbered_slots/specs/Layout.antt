@@ -1,5 +1,5 @@
 -- How `Slots` keeps its values. No public clause cites this module.
-use Rattle.std.specs.Prelude.{◌≡◌, ℕ, ◌≤◌, List, [], ◌∷◌, true, Option, Some, None, is_some, slice_index_or}
+use Rattle.std.specs.Prelude.{◌≡◌, ℕ, ◌≤◌, Bool, List, [], ◌∷◌, true, Option, Some, None, is_some, slice_get, slice_index_or}
 use Rattle.std.specs.Ordering.{nat_cmp}
 use Rattle.std.specs.BTreeMap as tree
 use Rattle.std.specs.FinMap as map
@@ -24,3 +24,7 @@ module _ {T : Type 0} where
     pub apart : (p q k : ℕ) → tree.get nat_cmp keys p ≡ Some k → tree.get nat_cmp keys q ≡ Some k → p ≡ q
     pub counted : map.len (live_of slots.slots keys.entries) ≡ tree.btree_map_len keys
     pub full : slab_len slots ≡ tree.btree_map_len keys
+
+-- a slot that is marked holds the value of its own number
+abbrev pub TellsHomes : List Bool → tree.BTreeMap ℕ ℕ → Type 0
+TellsHomes at_home keys = (k : ℕ) → slice_get at_home k ≡ Some true → tree.get nat_cmp keys k ≡ Some k

@@ -1,10 +1,13 @@
 //! Values under numbers that rise by one and are never given twice.
 #![tactic(auto)]
 
-ghost use Rattle.std.specs.Prelude.{◌≡◌, ◌-◌, ◌^◌, ◌<◌, ◌≤◌, ℕ, None, IsSome, IfNone, OnOk, OnErr, IfOk, IfErr, option_copied};
+ghost use Rattle.std.specs.Prelude.{◌≡◌, ◌-◌, ◌^◌, ◌<◌, ◌≤◌, ◌++◌, ◌==◌, [], ◌∷◌, ℕ, false, None, IsSome, IfNone, OnOk, OnErr, IfOk, IfErr, length, option_copied, if◌then◌else◌, slice_set, vec_len, vec_capacity};
 ghost use Rattle.std.specs.Option.{option_copied_mut};
 ghost use Rattle.std.specs.Borrow.{sem};
 ghost use Rattle.std.specs.FinMap as map;
+ghost use Rattle.std.specs.BTreeMap as tree;
+ghost use Rattle.std.specs.Ordering.{nat_cmp};
+ghost use Rattle.numbered_slots.specs.Layout.{TellsHomes};
 
 use slab::Slab;
 use std::alloc::{AllocFailed, Global};
@@ -15,13 +18,16 @@ use std::marker::Model;
 ///
 /// Numbers are given from 0 and rise by one. What was taken out is found no more under its number, and a later value may take its place
 /// in memory, so that no more memory is kept than for the most values that were ever live at once.
-/// A value is found by its number in the logarithm of how many are live.
+/// A value that was inserted before a first one was taken out is found at once by its number, and any other in the logarithm of how many
+/// are live.
 #[derive(Drop)]
 pub struct Slots<T> {
     // The values, each in a slot that is used again once the value was taken out.
     slots: Slab<T>,
     // The slot of each live number.
     keys: BTreeMap<u32, usize>,
+    // For each slot, whether it holds the value of its own number.
+    at_home: Vec<bool>,
     next: u32,
 }
 
@@ -32,11 +38,42 @@ impl<T> Model for Slots<T> {
 
     ghost coded = { numbered_code T.code };
 
-    ghost use Rattle.numbered_slots.specs.Layout.{shown, IsSound};
+    ghost use Rattle.numbered_slots.specs.Layout.{shown, IsSound, TellsHomes};
 
     ghost view = { λ s. shown s.slots.slots s.keys.entries s.next };
 
-    ghost invariant = { λ s. IsSound s.slots s.keys s.next };
+    ghost invariant = { λ s. IsSound s.slots s.keys s.next × TellsHomes s.at_home.items s.keys };
+}
+
+// The slot of a live number, with no search where the value stands in the number's own slot.
+fn slot_of(keys: &BTreeMap<u32, usize>, at_home: &[bool], number: u32) -> Option<usize>
+    requires { TellsHomes at_home.now keys.now }
+    ensures { result ≡ tree.get nat_cmp keys.now number }
+{
+    match at_home.get(number as usize).copied() {
+        Some(true) => Some(number as usize),
+        Some(false) | None => keys.get(&number).copied(),
+    }
+}
+
+// Notes of a slot that is used for the first time whether this number is its own. A slot that is used again gets a number that is not:
+// its own was given before.
+fn note_first(at_home: &mut Vec<bool>, key: usize, number: u32)
+    requires { vec_len at_home.old < vec_capacity at_home.old }
+    ensures { at_home.new.items ≡ (if key == length at_home.old.items then at_home.old.items ++ (key == number) ∷ [] else at_home.old.items) }
+{
+    if key == at_home.len() {
+        at_home.push_reserved(key == number as usize);
+    }
+}
+
+// Notes that no slot holds the value of this number.
+fn leave_home(at_home: &mut Vec<bool>, number: u32)
+    ensures { at_home.new.items ≡ slice_set at_home.old.items number false }
+{
+    if (number as usize) < at_home.len() {
+        at_home[number as usize] = false;
+    }
 }
 
 impl<T> Slots<T> {
@@ -51,6 +88,7 @@ impl<T> Slots<T> {
         Slots {
             slots: Slab::new(alloc),
             keys: BTreeMap::new(alloc),
+            at_home: Vec::new(alloc),
             next: 0,
         }
     }
@@ -75,8 +113,8 @@ impl<T> Slots<T> {
         ensures value { option_copied result ≡ map.get self.now.live number }
         ensures given { IsSome result → number < self.now.next }
     {
-        match self.keys.get(&number) {
-            Some(key) => self.slots.get(*key),
+        match slot_of(&self.keys, self.at_home.as_slice(), number) {
+            Some(key) => self.slots.get(key),
             None => None,
         }
     }
@@ -86,7 +124,7 @@ impl<T> Slots<T> {
         ensures* writes_back { sem 𝓛 (lends_value T.row self.entry number result) }
         ensures value { option_copied_mut result ≡ map.get self.old.live number }
     {
-        let key = *self.keys.get(&number)?;
+        let key = slot_of(&self.keys, self.at_home.as_slice(), number)?;
         self.slots.get_mut(key)
     }
 
@@ -106,12 +144,18 @@ impl<T> Slots<T> {
             Ok(()) => {}
             Err(_) => return Err(AllocFailed { value }),
         }
+        match self.at_home.reserve(1) {
+            Ok(()) => {}
+            Err(_) => return Err(AllocFailed { value }),
+        }
         let number = self.next;
-        match self.keys.insert(number, self.slots.vacant_key()) {
+        let key = self.slots.vacant_key();
+        match self.keys.insert(number, key) {
             Ok(_) => {}
             Err(_) => return Err(AllocFailed { value }),
         }
         self.slots.insert_reserved(value);
+        note_first(&mut self.at_home, key, number);
         self.next = number + 1;
         Ok(number)
     }
@@ -123,7 +167,10 @@ impl<T> Slots<T> {
         ensures absent { IfNone result (self.new ≡ self.old) }
     {
         match self.keys.remove(&number) {
-            Some(key) => Some(self.slots.remove(key)),
+            Some(key) => {
+                leave_home(&mut self.at_home, number);
+                Some(self.slots.remove(key))
+            }
             None => None,
         }
     }

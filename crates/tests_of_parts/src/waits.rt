@@ -6,8 +6,13 @@ use std::alloc::AllocError;
 use std::test::Fail;
 use wait_lists::{Ev, WaitLists, as_many_as_have_room, who_waits_has_room};
 
-// The test uses twelve serials in a row, the last that there are.
+// The last twelve serials that there are begin here.
 const FIRST: u32 = u32::MAX - 11;
+
+// The serials of the test, in rising order: eight that may be numbers of places, and the last four that there are.
+fn serial(at: u32) -> u32 {
+    if at < 8 { at } else { FIRST.saturating_add(at) }
+}
 
 // What one instance waits for, as a plain list keeps it.
 #[derive(Drop)]
@@ -33,13 +38,17 @@ impl Draws {
     }
 
     fn event(&mut self) -> Ev {
-        match self.below(7) {
+        match self.below(10) {
             0 => Ev::Fixed(0),
             1 => Ev::Fixed(u32::MAX),
             2 => Ev::Terminated(0),
             3 => Ev::Terminated(u32::MAX),
             4 => Ev::Restarted(0),
             5 => Ev::Restarted(u32::MAX),
+            // Codes for which there is a place from a few nodes on.
+            6 => Ev::Fixed(12),
+            7 => Ev::Fixed(60),
+            8 => Ev::Terminated(150),
             _ => Ev::Fixed(1),
         }
     }
@@ -60,7 +69,7 @@ fn fire(lists: &mut WaitLists, e: Ev, out: &mut Vec<u32>) -> Result<(), AllocErr
 fn plain_fire(plain: &mut [Plain], e: Ev, out: &mut Vec<u32>) -> Result<(), AllocError> {
     out.clear();
     out.push(7)?;
-    let mut p = FIRST;
+    let mut at = 0u32;
     for waiter in plain.iter_mut() {
         if !waiter.is_muted && waiter.events.contains(&e) {
             if waiter.for_all {
@@ -69,10 +78,10 @@ fn plain_fire(plain: &mut [Plain], e: Ev, out: &mut Vec<u32>) -> Result<(), Allo
                 waiter.events.clear();
             }
             if waiter.events.is_empty() {
-                out.push(p)?;
+                out.push(serial(at))?;
             }
         }
-        p = p.saturating_add(1);
+        at = at.saturating_add(1);
     }
     Ok(())
 }
@@ -164,13 +173,7 @@ fn events_give_what_plain_lists_give(rt: HostRuntime) -> Result<(), Fail> {
         let at = draws.below(12);
         draw_list(&mut draws, &mut list)?;
         if let Some(waiter) = plain.get_mut(at as usize) {
-            change(
-                &mut lists,
-                waiter,
-                FIRST.saturating_add(at),
-                &mut draws,
-                list.as_slice(),
-            )?;
+            change(&mut lists, waiter, serial(at), &mut draws, list.as_slice())?;
         }
         let e = draws.event();
         if draws.below(2) == 0 {

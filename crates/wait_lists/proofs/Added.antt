@@ -6,7 +6,7 @@ use Rattle.std.specs.FinMap as maps
 use Rattle.std.proofs.lemmas.Bool.{cases_eq}
 use Rattle.std.proofs.lemmas.Option.{slice_get_within}
 use Rattle.event_core.specs.declared.event.Ev.{Ev}
-use Rattle.room_map.specs.Room.{Room}
+use Rattle.wait_lists.specs.declared.heads.Firsts.{Firsts}
 use Rattle.wait_lists.specs.declared.nodes.Node.{Node}
 use Rattle.wait_lists.specs.declared.waiter.Waiter.{Waiter}
 use Rattle.wait_lists.specs.Shown.{Shown}
@@ -22,7 +22,7 @@ use Rattle.wait_lists.proofs.EventLemmas.{events-same, event-tags}
 use Rattle.wait_lists.proofs.Moved.{cut-here, cut_out, moved-here, moved-other, moved-tags, moved-tag, joined-here, joined-other, joined-rows, joined-tags, joined-tag, IsSome-tag, tag-none, untagged}
 use Rattle.wait_lists.proofs.Refit.{get-inside, shown-at, events-row, one-list, shown-changed, seats-set, sum-set, sum-spare, fits-set}
 
-module _ (es : List (ℕ × ℕ)) (ws : List Waiter) (vacant : List ℕ) (nodes : List Node) (heads : Room ℕ ℕ) (fr total : ℕ) (fit : Fit es ws vacant nodes heads fr total) where
+module _ (es : List (ℕ × ℕ)) (ws : List Waiter) (vacant : List ℕ) (nodes : List Node) (heads : Firsts) (fr total : ℕ) (fit : Fit es ws vacant nodes heads fr total) where
   frees : (ns : List ℕ) × IsList (by_event nodes) free fr ns
   frees = fit.lists free (omega arith)
 
@@ -38,38 +38,38 @@ module _ (es : List (ℕ × ℕ)) (ws : List Waiter) (vacant : List ℕ) (nodes 
   link-there c None is = absurd (true≢false (sym is))
   link-there c (Some l) is = (l, refl, tag-none c (Some l) l refl is)
 
-  module _ (mid : List Node) (mids : Room ℕ ℕ) (fm i : ℕ) (l : Link) (here : by_event nodes i ≡ Some l) (was_free : l.tag ≡ free)
-      (e1 : (j : ℕ) → by_event mid j ≡ cut loose i l (by_event nodes) j) (f1 : (c : ℕ) → first_in mids.entries fm c ≡ first_after c l (first_in heads.entries fr c))
-      (mid_heads : IsHeads mids.entries) (mid_places : length mids.entries + mids.spare ≡ length heads.entries + heads.spare)
+  module _ (mid : List Node) (mids : Firsts) (fm i : ℕ) (l : Link) (here : by_event nodes i ≡ Some l) (was_free : l.tag ≡ free)
+      (e1 : (j : ℕ) → by_event mid j ≡ cut loose i l (by_event nodes) j) (f1 : (c : ℕ) → first_in mids fm c ≡ first_after c l (first_in heads fr c))
+      (mid_heads : IsHeads mids) (mid_places : length mids.far.entries + mids.far.spare ≡ length heads.far.entries + heads.far.spare)
       (mid_len : length mid ≡ length nodes) (code : ℕ) (event : 1 < code) where
     few_mid : length mid ≤ none
     few_mid = omega (arith, fit.few_nodes)
 
-    out_list : (c : ℕ) (ns : List ℕ) → 0 < c → IsList (by_event nodes) c (first_in heads.entries fr c) ns → IsList (by_event mid) c (first_in mids.entries fm c) (leave i ns)
+    out_list : (c : ℕ) (ns : List ℕ) → 0 < c → IsList (by_event nodes) c (first_in heads fr c) ns → IsList (by_event mid) c (first_in mids fm c) (leave i ns)
     out_list c ns some list =
-        cut_out (by_event nodes) (by_event mid) (put code i (first_in mids.entries fm code) (by_event mid)) (outside-event nodes fit.few_nodes) (outside-event mid few_mid) i l here (omega arith) code (omega arith)
-        (first_in heads.entries fr) (first_in mids.entries fm) (λ c. cond (c == code) i (first_in mids.entries fm c)) fit.lists e1 f1 (λ _. refl) (λ _. refl) c ns some list
+        cut_out (by_event nodes) (by_event mid) (put code i (first_in mids fm code) (by_event mid)) (outside-event nodes fit.few_nodes) (outside-event mid few_mid) i l here (omega arith) code (omega arith)
+        (first_in heads fr) (first_in mids fm) (λ c. cond (c == code) i (first_in mids fm c)) fit.lists e1 f1 (λ _. refl) (λ _. refl) c ns some list
 
     -- there is room for one list more, since the node stands in none
-    pub room-there : first_in mids.entries fm code ≡ none → 0 < mids.spare
+    pub room-there : first_in mids fm code ≡ none → 0 < mids.far.spare
     room-there none_yet =
         let k = cut-here (by_event nodes) loose i l here in
         let tag : has_tag loose (by_event mid i) ≡ true = ap (has_tag loose) (e1 i ∙ k.1) ∙ eq-eqb k.0.tag loose k.2 in
-        let absent : maps.find nat_cmp loose mids.entries ≡ None = none_found (maps.find nat_cmp loose mids.entries) refl in
+        let absent : maps.find nat_cmp loose mids.far.entries ≡ None = none_found (maps.find nat_cmp loose mids.far.entries) refl in
         omega (
           arith,
           fit.sums.roomy,
-          lists-few (by_event mid) mids.entries fm (length mid) i loose mid_heads (λ c some. let old = fit.lists c some in (leave i old.0, out_list c old.0 some old.1)) (event-within mid) tag absent,
+          lists-few (by_event mid) mids fm (length mid) i loose mid_heads (λ c some. let old = fit.lists c some in (leave i old.0, out_list c old.0 some old.1)) (event-within mid) tag absent,
         )
       where
-        none_found : (o : Option ℕ) → maps.find nat_cmp loose mids.entries ≡ o → o ≡ None
+        none_found : (o : Option ℕ) → maps.find nat_cmp loose mids.far.entries ≡ o → o ≡ None
         none_found None found = refl
         none_found (Some h) found = let no : 1 < loose = (mid_heads.begins loose h found).0 in absurd (omega arith)
 
-    module _ (new : List Node) (ends : Room ℕ ℕ) (fe : ℕ) (vs : List Waiter) (at : ℕ) (own : Waiter) (owner : slice_get ws at ≡ Some own) (inside : at < length ws)
-        (e2 : (j : ℕ) → by_event new j ≡ put code i (first_in mids.entries fm code) (by_event mid) j) (f2 : (c : ℕ) → first_in ends.entries fe c ≡ cond (c == code) i (first_in mids.entries fm c))
+    module _ (new : List Node) (ends : Firsts) (fe : ℕ) (vs : List Waiter) (at : ℕ) (own : Waiter) (owner : slice_get ws at ≡ Some own) (inside : at < length ws)
+        (e2 : (j : ℕ) → by_event new j ≡ put code i (first_in mids fm code) (by_event mid) j) (f2 : (c : ℕ) → first_in ends fe c ≡ cond (c == code) i (first_in mids fm c))
         (w1 : (j : ℕ) → by_wait new j ≡ put at i own.first (by_wait nodes) j) (firsts : (k : ℕ) → slice_get vs k ≡ refirst (first_at at i k) (slice_get ws k))
-        (heads_are : IsHeads ends.entries) (places : length ends.entries + ends.spare ≡ length mids.entries + mids.spare)
+        (heads_are : IsHeads ends) (places : length ends.far.entries + ends.far.spare ≡ length mids.far.entries + mids.far.spare)
         (len : length new ≡ length nodes) (waiters_len : length vs ≡ length ws)
         (m : Link) (wait_here : by_wait nodes i ≡ Some m)
         (room : length (shown_of nodes own).events < (shown_of nodes own).room) where
@@ -88,25 +88,25 @@ module _ (es : List (ℕ × ℕ)) (ws : List Waiter) (vacant : List ℕ) (nodes 
       pub evs : List Ev
       evs = event_of code ∷ s.events
 
-      other_list : (c : ℕ) (ns : List ℕ) → 0 < c → c ≢ code → IsList (by_event nodes) c (first_in heads.entries fr c) ns → IsList (by_event new) c (first_in ends.entries fe c) (leave i ns)
+      other_list : (c : ℕ) (ns : List ℕ) → 0 < c → c ≢ code → IsList (by_event nodes) c (first_in heads fr c) ns → IsList (by_event new) c (first_in ends fe c) (leave i ns)
       other_list c ns some other list =
           moved-other (by_event nodes) (by_event mid) (by_event new) (outside-event nodes fit.few_nodes) (outside-event mid few_mid) i l here (omega arith) code (omega arith)
-          (first_in heads.entries fr) (first_in mids.entries fm) (first_in ends.entries fe) fit.lists e1 f1 e2 f2 c ns some other list
+          (first_in heads fr) (first_in mids fm) (first_in ends fe) fit.lists e1 f1 e2 f2 c ns some other list
 
-      code_list : (ns : List ℕ) → IsList (by_event nodes) code (first_in heads.entries fr code) ns → IsList (by_event new) code (first_in ends.entries fe code) (i ∷ leave i ns)
+      code_list : (ns : List ℕ) → IsList (by_event nodes) code (first_in heads fr code) ns → IsList (by_event new) code (first_in ends fe code) (i ∷ leave i ns)
       code_list ns list =
           moved-here (by_event nodes) (by_event mid) (by_event new) (outside-event nodes fit.few_nodes) (outside-event mid few_mid) i l here (omega arith) code (omega arith)
-          (first_in heads.entries fr) (first_in mids.entries fm) (first_in ends.entries fe) fit.lists e1 f1 e2 f2 ns list
+          (first_in heads fr) (first_in mids fm) (first_in ends fe) fit.lists e1 f1 e2 f2 ns list
 
       tags_other : (c j : ℕ) → j ≢ i → has_tag c (by_event new j) ≡ has_tag c (by_event nodes j)
       tags_other =
           moved-tags (by_event nodes) (by_event mid) (by_event new) (outside-event nodes fit.few_nodes) (outside-event mid few_mid) i l here (omega arith) code (omega arith)
-          (first_in heads.entries fr) (first_in mids.entries fm) (first_in ends.entries fe) fit.lists e1 f1 e2 f2
+          (first_in heads fr) (first_in mids fm) (first_in ends fe) fit.lists e1 f1 e2 f2
 
       tag_here : (c : ℕ) → has_tag c (by_event new i) ≡ (code == c)
       tag_here =
           moved-tag (by_event nodes) (by_event mid) (by_event new) (outside-event nodes fit.few_nodes) (outside-event mid few_mid) i l here (omega arith) code (omega arith)
-          (first_in heads.entries fr) (first_in mids.entries fm) (first_in ends.entries fe) fit.lists e1 f1 e2 f2
+          (first_in heads fr) (first_in mids fm) (first_in ends fe) fit.lists e1 f1 e2 f2
 
       wait_tags : (c j : ℕ) → j ≢ i → has_tag c (by_wait new j) ≡ has_tag c (by_wait nodes j)
       wait_tags = joined-tags (by_wait nodes) (by_wait new) (outside-wait nodes fit.few_nodes) i m wait_here alone ws vs fit.few_places at own owner fit.rows w1 firsts
@@ -174,7 +174,7 @@ module _ (es : List (ℕ × ℕ)) (ws : List Waiter) (vacant : List ℕ) (nodes 
             (λ some. fit.seats.owned at s shown_here some)
             (λ empty. let one = fit.seats.vacated at empty in let same : Some s ≡ Some one.0 = sym shown_here ∙ one.1 in let alike : s ≡ one.0 = cc in ap (λ x. x.room) alike ∙ one.2);
         lists = λ c some. let old = fit.lists c some in ⊎_elim
-            (λ (e : c ≡ code). let P : ℕ → Type 0 = λ d. (ns : List ℕ) × IsList (by_event new) d (first_in ends.entries fe d) ns in
+            (λ (e : c ≡ code). let P : ℕ → Type 0 = λ d. (ns : List ℕ) × IsList (by_event new) d (first_in ends fe d) ns in
             let codes = fit.lists code (omega arith) in subst P (sym e) (i ∷ leave i codes.0, code_list codes.0 codes.1))
             (λ other. (leave i old.0, other_list c old.0 some other old.1))
             (cases_eq c code);
@@ -205,14 +205,14 @@ module _ (es : List (ℕ × ℕ)) (ws : List Waiter) (vacant : List ℕ) (nodes 
 
 -- what a call leaves that adds an event
 module _ (old new : Kept) (fit : Fit old.places.entries old.waiters.items old.vacant.items old.nodes.items old.heads.events old.heads.free old.total)
-    (mid : List Node) (mids : Room ℕ ℕ) (fm i : ℕ) (l : Link) (here : by_event old.nodes.items i ≡ Some l) (was_free : l.tag ≡ free)
-    (e1 : (j : ℕ) → by_event mid j ≡ cut loose i l (by_event old.nodes.items) j) (f1 : (c : ℕ) → first_in mids.entries fm c ≡ first_after c l (first_in old.heads.events.entries old.heads.free c))
-    (mid_heads : IsHeads mids.entries) (mid_places : length mids.entries + mids.spare ≡ length old.heads.events.entries + old.heads.events.spare)
+    (mid : List Node) (mids : Firsts) (fm i : ℕ) (l : Link) (here : by_event old.nodes.items i ≡ Some l) (was_free : l.tag ≡ free)
+    (e1 : (j : ℕ) → by_event mid j ≡ cut loose i l (by_event old.nodes.items) j) (f1 : (c : ℕ) → first_in mids fm c ≡ first_after c l (first_in old.heads.events old.heads.free c))
+    (mid_heads : IsHeads mids) (mid_places : length mids.far.entries + mids.far.spare ≡ length old.heads.events.far.entries + old.heads.events.far.spare)
     (mid_len : length mid ≡ length old.nodes.items) (code : ℕ) (event : 1 < code) (at : ℕ) (inside : at < length old.waiters.items)
-    (e2 : (j : ℕ) → by_event new.nodes.items j ≡ put code i (first_in mids.entries fm code) (by_event mid) j) (f2 : (c : ℕ) → first_in new.heads.events.entries new.heads.free c ≡ cond (c == code) i (first_in mids.entries fm c))
+    (e2 : (j : ℕ) → by_event new.nodes.items j ≡ put code i (first_in mids fm code) (by_event mid) j) (f2 : (c : ℕ) → first_in new.heads.events new.heads.free c ≡ cond (c == code) i (first_in mids fm c))
     (w1 : (own : Waiter) → slice_get old.waiters.items at ≡ Some own → (j : ℕ) → by_wait new.nodes.items j ≡ put at i own.first (by_wait old.nodes.items) j)
     (firsts : (k : ℕ) → slice_get new.waiters.items k ≡ refirst (first_at at i k) (slice_get old.waiters.items k))
-    (heads_are : IsHeads new.heads.events.entries) (places : length new.heads.events.entries + new.heads.events.spare ≡ length mids.entries + mids.spare)
+    (heads_are : IsHeads new.heads.events) (places : length new.heads.events.far.entries + new.heads.events.far.spare ≡ length mids.far.entries + mids.far.spare)
     (len : length new.nodes.items ≡ length old.nodes.items) (waiters_len : length new.waiters.items ≡ length old.waiters.items)
     (room : (s : Shown) → slice_get (shown_by old) at ≡ Some s → length s.events < s.room) where
   owns : (w : Waiter) × (slice_get old.waiters.items at ≡ Some w)

@@ -4,7 +4,7 @@ use Rattle.std.specs.Prelude.{slice_get, ◌==◌}
 use Rattle.std.proofs.lemmas.Bool.{cases_eq}
 use Rattle.std.proofs.lemmas.List.{length-map}
 use Rattle.event_core.specs.declared.event.Ev.{Ev}
-use Rattle.room_map.specs.Room.{Room}
+use Rattle.wait_lists.specs.declared.heads.Firsts.{Firsts}
 use Rattle.wait_lists.specs.declared.nodes.Node.{Node}
 use Rattle.wait_lists.specs.declared.waiter.Waiter.{Waiter}
 use Rattle.wait_lists.specs.Waits.{without}
@@ -31,12 +31,12 @@ leave-append i xs ys out = by_parts xs out
         (λ apart. ap (λ b. cond b (leave i (zs ++ ys)) (z ∷ leave i (zs ++ ys))) (ne_eqb z i apart) ∙ ap (λ l. z ∷ l) (by_parts zs (sym (times-other i z zs apart) ∙ none_out)))
         (cases_eq z i)
 
-module _ (es : List (ℕ × ℕ)) (ws vs : List Waiter) (vacant : List ℕ) (nodes mid new : List Node) (heads mids ends : Room ℕ ℕ) (fr fm fe total : ℕ) (fit : Fit es ws vacant nodes heads fr total)
+module _ (es : List (ℕ × ℕ)) (ws vs : List Waiter) (vacant : List ℕ) (nodes mid new : List Node) (heads mids ends : Firsts) (fr fm fe total : ℕ) (fit : Fit es ws vacant nodes heads fr total)
     (i : ℕ) (l m : Link) (here : by_event nodes i ≡ Some l) (used : 1 < l.tag) (wait_here : by_wait nodes i ≡ Some m)
-    (e1 : (j : ℕ) → by_event mid j ≡ cut loose i l (by_event nodes) j) (f1 : (c : ℕ) → first_in mids.entries fm c ≡ first_after c l (first_in heads.entries fr c))
-    (e2 : (j : ℕ) → by_event new j ≡ put free i (first_in mids.entries fm free) (by_event mid) j) (f2 : (c : ℕ) → first_in ends.entries fe c ≡ cond (c == free) i (first_in mids.entries fm c))
+    (e1 : (j : ℕ) → by_event mid j ≡ cut loose i l (by_event nodes) j) (f1 : (c : ℕ) → first_in mids fm c ≡ first_after c l (first_in heads fr c))
+    (e2 : (j : ℕ) → by_event new j ≡ put free i (first_in mids fm free) (by_event mid) j) (f2 : (c : ℕ) → first_in ends fe c ≡ cond (c == free) i (first_in mids fm c))
     (w1 : (j : ℕ) → by_wait new j ≡ cut none i m (by_wait nodes) j) (firsts : (k : ℕ) → slice_get vs k ≡ refirst (first_after k m) (slice_get ws k))
-    (heads_are : IsHeads ends.entries) (places : length ends.entries + ends.spare ≡ length heads.entries + heads.spare)
+    (heads_are : IsHeads ends) (places : length ends.far.entries + ends.far.spare ≡ length heads.far.entries + heads.far.spare)
     (mid_len : length mid ≡ length nodes) (len : length new ≡ length nodes) (waiters_len : length vs ≡ length ws) where
   few_mid : length mid ≤ none
   few_mid = omega (arith, fit.few_nodes)
@@ -60,25 +60,25 @@ module _ (es : List (ℕ × ℕ)) (ws vs : List Waiter) (vacant : List ℕ) (nod
   evs = events_at (by_event nodes) (leave i own_row.0)
 
   -- the lists of events
-  other_list : (c : ℕ) (ns : List ℕ) → 0 < c → c ≢ free → IsList (by_event nodes) c (first_in heads.entries fr c) ns → IsList (by_event new) c (first_in ends.entries fe c) (leave i ns)
+  other_list : (c : ℕ) (ns : List ℕ) → 0 < c → c ≢ free → IsList (by_event nodes) c (first_in heads fr c) ns → IsList (by_event new) c (first_in ends fe c) (leave i ns)
   other_list c ns some other list =
       moved-other (by_event nodes) (by_event mid) (by_event new) (outside-event nodes fit.few_nodes) (outside-event mid few_mid) i l here (omega arith) free (omega arith)
-      (first_in heads.entries fr) (first_in mids.entries fm) (first_in ends.entries fe) fit.lists e1 f1 e2 f2 c ns some other list
+      (first_in heads fr) (first_in mids fm) (first_in ends fe) fit.lists e1 f1 e2 f2 c ns some other list
 
-  free_list : (ns : List ℕ) → IsList (by_event nodes) free (first_in heads.entries fr free) ns → IsList (by_event new) free (first_in ends.entries fe free) (i ∷ leave i ns)
+  free_list : (ns : List ℕ) → IsList (by_event nodes) free (first_in heads fr free) ns → IsList (by_event new) free (first_in ends fe free) (i ∷ leave i ns)
   free_list ns list =
       moved-here (by_event nodes) (by_event mid) (by_event new) (outside-event nodes fit.few_nodes) (outside-event mid few_mid) i l here (omega arith) free (omega arith)
-      (first_in heads.entries fr) (first_in mids.entries fm) (first_in ends.entries fe) fit.lists e1 f1 e2 f2 ns list
+      (first_in heads fr) (first_in mids fm) (first_in ends fe) fit.lists e1 f1 e2 f2 ns list
 
   tags_other : (c j : ℕ) → j ≢ i → has_tag c (by_event new j) ≡ has_tag c (by_event nodes j)
   tags_other =
       moved-tags (by_event nodes) (by_event mid) (by_event new) (outside-event nodes fit.few_nodes) (outside-event mid few_mid) i l here (omega arith) free (omega arith)
-      (first_in heads.entries fr) (first_in mids.entries fm) (first_in ends.entries fe) fit.lists e1 f1 e2 f2
+      (first_in heads fr) (first_in mids fm) (first_in ends fe) fit.lists e1 f1 e2 f2
 
   tag_here : (c : ℕ) → has_tag c (by_event new i) ≡ (free == c)
   tag_here =
       moved-tag (by_event nodes) (by_event mid) (by_event new) (outside-event nodes fit.few_nodes) (outside-event mid few_mid) i l here (omega arith) free (omega arith)
-      (first_in heads.entries fr) (first_in mids.entries fm) (first_in ends.entries fe) fit.lists e1 f1 e2 f2
+      (first_in heads fr) (first_in mids fm) (first_in ends fe) fit.lists e1 f1 e2 f2
 
   -- the lists of waiters
   row_left : (k : ℕ) (w : Waiter) (ns : List ℕ) → slice_get ws k ≡ Some w → IsList (by_wait nodes) k w.first ns → IsList (by_wait new) k (first_after k m w.first) (leave i ns)
@@ -158,7 +158,7 @@ module _ (es : List (ℕ × ℕ)) (ws vs : List Waiter) (vacant : List ℕ) (nod
         (λ some. fit.seats.owned m.tag s shown_here some)
         (λ empty. let one = fit.seats.vacated m.tag empty in let same : Some s ≡ Some one.0 = sym shown_here ∙ one.1 in let alike : s ≡ one.0 = cc in ap (λ x. x.room) alike ∙ one.2);
     lists = λ c some. let old = fit.lists c some in ⊎_elim
-        (λ (e : c ≡ free). let P : ℕ → Type 0 = λ d. (ns : List ℕ) × IsList (by_event new) d (first_in ends.entries fe d) ns in
+        (λ (e : c ≡ free). let P : ℕ → Type 0 = λ d. (ns : List ℕ) × IsList (by_event new) d (first_in ends fe d) ns in
         let frees = fit.lists free (omega arith) in subst P (sym e) (i ∷ leave i frees.0, free_list frees.0 frees.1))
         (λ other. (leave i old.0, other_list c old.0 some other old.1))
         (cases_eq c free);
@@ -181,11 +181,11 @@ module _ (es : List (ℕ × ℕ)) (ws vs : List Waiter) (vacant : List ℕ) (nod
   }
 
   -- a list of an event without the node
-  pub dropped-list : (c : ℕ) (xs ys : List ℕ) → 1 < c → IsList (by_event nodes) c (first_in heads.entries fr c) (xs ++ ys) → ((j : ℕ) → In j xs → has_tag m.tag (by_wait nodes j) ≡ false)
-      → (zs : List ℕ) × IsList (by_event new) c (first_in ends.entries fe c) (xs ++ zs) × (length zs ≤ length ys)
+  pub dropped-list : (c : ℕ) (xs ys : List ℕ) → 1 < c → IsList (by_event nodes) c (first_in heads fr c) (xs ++ ys) → ((j : ℕ) → In j xs → has_tag m.tag (by_wait nodes j) ≡ false)
+      → (zs : List ℕ) × IsList (by_event new) c (first_in ends fe c) (xs ++ zs) × (length zs ≤ length ys)
   dropped-list c xs ys some list others =
       let away : times i xs ≡ 0 = not_there (others i) in
-      let P : List ℕ → Type 0 = λ ns. IsList (by_event new) c (first_in ends.entries fe c) ns in
+      let P : List ℕ → Type 0 = λ ns. IsList (by_event new) c (first_in ends fe c) ns in
       (leave i ys, subst P (leave-append i xs ys away) (other_list c (xs ++ ys) (omega arith) (λ e. absurd (omega arith)) list), omega (arith, length-leave i ys))
     where
       not_there : (In i xs → has_tag m.tag (by_wait nodes i) ≡ false) → times i xs ≡ 0
@@ -199,11 +199,11 @@ module _ (es : List (ℕ × ℕ)) (ws vs : List Waiter) (vacant : List ℕ) (nod
 
 -- what a call leaves that takes a node out
 module _ (old new : Kept) (fit : Fit old.places.entries old.waiters.items old.vacant.items old.nodes.items old.heads.events old.heads.free old.total)
-    (mid : List Node) (mids : Room ℕ ℕ) (fm i : ℕ) (l m : Link) (here : by_event old.nodes.items i ≡ Some l) (used : 1 < l.tag) (wait_here : by_wait old.nodes.items i ≡ Some m)
-    (e1 : (j : ℕ) → by_event mid j ≡ cut loose i l (by_event old.nodes.items) j) (f1 : (c : ℕ) → first_in mids.entries fm c ≡ first_after c l (first_in old.heads.events.entries old.heads.free c))
-    (e2 : (j : ℕ) → by_event new.nodes.items j ≡ put free i (first_in mids.entries fm free) (by_event mid) j) (f2 : (c : ℕ) → first_in new.heads.events.entries new.heads.free c ≡ cond (c == free) i (first_in mids.entries fm c))
+    (mid : List Node) (mids : Firsts) (fm i : ℕ) (l m : Link) (here : by_event old.nodes.items i ≡ Some l) (used : 1 < l.tag) (wait_here : by_wait old.nodes.items i ≡ Some m)
+    (e1 : (j : ℕ) → by_event mid j ≡ cut loose i l (by_event old.nodes.items) j) (f1 : (c : ℕ) → first_in mids fm c ≡ first_after c l (first_in old.heads.events old.heads.free c))
+    (e2 : (j : ℕ) → by_event new.nodes.items j ≡ put free i (first_in mids fm free) (by_event mid) j) (f2 : (c : ℕ) → first_in new.heads.events new.heads.free c ≡ cond (c == free) i (first_in mids fm c))
     (w1 : (j : ℕ) → by_wait new.nodes.items j ≡ cut none i m (by_wait old.nodes.items) j) (firsts : (k : ℕ) → slice_get new.waiters.items k ≡ refirst (first_after k m) (slice_get old.waiters.items k))
-    (heads_are : IsHeads new.heads.events.entries) (places : length new.heads.events.entries + new.heads.events.spare ≡ length old.heads.events.entries + old.heads.events.spare)
+    (heads_are : IsHeads new.heads.events) (places : length new.heads.events.far.entries + new.heads.events.far.spare ≡ length old.heads.events.far.entries + old.heads.events.far.spare)
     (mid_len : length mid ≡ length old.nodes.items) (len : length new.nodes.items ≡ length old.nodes.items) (waiters_len : length new.waiters.items ≡ length old.waiters.items) where
   pub fit-drop : Fit old.places.entries new.waiters.items old.vacant.items new.nodes.items new.heads.events new.heads.free old.total
   fit-drop = dropped-fit old.places.entries old.waiters.items new.waiters.items old.vacant.items old.nodes.items mid new.nodes.items old.heads.events mids new.heads.events old.heads.free fm new.heads.free old.total fit

@@ -63,10 +63,10 @@ module _ (first now : Kept) (e : Ev) (code : ℕ) (old new : List ℕ) (stays i 
   -- the rest of the list by a walk from its first node
   pub walk-rest : walk (length now.nodes.items) (by_event now.nodes.items) i ≡ going.ys
   walk-rest =
-      let goes = goes-split (by_event now.nodes.items) going.xs going.ys none (first_in now.heads.events.entries now.heads.free code) going.list.goes in
+      let goes = goes-split (by_event now.nodes.items) going.xs going.ys none (first_in now.heads.events now.heads.free code) going.list.goes in
       ap (walk (length now.nodes.items) (by_event now.nodes.items)) (sym going.next)
       ∙ walk-goes (by_event now.nodes.items) (outside-event now.nodes.items going.sound.0.few_nodes) (length now.nodes.items) going.ys (last_in none going.xs) (first_from going.ys) goes
-      (λ j m. there (by_event now.nodes.items j) (lives (by_event now.nodes.items) code (first_in now.heads.events.entries now.heads.free code) (going.xs ++ going.ys) going.list j (behind_front going.xs j m)))
+      (λ j m. there (by_event now.nodes.items j) (lives (by_event now.nodes.items) code (first_in now.heads.events now.heads.free code) (going.xs ++ going.ys) going.list j (behind_front going.xs j m)))
       short
     where
       there : (o : Option Link) → has_tag code o ≡ true → is_some o ≡ true
@@ -81,8 +81,8 @@ module _ (first now : Kept) (e : Ev) (code : ℕ) (old new : List ℕ) (stays i 
           (cases_eq z j)
 
       whole : length (going.xs ++ going.ys) ≤ length now.nodes.items
-      whole = few-below (length now.nodes.items) (going.xs ++ going.ys) (once_in (by_event now.nodes.items) code (first_in now.heads.events.entries now.heads.free code) (going.xs ++ going.ys) going.list)
-          (λ j m. event-within now.nodes.items j (there (by_event now.nodes.items j) (lives (by_event now.nodes.items) code (first_in now.heads.events.entries now.heads.free code) (going.xs ++ going.ys) going.list j m)))
+      whole = few-below (length now.nodes.items) (going.xs ++ going.ys) (once_in (by_event now.nodes.items) code (first_in now.heads.events now.heads.free code) (going.xs ++ going.ys) going.list)
+          (λ j m. event-within now.nodes.items j (there (by_event now.nodes.items j) (lives (by_event now.nodes.items) code (first_in now.heads.events now.heads.free code) (going.xs ++ going.ys) going.list j m)))
 
       short : length going.ys ≤ length now.nodes.items
       short = omega (arith, whole, length-append going.xs going.ys)
@@ -108,7 +108,7 @@ module _ (first now : Kept) (e : Ev) (code : ℕ) (old new : List ℕ) (stays i 
     list_now = let P : List ℕ → Type 0 = λ ns. IsNodes now code (going.xs ++ ns) in subst P rest.1 going.list
 
     tagged_code : has_tag code (by_event now.nodes.items i) ≡ true
-    tagged_code = lives (by_event now.nodes.items) code (first_in now.heads.events.entries now.heads.free code) (going.xs ++ i ∷ rest.0) list_now i (i_in going.xs)
+    tagged_code = lives (by_event now.nodes.items) code (first_in now.heads.events now.heads.free code) (going.xs ++ i ∷ rest.0) list_now i (i_in going.xs)
 
     pub tagged : has_tag (code_of e) (by_event now.nodes.items i) ≡ true
     tagged = ap (λ c. has_tag c (by_event now.nodes.items i)) (sym going.is_code) ∙ tagged_code
@@ -246,7 +246,7 @@ module _ (first now : Kept) (e : Ev) (code : ℕ) (old new : List ℕ) (stays i 
 -- once the event has gone over all, those that still wait for it are muted
 module _ (first now : Kept) (e : Ev) (code : ℕ) (old new : List ℕ) (stays i : ℕ) (going : Going first now e code old new stays i) (over : i ≡ none) where
   none-left : going.ys ≡ []
-  none-left = by_rest going.ys (λ j m. lives (by_event now.nodes.items) code (first_in now.heads.events.entries now.heads.free code) (going.xs ++ going.ys) going.list j (behind_all going.xs j m)) (going.next ∙ over)
+  none-left = by_rest going.ys (λ j m. lives (by_event now.nodes.items) code (first_in now.heads.events now.heads.free code) (going.xs ++ going.ys) going.list j (behind_all going.xs j m)) (going.next ∙ over)
     where
       behind_all : (zs : List ℕ) (j : ℕ) → In j going.ys → In j (zs ++ going.ys)
       behind_all [] j m = m
@@ -276,7 +276,7 @@ module _ (first now : Kept) (e : Ev) (code : ℕ) (old new : List ℕ) (stays i 
           (λ j member.
           let l = used-of now going.sound.0 at w.0 w.1 j (lives (by_wait now.nodes.items) at w.0.first row.0 row.1 j member) in
           (l.0.tag, event_of l.0.tag, sym (code_of-event_of l.0.tag (omega (arith, l.2))), IsSome-tag (by_event now.nodes.items j) l.0 l.1)) in_row in
-          let listed_there : In node.0 (going.xs ++ going.ys) = in_list (by_event now.nodes.items) code (first_in now.heads.events.entries now.heads.free code) (going.xs ++ going.ys) going.list node.0
+          let listed_there : In node.0 (going.xs ++ going.ys) = in_list (by_event now.nodes.items) code (first_in now.heads.events now.heads.free code) (going.xs ++ going.ys) going.list node.0
           (ap (λ c. has_tag c (by_event now.nodes.items node.0)) going.is_code ∙ node.2) in
           let P : List ℕ → Type 0 = λ l. In node.0 l in
           let stays_there : In node.0 going.xs = subst P (ap (λ l. going.xs ++ l) none-left ∙ append-nil going.xs) listed_there in
@@ -284,7 +284,7 @@ module _ (first now : Kept) (e : Ev) (code : ℕ) (old new : List ℕ) (stays i 
           ∙ going.muted node.0 at s stays_there (lives (by_wait now.nodes.items) at w.0.first row.0 row.1 node.0 node.1) one.1
 
 -- before the event has gone over a node
-pub going-none : (k : Kept) → IsSound k → (e : Ev) (code : ℕ) (old : List ℕ) (i : ℕ) → code ≡ code_of e → i ≡ first_in k.heads.events.entries k.heads.free code → Going k k e code old old none i
+pub going-none : (k : Kept) → IsSound k → (e : Ev) (code : ℕ) (old : List ℕ) (i : ℕ) → code ≡ code_of e → i ≡ first_in k.heads.events k.heads.free code → Going k k e code old old none i
 going-none k sound e code old i is_code begins =
     let all = sound.0.lists code (omega (arith, code_of-two e)) in
     record {
@@ -295,7 +295,7 @@ going-none k sound e code old i is_code begins =
       ys = all.0;
       list = all.1;
       last = refl;
-      next = sym (starts (by_event k.nodes.items) all.0 none (first_in k.heads.events.entries k.heads.free code) all.1.goes) ∙ sym begins;
+      next = sym (starts (by_event k.nodes.items) all.0 none (first_in k.heads.events k.heads.free code) all.1.goes) ∙ sym begins;
       muted = λ j at s member is here. absurd (omega arith);
       added = [];
       behind = sym (append-nil old);

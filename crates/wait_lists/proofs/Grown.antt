@@ -6,15 +6,16 @@ use Rattle.std.proofs.lemmas.Bool.{cases_eq}
 use Rattle.std.proofs.lemmas.List.{length-append, length-map}
 use Rattle.std.proofs.lemmas.List.Sums.{sum_by-append, sum_by-cons}
 use Rattle.std.proofs.lemmas.Option.{slice_get_within, slice_get_past}
-use Rattle.room_map.specs.Room.{Room}
+use Rattle.wait_lists.specs.declared.heads.Firsts.{Firsts}
 use Rattle.wait_lists.specs.declared.nodes.Node.{Node}
 use Rattle.wait_lists.specs.declared.waiter.Waiter.{Waiter}
 use Rattle.std.specs.Ordering.{nat_cmp}
 use Rattle.std.specs.FinMap as maps
 use Rattle.wait_lists.specs.Shown.{Shown, shown_at, waits_of}
 use Rattle.wait_lists.specs.Chains.{none, loose, free, Link, Links, next_of, prev_of, has_tag, IsList, put}
-use Rattle.wait_lists.specs.Nodes.{event_link, wait_link, by_event, by_wait, first_in, HasLists, IsHeads, events_from, shown_of, shown}
+use Rattle.wait_lists.specs.Nodes.{event_link, wait_link, by_event, by_wait, at_tag, first_in, IsHeads, events_from, shown_of, shown}
 use Rattle.wait_lists.specs.Kept.{Fit, Seats, serial_of}
+use Rattle.wait_lists.proofs.HeadLemmas.{first-same, heads-same}
 use Rattle.wait_lists.proofs.Counted.{times, times-same, times-other}
 use Rattle.wait_lists.proofs.Places.{slice_get-push_last, slice_get-push_other}
 use Rattle.wait_lists.proofs.Chains.{In, goes-same, lives, list-put_here, list-put_other, tag-put_other, tag-put_at}
@@ -40,12 +41,12 @@ grow-list L M last k was now same c first ns apart list =
           (cases_eq j last);
     }
 
-module _ (es : List (ℕ × ℕ)) (ws : List Waiter) (vacant : List ℕ) (nodes mid new : List Node) (n : Node) (heads ends : Room ℕ ℕ) (fr fe total : ℕ) (fit : Fit es ws vacant nodes heads fr total)
+module _ (es : List (ℕ × ℕ)) (ws : List Waiter) (vacant : List ℕ) (nodes mid new : List Node) (n : Node) (heads ends : Firsts) (fr fe total : ℕ) (fit : Fit es ws vacant nodes heads fr total)
     (mid_is : mid ≡ nodes ++ n ∷ []) (event : event_link (Some n) ≡ Some (record { tag = loose; next = none; prev = none })) (wait : wait_link (Some n) ≡ Some (record { tag = none; next = none; prev = none }))
     (few : length nodes < none) (i : ℕ) (i_is : i ≡ length nodes)
-    (e2 : (j : ℕ) → by_event new j ≡ put free i (first_in heads.entries fr free) (by_event mid) j) (w2 : (j : ℕ) → by_wait new j ≡ by_wait mid j)
-    (f2 : (c : ℕ) → first_in ends.entries fe c ≡ cond (c == free) i (first_in heads.entries fr c))
-    (heads_are : IsHeads ends.entries) (room : length nodes + 1 ≤ length heads.entries + heads.spare) (places : length ends.entries + ends.spare ≡ length heads.entries + heads.spare)
+    (e2 : (j : ℕ) → by_event new j ≡ put free i (first_in heads fr free) (by_event mid) j) (w2 : (j : ℕ) → by_wait new j ≡ by_wait mid j)
+    (f2 : (c : ℕ) → first_in ends fe c ≡ cond (c == free) i (first_in heads fr c))
+    (heads_are : IsHeads ends) (room : length nodes + 1 ≤ length heads.far.entries + heads.far.spare) (places : length ends.far.entries + ends.far.spare ≡ length heads.far.entries + heads.far.spare)
     (len : length new ≡ length mid) where
   k : Link
   k = record { tag = loose; next = none; prev = none }
@@ -86,38 +87,38 @@ module _ (es : List (ℕ × ℕ)) (ws : List Waiter) (vacant : List ℕ) (nodes 
   unfolding k
   mid_list c first ns some list = grow-list (by_event nodes) (by_event mid) i k old_event mid_event (λ j apart. ap event_link (get_other j apart)) c first ns (λ e. absurd (omega arith)) list
 
-  frees : (ns : List ℕ) × IsList (by_event nodes) free (first_in heads.entries fr free) ns
+  frees : (ns : List ℕ) × IsList (by_event nodes) free (first_in heads fr free) ns
   frees = fit.lists free (omega arith)
 
   loose_apart : (c : ℕ) → 0 < c → k.tag ≢ c
   unfolding k
   loose_apart c some e = absurd (omega arith)
 
-  free_list : IsList (by_event new) free (first_in ends.entries fe free) (i ∷ frees.0)
+  free_list : IsList (by_event new) free (first_in ends fe free) (i ∷ frees.0)
   free_list =
       let P : ℕ → Type 0 = λ f. IsList (by_event new) free f (i ∷ frees.0) in
       let Q : Links → Type 0 = λ L. IsList L free i (i ∷ frees.0) in
       subst P (sym (f2 free)) (subst Q (λ x j. sym (e2 j) x)
-      (list-put_here (by_event mid) (outside-event mid few_mid) i free (first_in heads.entries fr free) frees.0 k mid_event (loose_apart free (omega arith)) (mid_list free (first_in heads.entries fr free) frees.0 (omega arith) frees.1)))
+      (list-put_here (by_event mid) (outside-event mid few_mid) i free (first_in heads fr free) frees.0 k mid_event (loose_apart free (omega arith)) (mid_list free (first_in heads fr free) frees.0 (omega arith) frees.1)))
 
-  other_list : (c : ℕ) (ns : List ℕ) → 0 < c → c ≢ free → IsList (by_event nodes) c (first_in heads.entries fr c) ns → IsList (by_event new) c (first_in ends.entries fe c) ns
+  other_list : (c : ℕ) (ns : List ℕ) → 0 < c → c ≢ free → IsList (by_event nodes) c (first_in heads fr c) ns → IsList (by_event new) c (first_in ends fe c) ns
   other_list c ns some other list =
       let P : ℕ → Type 0 = λ f. IsList (by_event new) c f ns in
-      let Q : Links → Type 0 = λ L. IsList L c (first_in heads.entries fr c) ns in
-      subst P (sym (f2 c ∙ ap (λ b. cond b i (first_in heads.entries fr c)) (ne_eqb c free other))) (subst Q (λ x j. sym (e2 j) x)
-      (list-put_other (by_event mid) (outside-event mid few_mid) i free (first_in heads.entries fr free) frees.0 k mid_event (loose_apart free (omega arith)) (mid_list free (first_in heads.entries fr free) frees.0 (omega arith) frees.1)
-      c (first_in heads.entries fr c) ns other (loose_apart c some) (mid_list c (first_in heads.entries fr c) ns some list)))
+      let Q : Links → Type 0 = λ L. IsList L c (first_in heads fr c) ns in
+      subst P (sym (f2 c ∙ ap (λ b. cond b i (first_in heads fr c)) (ne_eqb c free other))) (subst Q (λ x j. sym (e2 j) x)
+      (list-put_other (by_event mid) (outside-event mid few_mid) i free (first_in heads fr free) frees.0 k mid_event (loose_apart free (omega arith)) (mid_list free (first_in heads fr free) frees.0 (omega arith) frees.1)
+      c (first_in heads fr c) ns other (loose_apart c some) (mid_list c (first_in heads fr c) ns some list)))
 
   tags_other : (c j : ℕ) → j ≢ i → has_tag c (by_event new j) ≡ has_tag c (by_event nodes j)
   tags_other c j apart =
       ap (has_tag c) (e2 j)
-      ∙ tag-put_other (by_event mid) (outside-event mid few_mid) i free (first_in heads.entries fr free) frees.0 k mid_event (loose_apart free (omega arith)) (mid_list free (first_in heads.entries fr free) frees.0 (omega arith) frees.1) c j apart
+      ∙ tag-put_other (by_event mid) (outside-event mid few_mid) i free (first_in heads fr free) frees.0 k mid_event (loose_apart free (omega arith)) (mid_list free (first_in heads fr free) frees.0 (omega arith) frees.1) c j apart
       ∙ ap (λ o. has_tag c (event_link o)) (get_other j apart)
 
   tag_last : (c : ℕ) → has_tag c (by_event new i) ≡ (free == c)
   tag_last c =
       ap (has_tag c) (e2 i)
-      ∙ tag-put_at (by_event mid) (outside-event mid few_mid) i free (first_in heads.entries fr free) frees.0 k mid_event (loose_apart free (omega arith)) (mid_list free (first_in heads.entries fr free) frees.0 (omega arith) frees.1) c
+      ∙ tag-put_at (by_event mid) (outside-event mid few_mid) i free (first_in heads fr free) frees.0 k mid_event (loose_apart free (omega arith)) (mid_list free (first_in heads fr free) frees.0 (omega arith) frees.1) c
 
   wait_other : (j : ℕ) → j ≢ i → by_wait new j ≡ by_wait nodes j
   wait_other j apart = w2 j ∙ ap wait_link (get_other j apart)
@@ -147,7 +148,7 @@ module _ (es : List (ℕ × ℕ)) (ws : List Waiter) (vacant : List ℕ) (nodes 
   grown-fit = record {
     seats = let P : List Shown → Type 0 = λ l. Seats es l vacant in subst P (sym grown-shown) fit.seats;
     lists = λ c some. let old = fit.lists c some in ⊎_elim
-        (λ (e : c ≡ free). let P : ℕ → Type 0 = λ d. (ns : List ℕ) × IsList (by_event new) d (first_in ends.entries fe d) ns in subst P (sym e) (i ∷ frees.0, free_list))
+        (λ (e : c ≡ free). let P : ℕ → Type 0 = λ d. (ns : List ℕ) × IsList (by_event new) d (first_in ends fe d) ns in subst P (sym e) (i ∷ frees.0, free_list))
         (λ other. (old.0, other_list c old.0 some other old.1))
         (cases_eq c free);
     rows = λ at w found. let row = fit.rows at w found in (row.0, row_list at w.first row.0 (slice_get_within ws at w found) row.1);
@@ -177,14 +178,17 @@ module _ (es : List (ℕ × ℕ)) (ws : List Waiter) (vacant : List ℕ) (nodes 
   }
 
 -- more room for lists of events is no less
-pub fit-heads : (es : List (ℕ × ℕ)) (ws : List Waiter) (vacant : List ℕ) (nodes : List Node) (heads ends : Room ℕ ℕ) (fr total : ℕ) → Fit es ws vacant nodes heads fr total
-    → ends.entries ≡ heads.entries → heads.spare ≤ ends.spare → Fit es ws vacant nodes ends fr total
-fit-heads es ws vacant nodes heads ends fr total fit same more = record {
+pub fit-heads : (es : List (ℕ × ℕ)) (ws : List Waiter) (vacant : List ℕ) (nodes : List Node) (heads ends : Firsts) (fr total : ℕ) → Fit es ws vacant nodes heads fr total
+    → ends.far.entries ≡ heads.far.entries → ((c : ℕ) → at_tag ends.near.items c ≡ at_tag heads.near.items c) → heads.far.spare ≤ ends.far.spare → Fit es ws vacant nodes ends fr total
+fit-heads es ws vacant nodes heads ends fr total fit same near more = record {
   seats = fit.seats;
-  lists = let P : List (ℕ × ℕ) → Type 0 = λ l. HasLists (by_event nodes) l fr in subst P (sym same) fit.lists;
+  lists = λ c some.
+      let old = fit.lists c some in
+      let P : ℕ → Type 0 = λ first. IsList (by_event nodes) c first old.0 in
+      (old.0, subst P (sym (first-same heads ends fr same near c)) old.1);
   rows = fit.rows;
   homes = fit.homes;
-  heads_are = let P : List (ℕ × ℕ) → Type 0 = λ l. IsHeads l in subst P (sym same) fit.heads_are;
+  heads_are = heads-same heads ends same near fit.heads_are;
   sums = record { fits = fit.sums.fits; in_all = fit.sums.in_all; enough = fit.sums.enough; counts = fit.sums.counts; roomy = omega (arith, ap length same, fit.sums.roomy) };
   few_nodes = fit.few_nodes;
   few_places = fit.few_places;
@@ -199,7 +203,7 @@ empty_is [] is = refl
 empty_is (x ∷ xs) is = absurd (omega arith)
 
 -- a place that no instance has
-module _ (es : List (ℕ × ℕ)) (ws vs : List Waiter) (vacant left : List ℕ) (nodes : List Node) (heads : Room ℕ ℕ) (fr total : ℕ) (fit : Fit es ws vacant nodes heads fr total)
+module _ (es : List (ℕ × ℕ)) (ws vs : List Waiter) (vacant left : List ℕ) (nodes : List Node) (heads : Firsts) (fr total : ℕ) (fit : Fit es ws vacant nodes heads fr total)
     (w : Waiter) (first : w.first ≡ none) (room : w.room ≡ 0) (taken : length vacant ≡ 0) (few : length ws < none) (at : ℕ) (at_is : at ≡ length ws)
     (vs_is : vs ≡ ws ++ w ∷ []) (left_is : left ≡ vacant ++ at ∷ []) where
   len : length vs ≡ length ws + 1

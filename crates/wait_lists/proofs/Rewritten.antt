@@ -4,7 +4,7 @@ use Rattle.std.specs.Prelude.{slice_get}
 use Rattle.std.proofs.lemmas.Bool.{cases_eq}
 use Rattle.std.proofs.lemmas.List.{length-set, length-map}
 use Rattle.std.proofs.lemmas.Option.{slice_get_within}
-use Rattle.room_map.specs.Room.{Room}
+use Rattle.wait_lists.specs.declared.heads.Firsts.{Firsts}
 use Rattle.wait_lists.specs.declared.nodes.Node.{Node}
 use Rattle.wait_lists.specs.declared.waiter.Waiter.{Waiter}
 use Rattle.wait_lists.specs.declared.kept.Kept.{Kept}
@@ -24,7 +24,7 @@ shown-set nodes [] at new = refl
 shown-set nodes (w ∷ ws) zero new = refl
 shown-set nodes (w ∷ ws) (suc at) new = ap (λ l. shown_of nodes w ∷ l) (shown-set nodes ws at new)
 
-pub refit-waiter : (es fs : List (ℕ × ℕ)) (ws vs : List Waiter) (vacant left : List ℕ) (nodes : List Node) (heads : Room ℕ ℕ) (fr total sum : ℕ) → Fit es ws vacant nodes heads fr total
+pub refit-waiter : (es fs : List (ℕ × ℕ)) (ws vs : List Waiter) (vacant left : List ℕ) (nodes : List Node) (heads : Firsts) (fr total sum : ℕ) → Fit es ws vacant nodes heads fr total
     → (at : ℕ) (own new : Waiter) → slice_get ws at ≡ Some own → vs ≡ set ws at new → new.first ≡ own.first
     → Seats fs (set (shown nodes ws) at (shown_of nodes new)) left → length (shown_of nodes new).events ≤ new.room → sum + own.room ≡ total + new.room → sum ≤ length nodes
     → Fit fs vs left nodes heads fr sum

@@ -126,15 +126,15 @@ row-filled k sound i at is inside s here =
     some-length j (x ∷ xs) member = omega arith
 
 module _ (k : Kept) (sound : IsSound k) (code : ℕ) (xs ys : List ℕ) (list : IsNodes k code (xs ++ ys)) where
-  pub first-begins : xs ≡ [] → first_in k.heads.events.entries k.heads.free code ≡ first_from ys
+  pub first-begins : xs ≡ [] → first_in k.heads.events k.heads.free code ≡ first_from ys
   first-begins is =
-      let P : List ℕ → Type 0 = λ zs. Goes (by_event k.nodes.items) none (first_in k.heads.events.entries k.heads.free code) (zs ++ ys) in
-      starts (by_event k.nodes.items) ys none (first_in k.heads.events.entries k.heads.free code) (subst P is list.goes)
+      let P : List ℕ → Type 0 = λ zs. Goes (by_event k.nodes.items) none (first_in k.heads.events k.heads.free code) (zs ++ ys) in
+      starts (by_event k.nodes.items) ys none (first_in k.heads.events k.heads.free code) (subst P is list.goes)
 
   pub behind-stays : last_in none xs ≢ none → next_of (by_event k.nodes.items (last_in none xs)) ≡ first_from ys
   behind-stays some = by_front xs list.goes some
     where
-      by_front : (zs : List ℕ) → Goes (by_event k.nodes.items) none (first_in k.heads.events.entries k.heads.free code) (zs ++ ys) → last_in none zs ≢ none
+      by_front : (zs : List ℕ) → Goes (by_event k.nodes.items) none (first_in k.heads.events k.heads.free code) (zs ++ ys) → last_in none zs ≢ none
           → next_of (by_event k.nodes.items (last_in none zs)) ≡ first_from ys
       by_front [] goes some = absurd (some refl)
       by_front (z ∷ zs) goes some = behind-last (by_event k.nodes.items) z zs ys goes.2

@@ -3,7 +3,7 @@ use Rattle.std.proofs.Common.{◌≡◌, ℕ, ◌<◌, ◌≤◌, List, length, 
 use Rattle.std.specs.Prelude.{slice_get}
 use Rattle.std.specs.Ordering.{nat_cmp}
 use Rattle.std.specs.FinMap as maps
-use Rattle.room_map.specs.Room.{Room}
+use Rattle.wait_lists.specs.declared.heads.Firsts.{Firsts}
 use Rattle.wait_lists.specs.declared.nodes.Node.{Node}
 use Rattle.wait_lists.specs.declared.waiter.Waiter.{Waiter}
 use Rattle.wait_lists.specs.Nodes.{events_from, shown_of, shown}
@@ -11,7 +11,7 @@ use Rattle.wait_lists.specs.Kept.{Fit}
 use Rattle.wait_lists.proofs.Refit.{shown-at, seats-set}
 use Rattle.wait_lists.proofs.Rewritten.{shown-set, refit-waiter}
 
-pub fit-kind : (es : List (ℕ × ℕ)) (ws vs : List Waiter) (vacant : List ℕ) (nodes : List Node) (heads : Room ℕ ℕ) (fr total : ℕ) → Fit es ws vacant nodes heads fr total
+pub fit-kind : (es : List (ℕ × ℕ)) (ws vs : List Waiter) (vacant : List ℕ) (nodes : List Node) (heads : Firsts) (fr total : ℕ) → Fit es ws vacant nodes heads fr total
     → (at : ℕ) (own new : Waiter) → slice_get ws at ≡ Some own → vs ≡ set ws at new → new.first ≡ own.first → new.serial ≡ own.serial → new.room ≡ own.room → Fit es vs vacant nodes heads fr total
 fit-kind es ws vs vacant nodes heads fr total fit at own new owner is first serial room =
     let here = shown-at nodes ws at own owner in

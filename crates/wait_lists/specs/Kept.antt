@@ -4,7 +4,7 @@ use Rattle.std.specs.List.{sum_by}
 use Rattle.std.specs.Ordering.{nat_cmp}
 use Rattle.std.specs.FinMap as map
 use Rattle.event_core.specs.declared.event.Ev.{Ev}
-use Rattle.room_map.specs.Room.{Room}
+use Rattle.wait_lists.specs.declared.heads.Firsts.{Firsts}
 use Rattle.wait_lists.specs.declared.kept.Kept.{Kept}
 use Rattle.wait_lists.specs.declared.nodes.Node.{Node}
 use Rattle.wait_lists.specs.declared.waiter.Waiter.{Waiter}
@@ -38,13 +38,13 @@ pub record Sums (ss : List Shown) (E : Links) (nodes : ℕ) (es : List (ℕ × �
   -- there is room for as many lists of events as there are nodes
   pub roomy : nodes ≤ length es + spare
 
-pub record Fit (es : List (ℕ × ℕ)) (ws : List Waiter) (vacant : List ℕ) (nodes : List Node) (heads : Room ℕ ℕ) (fr total : ℕ) : Type 0 where
+pub record Fit (es : List (ℕ × ℕ)) (ws : List Waiter) (vacant : List ℕ) (nodes : List Node) (heads : Firsts) (fr total : ℕ) : Type 0 where
   pub seats : Seats es (shown nodes ws) vacant
-  pub lists : HasLists (by_event nodes) heads.entries fr
+  pub lists : HasLists (by_event nodes) heads fr
   pub rows : HasRows (by_wait nodes) ws
   pub homes : AllHome (by_event nodes) (by_wait nodes) (length ws)
-  pub heads_are : IsHeads heads.entries
-  pub sums : Sums (shown nodes ws) (by_event nodes) (length nodes) heads.entries heads.spare fr total
+  pub heads_are : IsHeads heads
+  pub sums : Sums (shown nodes ws) (by_event nodes) (length nodes) heads.far.entries heads.far.spare fr total
   -- each number is one of a node or of a place
   pub few_nodes : length nodes ≤ none
   pub few_places : length ws ≤ none
@@ -62,7 +62,7 @@ waits_by k = waits_of (shown_by k) k.places.entries
 
 -- the list of the nodes of a tag
 abbrev pub IsNodes : Kept → ℕ → List ℕ → Type 0
-IsNodes k c ns = IsList (by_event k.nodes.items) c (first_in k.heads.events.entries k.heads.free c) ns
+IsNodes k c ns = IsList (by_event k.nodes.items) c (first_in k.heads.events k.heads.free c) ns
 
 -- the node stands for an event
 abbrev pub IsUsed : Kept → ℕ → Type 0

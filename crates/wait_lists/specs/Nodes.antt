@@ -5,6 +5,7 @@ use Rattle.std.specs.FinMap as maps
 use Rattle.room_map.specs.Entries.{IsRising}
 use Rattle.event_core.specs.declared.event.Ev.{Ev}
 use Rattle.event_core.specs.declared.event.Ev.TheVariants.{Fixed, Terminated, Restarted}
+use Rattle.wait_lists.specs.declared.heads.Firsts.{Firsts}
 use Rattle.wait_lists.specs.declared.nodes.Node.{Node}
 use Rattle.wait_lists.specs.declared.waiter.Waiter.{Waiter}
 use Rattle.wait_lists.specs.Chains.{none, free, Link, Links, has_tag, IsList, walk}
@@ -41,18 +42,34 @@ by_event nodes i = event_link (slice_get nodes i)
 abbrev pub by_wait : List Node → Links
 by_wait nodes i = wait_link (slice_get nodes i)
 
--- where the list of a tag begins
-abbrev pub first_in : List (ℕ × ℕ) → ℕ → ℕ → ℕ
-first_in es fr c = if c == free then fr else unwrap_or (maps.find nat_cmp c es) none
+-- the number, or the other one where it is that of no node
+abbrev pub node_or : ℕ → ℕ → ℕ
+node_or i other = if i == none then other else i
 
--- the lists of events that are not empty, by their tags
-pub record IsHeads (es : List (ℕ × ℕ)) : Type 0 where
-  pub rising : IsRising nat_cmp es
-  pub begins : (c h : ℕ) → maps.find nat_cmp c es ≡ Some h → (1 < c) × (h ≢ none)
+-- what stands at the place of a tag
+abbrev pub at_tag : List ℕ → ℕ → ℕ
+at_tag near c = unwrap_or (slice_get near c) none
+
+-- where the list of an event begins: at the place of its tag, or else by the map
+abbrev pub begins_at : List ℕ → List (ℕ × ℕ) → ℕ → ℕ
+begins_at near far c = node_or (at_tag near c) (unwrap_or (maps.find nat_cmp c far) none)
+
+abbrev pub first_of : Firsts → ℕ → ℕ
+first_of f c = begins_at f.near.items f.far.entries c
+
+-- where the list of a tag begins
+abbrev pub first_in : Firsts → ℕ → ℕ → ℕ
+first_in f fr c = if c == free then fr else first_of f c
+
+-- the lists of events that the map has: they are not empty, and none begins at the place of its tag too
+pub record IsHeads (f : Firsts) : Type 0 where
+  pub rising : IsRising nat_cmp f.far.entries
+  pub begins : (c h : ℕ) → maps.find nat_cmp c f.far.entries ≡ Some h → (1 < c) × (h ≢ none)
+  pub alone : (c h : ℕ) → maps.find nat_cmp c f.far.entries ≡ Some h → at_tag f.near.items c ≡ none
 
 -- each tag but that of loose nodes has its list
-abbrev pub HasLists : Links → List (ℕ × ℕ) → ℕ → Type 0
-HasLists E es fr = (c : ℕ) → 0 < c → (ns : List ℕ) × IsList E c (first_in es fr c) ns
+abbrev pub HasLists : Links → Firsts → ℕ → Type 0
+HasLists E f fr = (c : ℕ) → 0 < c → (ns : List ℕ) × IsList E c (first_in f fr c) ns
 
 -- each waiter has its list
 abbrev pub HasRows : Links → List Waiter → Type 0

@@ -6,7 +6,7 @@ ghost use Rattle.wait_lists.specs.Waits.{with_room, room_for};
 ghost use Rattle.wait_lists.specs.Chains.{none};
 ghost use Rattle.wait_lists.specs.Kept.{IsSound, shown_by, waits_by};
 
-use crate::kept::{Kept, room_at};
+use crate::kept::{Kept, place_of, room_at};
 use crate::linking::put_event;
 use crate::nodes::{FREE, NONE, loose_node};
 use crate::waiter::{idle_waiter, put_waiter, set_room};
@@ -16,7 +16,7 @@ use std::alloc::AllocError;
 fn add_free(kept: &mut Kept)
     requires sound { IsSound kept.old }
     requires memory { vec_len kept.old.nodes < vec_capacity kept.old.nodes }
-    requires room { length kept.old.nodes.items + 1 ≤ length kept.old.heads.events.entries + kept.old.heads.events.spare }
+    requires room { length kept.old.nodes.items + 1 ≤ length kept.old.heads.events.far.entries + kept.old.heads.events.far.spare }
     requires few { length kept.old.nodes.items < none }
     ensures sound { IsSound kept.new }
     ensures shown { shown_by kept.new ≡ shown_by kept.old }
@@ -26,7 +26,7 @@ fn add_free(kept: &mut Kept)
     ensures total { kept.new.total ≡ kept.old.total }
     ensures one_more { length kept.new.nodes.items ≡ length kept.old.nodes.items + 1 }
     ensures memory { vec_capacity kept.new.nodes ≡ vec_capacity kept.old.nodes }
-    ensures room { length kept.new.heads.events.entries + kept.new.heads.events.spare ≡ length kept.old.heads.events.entries + kept.old.heads.events.spare }
+    ensures room { length kept.new.heads.events.far.entries + kept.new.heads.events.far.spare ≡ length kept.old.heads.events.far.entries + kept.old.heads.events.far.spare }
 {
     let i = kept.nodes.len() as u32;
     kept.nodes.push_reserved(loose_node());
@@ -66,7 +66,7 @@ fn reserve_nodes(kept: &mut Kept, wanted: usize) -> Result<(), AllocError>
     ensures vacant { kept.new.vacant ≡ kept.old.vacant }
     ensures total { kept.new.total ≡ kept.old.total }
     ensures memory { OnOk result (wanted ≤ vec_capacity kept.new.nodes) }
-    ensures room { OnOk result (wanted ≤ length kept.new.heads.events.entries + kept.new.heads.events.spare) }
+    ensures room { OnOk result (wanted ≤ length kept.new.heads.events.far.entries + kept.new.heads.events.far.spare) }
 {
     kept.nodes.reserve(wanted.saturating_sub(kept.nodes.len()))?;
     kept.heads.reserve(wanted as u32)
@@ -170,7 +170,7 @@ pub(crate) fn make_room(kept: &mut Kept, p: u32, items: u32) -> Result<(), Alloc
     ensures ok { OnOk result (waits_by kept.new ≡ with_room (waits_by kept.old) p (max items (room_for (waits_by kept.old) p))) }
     ensures err { OnErr result (waits_by kept.new ≡ waits_by kept.old) }
 {
-    match kept.places.get(p) {
+    match place_of(kept, p) {
         Some(at) => widen(kept, p, at, items),
         None => admit(kept, p, items),
     }

@@ -156,6 +156,20 @@ fn list_events(kept: &mut Kept, at: u32, list: &[Ev])
     }
 }
 
+// The place of the instance, if it has one. It is looked for first at the place of its own number.
+pub(crate) fn place_of(kept: &Kept, p: u32) -> Option<u32>
+    requires { IsSound kept.now }
+    ensures { result ≡ map.find nat_cmp p kept.now.places.entries }
+{
+    if (p as usize) < kept.waiters.len() {
+        let waiter = kept.waiters[p as usize];
+        if waiter.serial == p && 0 < waiter.room {
+            return Some(p);
+        }
+    }
+    kept.places.get(p)
+}
+
 // Lets the instance wait for any or for all of these events, in place of what it waited for.
 pub(crate) fn set_wait(kept: &mut Kept, p: u32, for_all: bool, list: &[Ev])
     requires sound { IsSound kept.old }
@@ -163,7 +177,7 @@ pub(crate) fn set_wait(kept: &mut Kept, p: u32, for_all: bool, list: &[Ev])
     ensures sound { IsSound kept.new }
     ensures waits { waits_by kept.new ≡ with_wait (waits_by kept.old) p (listed for_all list.now) }
 {
-    if let Some(at) = kept.places.get(p) {
+    if let Some(at) = place_of(kept, p) {
         clear_wait(kept, at);
         begin_wait(kept, at, for_all, list);
     }
@@ -175,7 +189,7 @@ pub(crate) fn set_mark(kept: &mut Kept, p: u32, on: bool)
     ensures sound { IsSound kept.new }
     ensures waits { waits_by kept.new ≡ with_mark (waits_by kept.old) p on }
 {
-    if let Some(at) = kept.places.get(p) {
+    if let Some(at) = place_of(kept, p) {
         set_muted(&mut kept.waiters, at, on);
     }
 }
@@ -186,7 +200,7 @@ pub(crate) fn put_out(kept: &mut Kept, p: u32)
     ensures sound { IsSound kept.new }
     ensures waits { waits_by kept.new ≡ without_instance (waits_by kept.old) p }
 {
-    if let Some(at) = kept.places.get(p) {
+    if let Some(at) = place_of(kept, p) {
         clear_wait(kept, at);
         vacate(kept, p, at);
     }

@@ -15,13 +15,13 @@ pub(crate) fn cut_event(nodes: &mut Vec<Node>, heads: &mut Heads, i: u32)
     requires inside { i < length nodes.old.items }
     requires few { length nodes.old.items ≤ none }
     requires listed { (l : Link) → by_event nodes.old.items i ≡ Some l → 0 < l.tag }
-    requires lists { HasLists (by_event nodes.old.items) heads.old.events.entries heads.old.free }
-    requires heads { IsHeads heads.old.events.entries }
+    requires lists { HasLists (by_event nodes.old.items) heads.old.events heads.old.free }
+    requires heads { IsHeads heads.old.events }
     ensures events { (l : Link) → by_event nodes.old.items i ≡ Some l → (j : ℕ) → by_event nodes.new.items j ≡ cut loose i l (by_event nodes.old.items) j }
     ensures waits { (j : ℕ) → by_wait nodes.new.items j ≡ by_wait nodes.old.items j }
-    ensures firsts { (l : Link) → by_event nodes.old.items i ≡ Some l → (c : ℕ) → first_in heads.new.events.entries heads.new.free c ≡ first_after c l (first_in heads.old.events.entries heads.old.free c) }
-    ensures heads { IsHeads heads.new.events.entries }
-    ensures places { length heads.new.events.entries + heads.new.events.spare ≡ length heads.old.events.entries + heads.old.events.spare }
+    ensures firsts { (l : Link) → by_event nodes.old.items i ≡ Some l → (c : ℕ) → first_in heads.new.events heads.new.free c ≡ first_after c l (first_in heads.old.events heads.old.free c) }
+    ensures heads { IsHeads heads.new.events }
+    ensures places { length heads.new.events.far.entries + heads.new.events.far.spare ≡ length heads.old.events.far.entries + heads.old.events.far.spare }
     ensures len { length nodes.new.items ≡ length nodes.old.items }
     ensures capacity { vec_capacity nodes.new ≡ vec_capacity nodes.old }
 {
@@ -37,13 +37,13 @@ pub(crate) fn cut_event(nodes: &mut Vec<Node>, heads: &mut Heads, i: u32)
 // Puts a node that stands in no such list at the front of the list of this code.
 pub(crate) fn put_event(nodes: &mut Vec<Node>, heads: &mut Heads, i: u32, code: u64)
     requires code { 0 < code }
-    requires heads { IsHeads heads.old.events.entries }
-    requires room { code ≢ free → i ≢ none → first_in heads.old.events.entries heads.old.free code ≡ none → 0 < heads.old.events.spare }
-    ensures events { (j : ℕ) → by_event nodes.new.items j ≡ put code i (first_in heads.old.events.entries heads.old.free code) (by_event nodes.old.items) j }
+    requires heads { IsHeads heads.old.events }
+    requires room { code ≢ free → i ≢ none → first_in heads.old.events heads.old.free code ≡ none → 0 < heads.old.events.far.spare }
+    ensures events { (j : ℕ) → by_event nodes.new.items j ≡ put code i (first_in heads.old.events heads.old.free code) (by_event nodes.old.items) j }
     ensures waits { (j : ℕ) → by_wait nodes.new.items j ≡ by_wait nodes.old.items j }
-    ensures firsts { (c : ℕ) → first_in heads.new.events.entries heads.new.free c ≡ (if c == code then i else first_in heads.old.events.entries heads.old.free c) }
-    ensures heads { IsHeads heads.new.events.entries }
-    ensures places { length heads.new.events.entries + heads.new.events.spare ≡ length heads.old.events.entries + heads.old.events.spare }
+    ensures firsts { (c : ℕ) → first_in heads.new.events heads.new.free c ≡ (if c == code then i else first_in heads.old.events heads.old.free c) }
+    ensures heads { IsHeads heads.new.events }
+    ensures places { length heads.new.events.far.entries + heads.new.events.far.spare ≡ length heads.old.events.far.entries + heads.old.events.far.spare }
     ensures len { length nodes.new.items ≡ length nodes.old.items }
     ensures capacity { vec_capacity nodes.new ≡ vec_capacity nodes.old }
 {

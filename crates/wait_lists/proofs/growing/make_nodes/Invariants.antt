@@ -12,7 +12,7 @@ invariant-loop-kept l = record {
   vacant : l.kept.vacant ≡ l.fn.kept.vacant;
   total : l.kept.total ≡ l.fn.kept.total;
   memory : l.wanted ≤ vec_capacity l.kept.nodes;
-  room : l.wanted ≤ length l.kept.heads.events.entries + l.kept.heads.events.spare;
+  room : l.wanted ≤ length l.kept.heads.events.far.entries + l.kept.heads.events.far.spare;
 }
 
 abbrev pub decreases-loop-kept : goal.decreases-loop-kept

@@ -12,12 +12,12 @@ use Rattle.wait_lists.proofs.Seated.{seat-within}
 use Rattle.wait_lists.proofs.kept.set_mark.Goals as goal
 
 pub set_muted-requires : goal.set_muted-requires
-set_muted-requires c = seat-within c.args.kept.now c.requires.sound c.args.p c.in-Some.at (sym c.get.ensures.value ∙ c.in-Some.is)
+set_muted-requires c = seat-within c.args.kept.now c.requires.sound c.args.p c.in-Some.at (sym c.place_of.ensures ∙ c.in-Some.is)
 
 pub returns-in-Some-clause-sound : goal.returns-in-Some-clause-sound
 returns-in-Some-clause-sound c =
     let k = c.args.kept.now in
-    let own = get-inside k.waiters.items c.in-Some.at (seat-within k c.requires.sound c.args.p c.in-Some.at (sym c.get.ensures.value ∙ c.in-Some.is)) in
+    let own = get-inside k.waiters.items c.in-Some.at (seat-within k c.requires.sound c.args.p c.in-Some.at (sym c.place_of.ensures ∙ c.in-Some.is)) in
     let new : Waiter = record own.0 { is_muted = c.args.on } in
     let is = c.set_muted.ensures own.0 own.1 in (
       fit-kind k.places.entries k.waiters.items c.set_muted.new.waiters.items k.vacant.items k.nodes.items k.heads.events k.heads.free k.total c.requires.sound.0 c.in-Some.at own.0 new own.1 is refl refl refl,
@@ -27,7 +27,7 @@ returns-in-Some-clause-sound c =
 pub returns-in-Some-clause-waits : goal.returns-in-Some-clause-waits
 returns-in-Some-clause-waits c =
     let k = c.args.kept.now in
-    let place = sym c.get.ensures.value ∙ c.in-Some.is in
+    let place = sym c.place_of.ensures ∙ c.in-Some.is in
     let own = get-inside k.waiters.items c.in-Some.at (seat-within k c.requires.sound c.args.p c.in-Some.at place) in
     let new : Waiter = record own.0 { is_muted = c.args.on } in
     ap (λ l. waits_of l k.places.entries) (shown-kind k.waiters.items c.set_muted.new.waiters.items k.nodes.items c.in-Some.at new (c.set_muted.ensures own.0 own.1))
@@ -37,4 +37,4 @@ returns-in-Some-clause-waits c =
 pub returns-in_default-clause-waits : goal.returns-in_default-clause-waits
 returns-in_default-clause-waits c =
     absurd (true≢false (sym c.requires.room ∙ no_room_key c.args.kept.now.places.entries (shown_by c.args.kept.now) c.args.p
-    (sym c.get.ensures.value ∙ none_left c.get.result c.in_default.not-Some)))
+    (sym c.place_of.ensures ∙ none_left c.place_of.result c.in_default.not-Some)))

@@ -10,18 +10,18 @@ use Rattle.wait_lists.proofs.kept.set_wait.Goals as goal
 
 pub clear_wait-requires-clause-inside : goal.clear_wait-requires-clause-inside
 clear_wait-requires-clause-inside c =
-    seat-within c.args.kept.now c.requires.sound c.args.p c.in-Some.at (sym c.get.ensures.value ∙ c.in-Some.is)
+    seat-within c.args.kept.now c.requires.sound c.args.p c.in-Some.at (sym c.place_of.ensures ∙ c.in-Some.is)
 
 pub begin_wait-requires-clause-inside : goal.begin_wait-requires-clause-inside
 begin_wait-requires-clause-inside c =
-    let inside : c.in-Some.at < length c.args.kept.now.waiters.items = seat-within c.args.kept.now c.requires.sound c.args.p c.in-Some.at (sym c.get.ensures.value ∙ c.in-Some.is) in
+    let inside : c.in-Some.at < length c.args.kept.now.waiters.items = seat-within c.args.kept.now c.requires.sound c.args.p c.in-Some.at (sym c.place_of.ensures ∙ c.in-Some.is) in
     omega (arith, c.clear_wait.ensures.len)
 
 pub begin_wait-requires-clause-free : goal.begin_wait-requires-clause-free
 begin_wait-requires-clause-free c x there =
     let k = c.args.kept.now in
     let ss = shown_by k in
-    let place = sym c.get.ensures.value ∙ c.in-Some.is in
+    let place = sym c.place_of.ensures ∙ c.in-Some.is in
     let one = shown-serial (slice_get ss c.in-Some.at) c.args.p (c.requires.sound.0.seats.placed c.args.p c.in-Some.at place).0 in
     let is = written_at ss (shown_by c.clear_wait.new.kept) c.in-Some.at one.0 x (record one.0 { events = [] }) one.1 (c.clear_wait.ensures.cleared one.0 one.1) there in
     (ap (λ (y : Shown). y.events) is, omega (arith, ap (λ (y : Shown). y.room) is, room_for-told k.places.entries ss c.requires.sound.0.seats.placed c.args.p c.in-Some.at one.0 one.0 place one.1, c.requires.room))
@@ -30,7 +30,7 @@ pub returns-in-Some-clause-waits : goal.returns-in-Some-clause-waits
 returns-in-Some-clause-waits c =
     let k = c.args.kept.now in
     let ss = shown_by k in
-    let place = sym c.get.ensures.value ∙ c.in-Some.is in
+    let place = sym c.place_of.ensures ∙ c.in-Some.is in
     let one = shown-serial (slice_get ss c.in-Some.at) c.args.p (c.requires.sound.0.seats.placed c.args.p c.in-Some.at place).0 in
     let new : Shown = record one.0 { for_all = c.args.for_all; events = c.args.list.now } in
     let cleared = c.clear_wait.ensures.cleared one.0 one.1 in
@@ -41,4 +41,4 @@ returns-in-Some-clause-waits c =
 
 pub returns-in_default-clause-waits : goal.returns-in_default-clause-waits
 returns-in_default-clause-waits c =
-    absent-wait c.args.kept.now.places.entries (shown_by c.args.kept.now) c.args.p (sym c.get.ensures.value ∙ none_left c.get.result c.in_default.not-Some) c.args.for_all c.args.list.now c.requires.room
+    absent-wait c.args.kept.now.places.entries (shown_by c.args.kept.now) c.args.p (sym c.place_of.ensures ∙ none_left c.place_of.result c.in_default.not-Some) c.args.for_all c.args.list.now c.requires.room

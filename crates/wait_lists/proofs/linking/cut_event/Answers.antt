@@ -13,8 +13,8 @@ set_first-requires-clause-room c event there none_first =
     let k : Link = record { tag = n.code; next = n.next; prev = n.prev } in
     let here = event-read nodes c.args.i n c.requires.inside c.index-node.ensures in
     let own = c.requires.lists n.code (c.requires.listed k here) in
-    absurd (first-there (by_event nodes) (outside-event nodes c.requires.few) n.code (first_in c.args.heads.now.events.entries c.args.heads.now.free n.code) own.0 c.args.i own.1
-    (in_list (by_event nodes) n.code (first_in c.args.heads.now.events.entries c.args.heads.now.free n.code) own.0 own.1 c.args.i (ap (has_tag n.code) here ∙ eq-eqb n.code n.code refl)) none_first)
+    absurd (first-there (by_event nodes) (outside-event nodes c.requires.few) n.code (first_in c.args.heads.now.events c.args.heads.now.free n.code) own.0 c.args.i own.1
+    (in_list (by_event nodes) n.code (first_in c.args.heads.now.events c.args.heads.now.free n.code) own.0 own.1 c.args.i (ap (has_tag n.code) here ∙ eq-eqb n.code n.code refl)) none_first)
 
 pub returns-clause-events : goal.returns-clause-events
 returns-clause-events c l is =
@@ -30,8 +30,8 @@ returns-clause-firsts c l is d =
     let n = c.index-node.result.now in
     let k : Link = record { tag = n.code; next = n.next; prev = n.prev } in
     let same = same_link (by_event nodes c.args.i) k l (event-read nodes c.args.i n c.requires.inside c.index-node.ensures) is in
-    let old = first_in c.args.heads.now.events.entries c.args.heads.now.free d in
+    let old = first_in c.args.heads.now.events c.args.heads.now.free d in
     elim c.if-node.branch [
-      | then-node w ↦ first-then k l same w.if-node.true d old (first_in c.if-node.heads.events.entries c.if-node.heads.free d) (ap (λ h. first_in h.events.entries h.free d) w.heads-is ∙ w.set_first.ensures.firsts d)
-      | else-node w ↦ first-else k l same w.if-node.false d old (first_in c.if-node.heads.events.entries c.if-node.heads.free d) (ap (λ h. first_in h.events.entries h.free d) w.heads-is)
+      | then-node w ↦ first-then k l same w.if-node.true d old (first_in c.if-node.heads.events c.if-node.heads.free d) (ap (λ h. first_in h.events h.free d) w.heads-is ∙ w.set_first.ensures.firsts d)
+      | else-node w ↦ first-else k l same w.if-node.false d old (first_in c.if-node.heads.events c.if-node.heads.free d) (ap (λ h. first_in h.events h.free d) w.heads-is)
     ]
