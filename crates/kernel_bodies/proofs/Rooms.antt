@@ -173,9 +173,3 @@ popped_own sparing spare old new x e l b = record {
   where
     le_of : {m n : ℕ} → m ≡ n → m ≤ n
     le_of {m} {n} e = omega (arith, e)
-
-pub keeps_same : (spare : Spare) (xs : List Saved) → KeepsOwn spare spare xs xs
-keeps_same spare xs = record { locals = omega arith; blocks = omega arith }
-
-pub keeps_on : (a b c : Spare) (xs ys zs : List Saved) → KeepsOwn a b xs ys → KeepsOwn b c ys zs → KeepsOwn a c xs zs
-keeps_on a b c xs ys zs h k = record { locals = omega (arith, h.locals, k.locals); blocks = omega (arith, h.blocks, k.blocks) }

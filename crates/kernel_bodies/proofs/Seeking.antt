@@ -19,14 +19,6 @@ use Rattle.kernel_bodies.proofs.Passing.{Passes, through_block, through_call, if
 
 -- the innermost of a kind
 
-pub none_from : {A : Type 0} (p : A → Bool) (ls : List A) (i : ℕ) (d : A) → i < length ls → p (get_or ls i d) ≡ false → NoneIs p (drop (suc i) ls) → NoneIs p (drop i ls)
-none_from p [] i d h e n = absurd (omega (arith, h))
-none_from p (l ∷ ls) zero d h e n = (e, n)
-none_from p (l ∷ ls) (suc i) d h e n = none_from p ls i d (omega (arith, h)) e n
-
-pub none_at : {A : Type 0} (p : A → Bool) (ls : List A) (place i : ℕ) (l : A) → suc i ≡ place → i < length ls → l ≡ get_or ls i l → p l ≡ false → NoneIs p (drop place ls) → NoneIs p (drop i ls)
-none_at p ls place i l e h is false_at none = none_from p ls i l h (ap p (sym is) ∙ false_at) (subst (λ (n : ℕ). NoneIs p (drop n ls)) (sym e) none)
-
 last_from : {A : Type 0} (p : A → Bool) (ls : List A) (i : ℕ) (d : A) → i < length ls → p (get_or ls i d) ≡ true → NoneIs p (drop (suc i) ls) → LastIs p ls i
 last_from p [] i d h e n = absurd (omega (arith, h))
 last_from p (l ∷ ls) zero d h e n = (e, n)

@@ -1,6 +1,5 @@
 -- An unwinding of blocks and frames, and an exception that is raised inside them.
 use Rattle.std.proofs.Common.{◌≡◌, ℕ, ◌+◌, ◌<◌, ◌≤◌, zero, suc, Bool, true, false, List, [], ◌∷◌, ◌++◌, Option, Some, None, length, map, take, drop, get_or, set, refl, sym, ap, ◌∙◌, subst, arith, length-append}
-use Rattle.std.proofs.Math.ListN.{length-set}
 use Rattle.std.specs.List.{insert}
 use Rattle.std.specs.Prelude.{◌||◌, ◌==◌, cond, option_map, find, Contains}
 use Rattle.sim_model.specs.FlatDesign.Code as code
@@ -20,47 +19,6 @@ use Rattle.kernel_bodies.specs.Room.{FitsLayer, FitsAll, Fits, kept_inside, kept
 use Rattle.kernel_bodies.proofs.Passing.{Passes, through_block, if_true, if_false}
 use Rattle.kernel_bodies.proofs.Seeking.{among_none, among_last, catches_inside, none_is}
 use Rattle.kernel_bodies.proofs.Rooms.{all_split, kept_small, nothing_fits, fits_more}
-
--- in place: what is kept moves outwards
-
-pub unwound_from : (ls : List Open) (n : ℕ) (d : Open) → n < length ls → unwound_all (drop n ls) ≡ in_front (unwound (get_or ls n d)) (unwound_all (drop (suc n) ls))
-unwound_from [] n d h = absurd (omega (arith, h))
-unwound_from (l ∷ ls) zero d h = refl
-unwound_from (l ∷ ls) (suc n) d h = unwound_from ls n d (omega (arith, h))
-
-take_set : (ls : List Open) (k : ℕ) (b : Open) → k < length ls → take (suc k) (set ls k b) ≡ take k ls ++ b ∷ []
-take_set [] k b h = absurd (omega (arith, h))
-take_set (l ∷ ls) zero b h = refl
-take_set (l ∷ ls) (suc k) b h = ap (λ ms. l ∷ ms) (take_set ls k b (omega (arith, h)))
-
-drop_set : (ls : List Open) (k n : ℕ) (b : Open) → k < n → drop n (set ls k b) ≡ drop n ls
-drop_set [] k n b h = refl
-drop_set (l ∷ ls) k zero b h = absurd (omega (arith, h))
-drop_set (l ∷ ls) zero (suc n) b h = refl
-drop_set (l ∷ ls) (suc k) (suc n) b h = drop_set ls k n b (omega (arith, h))
-
-append_one : (xs ys : List Open) (b : Open) → (xs ++ b ∷ []) ++ ys ≡ xs ++ b ∷ ys
-append_one [] ys b = refl
-append_one (x ∷ xs) ys b = ap (λ ms. x ∷ ms) (append_one xs ys b)
-
-module _ (ls goal_list : List Open) (kept place next : ℕ) (l : Open) (order : kept ≤ place) (h : place < length ls) (e : next ≡ suc place) (is : l ≡ get_or ls place l)
-    (inv : take kept ls ++ unwound_all (drop place ls) ≡ goal_list) where
-  pub keeps_none : None ≡ unwound l → take kept ls ++ unwound_all (drop next ls) ≡ goal_list
-  keeps_none none =
-      ap (λ n. take kept ls ++ unwound_all (drop n ls)) e
-      ∙ ap (λ o. take kept ls ++ in_front o (unwound_all (drop (suc place) ls))) (none ∙ ap unwound is)
-      ∙ ap (λ ms. take kept ls ++ ms) (sym (unwound_from ls place l h))
-      ∙ inv
-
-  pub keeps_one : (b : Open) (more : ℕ) → Some b ≡ unwound l → more ≡ suc kept → take more (set ls kept b) ++ unwound_all (drop next (set ls kept b)) ≡ goal_list
-  keeps_one b more some m =
-      ap (λ n. take n (set ls kept b) ++ unwound_all (drop next (set ls kept b))) m
-      ∙ ap (λ ms. ms ++ unwound_all (drop next (set ls kept b))) (take_set ls kept b (omega (arith, order, h)))
-      ∙ ap (λ ms. (take kept ls ++ b ∷ []) ++ unwound_all ms) (drop_set ls kept next b (omega (arith, order, e)) ∙ ap (λ n. drop n ls) e)
-      ∙ append_one (take kept ls) (unwound_all (drop (suc place) ls)) b
-      ∙ ap (λ o. take kept ls ++ in_front o (unwound_all (drop (suc place) ls))) (some ∙ ap unwound is)
-      ∙ ap (λ ms. take kept ls ++ ms) (sym (unwound_from ls place l h))
-      ∙ inv
 
 -- all is unwound
 
@@ -245,16 +203,6 @@ module _ (a : Arena) (depths : List ℕ) (most : ℕ) (ls : List Open) (i : ℕ)
 
   whole_length : length (take i ls) + length (drop (suc i) ls) + 2 ≤ most
   whole_length = omega (arith, fits.1, kept_none 1 ls n, ap length (apart ls i d h), length-append (take i ls) (get_or ls i d ∷ drop (suc i) ls))
-
-  pub raise_place : length (take (suc i) ls ++ unwound_all (drop (suc i) ls)) + 1 ≤ most
-  raise_place =
-      omega
-      (arith, whole_length, unwound_shorter 0 0 0 0 (drop (suc i) ls) (omega arith) (omega arith), length-append (take (suc i) ls) (unwound_all (drop (suc i) ls)), taken ls i h, kept_small 0 (drop (suc i) ls), kept_small 0 (unwound_all (drop (suc i) ls)))
-    where
-      taken : (ls : List Open) (i : ℕ) → i < length ls → length (take (suc i) ls) ≡ suc (length (take i ls))
-      taken [] i h = absurd (omega (arith, h))
-      taken (l ∷ ls) zero h = refl
-      taken (l ∷ ls) (suc i) h = ap suc (taken ls i (omega (arith, h)))
 
   pub raise_fits : Fits a depths most 1 0 (raised_blocks ls i b k) None
   raise_fits =

@@ -80,9 +80,6 @@ is_open_nonblocking x = open_nonblocking x.shell x.frame.via
 
 -- the innermost call; the innermost transport call; how many calls there are, the body not counted
 
-abbrev pub or_call : Option Frame → Frame → Option Frame
-or_call o x = or_frame o x
-
 abbrev pub last_call : List Saved → Option Frame
 last_call [] = None
 last_call (x ∷ xs) = or_frame (last_call xs) (call_of x.frame)

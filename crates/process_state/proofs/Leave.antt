@@ -88,9 +88,6 @@ front_of os l = ap (λ n. take n (os ++ l ∷ [])) (omega (arith, length-append 
     front_is [] l = refl
     front_is (o ∷ os) l = ap (λ ms. o ∷ ms) (front_is os l)
 
-nothing_of : (xs : List Saved) → xs ≡ [] → 0 < length xs → ⊥
-nothing_of xs e h = absurd (omega (arith, h, ap length e))
-
 -- outside all frames
 pub goal_alone : (a : Arena) (g : Option Goal) (xs : List Saved) (o : Option ℕ) (k : Goal) (r : Residual) → under g (inside_frames a xs (standing (held xs o))) ≡ r → length xs ≡ 0 → EndsIn g xs (comes.Goal k) → inside_frames a xs (standing (held xs o)) ≡ put r skip
 goal_alone a g xs o k r e h (inl w) =

@@ -83,9 +83,6 @@ catches_all a e (x ∷ xs) r =
 -- once finished parts have fallen away
 
 module _ (a : Arena) (ds : List ℕ) (g : Option Goal) (xs : List Saved) (s : Option ℕ) (r : Residual) (l : Landing) (lands : Lands a ds xs s r l) where
-  inner_left : Residual
-  inner_left = landed a l.comes
-
   settles_to : settle a (under g (inside_frames a xs r)) ≡ under g (inside_frames a (take l.outside xs) (cut a lands.inner l.blocks (landed a l.comes)))
   settles_to = (under_settled a g xs xs r (inside_frames a (take l.outside xs) (cut a lands.inner l.blocks (landed a l.comes))) l.comes lands.settled).settles
 
