@@ -11,7 +11,6 @@ pub mod Blocks
 pub mod Items
 pub mod Depths
 pub mod Unprinted
-pub mod Meant
 pub mod Weighed
 pub mod Lengths
 pub mod Bounds

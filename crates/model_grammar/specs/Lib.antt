@@ -1,6 +1,4 @@
 pub mod Tokens
-pub mod Languages
-pub mod Versions
 pub mod Rules
 pub mod Expressions
 pub mod Statements

@@ -1,4 +1,3 @@
-pub use Rattle.model_tree.specs.Languages as Languages
 pub use Rattle.model_tree.specs.Leaves as Leaves
 pub use Rattle.model_tree.specs.Limits as Limits
 pub use Rattle.model_tree.specs.Stops as Stops

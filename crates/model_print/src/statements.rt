@@ -339,16 +339,14 @@ fn action(page: &mut Page, action: &Action) -> Result<(), AllocError>
         Action::QkReset(keeper) => with_name(page, Word::QkReset, keeper),
         Action::QkSync(keeper) => with_name(page, Word::QkSync, keeper),
         Action::Spawn(new) => spawn(page, new),
-        Action::Control(control, process, descendants) => {
+        Action::Control(control, process) => {
             page.word(control_word(*control))?;
-            who(page, process)?;
-            flag(page, Word::Descendants, *descendants)
+            who(page, process)
         }
-        Action::ThrowIt(process, exception, descendants) => {
+        Action::ThrowIt(process, exception) => {
             page.word(Word::ThrowIt)?;
             who(page, process)?;
-            page.name(exception)?;
-            flag(page, Word::Descendants, *descendants)
+            page.name(exception)
         }
         Action::Throw(exception) => with_name(page, Word::Throw, exception),
         Action::Return(value) => {

@@ -22,7 +22,6 @@ use Rattle.model_tree.specs.declared.items.TargetRole.{TargetRole}
 use Rattle.model_tree.specs.declared.items.PlainKind.{PlainKind}
 use Rattle.model_tree.specs.declared.items.ProcessKind.{ProcessKind}
 use Rattle.model_tree.specs.declared.items.Top.{Top}
-use Rattle.model_tree.specs.declared.items.Head.{Head}
 
 -- an expression; the number in front is the line of its first token, or else the first part's line serves
 pub data Expression : Type 0 where
@@ -104,8 +103,7 @@ pub record Spawn : Type 0 where
   pub sensitive : List Event
   pub dont_initialize : Bool
 
--- a statement that gives no value; of a control call and an exception for another it also says whether they reach the descendants of
--- their target
+-- a statement that gives no value
 pub data Action : Type 0 where
   write : Channel → Expression → Action
   print : List ℕ → Option Expression → Action
@@ -127,8 +125,8 @@ pub data Action : Type 0 where
   qk_reset : List ℕ → Action
   qk_sync : List ℕ → Action
   spawn : Spawn → Action
-  control : Control → Who → Bool → Action
-  throw_it : Who → List ℕ → Bool → Action
+  control : Control → Who → Action
+  throw_it : Who → List ℕ → Action
   throw : List ℕ → Action
   return_ : Option Expression → Action
   stop : Action
@@ -197,12 +195,7 @@ pub record Module : Type 0 where
   pub name : List ℕ
   pub items : List Item
 
--- the modules of a text, and the instance at its top
+-- a whole text
 pub record Model : Type 0 where
   pub modules : List Module
   pub top : Top
-
--- a whole text: what it says of its language, and its modules
-pub record Source : Type 0 where
-  pub head : Head
-  pub model : Model

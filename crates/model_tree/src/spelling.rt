@@ -11,7 +11,6 @@ pub fn unit_name(unit: Unit) -> &'static str
     ensures { result.now ≡ spec.unit_name unit }
 {
     match unit {
-        Unit::Fs => "fs",
         Unit::Ps => "ps",
         Unit::Ns => "ns",
         Unit::Us => "us",

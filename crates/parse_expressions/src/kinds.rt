@@ -3,7 +3,7 @@ ghost use Rattle.model_lexer.specs.Seen.{token_of};
 ghost use Rattle.model_lexer.specs.ModelGrammar.Expressions as grammar;
 ghost use Rattle.parse_expressions.specs.Parse as spec;
 
-use super::starts::{Start, operator_of, sign_of, symbol_start, unit_of, unit_word, word_start};
+use super::starts::{Start, operator_of, sign_of, symbol_start, unit_of, word_start};
 use model_lexer::TokenKind;
 use model_lexer::sim_time_api::Unit;
 use model_tree::{BinaryOp, Symbol, UnaryOp, Word};
@@ -38,23 +38,12 @@ pub fn is_number(kind: TokenKind<'_>) -> bool
     }
 }
 
-/// Whether the token is this number.
-pub fn is_the_number(kind: TokenKind<'_>, number: u64) -> bool
-    ensures { result ≡ spec.is_the_number number (token_of kind.entry) }
-{
-    match kind {
-        TokenKind::Num(found) => found == number,
-        _ => false,
-    }
-}
-
 /// The unit that the token is, if it is one.
 pub fn unit_in(kind: TokenKind<'_>) -> Option<Unit>
     ensures { result ≡ grammar.unit_in (token_of kind.entry) }
 {
     match kind {
         TokenKind::Name(bytes) => unit_of(bytes),
-        TokenKind::Word(word) => unit_word(word),
         _ => None,
     }
 }

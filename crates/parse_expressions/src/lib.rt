@@ -21,7 +21,7 @@ pub mod logic_values_api {
 
 /// What is passed on of model_lexer.
 pub mod model_lexer_api {
-    pub use model_lexer::{Token, TokenKind, tokens_in_language};
+    pub use model_lexer::{Token, TokenKind, tokens};
 }
 
 /// What is passed on of sim_time.

@@ -1,6 +1,6 @@
 ghost use Rattle.std.specs.Prelude.{◌≡◌, ◌<◌, ◌^◌, ℕ, List, None, true, IfErr, IfOk, OnOk, length};
 ghost use Rattle.model_tree.specs.Tree as tree;
-ghost use Rattle.model_tree.specs.Seen.{model_of, source_of};
+ghost use Rattle.model_tree.specs.Seen.{model_of};
 ghost use Rattle.model_tree.specs.Stops.{IfSyntax};
 ghost use Rattle.script_text.specs.ModelLexer.Reads.{Reads};
 ghost use Rattle.elaborate.specs.DesignRules.Designs.{IsDesignOf};
@@ -63,7 +63,7 @@ pub struct Judged {
 /// The tree of a model.
 pub(crate) fn read_model(alloc: Global, text: &[u8]) -> Result<Tree, ModelStop>
     requires { length text.now < 2 ^ 32 }
-    ensures reads { IfOk result (λ t. Reads text.now (source_of t)) }
+    ensures reads { IfOk result (λ t. Reads text.now (model_of t)) }
     ensures fault { IfErr result (λ stop. IfModelFault stop (HasModelFault text.now)) }
 {
     match parse(alloc, text) {
@@ -76,10 +76,10 @@ pub(crate) fn read_model(alloc: Global, text: &[u8]) -> Result<Tree, ModelStop>
 /// The design of a tree, which is judged by the rules on its modules, and then by those on its instances and bindings. What is
 /// said of it is so of each text that reads as this tree.
 pub(crate) fn judge_tree(alloc: Global, tree: Tree) -> Result<Design, ModelStop>
-    ensures accepted { OnOk result ((text : List ℕ) → Reads text (source_of tree) → AcceptsModel text (source_of tree)) }
+    ensures accepted { OnOk result ((text : List ℕ) → Reads text (model_of tree) → AcceptsModel text (model_of tree)) }
     ensures design { IfOk result (IsDesignOf (model_of tree)) }
     ensures runs { IfOk result CanRun }
-    ensures fault { IfErr result (λ stop. (text : List ℕ) → Reads text (source_of tree) → IfModelFault stop (HasModelFault text)) }
+    ensures fault { IfErr result (λ stop. (text : List ℕ) → Reads text (model_of tree) → IfModelFault stop (HasModelFault text)) }
 {
     designs_are_few();
     let checked = match check(alloc, tree) {
@@ -142,7 +142,7 @@ fn judge_replay(alloc: Global, texts: &Texts) -> Result<Option<Choices>, ParseSt
 /// the text.
 pub fn judge_text(alloc: Global, model: &[u8], script: &[u8]) -> Result<Judged, JudgeStop>
     requires { length model.now < 2 ^ 32 }
-    ensures accepted { IfOk result (λ judged. (m : tree.Source) × Accepts model.now script.now m judged.design judged.script) }
+    ensures accepted { IfOk result (λ judged. (m : tree.Model) × Accepts model.now script.now m judged.design judged.script) }
     ensures replay { IfOk result (λ judged. judged.replay ≡ None) }
     ensures runs { IfOk result (λ judged. CanRun judged.design) }
     ensures fault { IfErr result (HasTextFault model.now script.now None) }
@@ -167,7 +167,7 @@ pub fn judge_text(alloc: Global, model: &[u8], script: &[u8]) -> Result<Judged, 
 /// with the text.
 pub fn judge(alloc: Global, texts: &Texts) -> Result<Judged, JudgeStop>
     requires { length texts.now.model < 2 ^ 32 }
-    ensures accepted { IfOk result (λ judged. (m : tree.Source) × Accepts texts.now.model texts.now.script m judged.design judged.script) }
+    ensures accepted { IfOk result (λ judged. (m : tree.Model) × Accepts texts.now.model texts.now.script m judged.design judged.script) }
     ensures replay { IfOk result (λ judged. ReadsReplay texts.now.replay judged.replay) }
     ensures runs { IfOk result (λ judged. CanRun judged.design) }
     ensures fault { IfErr result (HasTextFault texts.now.model texts.now.script texts.now.replay) }

@@ -100,17 +100,6 @@ changed_next n us vs v within is =
     ∙ ap (λ (os : List Value). change_line n (slice_get us n) v ++ changed_lines (suc n) os (drop (n + 1) vs)) (drop-drop 1 n us)
     ∙ ap (λ (k : ℕ). change_line n (slice_get us n) v ++ changed_lines k (drop (n + 1) us) (drop (n + 1) vs)) up
 
--- the line of the time scale, piece by piece
-pub scale_pieces : (old first second third new number unit : List ℕ) → first ≡ old ++ codes "$timescale " → second ≡ first ++ number → third ≡ second ++ unit → new ≡ third ++ (codes " $end" ++ 10 ∷ [])
-    → new ≡ old ++ (codes "$timescale " ++ (number ++ unit) ++ codes " $end" ++ 10 ∷ [])
-scale_pieces old first second third new number unit e1 e2 e3 e4 =
-    let scale = codes "$timescale " in
-    let end = codes " $end" ++ 10 ∷ [] in
-    e4
-    ∙ ap (λ xs. xs ++ end) (e3 ∙ ap (λ xs. xs ++ unit) (e2 ∙ ap (λ xs. xs ++ number) e1) ∙ append_assoc (old ++ scale) number unit ∙ append_assoc old scale (number ++ unit))
-    ∙ append_assoc old (scale ++ (number ++ unit)) end
-    ∙ ap (λ xs. old ++ xs) (sym (append_assoc (scale ++ (number ++ unit)) (codes " $end") (10 ∷ [])))
-
 -- the line that opens a scope, in three pieces
 pub scope_pieces : (text name one two three : List ℕ) → one ≡ text ++ codes "$scope module " → two ≡ one ++ name → three ≡ two ++ (codes " $end" ++ 10 ∷ []) → three ≡ text ++ scope_line name
 scope_pieces text name one two three e1 e2 e3 =

@@ -14,4 +14,3 @@ pub mod Stopping
 pub mod Links
 pub mod Words
 pub mod Leaving
-pub mod Descending

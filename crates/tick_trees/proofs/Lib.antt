@@ -1,5 +1,0 @@
-pub mod Limits
-pub mod Languages
-pub mod Times
-pub mod Spans
-pub mod Each

@@ -1,4 +1,0 @@
-pub mod Retimed
-pub mod Ticks
-pub mod Times
-pub mod Laws
