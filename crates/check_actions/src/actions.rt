@@ -363,7 +363,7 @@ pub fn action_finding<'a>(place: &Place<'a>, line: u32, action: &'a Action) -> O
             named_finding(place, line, name.bytes(), Need::Keeper, false)
         }
         Action::Spawn(spawn) => spawn_and_parts(place, line, spawn),
-        Action::Control(_, who) | Action::ThrowIt(who, _) => who_finding(place, who),
+        Action::Control(_, who, _) | Action::ThrowIt(who, _, _) => who_finding(place, who),
         Action::Return(value) => return_finding(place, line, value),
         Action::Throw(_) | Action::Stop => None,
     }

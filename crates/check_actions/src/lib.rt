@@ -40,5 +40,5 @@ pub mod model_rules_api {
 
 /// What is passed on of sim_time.
 pub mod sim_time_api {
-    pub use check_expressions::sim_time_api::of_unit;
+    pub use check_expressions::sim_time_api::picoseconds_of;
 }

@@ -53,5 +53,5 @@ pub mod plain_lists_api {
 
 /// What is passed on of sim_time.
 pub mod sim_time_api {
-    pub use check_names::sim_time_api::of_unit;
+    pub use check_names::sim_time_api::picoseconds_of;
 }

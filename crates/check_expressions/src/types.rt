@@ -6,7 +6,7 @@ ghost use Rattle.check_names.specs.ModelRules.Operators.{seen_as as spec_seen_as
 use super::operators::{digit_type, is_integer, seen_as};
 use check_names::logic_values_api::Lv;
 use check_names::model_rules_api::{ExpressionType, Meaning, Seen, ValueMember};
-use check_names::sim_time_api::{Unit, of_unit};
+use check_names::sim_time_api::{Unit, picoseconds_of};
 use check_names::{member_type, row_of, value_member};
 use flat_design::ValueType;
 
@@ -102,7 +102,7 @@ pub fn is_below(n: u64, size: Option<u64>) -> bool
 pub fn is_time_literal(n: u64, unit: Unit) -> bool
     ensures { result ≡ spec.is_time_literal n unit }
 {
-    of_unit(n, unit).is_some()
+    picoseconds_of(n, unit).is_some()
 }
 
 /// The type of a logic literal.

@@ -11,7 +11,7 @@ ghost use Rattle.check_statements.specs.CheckExpressions.Findings.{faults_of};
 use check_statements::check_expressions_api::{Finding, is_time_literal, told_if};
 use check_statements::check_names_api::Place;
 use check_statements::model_rules_api::ExpressionType;
-use check_statements::sim_time_api::of_unit;
+use check_statements::sim_time_api::picoseconds_of;
 use model_tree::{ClockItem, Constant, ConstantForm, Kind, Span};
 
 /// Whether a constant is a time past 2^64 - 1 picoseconds.
@@ -135,8 +135,8 @@ pub fn is_late_clock(clock: &ClockItem) -> bool
 pub fn is_clock(clock: &ClockItem) -> bool
     ensures { values.is_late clock.now.period ≡ false → values.is_late clock.now.high ≡ false → result ≡ items.is_clock clock.now }
 {
-    let period = of_unit(clock.period.count, clock.period.unit);
-    let high = of_unit(clock.high.count, clock.high.unit);
+    let period = picoseconds_of(clock.period.count, clock.period.unit);
+    let high = picoseconds_of(clock.high.count, clock.high.unit);
     match (period, high) {
         (Some(period), Some(high)) => 0 < high.0 && high.0 < period.0,
         _ => false,

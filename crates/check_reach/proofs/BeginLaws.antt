@@ -45,8 +45,8 @@ spawn_in method (tree.qk_sync name) f line h = cc
 spawn_in method (tree.spawn x) f line h =
     let w = name_if_true (same_way method x.method) x.function f h in
     and_both (same_way method x.method) (bytes_eq x.function f) w.0 (subst (λ n. bytes_eq x.function n ≡ true) w.1 (same_bytes x.function))
-spawn_in method (tree.control c w) f line h = cc
-spawn_in method (tree.throw_it w name) f line h = cc
+spawn_in method (tree.control c w all) f line h = cc
+spawn_in method (tree.throw_it w name all) f line h = cc
 spawn_in method (tree.throw name) f line h = cc
 spawn_in method (tree.return_ e) f line h = cc
 spawn_in method tree.stop f line h = cc
@@ -74,8 +74,8 @@ in_spawn method (tree.qk_sync name) f line h = cc
 in_spawn method (tree.spawn x) f line h =
     let w = and_true (same_way method x.method) (bytes_eq x.function f) h in
     true_name_if (same_way method x.method) x.function w.0 ∙ ap Some (equal_bytes x.function f w.1)
-in_spawn method (tree.control c w) f line h = cc
-in_spawn method (tree.throw_it w name) f line h = cc
+in_spawn method (tree.control c w all) f line h = cc
+in_spawn method (tree.throw_it w name all) f line h = cc
 in_spawn method (tree.throw name) f line h = cc
 in_spawn method (tree.return_ e) f line h = cc
 in_spawn method tree.stop f line h = cc

@@ -52,8 +52,8 @@ fn action_blocks(names: &ModuleNames<'_>, action: &Action) -> bool
         | Action::QkSet(_, _)
         | Action::QkReset(_)
         | Action::Spawn(_)
-        | Action::Control(_, _)
-        | Action::ThrowIt(_, _)
+        | Action::Control(_, _, _)
+        | Action::ThrowIt(_, _, _)
         | Action::Throw(_)
         | Action::Return(_)
         | Action::Stop => false,

@@ -84,8 +84,12 @@ fn copy_statement(alloc: Global, statement: &Statement) -> Result<Statement, All
         Statement::QkSet(keeper, time) => Ok(Statement::QkSet(*keeper, copy_expr(alloc, time)?)),
         Statement::QkReset(keeper) => Ok(Statement::QkReset(*keeper)),
         Statement::Spawn(form) => Ok(Statement::Spawn(copy_spawn(alloc, form)?)),
-        Statement::Control(control, process) => Ok(Statement::Control(*control, *process)),
-        Statement::ThrowIt(process, exception) => Ok(Statement::ThrowIt(*process, *exception)),
+        Statement::Control(control, process, descendants) => {
+            Ok(Statement::Control(*control, *process, *descendants))
+        }
+        Statement::ThrowIt(process, exception, descendants) => {
+            Ok(Statement::ThrowIt(*process, *exception, *descendants))
+        }
         Statement::Throw(exception) => Ok(Statement::Throw(*exception)),
         Statement::Return(answer) => Ok(Statement::Return(copy_option(alloc, answer)?)),
         Statement::Stop => Ok(Statement::Stop),

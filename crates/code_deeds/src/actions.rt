@@ -335,12 +335,13 @@ fn control_code(
     place: &Place<'_>,
     control: Control,
     who: &Who,
+    descendants: bool,
 ) -> Result<Option<Statement>, AllocError>
-    ensures { IfOk result (λ found. option_map code.statement_of found ≡ option_map (code.control control) (deeds.controlled_by (scope_of place.now) who.now)) }
+    ensures { IfOk result (λ found. option_map code.statement_of found ≡ option_map (λ q. code.control control q descendants) (deeds.controlled_by (scope_of place.now) who.now)) }
 {
     match controlled_by(place, who)? {
         None => Ok(None),
-        Some(controlled) => Ok(Some(Statement::Control(control, controlled))),
+        Some(controlled) => Ok(Some(Statement::Control(control, controlled, descendants))),
     }
 }
 
@@ -374,14 +375,15 @@ fn throw_it_code(
     home: Home<'_>,
     who: &Who,
     name: &Name,
+    descendants: bool,
 ) -> Result<Option<Statement>, AllocError>
-    ensures { IfOk result (λ found. option_map code.statement_of found ≡ deeds.with_two code.throw_it (deeds.controlled_by (scope_of place.now) who.now) (deeds.exception_number (spec.home_of home.entry) name.now)) }
+    ensures { IfOk result (λ found. option_map code.statement_of found ≡ deeds.with_two (λ q e. code.throw_it q e descendants) (deeds.controlled_by (scope_of place.now) who.now) (deeds.exception_number (spec.home_of home.entry) name.now)) }
 {
     match controlled_by(place, who)? {
         None => Ok(None),
         Some(controlled) => match exception_number(home, name.bytes())? {
             None => Ok(None),
-            Some(exception) => Ok(Some(Statement::ThrowIt(controlled, exception))),
+            Some(exception) => { Ok(Some(Statement::ThrowIt(controlled, exception, descendants))) }
         },
     }
 }
@@ -442,8 +444,12 @@ pub fn action_code(
         Action::QkReset(name) => Ok(single(qk_reset_code(place, name)?)),
         Action::QkSync(name) => sync_code(place, name),
         Action::Spawn(spawn) => Ok(single(instance_code(alloc, place, home, spawn)?)),
-        Action::Control(control, who) => Ok(single(control_code(place, *control, who)?)),
-        Action::ThrowIt(who, name) => Ok(single(throw_it_code(place, home, who, name)?)),
+        Action::Control(control, who, descendants) => {
+            Ok(single(control_code(place, *control, who, *descendants)?))
+        }
+        Action::ThrowIt(who, name, descendants) => {
+            Ok(single(throw_it_code(place, home, who, name, *descendants)?))
+        }
         Action::Throw(name) => Ok(single(throw_code(home, name)?)),
         Action::Return(value) => Ok(single(return_code(alloc, place, value)?)),
         Action::Stop => Ok(Some(Deed::One(Statement::Stop))),

@@ -25,5 +25,5 @@ pub mod plain_lists_api {
 
 /// What is passed on of sim_time.
 pub mod sim_time_api {
-    pub use code_rules::sim_time_api::of_unit;
+    pub use code_rules::sim_time_api::picoseconds_of;
 }

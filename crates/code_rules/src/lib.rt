@@ -31,5 +31,5 @@ pub mod plain_lists_api {
 
 /// What is passed on of sim_time.
 pub mod sim_time_api {
-    pub use model_rules::sim_time_api::{Unit, of_unit};
+    pub use model_rules::sim_time_api::{Unit, picoseconds_of};
 }

@@ -13,7 +13,7 @@ fn add_action<'a>(action: &'a Action, names: &mut NameList<'a>) -> Result<(), Al
     ensures { OnOk result (names.new ≡ spec.with_all names.old (bodies.thrown_in (action_of action.now))) }
 {
     match action {
-        Action::ThrowIt(_, name) | Action::Throw(name) => names.push_once(name.bytes()),
+        Action::ThrowIt(_, name, _) | Action::Throw(name) => names.push_once(name.bytes()),
         _ => Ok(()),
     }
 }

@@ -13,7 +13,7 @@ use super::parts::{Coded, made_if, value_part};
 use check_expressions::{is_time_literal, logic_type, value_if};
 use code_rules::logic_values_api::{Lv, Value, digit, vector_of_digits};
 use code_rules::model_rules_api::ExpressionType;
-use code_rules::sim_time_api::{Unit, of_unit};
+use code_rules::sim_time_api::{Unit, picoseconds_of};
 use flat_design::Expr;
 use model_tree::NamedConstant;
 
@@ -68,7 +68,7 @@ pub(crate) fn logic_part(v: Lv) -> Coded
 fn time_term(n: u64, unit: Unit) -> Option<Expr>
     ensures { option_map term_of result ≡ option_if (types.is_time_literal n unit) (code.literal (value.Moment (n * picoseconds_in unit))) }
 {
-    match of_unit(n, unit) {
+    match picoseconds_of(n, unit) {
         None => None,
         Some(time) => Some(Expr::Literal(Value::Moment(time.0))),
     }

@@ -1,5 +1,6 @@
 -- Models written by hand: each item with its line.
 use Rattle.std.specs.Prelude.{ℕ, false, List, [], ◌∷◌, codes, Option, Some, None}
+use Rattle.std.proofs.Common.{lit≤}
 use Rattle.code_rules.specs.SimTime.declared.moments.Unit.TheVariants as unit
 use Rattle.code_rules.specs.EventCore.declared.event.Ev.{Ev}
 use Rattle.code_rules.specs.EventCore.declared.event.Ev.TheVariants as ev
@@ -121,6 +122,7 @@ sensitive_to_both = two_channels (codes "a") (codes "b") (event (codes "p") None
 
 abbrev pub seen : Design
 seen = record {
+  resolution = record { power = 3; small = lit≤ tt };
   objects = objects_of sensitive_to_both;
   instances = instance 0 0 (signal_of 0 0 ∷ signal_of 1 3 ∷ denoted.Nothing ∷ []) ∷ instance 3 1 (denoted.Port 0 ∷ denoted.Process 0 ∷ []) ∷ [];
   signals = bool_signal 1 0 ∷ bool_signal 2 3 ∷ [];

@@ -23,6 +23,7 @@ fn design(alloc: Global, tree: &Tree, found: BoundObjects, code: Code) -> Result
     requires code { IsCodeOf (model_of tree.now) code }
     ensures design { IfOk result (λ design. IsDesignOf (model_of tree.now) design) }
     ensures code { IfOk result (λ design. design.code ≡ code) }
+    ensures resolution { IfOk result (λ design. design.resolution.power ≡ 3) }
 {
     let BoundObjects { objects, bindings } = found;
     let exceptions = exceptions(alloc, tree)?;
@@ -36,13 +37,14 @@ fn design(alloc: Global, tree: &Tree, found: BoundObjects, code: Code) -> Result
 /// (ModuleCycle); else too many objects or bytes of memories (TooManyObjects); else the first fault of a binding
 /// (KindDiffers), and else that of a port, an export or a socket (DoubleBound, TooMany, Unbound).
 ///
-/// Out of memory is also answered where a number of the design does not fit 32 bits.
+/// Its resolution is a picosecond. Out of memory is also answered where a number of the design does not fit 32 bits.
 pub fn elaborate(alloc: Global, tree: &Tree, code: Code) -> Result<Design, CheckStop>
     requires rules { first_fault (model_of tree.now) ≡ None }
     requires code { IsCodeOf (model_of tree.now) code }
     ensures accepted { OnOk result (elaboration_fault (model_of tree.now) ≡ None) }
     ensures design { IfOk result (λ design. IsDesignOf (model_of tree.now) design) }
     ensures code { IfOk result (λ design. design.code ≡ code) }
+    ensures resolution { IfOk result (λ design. design.resolution.power ≡ 3) }
     ensures refused { IfErr result (λ stop. IfRefused stop (λ fault. elaboration_fault (model_of tree.now) ≡ Some fault)) }
 {
     let found = match bound_objects(alloc, tree) {

@@ -26,6 +26,7 @@ use elaborate_objects::flat_design_api::{
 use elaborate_objects::logic_values_api::Text;
 use elaborate_objects::model_tree_api::{Module, Tree};
 use elaborate_objects::plain_lists_api::Items;
+use flat_design::sim_time_api::Resolution;
 use std::alloc::{AllocError, Global};
 
 /// What objects give by themselves.
@@ -117,7 +118,7 @@ fn linked(
 /// its code: each kind of object by number, what names stand for in each instance, and static sensitivities.
 ///
 /// Only memory is refused. It is also called refused where a number does not fit 32 bits. It takes time that grows with
-/// the objects, the names that their modules declare and the channels of ports.
+/// the objects, the names that their modules declare and the channels of ports. Its resolution is a picosecond.
 pub fn design_of(
     alloc: Global,
     tree: &Tree,
@@ -132,6 +133,7 @@ pub fn design_of(
     requires code { IsCodeOf (model_of tree.now) code }
     ensures design { IfOk result (λ design. IsDesignOf (model_of tree.now) design) }
     ensures code { IfOk result (λ design. design.code ≡ code) }
+    ensures resolution { IfOk result (λ design. design.resolution.power ≡ 3) }
 {
     let Ok(counts) = totals(objects.list.as_slice()) else {
         return Err(AllocError);
@@ -143,6 +145,7 @@ pub fn design_of(
         return Err(AllocError);
     };
     Ok(Design {
+        resolution: Resolution::picosecond(),
         objects,
         instances: linked.instances,
         signals: kinds.signals,

@@ -7,7 +7,7 @@ ghost use Rattle.design_rules.specs.Values as spec;
 use check_names::flat_design_api::{ValueType, default_value};
 use check_names::logic_values_api::{Digit, Lv, Sign, Value, cut, digit, sub};
 use check_names::model_tree_api::{Constant, ConstantForm, Span};
-use check_names::sim_time_api::{Time, Unit, of_unit};
+use check_names::sim_time_api::{Time, Unit, picoseconds_of};
 use std::alloc::AllocError;
 
 pub(crate) fn known_type(t: Option<ValueType>) -> ValueType
@@ -23,7 +23,7 @@ pub(crate) fn known_type(t: Option<ValueType>) -> ValueType
 fn unit_time(count: u64, unit: Unit) -> Result<Time, AllocError>
     ensures { IfOk result (λ t. t ≡ spec.span_time (record { count = count; unit = unit })) }
 {
-    match of_unit(count, unit) {
+    match picoseconds_of(count, unit) {
         Some(t) => Ok(t),
         None => Err(AllocError),
     }
@@ -101,7 +101,7 @@ fn moment_of(form: ConstantForm) -> Result<Value, AllocError>
     ensures { IfOk result (λ v. v ≡ spec.moment_of form) }
 {
     match form {
-        ConstantForm::Time(n, unit) => match of_unit(n, unit) {
+        ConstantForm::Time(n, unit) => match picoseconds_of(n, unit) {
             Some(t) => Ok(Value::Moment(t.0)),
             None => Err(AllocError),
         },

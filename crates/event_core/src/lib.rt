@@ -78,5 +78,5 @@ impl Events {
 
 /// What is passed on of sim_time.
 pub mod sim_time_api {
-    pub use sim_time::{Time, Unit, of_unit};
+    pub use sim_time::{Resolution, Time, Unit, picoseconds_of};
 }

@@ -5,7 +5,7 @@ use Rattle.flat_design.specs.declared.code.Handler.{Handler}
 use Rattle.exec_data.specs.KernelBodies.Layers.{shown}
 use Rattle.exec_data.specs.KernelBodies.declared.layers.Next.TheVariants as next
 use Rattle.exec_data.specs.SimModel.Residual as residual
-use Rattle.exec_data.specs.SimModel.Residual.{Residual, Frame, Next, skip, one, seq, owing, guard, try_, frame, shell, run, goal, settle, next_of, innermost, or_frame, statements, followed, then_on, then_owed, in_guard, in_try, in_shell, in_run, in_frame, frame_end, before_goal, block}
+use Rattle.exec_data.specs.SimModel.Residual.{Residual, Frame, Next, skip, one, batch, seq, owing, guard, try_, frame, shell, run, goal, settle, next_of, innermost, or_frame, statements, followed, then_on, then_owed, in_guard, in_try, in_shell, in_run, in_frame, frame_end, before_goal, block}
 use Rattle.exec_data.specs.SimModel.declared.plain.Goal.{Goal}
 
 followed_next : (r : Residual) (ss : List ℕ) → next_of (followed r ss) ≡ next_of r
@@ -20,6 +20,7 @@ frame_shows (Some call) x is = cc
 
 in_frame_shows : (n : Next) (x : Frame) → in_frame n x ≡ residual.nothing → ⊥
 in_frame_shows (residual.statement s) x is = cc
+in_frame_shows (residual.owes s q) x is = cc
 in_frame_shows (residual.leaves y) x is = cc
 in_frame_shows residual.done x is = cc
 in_frame_shows (residual.reaches k) x is = cc
@@ -27,6 +28,7 @@ in_frame_shows residual.nothing x is = frame_shows x.call x is
 
 before_shows : (n : Next) (k : Goal) → before_goal n k ≡ residual.nothing → ⊥
 before_shows (residual.statement s) k is = cc
+before_shows (residual.owes s q) k is = cc
 before_shows (residual.leaves y) k is = cc
 before_shows residual.done k is = cc
 before_shows (residual.reaches g) k is = cc
@@ -68,6 +70,8 @@ in_shell_over q x ih is = let e = ih is in absurd cc
 nothing_left : (a : Arena) (r : Residual) → Over (settle a r)
 nothing_left a skip is = refl
 nothing_left a (one s) is = absurd cc
+nothing_left a (batch s []) is = refl
+nothing_left a (batch s (q ∷ qs)) is = absurd cc
 nothing_left a (seq r ss) is = then_on_over (settle a r) ss (nothing_left a r) is
 nothing_left a (owing r g u) is = then_owed_over a (settle a r) g u (nothing_left a r) is
 nothing_left a (guard r g u) is = in_guard_over (settle a r) g u (nothing_left a r) is
@@ -118,6 +122,7 @@ module _ (x : Frame) where
 
   frame_inner : (q : Residual) (y : Frame) (n : Next) → next_of q ≡ n → Over q → Inner q → in_frame n y ≡ residual.leaves x → or_frame (innermost q) y ≡ Some x
   frame_inner q y (residual.statement s) next over ih is = absurd cc
+  frame_inner q y (residual.owes s m) next over ih is = absurd cc
   frame_inner q y (residual.leaves z) next over ih is = ap (λ o. or_frame o y) (ih (next ∙ is))
   frame_inner q y residual.done next over ih is = absurd cc
   frame_inner q y (residual.reaches k) next over ih is = absurd cc
@@ -125,6 +130,7 @@ module _ (x : Frame) where
 
   goal_inner : (q : Residual) (k : Goal) (n : Next) → next_of q ≡ n → Inner q → before_goal n k ≡ residual.leaves x → innermost q ≡ Some x
   goal_inner q k (residual.statement s) next ih is = absurd cc
+  goal_inner q k (residual.owes s m) next ih is = absurd cc
   goal_inner q k (residual.leaves z) next ih is = ih (next ∙ is)
   goal_inner q k residual.done next ih is = absurd cc
   goal_inner q k (residual.reaches g) next ih is = absurd cc
@@ -133,6 +139,8 @@ module _ (x : Frame) where
   inner : (a : Arena) (r : Residual) → Inner (settle a r)
   inner a skip is = absurd cc
   inner a (one s) is = absurd cc
+  inner a (batch s []) is = absurd cc
+  inner a (batch s (q ∷ qs)) is = absurd cc
   inner a (seq r ss) is = then_on_inner (settle a r) ss (inner a r) is
   inner a (owing r g u) is = then_owed_inner a (settle a r) g u (inner a r) is
   inner a (guard r g u) is = in_guard_inner (settle a r) g u (inner a r) is
@@ -150,6 +158,7 @@ leaves_innermost a r x is = inner x a r is
 
 pub ends_as : (n : Next) → shown n ≡ next.Leave → (x : Frame) × (n ≡ residual.leaves x)
 ends_as (residual.statement s) is = absurd cc
+ends_as (residual.owes s q) is = absurd cc
 ends_as (residual.leaves x) is = (x, refl)
 ends_as residual.done is = absurd cc
 ends_as (residual.reaches k) is = absurd cc

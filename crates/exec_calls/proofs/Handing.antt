@@ -39,6 +39,7 @@ calling_is c (Some s) = refl
 
 abbrev frame_in : Next → Frame → Frame
 frame_in (residual.statement s) y = y
+frame_in (residual.owes s q) y = y
 frame_in (residual.leaves x) y = x
 frame_in residual.done y = y
 frame_in (residual.reaches k) y = y

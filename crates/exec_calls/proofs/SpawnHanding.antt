@@ -58,7 +58,7 @@ runs_with true n rs = rs
 runs_with false n rs = rs ++ n ∷ []
 
 abbrev bred : Bool → ℕ → Config → Instance → Config
-bred w n c j = record c { processes = record c.processes { runnable = runs_with w n c.processes.runnable; instances = c.processes.instances ++ j ∷ [] } }
+bred w n c j = record c { processes = record c.processes { runnable = runs_with w n c.processes.runnable; instances = c.processes.instances ++ j ∷ []; parents = c.processes.parents ++ slice_get c.processes.stack 0 ∷ [] } }
 
 bred_is : (w : Bool) (n : ℕ) (c : Config) (j : Instance) → runnable_unless w n (added c j) ≡ bred w n c j
 bred_is true n c j = refl
@@ -69,7 +69,7 @@ passes_bred : (w : Bool) (n : ℕ) (c : Config) (j : Instance) (p : ℕ) (i : In
 passes_bred w n c j p i there s r =
     let f = λ (x : Instance). record x { residual = settle (arena c) s } in
     let g = λ (x : Instance). record x { residual = put r skip } in
-    ap (λ (is : List Instance). record (bred w n (passes (settled_in c p s) p r) j) { processes = record c.processes { runnable = runs_with w n c.processes.runnable; instances = is } })
+    ap (λ (is : List Instance). record (bred w n (passes (settled_in c p s) p r) j) { processes = record c.processes { runnable = runs_with w n c.processes.runnable; instances = is; parents = c.processes.parents ++ slice_get c.processes.stack 0 ∷ [] } })
     (ap (λ (is : List Instance). change is p g) (change-push c.processes.instances (j ∷ []) p f i there)
     ∙ change-push (change c.processes.instances p f) (j ∷ []) p g (f i) (change-here c.processes.instances p f ∙ ap (option_map f) there))
 

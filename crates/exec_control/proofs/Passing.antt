@@ -6,7 +6,7 @@ use Rattle.exec_data.specs.KernelBodies.Strip.{strip}
 use Rattle.exec_data.proofs.KernelBodies.Strips.{strip-next}
 use Rattle.exec_data.specs.KernelBodies.Layers.{shown}
 use Rattle.exec_data.specs.SimModel.Residual as residual
-use Rattle.exec_data.specs.SimModel.Residual.{Residual, Frame, Next, skip, one, seq, owing, guard, try_, frame, shell, run, goal, followed, next_of, frame_end, in_frame, before_goal, put, frame_or, goal_or, settle, has_goal}
+use Rattle.exec_data.specs.SimModel.Residual.{Residual, Frame, Next, skip, one, batch, seq, owing, guard, try_, frame, shell, run, goal, followed, next_of, frame_end, in_frame, before_goal, put, frame_or, goal_or, settle, has_goal}
 use Rattle.exec_data.specs.SimModel.Unwinding.{catches, handles}
 use Rattle.exec_data.specs.SimModel.Configuration.{Config, Instance, change, instance_at, arena}
 use Rattle.exec_data.specs.SimModel.Calls.{thrown}
@@ -39,6 +39,7 @@ goal_catches r k inside e same = same
 pub put_catches : (r : Residual) (e : ℕ) → catches (put r skip) e ≡ catches r e
 put_catches skip e = refl
 put_catches (one s) e = refl
+put_catches (batch s qs) e = refl
 put_catches (seq r ss) e = followed_catches (put r skip) ss e ∙ put_catches r e
 put_catches (owing r g u) e = put_catches r e
 put_catches (guard r g u) e = put_catches r e
@@ -66,6 +67,7 @@ no_statement (Some s) x is = is
 in_frame_too : (n : Next) (x : Frame) → bodies.IsStatement (shown (in_frame n x)) → bodies.IsStatement (shown n)
 in_frame_too residual.nothing x is = no_statement x.call x is
 in_frame_too (residual.statement s) x is = is
+in_frame_too (residual.owes s q) x is = is
 in_frame_too (residual.leaves y) x is = is
 in_frame_too residual.done x is = is
 in_frame_too (residual.reaches k) x is = is
@@ -77,6 +79,7 @@ goal_goal r k inside is = refl
 pub put_goal : (r : Residual) → bodies.IsStatement (shown (next_of r)) → has_goal (put r skip) ≡ has_goal r
 put_goal skip is = refl
 put_goal (one s) is = refl
+put_goal (batch s qs) is = refl
 put_goal (seq r ss) is = followed_goal (put r skip) ss ∙ put_goal r is
 put_goal (owing r g u) is = put_goal r is
 put_goal (guard r g u) is = put_goal r is

@@ -6,7 +6,7 @@ use Rattle.exec_data.specs.InstanceTable.declared.instances.Instance.{Instance a
 use Rattle.flat_design.specs.Code.{Arena, arena_of, block_at}
 use Rattle.flat_design.specs.declared.faults.RunFault.TheVariants as fault
 use Rattle.exec_data.proofs.KernelBodies.Strips.{strip-raise, strip-left_by_raise}
-use Rattle.exec_data.specs.SimModel.Residual.{Residual, skip, one, seq, owing, guard, try_, frame, shell, run, goal, followed, statements, block, then_on, in_run, then_owed, in_guard, in_try, in_shell, settle, has_goal, Frame}
+use Rattle.exec_data.specs.SimModel.Residual.{Residual, skip, one, batch, seq, owing, guard, try_, frame, shell, run, goal, followed, statements, block, then_on, in_run, then_owed, in_guard, in_try, in_shell, settle, has_goal, Frame}
 use Rattle.exec_data.specs.SimModel.Unwinding.{catches, handles, handled, raise, left_by_unw, left_by_raise}
 use Rattle.exec_data.specs.SimModel.Configuration.{Config, Instance, change, instance_at, with_residual, arena}
 use Rattle.exec_data.specs.SimModel.Calls.{with_left, thrown}
@@ -44,6 +44,7 @@ followed_goal r (s ∷ ss) = refl
 then_on_goal : (r : Residual) (ss : List ℕ) → has_goal (then_on r ss) ≡ has_goal r
 then_on_goal skip ss = statements_free ss
 then_on_goal (one s) ss = followed_goal (one s) ss
+then_on_goal (batch s qs) ss = followed_goal (batch s qs) ss
 then_on_goal (seq r q) ss = followed_goal (seq r q) ss
 then_on_goal (owing r g u) ss = followed_goal (owing r g u) ss
 then_on_goal (guard r g u) ss = followed_goal (guard r g u) ss
@@ -76,6 +77,8 @@ in_shell_goal r x = refl
 pub settle_goal : (a : Arena) (r : Residual) → has_goal (settle a r) ≡ has_goal r
 settle_goal a skip = refl
 settle_goal a (one s) = refl
+settle_goal a (batch s []) = refl
+settle_goal a (batch s (q ∷ qs)) = refl
 settle_goal a (seq r ss) = then_on_goal (settle a r) ss ∙ settle_goal a r
 settle_goal a (owing r g u) = then_owed_goal a (settle a r) g u ∙ settle_goal a r
 settle_goal a (guard r g u) = in_guard_goal (settle a r) g u ∙ settle_goal a r
@@ -94,6 +97,7 @@ neither false b is = (refl, is)
 pub raise_nothing : (a : Arena) (r : Residual) (e : ℕ) (k : Goal) → catches r e ≡ false → raise a r e k ≡ r
 raise_nothing a skip e k none = refl
 raise_nothing a (one s) e k none = refl
+raise_nothing a (batch s qs) e k none = refl
 raise_nothing a (seq r ss) e k none = ap (λ x. seq x ss) (raise_nothing a r e k none)
 raise_nothing a (owing r g u) e k none = ap (λ x. owing x g u) (raise_nothing a r e k none)
 raise_nothing a (guard r g u) e k none = ap (λ x. guard x g u) (raise_nothing a r e k none)
@@ -109,6 +113,7 @@ raise_nothing a (goal r h) e k none = ap (λ x. goal x h) (raise_nothing a r e k
 pub left_nothing : (r : Residual) (e : ℕ) → catches r e ≡ false → left_by_raise r e ≡ []
 left_nothing skip e none = refl
 left_nothing (one s) e none = refl
+left_nothing (batch s qs) e none = refl
 left_nothing (seq r ss) e none = left_nothing r e none
 left_nothing (owing r g u) e none = left_nothing r e none
 left_nothing (guard r g u) e none = left_nothing r e none

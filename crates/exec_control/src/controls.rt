@@ -1,4 +1,5 @@
 //! Control calls.
+ghost use Rattle.std.specs.Prelude.{false};
 ghost use Rattle.exec_data.specs.SimModel.Reading.{here};
 ghost use Rattle.exec_data.specs.SimModel.Storing.{passes};
 ghost use Rattle.exec_data.specs.SimModel.Control.{control_call, do_control};
@@ -42,8 +43,8 @@ fn control_serial(k: &mut Kernel, p: u32, q: u32, order: Control) -> Result<(), 
     }
 }
 
-/// A control call: suspend, resume, disable, enable, kill or reset of the instance that a name holds, or of itself. It takes
-/// no memory.
+/// A control call: suspend, resume, disable, enable, kill or reset of the instance that a name holds, or of itself, and of no
+/// descendants. It takes no memory.
 ///
 /// # Errors
 /// An empty handle; a kill or a reset of an instance that is active below the top of the stack. Then nothing changes.
@@ -51,7 +52,7 @@ pub fn control(k: &mut Kernel, p: u32, order: Control, who: Controlled) -> Resul
     requires sound { IsSound k.old }
     requires lives { Lives k.old p }
     requires statement { HasStatement k.old p }
-    ensures does { Does k.old k.new result p (λ c q i r. do_control c q r (here c q i r) order who) }
+    ensures does { Does k.old k.new result p (λ c q i r. do_control c q r (here c q i r) 0 order who false) }
     ensures sound { IsSound k.new }
 {
     match target_at(k, p, who) {

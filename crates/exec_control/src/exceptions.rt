@@ -142,7 +142,7 @@ pub fn throw_it(k: &mut Kernel, p: u32, who: Controlled, e: NameId) -> Result<()
     requires top { IsOnTop k.old p }
     requires statement { HasStatement k.old p }
     requires free { OthersHaveNoGoal k.old }
-    ensures does { Does k.old k.new result p (λ c q i r. do_throw_it c q r (here c q i r) who e) }
+    ensures does { Does k.old k.new result p (λ c q i r. do_throw_it c q r (here c q i r) 0 who e false) }
     ensures sound { IsSound k.new }
 {
     top_lives(k, p);

@@ -32,6 +32,7 @@ nothing_cut (Some t) = refl
 
 abbrev number_in : Next → ℕ
 number_in (next.Statement s) = s
+number_in (next.Batch s q) = zero
 number_in next.Leave = zero
 number_in next.Done = zero
 number_in (next.Goal k) = zero

@@ -18,6 +18,7 @@ use Rattle.exec_calls.proofs.KernelState.Frames.{settled_before}
 -- the end of a call is shown by nothing else
 pub shown_leaves : (n : Next) → shown n ≡ next.Leave → (x : Frame) × (n ≡ residual.leaves x)
 shown_leaves (residual.statement s) is = absurd cc
+shown_leaves (residual.owes s q) is = absurd cc
 shown_leaves (residual.leaves x) is = (x, refl)
 shown_leaves residual.done is = absurd cc
 shown_leaves (residual.reaches k) is = absurd cc

@@ -135,7 +135,7 @@ pub record SpawnTerm : Type 0 where
 abbrev pub spawn_term : SpawnForm → SpawnTerm
 spawn_term s = record { handle = s.handle; kind = s.kind; function = s.function; arguments = map term_of s.arguments.items; sensitive = s.sensitive; dont_initialize = s.dont_initialize }
 
--- a statement; blocks are numbers
+-- a statement; blocks are numbers; a control call and an exception for another say whether they reach the descendants of their target
 pub data Statement : Type 0 where
   var : ℕ → ValueType → Option Term → Statement
   assign : DestinationTerm → Term → Statement
@@ -168,8 +168,8 @@ pub data Statement : Type 0 where
   qk_set : ℕ → Term → Statement
   qk_reset : ℕ → Statement
   spawn : SpawnTerm → Statement
-  control : Control → Controlled → Statement
-  throw_it : Controlled → ℕ → Statement
+  control : Control → Controlled → Bool → Statement
+  throw_it : Controlled → ℕ → Bool → Statement
   throw : ℕ → Statement
   return_ : Option Term → Statement
   stop : Statement
@@ -210,8 +210,8 @@ statement_of (kept.QkInc n e) = qk_inc n (term_of e)
 statement_of (kept.QkSet n e) = qk_set n (term_of e)
 statement_of (kept.QkReset n) = qk_reset n
 statement_of (kept.Spawn s) = spawn (spawn_term s)
-statement_of (kept.Control c who) = control c who
-statement_of (kept.ThrowIt who n) = throw_it who n
+statement_of (kept.Control c who descendants) = control c who descendants
+statement_of (kept.ThrowIt who n descendants) = throw_it who n descendants
 statement_of (kept.Throw n) = throw n
 statement_of (kept.Return e) = return_ (option_map term_of e)
 statement_of kept.Stop = stop

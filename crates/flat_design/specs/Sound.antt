@@ -11,7 +11,7 @@ use Rattle.flat_design.specs.ValueTypes.{type_of_value}
 use Rattle.flat_design.specs.Denotes.{denoted_at}
 use Rattle.flat_design.specs.Typed.{IsTyped, ChannelOffers, EachOf, parameters_of}
 use Rattle.flat_design.specs.Reach.{IsIn, InBody, Reached, inner_blocks}
-use Rattle.flat_design.specs.Blocking.{DoesNotBlock, IsPlain, SetsNoTrigger}
+use Rattle.flat_design.specs.Blocking.{DoesNotBlock, IsPlain, SetsNoTrigger, ActsAlone}
 use Rattle.flat_design.specs.declared.value_types.ValueType.{ValueType}
 use Rattle.flat_design.specs.declared.value_types.ValueType.TheVariants as type
 use Rattle.flat_design.specs.declared.code.BodyKind.{BodyKind}
@@ -183,8 +183,8 @@ events_of (code.qk_inc n e) = 0
 events_of (code.qk_set n e) = 0
 events_of (code.qk_reset n) = 0
 events_of (code.spawn s) = 0
-events_of (code.control asked who) = 0
-events_of (code.throw_it who n) = 0
+events_of (code.control asked who all) = 0
+events_of (code.throw_it who n all) = 0
 events_of (code.throw n) = 0
 events_of (code.return_ e) = 0
 events_of code.stop = 0
@@ -229,8 +229,8 @@ RoomSuffices d home room (code.qk_inc n e) = ⊤
 RoomSuffices d home room (code.qk_set n e) = ⊤
 RoomSuffices d home room (code.qk_reset n) = ⊤
 RoomSuffices d home room (code.spawn s) = ⊤
-RoomSuffices d home room (code.control asked who) = ⊤
-RoomSuffices d home room (code.throw_it who n) = ⊤
+RoomSuffices d home room (code.control asked who all) = ⊤
+RoomSuffices d home room (code.throw_it who n all) = ⊤
 RoomSuffices d home room (code.throw n) = ⊤
 RoomSuffices d home room (code.return_ e) = ⊤
 RoomSuffices d home room code.stop = ⊤
@@ -268,3 +268,4 @@ pub record SoundDesign (d : Design) : Type 0 where
   pub threads : EachReached d (λ f b. IsThreadBody (arena_of d.code) f b ⊎ IsAnyHandler d f) (λ home s. SetsNoTrigger s)
   pub waits : EachStatement d (λ f home b s. events_of s ≤ b.room)
   pub room : EachStatement d (λ f home b s. RoomSuffices d home b.room s)
+  pub alone : EachStatement d (λ f home b s. ActsAlone s)

@@ -493,8 +493,8 @@ IsTyped a m answer c (code.qk_reset n) = IsKeeper c n
 IsTyped a m answer c (code.spawn s) =
     (b : CodeBody) × IsFunctionHere a m s.function b × AreFirstArguments c (parameters_of b) s.arguments × EachOf (IsStaticUse c) s.sensitive
     × IfWritten (λ h. IsOfType c h type.Process) s.handle
-IsTyped a m answer c (code.control k who) = IsControlled c who
-IsTyped a m answer c (code.throw_it who n) = IsControlled c who
+IsTyped a m answer c (code.control k who all) = IsControlled c who
+IsTyped a m answer c (code.throw_it who n all) = IsControlled c who
 IsTyped a m answer c (code.throw n) = ⊤
 IsTyped a m answer c (code.return_ e) = IsReturned c answer e
 IsTyped a m answer c code.stop = ⊤

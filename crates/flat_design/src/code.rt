@@ -192,10 +192,10 @@ pub enum Statement {
     QkReset(u32),
     /// A new instance.
     Spawn(SpawnForm),
-    /// A control call.
-    Control(Control, Controlled),
-    /// An exception for another process.
-    ThrowIt(Controlled, NameId),
+    /// A control call, and whether it reaches the descendants of its target.
+    Control(Control, Controlled, bool),
+    /// An exception for another process, and whether it reaches the descendants of its target.
+    ThrowIt(Controlled, NameId, bool),
     /// An exception.
     Throw(NameId),
     /// A return.

@@ -2,6 +2,7 @@ use super::code::{Code, CodeId};
 use super::objects::{LeadsTo, Objects};
 use super::value_types::ValueType;
 use event_core::Ev;
+use event_core::sim_time_api::Resolution;
 use model_tree::logic_values_api::{Text, Value};
 use model_tree::plain_lists_api::Items;
 use model_tree::{ProcessKind, SignalKind};
@@ -223,6 +224,8 @@ pub struct Visible {
 /// A design that can be run: the objects as they were declared, and each kind of them in object order, numbered from 0.
 #[derive(Drop)]
 pub struct Design {
+    /// The resolution of its times.
+    pub resolution: Resolution,
     /// Its objects, with their names and places.
     pub objects: Objects,
     /// The instances of modules.

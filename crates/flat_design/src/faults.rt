@@ -19,7 +19,7 @@ pub enum RunFault {
         /// The first number past the range.
         size: u64,
     },
-    /// A time past 2^64 - 1 ps.
+    /// A time past 2^64 - 1 resolutions.
     TimeOverflow,
     /// An exception that no handler catches.
     Uncaught {

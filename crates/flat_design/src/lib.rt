@@ -55,5 +55,5 @@ pub mod plain_lists_api {
 
 /// What is passed on of sim_time.
 pub mod sim_time_api {
-    pub use event_core::sim_time_api::{Time, Unit, of_unit};
+    pub use event_core::sim_time_api::{Resolution, Time, Unit, picoseconds_of};
 }

@@ -37,6 +37,8 @@ fn kind_name(kind: Kind) -> &'static str {
         Kind::KindDiffers => "KindDiffers",
         Kind::TooMany => "TooMany",
         Kind::BadValue => "BadValue",
+        Kind::BadResolution => "BadResolution",
+        Kind::InexactTime => "InexactTime",
     }
 }
 

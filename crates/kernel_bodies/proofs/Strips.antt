@@ -5,7 +5,7 @@ use Rattle.sim_model.specs.LogicValues.declared.kinds.Value.{Value}
 use Rattle.sim_model.specs.FlatDesign.Code.{Arena, block_at}
 use Rattle.sim_model.specs.FlatDesign.declared.code.Handler.{Handler}
 use Rattle.sim_model.specs.Residual as residual
-use Rattle.sim_model.specs.Residual.{Residual, Frame, Next, skip, one, seq, owing, guard, try_, frame, shell, run, goal, followed, statements, block, then_on, in_run, then_owed, in_guard, in_try, in_shell, settle, next_of, in_frame, before_goal, put, frame_or, goal_or, innermost, or_frame, in_innermost, changed_if, within, or_via, open_frames, counted_call, in_nb, is_nonblocking, has_goal, entered, entered_in}
+use Rattle.sim_model.specs.Residual.{Residual, Frame, Next, skip, one, batch, seq, owing, guard, try_, frame, shell, run, goal, followed, statements, block, then_on, in_run, then_owed, in_guard, in_try, in_shell, settle, next_of, in_frame, before_goal, put, frame_or, goal_or, innermost, or_frame, in_innermost, changed_if, within, or_via, open_frames, counted_call, in_nb, is_nonblocking, has_goal, entered, entered_in}
 use Rattle.sim_model.specs.Unwinding.{unw, catches, handles, handled, handler_of, handler_block, raise, left_by_unw, left_via, left_by_raise, has_exit, returned}
 use Rattle.sim_model.specs.declared.plain.Goal.{Goal}
 use Rattle.sim_model.specs.declared.plain.Via.{Via}
@@ -17,6 +17,7 @@ use Rattle.kernel_bodies.specs.Strip.{strip}
 pub strip-strip : (r : Residual) → strip (strip r) ≡ strip r
 strip-strip skip = refl
 strip-strip (one s) = refl
+strip-strip (batch s qs) = refl
 strip-strip (seq r ss) = ap (λ x. seq x ss) (strip-strip r)
 strip-strip (owing r g u) = ap (λ x. owing x 0 u) (strip-strip r)
 strip-strip (guard r g u) = ap (λ x. guard x 0 u) (strip-strip r)
@@ -51,6 +52,7 @@ strip-entered a f args call via = entered_in_same a f args call via (body_at a f
 then_on_same : (r : Residual) (ss : List ℕ) → strip (then_on r ss) ≡ then_on (strip r) ss
 then_on_same skip ss = strip-statements ss
 then_on_same (one s) ss = strip-followed (one s) ss
+then_on_same (batch s qs) ss = strip-followed (batch s qs) ss
 then_on_same (seq r q) ss = strip-followed (seq r q) ss
 then_on_same (owing r g u) ss = strip-followed (owing r g u) ss
 then_on_same (guard r g u) ss = strip-followed (guard r g u) ss
@@ -83,6 +85,8 @@ in_shell_same r x = refl
 pub strip-settle : (a : Arena) (r : Residual) → strip (settle a r) ≡ settle a (strip r)
 strip-settle a skip = refl
 strip-settle a (one s) = refl
+strip-settle a (batch s []) = refl
+strip-settle a (batch s (q ∷ qs)) = refl
 strip-settle a (seq r ss) = then_on_same (settle a r) ss ∙ ap (λ x. then_on x ss) (strip-settle a r)
 strip-settle a (owing r g u) = then_owed_same a (settle a r) g u ∙ ap (λ x. then_owed a x 0 u) (strip-settle a r)
 strip-settle a (guard r g u) = in_guard_same (settle a r) g u ∙ ap (λ x. in_guard x 0 u) (strip-settle a r)
@@ -95,6 +99,8 @@ strip-settle a (goal r k) = ap (λ x. goal x k) (strip-settle a r)
 pub strip-next : (r : Residual) → next_of (strip r) ≡ next_of r
 strip-next skip = refl
 strip-next (one s) = refl
+strip-next (batch s []) = refl
+strip-next (batch s (q ∷ qs)) = refl
 strip-next (seq r ss) = strip-next r
 strip-next (owing r g u) = strip-next r
 strip-next (guard r g u) = strip-next r
@@ -117,6 +123,7 @@ goal_or_same r k n inside = refl
 pub strip-put : (r n : Residual) → strip (put r n) ≡ put (strip r) (strip n)
 strip-put skip n = refl
 strip-put (one s) n = refl
+strip-put (batch s qs) n = refl
 strip-put (seq r ss) n = strip-followed (put r n) ss ∙ ap (λ x. followed x ss) (strip-put r n)
 strip-put (owing r g u) n = ap (λ x. owing x 0 u) (strip-put r n)
 strip-put (guard r g u) n = ap (λ x. guard x 0 u) (strip-put r n)
@@ -131,6 +138,7 @@ strip-put (goal r k) n = goal_or_same r k n (put r n) ∙ ap (λ y. goal_or (str
 pub strip-innermost : (r : Residual) → innermost (strip r) ≡ innermost r
 strip-innermost skip = refl
 strip-innermost (one s) = refl
+strip-innermost (batch s qs) = refl
 strip-innermost (seq r ss) = strip-innermost r
 strip-innermost (owing r g u) = strip-innermost r
 strip-innermost (guard r g u) = strip-innermost r
@@ -143,6 +151,7 @@ strip-innermost (goal r k) = strip-innermost r
 pub strip-in_innermost : (f : Frame → Frame) (r : Residual) → strip (in_innermost f r) ≡ in_innermost f (strip r)
 strip-in_innermost f skip = refl
 strip-in_innermost f (one s) = refl
+strip-in_innermost f (batch s qs) = refl
 strip-in_innermost f (seq r ss) = ap (λ x. seq x ss) (strip-in_innermost f r)
 strip-in_innermost f (owing r g u) = ap (λ x. owing x 0 u) (strip-in_innermost f r)
 strip-in_innermost f (guard r g u) = ap (λ x. guard x 0 u) (strip-in_innermost f r)
@@ -155,6 +164,7 @@ strip-in_innermost f (goal r k) = ap (λ x. goal x k) (strip-in_innermost f r)
 pub strip-within : (r : Residual) → within (strip r) ≡ within r
 strip-within skip = refl
 strip-within (one s) = refl
+strip-within (batch s qs) = refl
 strip-within (seq r ss) = strip-within r
 strip-within (owing r g u) = strip-within r
 strip-within (guard r g u) = strip-within r
@@ -167,6 +177,7 @@ strip-within (goal r k) = strip-within r
 pub strip-open_frames : (r : Residual) → open_frames (strip r) ≡ open_frames r
 strip-open_frames skip = refl
 strip-open_frames (one s) = refl
+strip-open_frames (batch s qs) = refl
 strip-open_frames (seq r ss) = strip-open_frames r
 strip-open_frames (owing r g u) = strip-open_frames r
 strip-open_frames (guard r g u) = strip-open_frames r
@@ -179,6 +190,7 @@ strip-open_frames (goal r k) = strip-open_frames r
 pub strip-in_nb : (r : Residual) → in_nb (strip r) ≡ in_nb r
 strip-in_nb skip = refl
 strip-in_nb (one s) = refl
+strip-in_nb (batch s qs) = refl
 strip-in_nb (seq r ss) = strip-in_nb r
 strip-in_nb (owing r g u) = strip-in_nb r
 strip-in_nb (guard r g u) = strip-in_nb r
@@ -191,6 +203,7 @@ strip-in_nb (goal r k) = strip-in_nb r
 pub strip-has_goal : (r : Residual) → has_goal (strip r) ≡ has_goal r
 strip-has_goal skip = refl
 strip-has_goal (one s) = refl
+strip-has_goal (batch s qs) = refl
 strip-has_goal (seq r ss) = strip-has_goal r
 strip-has_goal (owing r g u) = strip-has_goal r
 strip-has_goal (guard r g u) = strip-has_goal r
@@ -205,6 +218,7 @@ strip-has_goal (goal r k) = refl
 pub strip-unw : (r : Residual) → strip (unw r) ≡ unw (strip r)
 strip-unw skip = refl
 strip-unw (one s) = refl
+strip-unw (batch s qs) = refl
 strip-unw (seq r ss) = strip-unw r
 strip-unw (owing r g u) = ap (λ x. owing x 0 u) (strip-unw r)
 strip-unw (guard r g u) = ap (λ x. owing x 0 u) (strip-unw r)
@@ -217,6 +231,7 @@ strip-unw (goal r k) = strip-unw r
 pub strip-catches : (r : Residual) (e : ℕ) → catches (strip r) e ≡ catches r e
 strip-catches skip e = refl
 strip-catches (one s) e = refl
+strip-catches (batch s qs) e = refl
 strip-catches (seq r ss) e = strip-catches r e
 strip-catches (owing r g u) e = strip-catches r e
 strip-catches (guard r g u) e = strip-catches r e
@@ -239,6 +254,7 @@ if_same false false x y z = refl
 pub strip-raise : (a : Arena) (r : Residual) (e : ℕ) (k : Goal) → strip (raise a r e k) ≡ raise a (strip r) e k
 strip-raise a skip e k = refl
 strip-raise a (one s) e k = refl
+strip-raise a (batch s qs) e k = refl
 strip-raise a (seq r ss) e k = ap (λ x. seq x ss) (strip-raise a r e k)
 strip-raise a (owing r g u) e k = ap (λ x. owing x 0 u) (strip-raise a r e k)
 strip-raise a (guard r g u) e k = ap (λ x. guard x 0 u) (strip-raise a r e k)
@@ -255,6 +271,7 @@ strip-raise a (goal r h) e k = ap (λ x. goal x h) (strip-raise a r e k)
 pub strip-left_by_unw : (r : Residual) → left_by_unw (strip r) ≡ left_by_unw r
 strip-left_by_unw skip = refl
 strip-left_by_unw (one s) = refl
+strip-left_by_unw (batch s qs) = refl
 strip-left_by_unw (seq r ss) = strip-left_by_unw r
 strip-left_by_unw (owing r g u) = strip-left_by_unw r
 strip-left_by_unw (guard r g u) = strip-left_by_unw r
@@ -267,6 +284,7 @@ strip-left_by_unw (goal r k) = strip-left_by_unw r
 pub strip-left_by_raise : (r : Residual) (e : ℕ) → left_by_raise (strip r) e ≡ left_by_raise r e
 strip-left_by_raise skip e = refl
 strip-left_by_raise (one s) e = refl
+strip-left_by_raise (batch s qs) e = refl
 strip-left_by_raise (seq r ss) e = strip-left_by_raise r e
 strip-left_by_raise (owing r g u) e = strip-left_by_raise r e
 strip-left_by_raise (guard r g u) e = strip-left_by_raise r e
@@ -284,6 +302,7 @@ strip-left_by_raise (goal r k) e = strip-left_by_raise r e
 pub strip-has_exit : (r : Residual) → has_exit (strip r) ≡ has_exit r
 strip-has_exit skip = refl
 strip-has_exit (one s) = refl
+strip-has_exit (batch s qs) = refl
 strip-has_exit (seq r ss) = strip-has_exit r
 strip-has_exit (owing r g u) = strip-has_exit r
 strip-has_exit (guard r g u) = strip-has_exit r
@@ -300,6 +319,7 @@ choice_same false x y = refl
 pub strip-returned : (v : Option Value) (r : Residual) → strip (returned v r) ≡ returned v (strip r)
 strip-returned v skip = refl
 strip-returned v (one s) = refl
+strip-returned v (batch s qs) = refl
 strip-returned v (seq r ss) = ap (λ x. seq x ss) (strip-returned v r)
 strip-returned v (owing r g u) = ap (λ x. owing x 0 u) (strip-returned v r)
 strip-returned v (guard r g u) = ap (λ x. guard x 0 u) (strip-returned v r)

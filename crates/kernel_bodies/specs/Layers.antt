@@ -72,6 +72,7 @@ standing (Some s) = one s
 -- what comes next
 abbrev pub shown : residual.Next → Next
 shown (residual.statement s) = next.Statement s
+shown (residual.owes s q) = next.Batch s q
 shown (residual.leaves x) = next.Leave
 shown residual.done = next.Done
 shown (residual.reaches k) = next.Goal k

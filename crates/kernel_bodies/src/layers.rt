@@ -62,6 +62,8 @@ pub struct Spare {
 pub enum Next {
     /// A statement.
     Statement(StmtId),
+    /// The call that a statement owes to the instance of this serial, and maybe to others then.
+    Batch(StmtId, u32),
     /// The end of a call.
     Leave,
     /// The end of the body.

@@ -42,8 +42,8 @@ module _ (program : Program) (s : Schedule Kept) (nobody : (p : ℕ) → shown_a
       by None none = none
       by (Some x) some = absurd (true≢false (ap is_some (sym (ap (option_map (λ (z : Entry (Process Kept)). as_instance z (seen s p).wait)) some) ∙ nobody p)))
 
-  pub nobody_stands : (d : Design) → s.stack.items ≡ [] → s.table.next ≡ 0 → StandsForProcesses (Shows d program) s (record { runnable = []; stack = []; instances = [] })
-  nobody_stands d stack next = record {
+  pub nobody_stands : (d : Design) (parents : List (Option ℕ)) → s.stack.items ≡ [] → s.table.next ≡ 0 → StandsForProcesses (Shows d program) s (record { runnable = []; stack = []; instances = []; parents = parents })
+  nobody_stands d parents stack next = record {
     each = nobody;
     ready = λ p. (subst (λ e. schedules.FitsAs e (seen s p)) (no_entry p) (fine.each p)).ready;
     stack = ap reverse (sym stack);
@@ -72,9 +72,9 @@ got (y ∷ xs) (suc n) x lt is = got xs n x (omega (arith, lt)) is
 
 -- one more is added
 pub adds_more : (program : Program) (parts : List ProcessPart) (n : ℕ) (part : ProcessPart) (s t : Schedule Kept) → AddsAll program (take n parts) s → Adds program part s t → slice_get parts n ≡ Some part → AddsAll program (take (n + 1) parts) t
-adds_more program parts n part s t all one at d same_design = subst (λ is. StandsForProcesses (Shows d program) t (record { runnable = []; stack = []; instances = is }))
+adds_more program parts n part s t all one at d parents same_design = subst (λ is. StandsForProcesses (Shows d program) t (record { runnable = []; stack = []; instances = is; parents = parents }))
     (sym (ap (map (first_instance d)) (ap (λ m. take m parts) (one_more n) ∙ take-more parts n part at) ∙ map-append (first_instance d) (take n parts) (part ∷ [])))
-    (one d (record { runnable = []; stack = []; instances = map (first_instance d) (take n parts) }) same_design (all d same_design))
+    (one d (record { runnable = []; stack = []; instances = map (first_instance d) (take n parts); parents = parents }) same_design (all d parents same_design))
 
 module _ (program : Program) (part : ProcessPart) (s t : Schedule Kept) (made : IsMade program s) (n : ℕ) (b : Body) (kind : ProcessKind) (sensitive : List Ev)
     (same_kind : kind_of kind ≡ part.kind) (same_static : sensitive ≡ part.sensitive)

@@ -1,5 +1,5 @@
 -- The parts that a kernel begins with, together.
-use Rattle.std.proofs.Common.{◌≡◌, ◌≤◌, List, [], length, map, replicate, refl, sym, ap, ◌∙◌, subst, arith}
+use Rattle.std.proofs.Common.{◌≡◌, ◌≤◌, ℕ, List, [], length, map, replicate, Option, None, refl, sym, ap, ◌∙◌, subst, arith}
 use Rattle.kernel_state.specs.InstanceTable.declared.TheConstants.{MAX_LIVE}
 use Rattle.kernel_state.specs.EventCore.declared.notifications.Pending.TheVariants as pending
 use Rattle.kernel_state.specs.QuantumKeeper.Keepers.{at_start}
@@ -33,12 +33,16 @@ module _ (x : Design) (program : Program) (cycle : Cycle) (s : Schedule Kept) (f
     whole : record x { code = program.code } ≡ d
     whole = ap {A = Design} (λ y. record y { code = program.code }) parted ∙ ap (λ y. record d { code = y }) same
 
-    first_ones : StandsForProcesses (Shows (record x { code = program.code }) program) s (record { runnable = []; stack = []; instances = map (first_instance d) d.processes })
-    first_ones = subst (λ (y : Design). StandsForProcesses (Shows (record x { code = program.code }) program) s (record { runnable = []; stack = []; instances = map (first_instance y) d.processes })) whole
-        (subst (λ ys. StandsForProcesses (Shows (record x { code = program.code }) program) s (record { runnable = []; stack = []; instances = map (first_instance (record x { code = program.code })) ys })) (listed ∙ ap (λ (y : Design). y.processes) parted)
-        (processes (record x { code = program.code }) refl))
+    first_parents : List (Option ℕ)
+    first_parents = map (λ (p : ProcessPart). None) d.processes
+
+    first_ones : StandsForProcesses (Shows (record x { code = program.code }) program) s (record { runnable = []; stack = []; instances = map (first_instance d) d.processes; parents = first_parents })
+    first_ones = subst (λ (y : Design). StandsForProcesses (Shows (record x { code = program.code }) program) s (record { runnable = []; stack = []; instances = map (first_instance y) d.processes; parents = first_parents })) whole
+        (subst (λ ys. StandsForProcesses (Shows (record x { code = program.code }) program) s (record { runnable = []; stack = []; instances = map (first_instance (record x { code = program.code })) ys; parents = first_parents })) (listed ∙ ap (λ (y : Design). y.processes) parted)
+        (processes (record x { code = program.code }) first_parents refl))
 
     pub first_stands : (script : List Command) → StandsFor together (start d script)
+    unfolding first_parents
     first_stands script = record {
       design = sym whole;
       cycle = sym first;

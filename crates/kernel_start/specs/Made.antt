@@ -1,5 +1,5 @@
 -- The processes of a design before the first command.
-use Rattle.std.specs.Prelude.{◌≡◌, ℕ, List, [], ◌∷◌, ◌++◌, map, false, Some, None}
+use Rattle.std.specs.Prelude.{◌≡◌, ℕ, List, [], ◌∷◌, ◌++◌, map, false, Option, Some, None}
 use Rattle.kernel_state.specs.FlatDesign.declared.design.Design.{Design}
 use Rattle.kernel_state.specs.FlatDesign.declared.design.ProcessPart.{ProcessPart}
 use Rattle.kernel_state.specs.SimModel.Configuration.{Cycle, Processes, first_instance}
@@ -26,9 +26,9 @@ with_process d part x = record x { instances = x.instances ++ first_instance d p
 abbrev pub Adds : Program → ProcessPart → Schedule Kept → Schedule Kept → Type 0
 Adds program part old new = (d : Design) (x : Processes) → d.code ≡ program.code → StandsForProcesses (Shows d program) old x → StandsForProcesses (Shows d program) new (with_process d part x)
 
--- all of them are, and nobody runs
+-- all of them are, and nobody runs; who brought them forth is read by no step of language 1
 abbrev pub AddsAll : Program → List ProcessPart → Schedule Kept → Type 0
-AddsAll program parts s = (d : Design) → d.code ≡ program.code → StandsForProcesses (Shows d program) s (record { runnable = []; stack = []; instances = map (first_instance d) parts })
+AddsAll program parts s = (d : Design) (parents : List (Option ℕ)) → d.code ≡ program.code → StandsForProcesses (Shows d program) s (record { runnable = []; stack = []; instances = map (first_instance d) parts; parents = parents })
 
 -- Idle at time 0, and no run has begun
 abbrev pub first_cycle : Cycle

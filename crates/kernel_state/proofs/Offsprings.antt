@@ -89,17 +89,17 @@ module _ (k : Kernel) (sound : IsSound k) (o : Offspring) (n : ℕ) (b : Body) (
   others_by false c q apart = on_last c.processes.runnable n q ∙ ap (λ x. holds c.processes.runnable q || x) (ne_eqb n q (λ same. apart (sym same))) ∙ or-nothing (holds c.processes.runnable q)
 
   -- the configuration with the new instance, by whether it is runnable
-  offspring_as : (w : Bool) (c : Config) → o.waits ≡ w → with_offspring c n o ≡ record c { processes = record c.processes { runnable = with_runs_of n w c.processes.runnable; instances = c.processes.instances ++ offspring_in c.design n o ∷ [] } }
+  offspring_as : (w : Bool) (c : Config) → o.waits ≡ w → with_offspring c n o ≡ record c { processes = record c.processes { runnable = with_runs_of n w c.processes.runnable; instances = c.processes.instances ++ offspring_in c.design n o ∷ []; parents = c.processes.parents ++ slice_get c.processes.stack 0 ∷ [] } }
   offspring_as true c is = ap (λ w. runnable_unless w n (added c (offspring_in c.design n o))) is
   offspring_as false c is = ap (λ w. runnable_unless w n (added c (offspring_in c.design n o))) is
 
   pub spawned_moves : Moves k (record k { schedule = s }) (λ c. with_offspring c n o)
   spawned_moves c h = subst (StandsFor (record k { schedule = s })) (sym (offspring_as o.waits c refl))
-      (processes_move k c h s (record c.processes { runnable = with_runs_of n o.waits c.processes.runnable; instances = c.processes.instances ++ offspring_in c.design n o ∷ [] })
-      (subst (λ d. StandsForProcesses (Shows (whole_design k) k.program) s (record c.processes { runnable = with_runs_of n o.waits c.processes.runnable; instances = c.processes.instances ++ offspring_in d n o ∷ [] })) (sym h.design)
+      (processes_move k c h s (record c.processes { runnable = with_runs_of n o.waits c.processes.runnable; instances = c.processes.instances ++ offspring_in c.design n o ∷ []; parents = c.processes.parents ++ slice_get c.processes.stack 0 ∷ [] })
+      (subst (λ d. StandsForProcesses (Shows (whole_design k) k.program) s (record c.processes { runnable = with_runs_of n o.waits c.processes.runnable; instances = c.processes.instances ++ offspring_in d n o ∷ []; parents = c.processes.parents ++ slice_get c.processes.stack 0 ∷ [] })) (sym h.design)
       (spawned_stands (Shows (whole_design k) k.program) k.schedule s c.processes h.processes n (spawned_as o.kind o.sensitive o.waits) (offspring_in (whole_design k) n o)
       (record { home = o.home; path = path_by.Spawned n; body = b; trigger = None }) (not o.waits) spawns refl refl shows
-      (record c.processes { runnable = with_runs_of n o.waits c.processes.runnable; instances = c.processes.instances ++ offspring_in (whole_design k) n o ∷ [] })
+      (record c.processes { runnable = with_runs_of n o.waits c.processes.runnable; instances = c.processes.instances ++ offspring_in (whole_design k) n o ∷ []; parents = c.processes.parents ++ slice_get c.processes.stack 0 ∷ [] })
       refl (runs_by o.waits c (h.processes.ready n)) (others_by o.waits c) refl)))
 
   pub spawned_sound : IsSound (record k { schedule = s; made = k.made + 1 })

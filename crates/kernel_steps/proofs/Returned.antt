@@ -84,8 +84,8 @@ module _ (c : Config) where
   hands_back_quiet d p h x (code.qk_set n e) k = k
   hands_back_quiet d p h x (code.qk_reset n) k = k
   hands_back_quiet d p h x (code.spawn s) k = k
-  hands_back_quiet d p h x (code.control order who) k = k
-  hands_back_quiet d p h x (code.throw_it who e) k = k
+  hands_back_quiet d p h x (code.control order who all) k = k
+  hands_back_quiet d p h x (code.throw_it who e all) k = k
   hands_back_quiet d p h x (code.throw e) k = k
   hands_back_quiet d p h x (code.return_ e) k = k
   hands_back_quiet d p h x code.stop k = k

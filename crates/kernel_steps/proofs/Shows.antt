@@ -29,6 +29,7 @@ has_statement k p s shows kept at = subst bodies.IsStatement (sym (ap shown (sho
 -- the end of a call is shown by one that ends
 pub leave_is : (n : Next) → next.Leave ≡ shown n → (x : Frame) × (n ≡ residual.leaves x)
 leave_is (residual.statement s) is = absurd (let no : ⊥ = cc in no)
+leave_is (residual.owes s q) is = absurd (let no : ⊥ = cc in no)
 leave_is (residual.leaves x) is = (x, refl)
 leave_is residual.done is = absurd (let no : ⊥ = cc in no)
 leave_is (residual.reaches g) is = absurd (let no : ⊥ = cc in no)

@@ -47,7 +47,7 @@ use Rattle.exec_channels.specs.SimModel.Channels.{channel_in, blocks, set_fifo, 
 use Rattle.exec_channels.specs.SimModel.Calls.{locals_in, argument_values, may_enter, enters, with_entry, with_left, thrown, cut_answer, answer_type, first_arguments, may_spawn, new_instance, added, runnable_unless, handle_stored, spawns, do_call, do_spawn}
 use Rattle.exec_channels.specs.SimModel.Payloads.{Payloads, with_made, with_acquired, with_released}
 use Rattle.exec_channels.specs.SimModel.Transport.{with_pool, size_within, size_or, may_make, do_make, do_carry, socket_of, history, is_complete, judged_by, judged, blocking_handler, nonblocking_handler, path_of_call, may_enter_handler, enters_handler, int_of, value_named, b_transport_on, nb_transport_on, with_global, with_keeper, kept, on_keeper, keeper_named}
-use Rattle.exec_channels.specs.SimModel.Control.{is_top, is_below_top, is_thread, with_kept, yields, suspends, resumes, pushed, pushed_unless_top, unwinds, ends_or_restarts, injected, throws_at, controlled_by, unless_ended, control_call, throw_call, target_of, do_control, do_throw_it, ended_instance, ends, begins, stays_kept, restarts, reaches_goal, done_by}
+use Rattle.exec_channels.specs.SimModel.Control.{is_top, is_below_top, is_thread, with_kept, yields, suspends, resumes, pushed, pushed_unless_top, unwinds, ends_or_restarts, injected, throws_at, controlled_by, unless_ended, control_call, throw_call, target_of, targets, with_owed, do_control, do_throw_it, ended_instance, ends, begins, stays_kept, restarts, reaches_goal, done_by}
 use Rattle.exec_channels.specs.SimModel.Statements.{do_statement}
 use Rattle.exec_channels.specs.SimModel.declared.plain.Goal.{Goal}
 use Rattle.exec_channels.specs.SimModel.declared.plain.Goal.TheVariants as goal_of
@@ -346,12 +346,14 @@ module _ (c : Config) where
       (either_ok (has_goal i.residual) (Ok d) (thrown d q i.residual e) k (thrown_quiet d q i.residual e k)) (injected_quiet d q i e k))
 
   module _ (p : ℕ) (r : Residual) (h : Here) where
-    control_quiet : (o : Control) (who : Controlled) → QuietIfOk c (do_control c p r h o who)
-    control_quiet o who = ok c (target_of h p who) (λ q. control_call (passes c p r) q o) (λ q.
+    control_quiet : (s : ℕ) (o : Control) (who : Controlled) (all : Bool) → QuietIfOk c (do_control c p r h s o who all)
+    control_quiet s o who true = ok c (target_of h p who) (λ q. Ok (with_owed c p r s (targets c q p))) (λ q. refl)
+    control_quiet s o who false = ok c (target_of h p who) (λ q. control_call (passes c p r) q o) (λ q.
         unless_ended_quiet (passes c p r) (instance_at (passes c p r) q) (λ i. controlled_by (passes c p r) q i o) refl (λ i. controlled_quiet (passes c p r) q i o refl))
 
-    throw_it_quiet : (who : Controlled) (e : ℕ) → QuietIfOk c (do_throw_it c p r h who e)
-    throw_it_quiet who e = ok c (target_of h p who) (λ q. throw_call (passes c p r) q e) (λ q.
+    throw_it_quiet : (s : ℕ) (who : Controlled) (e : ℕ) (all : Bool) → QuietIfOk c (do_throw_it c p r h s who e all)
+    throw_it_quiet s who e true = ok c (target_of h p who) (λ q. Ok (with_owed c p r s (targets c q p))) (λ q. refl)
+    throw_it_quiet s who e false = ok c (target_of h p who) (λ q. throw_call (passes c p r) q e) (λ q.
         unless_ended_quiet (passes c p r) (instance_at (passes c p r) q) (λ i. throws_at (passes c p r) q i e) refl (λ i. throws_at_quiet (passes c p r) q i e refl))
 
     -- ---- payloads and keepers
@@ -497,8 +499,8 @@ module _ (c : Config) where
       on_keeper_quiet p r h (keeper_at c (keeper_named h n)) (λ k. kept (passes c p r) (keeper_named h n) (after_reset c.quantum.global c.cycle.now))
       (λ k. kept_quiet p r h (keeper_named h n) (after_reset c.quantum.global c.cycle.now))
   statement_quiet p i r h s (code.spawn x) other = spawn_quiet p r h x
-  statement_quiet p i r h s (code.control k who) other = control_quiet p r h k who
-  statement_quiet p i r h s (code.throw_it who e) other = throw_it_quiet p r h who e
+  statement_quiet p i r h s (code.control k who all) other = control_quiet p r h s k who all
+  statement_quiet p i r h s (code.throw_it who e all) other = throw_it_quiet p r h s who e all
   statement_quiet p i r h s (code.throw e) other = thrown_quiet c p r e refl
   statement_quiet p i r h s (code.return_ e) other = ok c (val_if h e) (λ v. Ok (with_marks (with_residual c p (returned (cut_answer (answer_type (arena c) (innermost r)) v) r)) (return_marks p r))) (λ v. refl)
   statement_quiet p i r h s code.stop other = refl

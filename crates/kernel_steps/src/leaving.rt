@@ -62,8 +62,8 @@ fn end_by(statement: &Statement) -> CallEnd
         | Statement::QkSet(_, _)
         | Statement::QkReset(_)
         | Statement::Spawn(_)
-        | Statement::Control(_, _)
-        | Statement::ThrowIt(_, _)
+        | Statement::Control(_, _, _)
+        | Statement::ThrowIt(_, _, _)
         | Statement::Throw(_)
         | Statement::Return(_)
         | Statement::Stop

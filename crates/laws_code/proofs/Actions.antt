@@ -399,9 +399,9 @@ module _ (s : Scope) (c : Context) (names : NamesStand s c) (known : TypesAreKno
         (λ i. with_four (λ handle g es sens. record { handle = handle; kind = spawned_kind x.method; function = g; arguments = es; sensitive = sens; dont_initialize = x.dont_initialize }) (met.0.1 i) (f.is_number i) (args.1 i) (events.1 i)),
         (f.stands.body, f.stands.here, args.2, events.2, met.0.2),
       )
-  action_fine line n (tree.control q w) m ret fit k parts = mapped_fine (IsControlled c) (code.control q) (controlled_by s w) (λ y p. p) (controlled_fine w parts)
-  action_fine line n (tree.throw_it w name) m ret fit k parts =
-      single_fine _ (two_has (IsControlled c) (λ y. ⊤) Fine code.throw_it (controlled_by s w) (exception_number h name) (λ u v i j. i) (controlled_fine w parts) (exception_fine name m.0))
+  action_fine line n (tree.control q w all) m ret fit k parts = mapped_fine (IsControlled c) (λ y. code.control q y all) (controlled_by s w) (λ y p. p) (controlled_fine w parts)
+  action_fine line n (tree.throw_it w name all) m ret fit k parts =
+      single_fine _ (two_has (IsControlled c) (λ y. ⊤) Fine (λ q e. code.throw_it q e all) (controlled_by s w) (exception_number h name) (λ u v i j. i) (controlled_fine w parts) (exception_fine name m.0))
   action_fine line n (tree.throw name) m ret fit k parts = mapped_fine (λ y. ⊤) code.throw (exception_number h name) (λ y p. tt) (exception_fine name m.0)
   action_fine line n (tree.return_ e) m ret fit k parts =
       mapped_fine (IsReturned c answer) code.return_ (if_written (term_of s) e) (λ y p. p)

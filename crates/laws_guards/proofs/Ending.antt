@@ -7,7 +7,7 @@ use Rattle.laws_unwinding.specs.FlatDesign.Sound.{SoundDesign}
 use Rattle.laws_unwinding.specs.FlatDesign.declared.design.ProcessPart.{ProcessPart}
 use Rattle.laws_unwinding.specs.FlatDesign.declared.design.Design.{Design}
 use Rattle.laws_unwinding.specs.FlatDesign.declared.code.Handler.{Handler}
-use Rattle.laws_unwinding.specs.SimModel.Residual.{Residual, Frame, skip, one, seq, owing, guard, try_, frame, shell, run, goal, followed, statements, block, then_on, in_run, then_owed, in_guard, in_try, in_shell, settle, frame_or, goal_or, put, in_innermost, entered}
+use Rattle.laws_unwinding.specs.SimModel.Residual.{Residual, Frame, skip, one, batch, seq, owing, guard, try_, frame, shell, run, goal, followed, statements, block, then_on, in_run, then_owed, in_guard, in_try, in_shell, settle, frame_or, goal_or, put, taken_off, in_innermost, entered}
 use Rattle.laws_unwinding.specs.SimModel.Unwinding.{unw, catches, handles, handler_block, handler_of, handled, raise, has_exit, returned}
 use Rattle.laws_unwinding.specs.SimModel.Configuration.{Config, Instance, first_instance, instance_at, start}
 use Rattle.laws_unwinding.specs.SimModel.Storing.{with_local}
@@ -40,6 +40,7 @@ or_both false b h c none = none
 normal_outer : (r : Residual) → IsNormal r → has_outer_goal r ≡ false
 normal_outer skip h = refl
 normal_outer (one s) h = refl
+normal_outer (batch s qs) h = refl
 normal_outer (seq r ss) h = normal_outer r h
 normal_outer (owing r g u) h = absurd h
 normal_outer (guard r g u) h = normal_outer r h
@@ -60,6 +61,7 @@ statements_outer (s ∷ ss) = followed_outer (one s) ss
 unw_outer : (r : Residual) → has_outer_goal (unw r) ≡ false
 unw_outer skip = refl
 unw_outer (one s) = refl
+unw_outer (batch s qs) = refl
 unw_outer (seq r ss) = unw_outer r
 unw_outer (owing r g u) = unw_outer r
 unw_outer (guard r g u) = unw_outer r
@@ -72,6 +74,7 @@ unw_outer (goal r k) = unw_outer r
 local_outer : (f : Frame → Frame) (r : Residual) → has_outer_goal (in_innermost f r) ≡ has_outer_goal r
 local_outer f skip = refl
 local_outer f (one s) = refl
+local_outer f (batch s qs) = refl
 local_outer f (seq r ss) = local_outer f r
 local_outer f (owing r g u) = local_outer f r
 local_outer f (guard r g u) = local_outer f r
@@ -80,6 +83,19 @@ local_outer f (frame r x) = local_outer f r
 local_outer f (shell r x) = local_outer f r
 local_outer f (run g r) = local_outer f r
 local_outer f (goal r k) = ap (λ b. is_outer k || b) (local_outer f r)
+
+off_outer : (r : Residual) → has_outer_goal (taken_off r) ≡ has_outer_goal r
+off_outer skip = refl
+off_outer (one s) = refl
+off_outer (batch s qs) = refl
+off_outer (seq r ss) = off_outer r
+off_outer (owing r g u) = off_outer r
+off_outer (guard r g u) = off_outer r
+off_outer (try_ r handlers) = off_outer r
+off_outer (frame r x) = off_outer r
+off_outer (shell r x) = off_outer r
+off_outer (run g r) = off_outer r
+off_outer (goal r k) = ap (λ b. is_outer k || b) (off_outer r)
 
 module _ (a : Arena) where
   then_outer : (r : Residual) (ss : List ℕ) → has_outer_goal r ≡ false → has_outer_goal (then_on r ss) ≡ false
@@ -109,6 +125,8 @@ module _ (a : Arena) where
   settle_outer : (r : Residual) → has_outer_goal r ≡ false → has_outer_goal (settle a r) ≡ false
   settle_outer skip h = refl
   settle_outer (one s) h = refl
+  settle_outer (batch s []) h = refl
+  settle_outer (batch s (q ∷ qs)) h = refl
   settle_outer (seq r ss) h = then_outer (settle a r) ss (settle_outer r h)
   settle_outer (owing r g u) h = owed_outer (settle a r) g u (settle_outer r h)
   settle_outer (guard r g u) h = guard_outer (settle a r) g u (settle_outer r h)
@@ -130,6 +148,7 @@ module _ (new : Residual) (none : has_outer_goal new ≡ false) where
   put_outer : (r : Residual) → has_outer_goal r ≡ false → has_outer_goal (put r new) ≡ false
   put_outer skip h = refl
   put_outer (one s) h = none
+  put_outer (batch s qs) h = none
   put_outer (seq r ss) h = followed_outer (put r new) ss ∙ put_outer r h
   put_outer (owing r g u) h = put_outer r h
   put_outer (guard r g u) h = put_outer r h
@@ -147,6 +166,7 @@ module _ (v : Option Value) where
   returned_outer : (r : Residual) → has_outer_goal r ≡ false → has_outer_goal (returned v r) ≡ false
   returned_outer skip h = refl
   returned_outer (one s) h = refl
+  returned_outer (batch s qs) h = refl
   returned_outer (seq r ss) h = returned_outer r h
   returned_outer (owing r g u) h = returned_outer r h
   returned_outer (guard r g u) h = returned_outer r h
@@ -175,6 +195,7 @@ module _ (a : Arena) (e : ℕ) (k : Goal) (inner : IsInner k) where
   raise_outer : (r : Residual) → has_outer_goal r ≡ false → has_outer_goal (raise a r e k) ≡ false
   raise_outer skip h = refl
   raise_outer (one s) h = refl
+  raise_outer (batch s qs) h = refl
   raise_outer (seq r ss) h = raise_outer r h
   raise_outer (owing r g u) h = raise_outer r h
   raise_outer (guard r g u) h = raise_outer r h
@@ -218,6 +239,10 @@ local_outside : (f : Frame → Frame) (r : Residual) → Outside r → Outside (
 local_outside f (goal r k) h = local_outer f r ∙ h
 local_outside f other h = none_outside (in_innermost f other) (local_outer f other ∙ h)
 
+off_outside : (r : Residual) → Outside r → Outside (taken_off r)
+off_outside (goal r k) h = off_outer r ∙ h
+off_outside other h = none_outside (taken_off other) (off_outer other ∙ h)
+
 -- raised in the goal of another, it stays so
 raise_outside : (a : Arena) (e : ℕ) (k : Goal) → IsInner k → (r : Residual) → Outside r → Outside (raise a r e k)
 raise_outside a e k inner (goal r j) h = raise_outer a e k inner r h
@@ -245,6 +270,7 @@ outside-kept p = record {
   pushes = λ x n more top off h. h;
   passes = λ x i r at may h. outside_here x p i r (put r skip) at.here at.is (put_outside skip refl r) h;
   puts = λ x i r n at next new is_new h. outside_here x p i r (put r new) at.here at.is (put_outside new (normal_outer new is_new.normal) r) h;
+  takes_off = λ x i r at h. outside_here x p i r (taken_off r) at.here at.is (off_outside r) h;
   guards = λ x i r n at next b u h. outside_here x p i r (put r (guard (block (code_of x.design) b) x.next_guard u)) at.here at.is (put_outside (guard (block (code_of x.design) b) x.next_guard u) (normal_outer (block (code_of x.design) b) (block-normal (code_of x.design) b)) r) h;
   returns = λ x i r n at next v h. outside_here x p i r (returned v r) at.here at.is (returned_outside v r) h;
   locals = λ x n v h. each-change IsOutside x.instances p (λ j. record j { residual = in_innermost (with_local n v) j.residual }) (λ i at k. local_outside (with_local n v) i.residual k) h;

@@ -6,7 +6,7 @@ use Rattle.laws_unwinding.specs.LogicValues.declared.kinds.Value.{Value}
 use Rattle.laws_unwinding.specs.FlatDesign.Code.{Arena, block_at, body_at}
 use Rattle.laws_unwinding.specs.FlatDesign.declared.code.CodeBody.{CodeBody}
 use Rattle.laws_unwinding.specs.FlatDesign.declared.code.Handler.{Handler}
-use Rattle.laws_unwinding.specs.SimModel.Residual.{Residual, Frame, skip, one, seq, owing, guard, try_, frame, shell, run, goal, followed, statements, block, frame_or, goal_or, put, in_innermost, entered, entered_in, settle, has_goal}
+use Rattle.laws_unwinding.specs.SimModel.Residual.{Residual, Frame, skip, one, batch, seq, owing, guard, try_, frame, shell, run, goal, followed, statements, block, frame_or, goal_or, put, taken_off, in_innermost, entered, entered_in, settle, has_goal}
 use Rattle.laws_unwinding.specs.SimModel.Unwinding.{unw, catches, handles, handler_block, handler_of, handled, raise, has_exit, returned}
 use Rattle.laws_unwinding.specs.SimModel.Configuration.{Config, Instance, instance_at, arena}
 use Rattle.laws_unwinding.specs.SimModel.Storing.{with_local}
@@ -30,6 +30,7 @@ use Rattle.laws_unwinding.proofs.Shaped.{standing-shaped}
 abbrev pub runs : Residual → Bool
 runs skip = false
 runs (one s) = false
+runs (batch s qs) = false
 runs (seq r ss) = runs r
 runs (owing r g u) = runs r
 runs (guard r g u) = runs r
@@ -42,6 +43,7 @@ runs (goal r k) = runs r
 normal_runs : (r : Residual) → IsNormal r → runs r ≡ false
 normal_runs skip h = refl
 normal_runs (one s) h = refl
+normal_runs (batch s qs) h = refl
 normal_runs (seq r ss) h = normal_runs r h
 normal_runs (owing r g u) h = absurd h
 normal_runs (guard r g u) h = normal_runs r h
@@ -82,6 +84,7 @@ module _ (new : Residual) (is_new : runs new ≡ false) where
   put_runs : (r : Residual) → runs r ≡ false → runs (put r new) ≡ false
   put_runs skip h = refl
   put_runs (one s) h = is_new
+  put_runs (batch s qs) h = is_new
   put_runs (seq r ss) h = followed_runs (put r new) ss ∙ put_runs r h
   put_runs (owing r g u) h = put_runs r h
   put_runs (guard r g u) h = put_runs r h
@@ -99,6 +102,7 @@ module _ (v : Option Value) where
   returned_runs : (r : Residual) → runs r ≡ false → runs (returned v r) ≡ false
   returned_runs skip h = refl
   returned_runs (one s) h = refl
+  returned_runs (batch s qs) h = refl
   returned_runs (seq r ss) h = returned_runs r h
   returned_runs (owing r g u) h = returned_runs r h
   returned_runs (guard r g u) h = returned_runs r h
@@ -111,6 +115,7 @@ module _ (v : Option Value) where
 local_runs : (f : Frame → Frame) (r : Residual) → runs (in_innermost f r) ≡ runs r
 local_runs f skip = refl
 local_runs f (one s) = refl
+local_runs f (batch s qs) = refl
 local_runs f (seq r ss) = local_runs f r
 local_runs f (owing r g u) = local_runs f r
 local_runs f (guard r g u) = local_runs f r
@@ -120,9 +125,23 @@ local_runs f (shell r x) = local_runs f r
 local_runs f (run g r) = refl
 local_runs f (goal r k) = local_runs f r
 
+off_runs : (r : Residual) → runs (taken_off r) ≡ runs r
+off_runs skip = refl
+off_runs (one s) = refl
+off_runs (batch s qs) = refl
+off_runs (seq r ss) = off_runs r
+off_runs (owing r g u) = off_runs r
+off_runs (guard r g u) = off_runs r
+off_runs (try_ r handlers) = off_runs r
+off_runs (frame r x) = off_runs r
+off_runs (shell r x) = off_runs r
+off_runs (run g r) = refl
+off_runs (goal r k) = off_runs r
+
 unw_runs : (r : Residual) → runs (unw r) ≡ runs r
 unw_runs skip = refl
 unw_runs (one s) = refl
+unw_runs (batch s qs) = refl
 unw_runs (seq r ss) = unw_runs r
 unw_runs (owing r g u) = unw_runs r
 unw_runs (guard r g u) = unw_runs r
@@ -141,6 +160,7 @@ module _ (a : Arena) (e : ℕ) (k : Goal) where
   raise_runs : (r : Residual) → runs r ≡ false → runs (raise a r e k) ≡ false
   raise_runs skip h = refl
   raise_runs (one s) h = refl
+  raise_runs (batch s qs) h = refl
   raise_runs (seq r ss) h = raise_runs r h
   raise_runs (owing r g u) h = raise_runs r h
   raise_runs (guard r g u) h = raise_runs r h
@@ -169,6 +189,7 @@ module _ (q : ℕ) where
     pushes = λ x n more top off h. h;
     passes = λ x i r at may h. idle_here x p i r (put r skip) at.here at.is (put_runs skip refl r) h;
     puts = λ x i r n at next new is_new h. idle_here x p i r (put r new) at.here at.is (put_runs new (normal_runs new is_new.normal) r) h;
+    takes_off = λ x i r at h. idle_here x p i r (taken_off r) at.here at.is (λ e. off_runs r ∙ e) h;
     guards = λ x i r n at next b u h. idle_here x p i r (put r (guard (block (code_of x.design) b) x.next_guard u)) at.here at.is (put_runs (guard (block (code_of x.design) b) x.next_guard u) (block_runs (code_of x.design) b) r) h;
     returns = λ x i r n at next v h. idle_here x p i r (returned v r) at.here at.is (returned_runs v r) h;
     locals = λ x n v h. each-change IsIdle x.instances p (λ j. record j { residual = in_innermost (with_local n v) j.residual }) (λ i at k e. local_runs (with_local n v) i.residual ∙ k e) h;

@@ -25,6 +25,7 @@ module _ (ms : List Mark) where
     pushes = λ x q more top off h. h;
     passes = λ x i r at may h. h;
     puts = λ x i r n at next new is_new h. h;
+    takes_off = λ x i r at h. h;
     guards = λ x i r n at next b u h. added x _ h;
     returns = λ x i r n at next v h. added x _ h;
     locals = λ x n v h. h;
@@ -73,6 +74,7 @@ module _ (q : ℕ) where
     pushes = λ x n more top off h. h;
     passes = λ x i r at may h. has_changed x.instances p _ h;
     puts = λ x i r n at next new is_new h. has_changed x.instances p _ h;
+    takes_off = λ x i r at h. has_changed x.instances p _ h;
     guards = λ x i r n at next b u h. has_changed x.instances p _ h;
     returns = λ x i r n at next v h. has_changed x.instances p _ h;
     locals = λ x n v h. has_changed x.instances p _ h;

@@ -6,7 +6,7 @@ use Rattle.laws_unwinding.specs.LogicValues.declared.kinds.Value.{Value}
 use Rattle.laws_unwinding.specs.FlatDesign.Code.{Arena, block_at, body_at}
 use Rattle.laws_unwinding.specs.FlatDesign.declared.code.CodeBody.{CodeBody}
 use Rattle.laws_unwinding.specs.FlatDesign.declared.code.Handler.{Handler}
-use Rattle.laws_unwinding.specs.SimModel.Residual.{Residual, Frame, Mark, skip, one, seq, owing, guard, try_, frame, shell, run, goal, enter, leave, begin, finish, followed, statements, block, then_on, in_run, then_owed, in_guard, in_try, in_shell, settle, finished_if, begun_if, left_if, fall, frame_or, goal_or, put, in_innermost, entered, entered_in}
+use Rattle.laws_unwinding.specs.SimModel.Residual.{Residual, Frame, Mark, skip, one, batch, seq, owing, guard, try_, frame, shell, run, goal, enter, leave, begin, finish, followed, statements, block, then_on, in_run, then_owed, in_guard, in_try, in_shell, settle, finished_if, begun_if, left_if, fall, frame_or, goal_or, put, taken_off, in_innermost, entered, entered_in}
 use Rattle.laws_unwinding.specs.SimModel.Unwinding.{unw, catches, handles, handler_block, handler_of, handled, raise, has_exit, returned, guards_left, return_marks}
 use Rattle.laws_unwinding.specs.SimModel.Clean.{guards_of}
 use Rattle.laws_unwinding.specs.SimModel.declared.plain.Goal.{Goal}
@@ -15,6 +15,7 @@ use Rattle.laws_unwinding.specs.SimModel.declared.plain.Via.{Via}
 abbrev pub is_inside : ℕ → Residual → Bool
 is_inside g skip = false
 is_inside g (one s) = false
+is_inside g (batch s qs) = false
 is_inside g (seq r ss) = is_inside g r
 is_inside g (owing r n u) = is_inside g r
 is_inside g (guard r n u) = (n == g) || is_inside g r
@@ -51,6 +52,7 @@ module _ (g : ℕ) where
   pub guardless : (r : Residual) → guards_of r ≡ [] → is_inside g r ≡ false
   guardless skip h = refl
   guardless (one s) h = refl
+  guardless (batch s qs) h = refl
   guardless (seq r ss) h = guardless r h
   guardless (owing r n u) h = cc
   guardless (guard r n u) h = cc
@@ -85,6 +87,7 @@ module _ (g : ℕ) where
     then_inside : (r : Residual) (ss : List ℕ) → is_inside g r ≡ false → is_inside g (then_on r ss) ≡ false
     then_inside skip ss h = statements_inside ss
     then_inside (one s) ss h = followed_inside (one s) ss ∙ h
+    then_inside (batch s qs) ss h = followed_inside (batch s qs) ss ∙ h
     then_inside (seq r us) ss h = followed_inside (seq r us) ss ∙ h
     then_inside (owing r n u) ss h = followed_inside (owing r n u) ss ∙ h
     then_inside (guard r n u) ss h = followed_inside (guard r n u) ss ∙ h
@@ -117,6 +120,8 @@ module _ (g : ℕ) where
     pub settle-inside : (r : Residual) → is_inside g r ≡ false → is_inside g (settle a r) ≡ false
     settle-inside skip h = refl
     settle-inside (one s) h = refl
+    settle-inside (batch s []) h = refl
+    settle-inside (batch s (q ∷ qs)) h = refl
     settle-inside (seq r ss) h = then_inside (settle a r) ss (settle-inside r h)
     settle-inside (owing r n u) h = owed_inside (settle a r) n u (settle-inside r h)
     settle-inside (guard r n u) h = guard_inside (settle a r) n u (or-left (n == g) (is_inside g r) h) (settle-inside r (or-right (n == g) (is_inside g r) h))
@@ -141,6 +146,7 @@ module _ (g : ℕ) where
     pub fall-unleft : (p : ℕ) (r : Residual) → is_inside g r ≡ false → unleft g (fall p a r)
     fall-unleft p skip h = refl
     fall-unleft p (one s) h = refl
+    fall-unleft p (batch s qs) h = refl
     fall-unleft p (seq r ss) h = fall-unleft p r h
     fall-unleft p (owing r n u) h = unleft-append (fall p a r) (begun_if p a (settle a r) n u) (fall-unleft p r h) (begun_unleft p n u (settle a r))
     fall-unleft p (guard r n u) h =
@@ -165,6 +171,7 @@ module _ (g : ℕ) where
     pub put-inside : (r : Residual) → is_inside g r ≡ false → is_inside g (put r new) ≡ false
     put-inside skip h = refl
     put-inside (one s) h = is_new
+    put-inside (batch s qs) h = is_new
     put-inside (seq r ss) h = followed_inside (put r new) ss ∙ put-inside r h
     put-inside (owing r n u) h = put-inside r h
     put-inside (guard r n u) h = neither (n == g) _ (or-left (n == g) (is_inside g r) h) (put-inside r (or-right (n == g) (is_inside g r) h))
@@ -184,6 +191,7 @@ module _ (g : ℕ) where
     pub returned-inside : (r : Residual) → is_inside g r ≡ false → is_inside g (returned v r) ≡ false
     returned-inside skip h = refl
     returned-inside (one s) h = refl
+    returned-inside (batch s qs) h = refl
     returned-inside (seq r ss) h = returned-inside r h
     returned-inside (owing r n u) h = returned-inside r h
     returned-inside (guard r n u) h = neither (n == g) _ (or-left (n == g) (is_inside g r) h) (returned-inside r (or-right (n == g) (is_inside g r) h))
@@ -196,6 +204,7 @@ module _ (g : ℕ) where
   left_marks_unleft : (p : ℕ) (r : Residual) → is_inside g r ≡ false → unleft g (guards_left p r)
   left_marks_unleft p skip h = refl
   left_marks_unleft p (one s) h = refl
+  left_marks_unleft p (batch s qs) h = refl
   left_marks_unleft p (seq r ss) h = left_marks_unleft p r h
   left_marks_unleft p (owing r n u) h = left_marks_unleft p r h
   left_marks_unleft p (guard r n u) h =
@@ -213,6 +222,7 @@ module _ (g : ℕ) where
   pub return-unleft : (p : ℕ) (r : Residual) → is_inside g r ≡ false → unleft g (return_marks p r)
   return-unleft p skip h = refl
   return-unleft p (one s) h = refl
+  return-unleft p (batch s qs) h = refl
   return-unleft p (seq r ss) h = return-unleft p r h
   return-unleft p (owing r n u) h = return-unleft p r h
   return-unleft p (guard r n u) h = return-unleft p r (or-right (n == g) (is_inside g r) h)
@@ -227,6 +237,7 @@ module _ (g : ℕ) where
   pub local-inside : (f : Frame → Frame) (r : Residual) → is_inside g (in_innermost f r) ≡ is_inside g r
   local-inside f skip = refl
   local-inside f (one s) = refl
+  local-inside f (batch s qs) = refl
   local-inside f (seq r ss) = local-inside f r
   local-inside f (owing r n u) = local-inside f r
   local-inside f (guard r n u) = ap (λ b. (n == g) || b) (local-inside f r)
@@ -236,9 +247,24 @@ module _ (g : ℕ) where
   local-inside f (run n r) = local-inside f r
   local-inside f (goal r k) = local-inside f r
 
+  -- a call that is owed to one instance less
+  pub off-inside : (r : Residual) → is_inside g (taken_off r) ≡ is_inside g r
+  off-inside skip = refl
+  off-inside (one s) = refl
+  off-inside (batch s qs) = refl
+  off-inside (seq r ss) = off-inside r
+  off-inside (owing r n u) = off-inside r
+  off-inside (guard r n u) = ap (λ b. (n == g) || b) (off-inside r)
+  off-inside (try_ r handlers) = off-inside r
+  off-inside (frame r x) = off-inside r
+  off-inside (shell r x) = off-inside r
+  off-inside (run n r) = off-inside r
+  off-inside (goal r k) = off-inside r
+
   pub unw-inside : (r : Residual) → is_inside g (unw r) ≡ false
   unw-inside skip = refl
   unw-inside (one s) = refl
+  unw-inside (batch s qs) = refl
   unw-inside (seq r ss) = unw-inside r
   unw-inside (owing r n u) = unw-inside r
   unw-inside (guard r n u) = unw-inside r
@@ -257,6 +283,7 @@ module _ (g : ℕ) where
     pub raise-inside : (r : Residual) → is_inside g r ≡ false → is_inside g (raise a r e k) ≡ false
     raise-inside skip h = refl
     raise-inside (one s) h = refl
+    raise-inside (batch s qs) h = refl
     raise-inside (seq r ss) h = raise-inside r h
     raise-inside (owing r n u) h = raise-inside r h
     raise-inside (guard r n u) h = neither (n == g) _ (or-left (n == g) (is_inside g r) h) (raise-inside r (or-right (n == g) (is_inside g r) h))

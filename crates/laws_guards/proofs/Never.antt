@@ -1,14 +1,14 @@
 -- A guard that is being unwound, or is gone, is never left from then on.
 use Rattle.std.proofs.Common.{◌≡◌, ◌<◌, ◌||◌, ℕ, false, [], ◌∷◌, slice_get, Some, None, refl, sym, ap, ◌∙◌, arith, ne_eqb}
 use Rattle.std.proofs.lemmas.Option.{same_Some}
-use Rattle.laws_unwinding.specs.SimModel.Residual.{Residual, skip, goal, guard, enter, settle, fall, put, block, entered, in_innermost}
+use Rattle.laws_unwinding.specs.SimModel.Residual.{Residual, skip, goal, guard, enter, settle, fall, put, taken_off, block, entered, in_innermost}
 use Rattle.laws_unwinding.specs.SimModel.Unwinding.{unw, raise, returned, return_marks}
 use Rattle.laws_unwinding.specs.SimModel.Configuration.{Instance}
 use Rattle.laws_unwinding.specs.SimModel.Storing.{with_local}
 use Rattle.laws_unwinding.specs.LawsRuns.Standing.{code_of}
 use Rattle.laws_unwinding.proofs.Parts.{Parts, changed_in, residual_in, Alike, IsKept, IsSettled, IsKeptBetween, IsKeptByTakings}
 use Rattle.laws_unwinding.proofs.Each.{Each, each-change, each-last, each-map}
-use Rattle.laws_guards.proofs.Inside.{is_inside, unleft, unleft-append, guardless, block-inside, entered-inside, settle-inside, fall-unleft, put-inside, returned-inside, return-unleft, local-inside, unw-inside, raise-inside}
+use Rattle.laws_guards.proofs.Inside.{is_inside, unleft, unleft-append, guardless, block-inside, entered-inside, settle-inside, fall-unleft, put-inside, returned-inside, return-unleft, local-inside, off-inside, unw-inside, raise-inside}
 
 pub record Never (g : ℕ) (x : Parts) : Type 0 where
   pub nowhere : Each (λ p (i : Instance). is_inside g i.residual ≡ false) x.instances
@@ -55,6 +55,7 @@ module _ (g : ℕ) where
     pushes = λ x q more top off h. record { nowhere = h.nowhere; unleft_yet = h.unleft_yet; given = h.given };
     passes = λ x i r at may h. record { nowhere = never_here x p i r (put r skip) at.here at.is (put-inside g skip refl r) h; unleft_yet = h.unleft_yet; given = h.given };
     puts = λ x i r n at next new is_new h. record { nowhere = never_here x p i r (put r new) at.here at.is (put-inside g new (guardless g new is_new.guards) r) h; unleft_yet = h.unleft_yet; given = h.given };
+    takes_off = λ x i r at h. record { nowhere = never_here x p i r (taken_off r) at.here at.is (λ e. off-inside g r ∙ e) h; unleft_yet = h.unleft_yet; given = h.given };
     guards = λ x i r n at next b u h.
         let new = guard (block (code_of x.design) b) x.next_guard u in
         let other = ne_eqb x.next_guard g (λ same. let lt = h.given in let e = same in absurd (omega (arith, lt, e))) in

@@ -1,6 +1,6 @@
 -- A statement that is past leaves the goals, the tries and the guards of a residual as they are.
 use Rattle.std.proofs.Common.{◌≡◌, ◌||◌, ℕ, false, cond, List, [], ◌∷◌, refl, ap, ◌∙◌, true≢false}
-use Rattle.laws_unwinding.specs.SimModel.Residual.{Residual, Frame, skip, one, seq, owing, guard, try_, frame, shell, run, goal, followed, frame_or, goal_or, put, has_goal}
+use Rattle.laws_unwinding.specs.SimModel.Residual.{Residual, Frame, skip, one, batch, seq, owing, guard, try_, frame, shell, run, goal, followed, frame_or, goal_or, put, has_goal}
 use Rattle.laws_unwinding.specs.SimModel.Unwinding.{catches, handles}
 use Rattle.laws_unwinding.specs.SimModel.Clean.{guards_of}
 use Rattle.laws_unwinding.specs.SimModel.declared.plain.Goal.{Goal}
@@ -11,6 +11,7 @@ use Rattle.laws_guards.specs.Throws.{guards_in_try}
 pub normal-goalless : (r : Residual) → IsNormal r → has_goal r ≡ false
 normal-goalless skip h = refl
 normal-goalless (one s) h = refl
+normal-goalless (batch s qs) h = refl
 normal-goalless (seq r ss) h = normal-goalless r h
 normal-goalless (owing r g u) h = absurd h
 normal-goalless (guard r g u) h = normal-goalless r h
@@ -33,6 +34,7 @@ frame_goal other x inside h = h
 pub goal-past : (r : Residual) → has_goal r ≡ false → has_goal (put r skip) ≡ false
 goal-past skip h = refl
 goal-past (one s) h = refl
+goal-past (batch s qs) h = refl
 goal-past (seq r ss) h = followed_goal (put r skip) ss ∙ goal-past r h
 goal-past (owing r g u) h = goal-past r h
 goal-past (guard r g u) h = goal-past r h
@@ -60,6 +62,7 @@ module _ (e : ℕ) where
   pub catches-past : (r : Residual) → catches (put r skip) e ≡ catches r e
   catches-past skip = refl
   catches-past (one s) = refl
+  catches-past (batch s qs) = refl
   catches-past (seq r ss) = followed_catches (put r skip) ss ∙ catches-past r
   catches-past (owing r g u) = catches-past r
   catches-past (guard r g u) = catches-past r
@@ -86,6 +89,7 @@ module _ (e : ℕ) where
   pub in_try-past : (r : Residual) → guards_in_try (put r skip) e ≡ guards_in_try r e
   in_try-past skip = refl
   in_try-past (one s) = refl
+  in_try-past (batch s qs) = refl
   in_try-past (seq r ss) = followed_in (put r skip) ss ∙ in_try-past r
   in_try-past (owing r g u) = in_try-past r
   in_try-past (guard r g u) = in_try-past r

@@ -2,7 +2,7 @@
 use Rattle.std.proofs.Common.{◌≡◌, ◌||◌, ℕ, Bool, true, false, cond, List, [], ◌∷◌, refl, sym, ◌∙◌, true≢false}
 use Rattle.laws_unwinding.specs.FlatDesign.Code.{Arena}
 use Rattle.laws_unwinding.specs.FlatDesign.declared.code.Handler.{Handler}
-use Rattle.laws_unwinding.specs.SimModel.Residual.{Residual, skip, one, seq, owing, guard, try_, frame, shell, run, goal, followed, has_goal}
+use Rattle.laws_unwinding.specs.SimModel.Residual.{Residual, skip, one, batch, seq, owing, guard, try_, frame, shell, run, goal, followed, has_goal}
 use Rattle.laws_unwinding.specs.SimModel.Unwinding.{unw, catches, handles, handler_block, handler_of, handled, raise}
 use Rattle.laws_unwinding.specs.SimModel.Clean.{guards_of}
 use Rattle.laws_unwinding.specs.SimModel.declared.plain.Goal.{Goal}
@@ -28,6 +28,7 @@ module _ (a : Arena) (e : ℕ) (k : Goal) where
   pub raise-below : (r : Residual) → catches r e ≡ true → has_goal r ≡ false → guards_below (raise a r e k) ≡ guards_in_try r e
   raise-below skip caught none = refl
   raise-below (one s) caught none = refl
+  raise-below (batch s qs) caught none = refl
   raise-below (seq r ss) caught none = raise-below r caught none
   raise-below (owing r g u) caught none = raise-below r caught none
   raise-below (guard r g u) caught none = raise-below r caught none
@@ -46,6 +47,7 @@ module _ (a : Arena) (e : ℕ) (k : Goal) where
   pub raise-goal : (r : Residual) → catches r e ≡ true → has_goal (raise a r e k) ≡ true
   raise-goal skip caught = absurd (true≢false (sym caught))
   raise-goal (one s) caught = absurd (true≢false (sym caught))
+  raise-goal (batch s qs) caught = absurd (true≢false (sym caught))
   raise-goal (seq r ss) caught = raise-goal r caught
   raise-goal (owing r g u) caught = raise-goal r caught
   raise-goal (guard r g u) caught = raise-goal r caught

@@ -35,6 +35,7 @@ module _ (q : ℕ) where
     pushes = λ x n more top off h. h;
     passes = λ x i r at may h. over_changed x.instances p _ (λ j e. e) h;
     puts = λ x i r n at next new is_new h. over_changed x.instances p _ (λ j e. e) h;
+    takes_off = λ x i r at h. over_changed x.instances p _ (λ j e. e) h;
     guards = λ x i r n at next b u h. over_changed x.instances p _ (λ j e. e) h;
     returns = λ x i r n at next v h. over_changed x.instances p _ (λ j e. e) h;
     locals = λ x n v h. over_changed x.instances p _ (λ j e. e) h;

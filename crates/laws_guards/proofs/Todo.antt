@@ -1,7 +1,7 @@
 -- What marks still have to end of the guards that are open.
 use Rattle.std.proofs.Common.{◌≡◌, ◌==◌, ◌||◌, ℕ, Bool, true, false, cond, ◌⊎◌, List, [], ◌∷◌, ◌++◌, filter, Some, refl, sym, ap, ◌∙◌, subst, inl, inr, eq-eqb, eqb-true, true≢false, append_assoc, append-nil}
 use Rattle.std.proofs.lemmas.Option.{same_Some}
-use Rattle.laws_unwinding.specs.SimModel.Residual.{Residual, Mark, skip, one, seq, owing, guard, try_, frame, shell, run, goal, enter, leave, begin, finish}
+use Rattle.laws_unwinding.specs.SimModel.Residual.{Residual, Mark, skip, one, batch, seq, owing, guard, try_, frame, shell, run, goal, enter, leave, begin, finish}
 use Rattle.laws_unwinding.specs.SimModel.Waits.{holds}
 use Rattle.laws_unwinding.specs.SimModel.Clean.{guards_of}
 use Rattle.laws_unwinding.specs.LawsRuns.Shapes.{IsNormal, IsUnwound, IsShaped}
@@ -197,6 +197,7 @@ distinct-filter f (x ∷ xs) d = by (f x) (distinct-filter f xs d.1)
 abbrev pub below_of : Residual → List Part
 below_of skip = []
 below_of (one s) = []
+below_of (batch s qs) = []
 below_of (seq r ss) = below_of r
 below_of (owing r g u) = below_of r
 below_of (guard r g u) = below_of r
@@ -209,6 +210,7 @@ below_of (goal r k) = parts_of r
 abbrev pub outer_of : Residual → List Part
 outer_of skip = []
 outer_of (one s) = []
+outer_of (batch s qs) = []
 outer_of (seq r ss) = outer_of r
 outer_of (owing r g u) = outer_of r ++ unbegun g ∷ []
 outer_of (guard r g u) = outer_of r ++ unbegun g ∷ []
@@ -224,6 +226,7 @@ around xs ys zs x h = ap (λ s. s ++ x ∷ []) h ∙ append_assoc xs ys (x ∷ [
 pub parts-split : (r : Residual) → parts_of r ≡ below_of r ++ outer_of r
 parts-split skip = refl
 parts-split (one s) = refl
+parts-split (batch s qs) = refl
 parts-split (seq r ss) = parts-split r
 parts-split (owing r g u) = around (below_of r) (outer_of r) (parts_of r) (unbegun g) (parts-split r)
 parts-split (guard r g u) = around (below_of r) (outer_of r) (parts_of r) (unbegun g) (parts-split r)
@@ -236,6 +239,7 @@ parts-split (goal r k) = sym (append-nil (parts_of r))
 pub outside-below : (same : (r : Residual) → outside (parts_of r) ≡ guards_of r) (r : Residual) → outside (below_of r) ≡ guards_below r
 outside-below same skip = refl
 outside-below same (one s) = refl
+outside-below same (batch s qs) = refl
 outside-below same (seq r ss) = outside-below same r
 outside-below same (owing r g u) = outside-below same r
 outside-below same (guard r g u) = outside-below same r
@@ -253,6 +257,7 @@ unbegun_last (running n ∷ s) g h = absurd h
 pub idle-parts : (r : Residual) → runs r ≡ false → AllUnbegun (parts_of r)
 idle-parts skip h = tt
 idle-parts (one s) h = tt
+idle-parts (batch s qs) h = tt
 idle-parts (seq r ss) h = idle-parts r h
 idle-parts (owing r g u) h = unbegun_last (parts_of r) g (idle-parts r h)
 idle-parts (guard r g u) h = unbegun_last (parts_of r) g (idle-parts r h)
@@ -265,6 +270,7 @@ idle-parts (goal r k) h = idle-parts r h
 pub idle-below : (r : Residual) → runs r ≡ false → AllUnbegun (below_of r)
 idle-below skip h = tt
 idle-below (one s) h = tt
+idle-below (batch s qs) h = tt
 idle-below (seq r ss) h = idle-below r h
 idle-below (owing r g u) h = idle-below r h
 idle-below (guard r g u) h = idle-below r h
@@ -290,6 +296,7 @@ in_cases x y (z ∷ s) (inr h) = by (in_cases x y s h)
 pub normal-inside : (x : Part) (r : Residual) → IsNormal r → In x (parts_of r) → is_inside (number x) r ≡ true
 normal-inside x skip n h = absurd h
 normal-inside x (one s) n h = absurd h
+normal-inside x (batch s qs) n h = absurd h
 normal-inside x (seq r ss) n h = normal-inside x r n h
 normal-inside x (owing r g u) n h = absurd n
 normal-inside x (guard r g u) n h = by (in_cases x (unbegun g) (parts_of r) h) (normal-inside x r n)
@@ -306,6 +313,7 @@ normal-inside x (goal r k) n h = absurd n
 unwound_inside : (g : ℕ) (r : Residual) → IsUnwound r → runs r ≡ false → is_inside g r ≡ false
 unwound_inside g skip u h = refl
 unwound_inside g (one s) u h = absurd u
+unwound_inside g (batch s qs) u h = absurd u
 unwound_inside g (seq r ss) u h = absurd u
 unwound_inside g (owing r n w) u h = unwound_inside g r u h
 unwound_inside g (guard r n w) u h = absurd u
@@ -323,6 +331,7 @@ first_or false g n c gs e k later = inr (later k)
 pub inside-outer : (g : ℕ) (r : Residual) → IsShaped r → runs r ≡ false → is_inside g r ≡ true → In g (outside (outer_of r))
 inside-outer g skip s h is = absurd (true≢false (sym is))
 inside-outer g (one n) s h is = absurd (true≢false (sym is))
+inside-outer g (batch n qs) s h is = absurd (true≢false (sym is))
 inside-outer g (seq r ss) s h is = inside-outer g r s h is
 inside-outer g (owing r n u) s h is = absurd s
 inside-outer g (guard r n u) s h is = subst (In g) (sym (outside_last (outer_of r) (unbegun n))) (first_or (n == g) g n (is_inside g r) (outside (outer_of r)) refl is (inside-outer g r s h))
@@ -336,6 +345,7 @@ inside-outer g (goal r k) s h is = absurd (true≢false (sym is ∙ unwound_insi
 pub inside-guards : (g : ℕ) (r : Residual) → is_inside g r ≡ true → In g (guards_of r)
 inside-guards g skip is = absurd (true≢false (sym is))
 inside-guards g (one n) is = absurd (true≢false (sym is))
+inside-guards g (batch n qs) is = absurd (true≢false (sym is))
 inside-guards g (seq r ss) is = inside-guards g r is
 inside-guards g (owing r n u) is = inr (inside-guards g r is)
 inside-guards g (guard r n u) is = first_or (n == g) g n (is_inside g r) (guards_of r) refl is (inside-guards g r)
@@ -348,6 +358,7 @@ inside-guards g (goal r k) is = inside-guards g r is
 pub below-guards : (g : ℕ) (r : Residual) → In g (guards_below r) → In g (guards_of r)
 below-guards g skip h = h
 below-guards g (one n) h = h
+below-guards g (batch n qs) h = h
 below-guards g (seq r ss) h = below-guards g r h
 below-guards g (owing r n u) h = inr (below-guards g r h)
 below-guards g (guard r n u) h = inr (below-guards g r h)

@@ -143,13 +143,13 @@ module _ (design : Design) (script : List Command) (sound : SoundDesign design) 
     on_top : (x : Config) → x.processes.stack ≡ c.processes.stack → IsOnTop p x
     on_top x same = (comes.rest, same ∙ comes.top)
 
-  kills : (p q : ℕ) (i : Instance) (who : Controlled) (comes : ComesTo c p i (code.control control.Kill who)) → NamesTarget c p i who q → MayBeUnwound c q → (d : Config) × UnwindsOnTop c d q (open_guards q d.trace.marks)
+  kills : (p q : ℕ) (i : Instance) (who : Controlled) (comes : ComesTo c p i (code.control control.Kill who false)) → NamesTarget c p i who q → MayBeUnwound c q → (d : Config) × UnwindsOnTop c d q (open_guards q d.trace.marks)
   kills p q i who comes names m =
       let t = target p i _ comes q m in
       let u = kill-unwinds (past p i _ comes) q t.then t.is t.lives m.not_below t.goalless in
       (u.0, unwinds_all p i _ comes q m u.0 (step_is p i _ comes ∙ ap as_outcome (on_is (target_of (place p i _ comes) p who) q _ names ∙ u.1)) t.then goal_of.End u.2)
 
-  resets : (p q : ℕ) (i : Instance) (who : Controlled) (comes : ComesTo c p i (code.control control.Reset who)) → NamesTarget c p i who q → MayBeUnwound c q → (d : Config) × UnwindsOnTop c d q (open_guards q d.trace.marks)
+  resets : (p q : ℕ) (i : Instance) (who : Controlled) (comes : ComesTo c p i (code.control control.Reset who false)) → NamesTarget c p i who q → MayBeUnwound c q → (d : Config) × UnwindsOnTop c d q (open_guards q d.trace.marks)
   resets p q i who comes names m =
       let t = target p i _ comes q m in
       let u = reset-unwinds (past p i _ comes) q t.then t.is t.lives m.not_below t.goalless in
@@ -177,7 +177,7 @@ module _ (design : Design) (script : List Command) (sound : SoundDesign design) 
       ∙ ap (λ b. cond {A = Result Config RunFault} b (Ok x) (thrown x q t.residual e)) none
 
   -- one that it throws at itself
-  throws_at_self : (e q : ℕ) (i : Instance) (who : Controlled) (comes : ComesTo c q i (code.throw_it who e)) → NamesTarget c q i who q → catches (left_of c i) e ≡ true → MayBeUnwound c q → (d : Config) × UnwindsOnTop c d q (guards_in_try (left_of c i) e)
+  throws_at_self : (e q : ℕ) (i : Instance) (who : Controlled) (comes : ComesTo c q i (code.throw_it who e false)) → NamesTarget c q i who q → catches (left_of c i) e ≡ true → MayBeUnwound c q → (d : Config) × UnwindsOnTop c d q (guards_in_try (left_of c i) e)
   throws_at_self e q i who comes names caught m =
       let t = past_caller q i _ comes in
       let x = past q i _ comes in
@@ -190,7 +190,7 @@ module _ (design : Design) (script : List Command) (sound : SoundDesign design) 
       )
 
   -- and one that another throws
-  throws_other : (e p q : ℕ) (i t : Instance) (who : Controlled) (comes : ComesTo c p i (code.throw_it who e)) → NamesTarget c p i who q → q ≢ p → instance_at c q ≡ Some t → t.kind ≡ process.Thread → t.started ≡ true
+  throws_other : (e p q : ℕ) (i t : Instance) (who : Controlled) (comes : ComesTo c p i (code.throw_it who e false)) → NamesTarget c p i who q → q ≢ p → instance_at c q ≡ Some t → t.kind ≡ process.Thread → t.started ≡ true
       → catches t.residual e ≡ true → MayBeUnwound c q → (d : Config) × UnwindsOnTop c d q (guards_in_try t.residual e)
   throws_other e p q i t who comes names apart at kind started caught m =
       let x = past p i _ comes in

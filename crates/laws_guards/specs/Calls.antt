@@ -6,7 +6,7 @@ use Rattle.laws_unwinding.specs.FlatDesign.Code as code
 use Rattle.laws_unwinding.specs.FlatDesign.Code.{Statement, statement_at}
 use Rattle.laws_unwinding.specs.FlatDesign.declared.code.Controlled.{Controlled}
 use Rattle.laws_unwinding.specs.SimModel.Residual as residual
-use Rattle.laws_unwinding.specs.SimModel.Residual.{Residual, skip, one, seq, owing, guard, try_, frame, shell, run, goal, settle, next_of, has_goal}
+use Rattle.laws_unwinding.specs.SimModel.Residual.{Residual, skip, one, batch, seq, owing, guard, try_, frame, shell, run, goal, settle, next_of, has_goal}
 use Rattle.laws_unwinding.specs.SimModel.Configuration.{Config, Instance, arena, instance_at}
 use Rattle.laws_unwinding.specs.SimModel.Reading.{here}
 use Rattle.laws_unwinding.specs.SimModel.Control.{is_below_top, target_of}
@@ -36,19 +36,19 @@ pub record ComesTo (c : Config) (p : ℕ) (i : Instance) (s : Statement) : Type 
 abbrev pub NamesTarget : Config → ℕ → Instance → Controlled → ℕ → Type 0
 NamesTarget c p i who q = target_of (here (settled_in c p i.residual) p (record i { residual = left_of c i }) (left_of c i)) p who ≡ Ok q
 
--- the next step is a control call of q by p, be that another instance or q itself
+-- the next step is a control call of q alone by p, be that another instance or q itself
 pub record Controls (c : Config) (k : Control) (p q : ℕ) : Type 0 where
   pub caller : Instance
   pub who : Controlled
-  pub comes : ComesTo c p caller (code.control k who)
+  pub comes : ComesTo c p caller (code.control k who false)
   pub names : NamesTarget c p caller who q
 
--- The next step throws the exception e in the body of q, of which this is left: q throws it, or throws it at itself; or p throws it at
--- q, another instance, which is a thread that has begun.
+-- The next step throws the exception e in the body of q, of which this is left: q throws it, or throws it at itself alone; or p throws it
+-- at q alone, another instance, which is a thread that has begun.
 pub data Throws (c : Config) (e : ℕ) : (q : ℕ) → Residual → Type 0 where
   throws : (q : ℕ) (i : Instance) → ComesTo c q i (code.throw e) → Throws c e q (left_of c i)
-  throws_at_itself : (q : ℕ) (i : Instance) (who : Controlled) → ComesTo c q i (code.throw_it who e) → NamesTarget c q i who q → Throws c e q (left_of c i)
-  throws_at_another : (p q : ℕ) (i target : Instance) (who : Controlled) → ComesTo c p i (code.throw_it who e) → NamesTarget c p i who q → q ≢ p
+  throws_at_itself : (q : ℕ) (i : Instance) (who : Controlled) → ComesTo c q i (code.throw_it who e false) → NamesTarget c q i who q → Throws c e q (left_of c i)
+  throws_at_another : (p q : ℕ) (i target : Instance) (who : Controlled) → ComesTo c p i (code.throw_it who e false) → NamesTarget c p i who q → q ≢ p
       → instance_at c q ≡ Some target → target.kind ≡ process.Thread → target.started ≡ true → Throws c e q target.residual
 
 -- q lives, is not below the top of the stack, and is not being unwound
@@ -74,6 +74,7 @@ is_outer goal_of.Injected = false
 abbrev pub has_outer_goal : Residual → Bool
 has_outer_goal skip = false
 has_outer_goal (one s) = false
+has_outer_goal (batch s qs) = false
 has_outer_goal (seq r ss) = has_outer_goal r
 has_outer_goal (owing r g u) = has_outer_goal r
 has_outer_goal (guard r g u) = has_outer_goal r

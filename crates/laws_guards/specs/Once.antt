@@ -1,6 +1,6 @@
 -- Which guards an unwinding unwinds, and the marks of their ends.
 use Rattle.std.specs.Prelude.{◌≡◌, ◌<◌, ℕ, Bool, true, false, List, [], ◌∷◌, ◌++◌, filter, Some}
-use Rattle.laws_unwinding.specs.SimModel.Residual.{Residual, skip, one, seq, owing, guard, try_, frame, shell, run, goal, Mark, enter, leave, begin, finish, has_goal}
+use Rattle.laws_unwinding.specs.SimModel.Residual.{Residual, skip, one, batch, seq, owing, guard, try_, frame, shell, run, goal, Mark, enter, leave, begin, finish, has_goal}
 use Rattle.laws_unwinding.specs.SimModel.Unwinding.{unw}
 use Rattle.laws_unwinding.specs.SimModel.Configuration.{Config, Instance, instance_at}
 use Rattle.laws_unwinding.specs.SimModel.Steps.{step, went}
@@ -14,6 +14,7 @@ use Rattle.laws_guards.specs.Tops.{topped_by}
 abbrev pub guards_below : Residual → List ℕ
 guards_below skip = []
 guards_below (one s) = []
+guards_below (batch s qs) = []
 guards_below (seq r ss) = guards_below r
 guards_below (owing r g u) = guards_below r
 guards_below (guard r g u) = guards_below r

@@ -1,6 +1,6 @@
 -- Which guards an exception unwinds.
 use Rattle.std.specs.Prelude.{◌≡◌, ℕ, true, List, [], Some, if◌then◌else◌}
-use Rattle.laws_unwinding.specs.SimModel.Residual.{Residual, skip, one, seq, owing, guard, try_, frame, shell, run, goal, has_goal}
+use Rattle.laws_unwinding.specs.SimModel.Residual.{Residual, skip, one, batch, seq, owing, guard, try_, frame, shell, run, goal, has_goal}
 use Rattle.laws_unwinding.specs.SimModel.Unwinding.{catches, handles}
 use Rattle.laws_unwinding.specs.SimModel.Configuration.{Config, Instance, instance_at}
 use Rattle.laws_unwinding.specs.SimModel.Clean.{guards_of}
@@ -11,6 +11,7 @@ use Rattle.laws_guards.specs.Tops.{topped_by}
 abbrev pub guards_in_try : Residual → ℕ → List ℕ
 guards_in_try skip e = []
 guards_in_try (one s) e = []
+guards_in_try (batch s qs) e = []
 guards_in_try (seq r ss) e = guards_in_try r e
 guards_in_try (owing r g u) e = guards_in_try r e
 guards_in_try (guard r g u) e = guards_in_try r e

@@ -29,7 +29,7 @@ use Rattle.sim_model.specs.FlatDesign.declared.names.EventMember.TheVariants as 
 use Rattle.sim_model.specs.FlatDesign.declared.faults.RunFault.TheVariants as fault
 use Rattle.sim_model.specs.Values.{on_ok}
 use Rattle.sim_model.specs.Residual as residual
-use Rattle.sim_model.specs.Residual.{Residual, try_, block, entered, put, next_of}
+use Rattle.sim_model.specs.Residual.{Residual, batch, try_, block, entered, put, next_of}
 use Rattle.sim_model.specs.Unwinding.{raise, catches, left_by_raise, returned, return_marks}
 use Rattle.sim_model.specs.Payloads.{with_made, with_acquired, with_released}
 use Rattle.sim_model.specs.Configuration.{Config, Instance, Wait, Deadline, Trigger, Told, with_residual, with_marks, with_told, arena, change_instance}
@@ -40,7 +40,7 @@ use Rattle.sim_model.specs.Waiting.{channel_event, on_event, event_number, notif
 use Rattle.sim_model.specs.Channels.{blocks, set_fifo, set_mutex, set_semaphore, taken_from, fifo_here, write_fifo, write_channel, channel_in, do_write, read_value, read_fifo, do_read, nb_read_value, nb_read_fifo, do_nb_read, nb_write_fifo, do_nb_write, lock_mutex, lock_at, do_lock, do_trylock, do_unlock, sem_wait_value, sem_wait_at, do_sem_wait, do_sem_trywait, do_post}
 use Rattle.sim_model.specs.Calls.{with_left, enters, thrown, do_call, do_return, do_guard, do_try, new_instance, added, runnable_unless, spawns, do_spawn}
 use Rattle.sim_model.specs.Transport.{history, socket_of, may_enter_handler, value_named, int_of, path_of_call, is_complete, with_pool, with_global, do_make, do_acquire, do_release, do_carry, judged_by, enters_handler, blocking_handler, nonblocking_handler, b_transport_on, nb_transport_on, do_qk_global, do_qk_inc, do_qk_set, do_qk_reset}
-use Rattle.sim_model.specs.Control.{do_control, do_throw_it}
+use Rattle.sim_model.specs.Control.{with_owed, do_control, do_throw_it}
 use Rattle.sim_model.specs.Statements.{do_statement}
 use Rattle.sim_model.specs.declared.plain.Goal.TheVariants as goal_of
 use Rattle.sim_model.specs.declared.plain.Via.{Via}
@@ -278,11 +278,22 @@ module _ (who : Option ℕ) (o c : Config) (p : ℕ) (r : Residual) (t : InTurn 
   spawn-moves : (x : SpawnTerm) → statement_at (arena c) n ≡ Some (code.spawn x) → IfOk (do_spawn c p r h x) (Moves who o)
   spawn-moves x found = search (if-ok who o, spawned_moves x found)
 
-  control-form : (k : Control) (whom : Controlled) → IfOk (do_control c p r h k whom) (Moves who o)
-  control-form k whom = search (if-ok who o, control-moves who o (passes c p r) p (record { is_turn = t.is_turn; rest = t.rest; top = t.top }) passed)
+  at_top : OnTop who (passes c p r) p
+  at_top = record { is_turn = t.is_turn; rest = t.rest; top = t.top }
 
-  throw_it-form : (whom : Controlled) (e : ℕ) → IfOk (do_throw_it c p r h whom e) (Moves who o)
-  throw_it-form whom e = search (if-ok who o, throw-moves who o (passes c p r) p (record { is_turn = t.is_turn; rest = t.rest; top = t.top }) passed)
+  controls_moves : (k : Control) (whom : Controlled) → statement_at (arena c) n ≡ Some (code.control k whom true) → (qs : List ℕ) → Moves who o (with_owed c p r n qs)
+  controls_moves k whom found qs = gives (code.control k whom true) (batch n qs) found (move.controls k whom qs)
+
+  control-form : (k : Control) (whom : Controlled) (all : Bool) → statement_at (arena c) n ≡ Some (code.control k whom all) → IfOk (do_control c p r h n k whom all) (Moves who o)
+  control-form k whom false found = search (if-ok who o, control-moves who o (passes c p r) p at_top passed)
+  control-form k whom true found = search (if-ok who o, controls_moves k whom found)
+
+  throws_moves : (whom : Controlled) (e : ℕ) → statement_at (arena c) n ≡ Some (code.throw_it whom e true) → (qs : List ℕ) → Moves who o (with_owed c p r n qs)
+  throws_moves whom e found qs = gives (code.throw_it whom e true) (batch n qs) found (move.throws whom e qs)
+
+  throw_it-form : (whom : Controlled) (e : ℕ) (all : Bool) → statement_at (arena c) n ≡ Some (code.throw_it whom e all) → IfOk (do_throw_it c p r h n whom e all) (Moves who o)
+  throw_it-form whom e false found = search (if-ok who o, throw-moves who o (passes c p r) p at_top passed)
+  throw_it-form whom e true found = search (if-ok who o, throws_moves whom e found)
 
   throw_if : (e : ℕ) → statement_at (arena c) n ≡ Some (code.throw e) → (b : Bool) → catches r e ≡ b → IfOk (cond b (Ok (with_left (with_residual c p (raise (arena c) r e goal_of.Thrown)) (left_by_raise r e))) (Err (fault.Uncaught e))) (Moves who o)
   throw_if e found true caught = then c (move.throwing p r e) m (record { is_turn = t.is_turn; rest = t.rest; top = t.top }, i, t.at, t.left, caught, inr (n, placed (code.throw e) found))
@@ -381,8 +392,8 @@ module _ (who : Option ℕ) (o c : Config) (p : ℕ) (r : Residual) (t : InTurn 
   form-moves (code.qk_set k e) found = qk_set-moves k e
   form-moves (code.qk_reset k) found = qk_reset-moves k
   form-moves (code.spawn x) found = spawn-moves x found
-  form-moves (code.control k whom) found = control-form k whom
-  form-moves (code.throw_it whom e) found = throw_it-form whom e
+  form-moves (code.control k whom all) found = control-form k whom all found
+  form-moves (code.throw_it whom e all) found = throw_it-form whom e all found
   form-moves (code.throw e) found = throw-form e found
   form-moves (code.return_ e) found = return-moves e found
   form-moves code.stop found = stop-moves

@@ -1,14 +1,16 @@
 -- One step of the instance on top of the stack is made of moves.
 use Rattle.std.proofs.Common.{List, ◌∷◌, ◌≡◌, ℕ, Option, Some, None, refl, sym, subst}
 use Rattle.std.specs.Result.{IfOk}
+use Rattle.sim_model.specs.FlatDesign.Code as code
 use Rattle.sim_model.specs.FlatDesign.Code.{Statement, statement_at}
 use Rattle.sim_model.specs.Residual as residual
-use Rattle.sim_model.specs.Residual.{Residual, Next, settle, next_of}
-use Rattle.sim_model.specs.Configuration.{Config, Instance, arena, instance_at}
-use Rattle.sim_model.specs.Statements.{on_statement, do_next, settled_in, step_of}
+use Rattle.sim_model.specs.Residual.{Residual, Next, settle, next_of, taken_off}
+use Rattle.sim_model.specs.Configuration.{Config, Instance, arena, instance_at, with_residual}
+use Rattle.sim_model.specs.Statements.{owed_call, owed_by, on_statement, do_next, settled_in, step_of}
 use Rattle.laws_moves.specs.Moves as move
 use Rattle.laws_moves.specs.Moves.{OnTop, InTurn, MayPass, IsOver, Moves, then}
 use Rattle.laws_moves.proofs.Lists.{change-at}
+use Rattle.laws_moves.proofs.Controls.{control-moves, throw-moves}
 use Rattle.laws_moves.proofs.Forms.{form-moves}
 use Rattle.laws_moves.proofs.Ends.{done-moves, goal-moves, leaves-moves}
 
@@ -17,8 +19,25 @@ module _ (who : Option ℕ) (o c : Config) (p : ℕ) (r : Residual) (t : InTurn 
   on_moves n next None found = then c (move.passing p r) m (t, subst (MayPass c) (sym next) tt)
   on_moves n next (Some x) found = form-moves who o c p r t n next m x found
 
+  module _ (s q : ℕ) (next : next_of r ≡ residual.owes s q) where
+    abbrev off : Config
+    off = with_residual c p (taken_off r)
+
+    off_moves : Moves who o off
+    off_moves = then c (move.taking_off p r) m (s, q, t, next)
+
+    call_moves : (x : Statement) → IfOk (owed_call off q x) (Moves who o)
+    call_moves (code.control k whom all) = control-moves who o off p (record { is_turn = t.is_turn; rest = t.rest; top = t.top }) off_moves q k
+    call_moves (code.throw_it whom e all) = throw-moves who o off p (record { is_turn = t.is_turn; rest = t.rest; top = t.top }) off_moves q e
+    call_moves other = off_moves
+
+    owed_moves : (x : Option Statement) → IfOk (owed_by off q x) (Moves who o)
+    owed_moves None = off_moves
+    owed_moves (Some x) = call_moves x
+
   next_moves : (k : Next) → next_of r ≡ k → IfOk (do_next c p t.instance r k) (Moves who o)
   next_moves (residual.statement n) next = on_moves n next (statement_at (arena c) n) refl
+  next_moves (residual.owes s q) next = owed_moves s q next (statement_at (arena c) s)
   next_moves (residual.leaves x) next = leaves-moves who o c p r t m x next
   next_moves residual.done next = done-moves who o c p r t m (subst IsOver (sym next) tt) t.instance.kind
   next_moves (residual.reaches k) next = goal-moves who o c p r t m k next

@@ -17,7 +17,7 @@ use Rattle.sim_model.specs.FlatDesign.Code.{Statement, SpawnTerm, statement_at}
 use Rattle.sim_model.specs.FlatDesign.declared.design.ChannelId.TheVariants as channel
 use Rattle.sim_model.specs.FlatDesign.declared.design.Hop.{Hop}
 use Rattle.sim_model.specs.Residual as residual
-use Rattle.sim_model.specs.Residual.{Residual, Frame, Next, skip, guard, try_, followed, settle, next_of, put, block, entered, begun, has_goal, enter}
+use Rattle.sim_model.specs.Residual.{Residual, Frame, Next, skip, batch, guard, try_, followed, settle, next_of, put, taken_off, block, entered, begun, has_goal, enter}
 use Rattle.sim_model.specs.Unwinding.{raise, catches, left_by_raise, returned, return_marks}
 use Rattle.sim_model.specs.Payloads.{with_made, with_acquired, with_released}
 use Rattle.sim_model.specs.Configuration.{Config, Instance, Channels, Wait, waits_for_all, Deadline, Trigger, Told, arena, instance_at, change, change_instance, with_residual, with_marks, with_told, with_stack, with_runnable, with_phase}
@@ -48,6 +48,8 @@ pub data Move : Type 0 where
   placing : ℕ → Residual → Residual → Move
   -- a guard is entered, under a number that no guard had
   entering : ℕ → Residual → ℕ → ℕ → Move
+  -- a control call that reaches descendants is owed to one instance less
+  taking_off : ℕ → Residual → Move
   -- a return ends the call or the unwind block that it stands in; the guards in there are left
   returning : ℕ → Residual → Option Value → Move
   -- the body begins, with its first arguments
@@ -170,6 +172,7 @@ abbrev pub made : Config → Move → Config
 made c (passing p r) = passes c p r
 made c (placing p r new) = with_residual c p (put r new)
 made c (entering p r b u) = guard_entered c p r b u
+made c (taking_off p r) = with_residual c p (taken_off r)
 made c (returning p r v) = with_marks (with_residual c p (returned v r)) (return_marks p r)
 made c (beginning p f args) = change_instance c p (λ j. record j { residual = begun (arena c) f args; started = true })
 made c (ending p) = leaves_stack (change_instance c p ended_instance)
@@ -270,6 +273,7 @@ is_transport (Some other) = false
 
 abbrev pub MayPass : Config → Next → Type 0
 MayPass c (residual.statement s) = ⊤
+MayPass c (residual.owes s q) = ⊥
 MayPass c (residual.leaves x) = is_transport (calling_statement c x.call) ≡ true → x.via ≡ None
 MayPass c residual.done = ⊥
 MayPass c (residual.reaches goal_of.End) = ⊥
@@ -281,6 +285,7 @@ MayPass c residual.nothing = ⊥
 -- where a body is over: at its end, or where a kill or a reset has unwound it
 abbrev pub IsOver : Next → Type 0
 IsOver (residual.statement s) = ⊥
+IsOver (residual.owes s q) = ⊥
 IsOver (residual.leaves x) = ⊥
 IsOver residual.done = ⊤
 IsOver (residual.reaches goal_of.End) = ⊤
@@ -289,12 +294,15 @@ IsOver (residual.reaches goal_of.Thrown) = ⊥
 IsOver (residual.reaches goal_of.Injected) = ⊥
 IsOver residual.nothing = ⊤
 
--- what a statement gives place to: a block that it holds, or nothing; its block and then itself; a body that it calls
+-- what a statement gives place to: a block that it holds, or nothing; its block and then itself; a body that it calls; what it owes
+-- to its target and the descendants of that
 pub data Gives (c : Config) (s : ℕ) : Statement → Residual → Type 0 where
   chooses : (e : _) (b : ℕ) (other : Option ℕ) (v : Bool) → Gives c s (code.if_ e b other) (chosen c v b other)
   loops : (e : _) (b : ℕ) (v : Bool) → Gives c s (code.while_ e b) (looped c v s b)
   tries : (b : ℕ) (handlers : List _) → Gives c s (code.try_ b handlers) (try_ (block (arena c) b) handlers)
   calls : (x : Option _) (f : ℕ) (arguments : List _) (args : List Value) → Gives c s (code.call x f arguments) (entered (arena c) f args (Some s) None)
+  controls : (k : _) (whom : _) (qs : List ℕ) → Gives c s (code.control k whom true) (batch s qs)
+  throws : (whom : _) (e : ℕ) (qs : List ℕ) → Gives c s (code.throw_it whom e true) (batch s qs)
 
 -- what waits at a call that is blocked: a read, a lock, a wait for a semaphore; and a write, where its channel is a fifo
 abbrev pub MayBlock : Here → Statement → Type 0
@@ -346,6 +354,7 @@ abbrev pub May : Option ℕ → Config → Move → Type 0
 May who c (passing p r) = InTurn who c p r × MayPass c (next_of r)
 May who c (placing p r new) = (s : ℕ) × (x : Statement) × InPlace who c p r s x × Gives c s x new
 May who c (entering p r b u) = (s : ℕ) × InPlace who c p r s (code.guard b u)
+May who c (taking_off p r) = (s : ℕ) × (q : ℕ) × InTurn who c p r × (next_of r ≡ residual.owes s q)
 May who c (returning p r v) = (s : ℕ) × (e : Option _) × InPlace who c p r s (code.return_ e)
 May who c (beginning p f args) = OnTop who c p × (i : Instance) × (instance_at c p ≡ Some i) × (i.started ≡ false) × (i.code ≡ f) × (i.arguments ≡ args)
 May who c (ending p) = (r : Residual) × InTurn who c p r × IsOver (next_of r)

@@ -139,11 +139,12 @@ action_spelled n (tree.qk_set x e) h =
 action_spelled n (tree.qk_reset x) h = as_one (λ l. (l, tree.qk_reset x)) (λ y s. refl) (λ y ts rest d. d) (only_name w.QkReset x h)
 action_spelled n (tree.qk_sync x) h = as_one (λ l. (l, tree.qk_sync x)) (λ y s. refl) (λ y ts rest d. d) (only_name w.QkSync x h)
 action_spelled n (tree.spawn x) h = as_one (λ y. (y.0, tree.spawn y.1)) (λ y s. ap tree.spawn s) (λ y ts rest d. d) (spawn_spelled n x h)
-action_spelled n (tree.control c x) h =
-    as_one (λ y. (y.0, tree.control c y.1)) (λ y s. ap (tree.control c) s) (λ y ts rest d. d) (headed (control_word c) (loose (who_spelled x h)))
-action_spelled n (tree.throw_it p x) h =
+action_spelled n (tree.control c x all) h =
+    as_one (λ y. (y.0, tree.control c y.1.0 all)) (λ y s. ap (λ z. tree.control c z all) s.0) (λ y ts rest d. d) (headed (control_word c) (both (loose (who_spelled x h)) (flag_spelled w.Descendants all)))
+action_spelled n (tree.throw_it p x all) h =
     let parts = and_parts (fits_who p) (is_name x) h in
-    as_one (λ y. (y.0, tree.throw_it y.1.0 x)) (λ y s. ap (λ z. tree.throw_it z x) s.0) (λ y ts rest d. d) (headed w.ThrowIt (both (loose (who_spelled p parts.0)) (name_spelled false x parts.1)))
+    as_one (λ y. (y.0, tree.throw_it y.1.0 x all)) (λ y s. ap (λ z. tree.throw_it z x all) s.0) (λ y ts rest d. d)
+    (headed w.ThrowIt (both (loose (who_spelled p parts.0)) (led false (piece.name x) (name x) (name_piece x parts.1) refl (flag_spelled w.Descendants all))))
 action_spelled n (tree.throw x) h = as_one (λ l. (l, tree.throw x)) (λ y s. refl) (λ y ts rest d. d) (only_name w.Throw x h)
 action_spelled n (tree.return_ e) h = as_one (λ y. (y.0, tree.return_ y.1)) (λ y s. ap tree.return_ s) (λ y ts rest d. d) (headed w.Return (optional_spelled n e h))
 action_spelled n tree.stop h = as_one (λ l. (l, tree.stop)) (λ y s. refl) (λ y ts rest d. d) (one_at true (piece.word w.Stop) (word w.Stop) (word_piece w.Stop) refl refl)

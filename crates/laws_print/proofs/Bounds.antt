@@ -22,22 +22,24 @@ some_bytes from up (t ∷ ts) (a, b, more) = let size : length (t ∷ ts) ≡ su
 chain : (a b c x y : ℕ) → a ≡ b → b + 0 ≤ c → c ≡ x → x ≤ y → a ≤ y
 chain a b c x y e f g h = omega (arith, e, f, g, h)
 
-pub bounded : (text : List ℕ) (m : tree.Model) → Reads text m → length (printed_text m) ≤ bytes_for_each m * length text
-bounded text m (ls, cut, derives, few) =
-    let (none, f) = (whole m).weighs (with_lines ls) [] derives (cut_limited text 0 ls cut) in
+pub bounded : (text : List ℕ) (x : tree.Source) → Reads text x → length (printed_text x) ≤ bytes_for_each x.model * length text
+bounded text x (ls, cut, derives, few) =
+    let m = x.model in
+    let (none, f) = (whole x).weighs (with_lines ls) [] derives (cut_limited text 0 ls cut) in
     let room : 0 + (brackets m + brackets m) + 124 ≤ 2 * brackets m + 124 = omega arith in
     let (one, same) = f (bytes_for_each m) blank room in
     let tokens : length (with_lines ls) ≡ length ls = length-map ls (λ t. (t.token, t.line)) in
     let fewer : length (with_lines ls) ≤ length text = omega (arith, tokens, some_bytes 0 (length text) ls (cut_ordered text 0 ls cut)) in
-    chain (length (printed_text m)) (size blank (printed m)) (cost (bytes_for_each m) (with_lines ls)) (bytes_for_each m * length (with_lines ls)) (bytes_for_each m * length text)
-    (layout_size (printed m)) one (cost_is (bytes_for_each m) (with_lines ls)) (mul-le-mul_left (bytes_for_each m) fewer)
+    chain (length (printed_text x)) (size blank (printed x)) (cost (bytes_for_each m) (with_lines ls)) (bytes_for_each m * length (with_lines ls)) (bytes_for_each m * length text)
+    (layout_size (printed x)) one (cost_is (bytes_for_each m) (with_lines ls)) (mul-le-mul_left (bytes_for_each m) fewer)
 
 below : (a x y z top : ℕ) → a ≤ x → x ≤ y → y ≤ z → z < top → a < top
 below a x y z top e f g h = omega (arith, e, f, g, h)
 
-pub small : (text : List ℕ) (m : tree.Model) → Reads text m → length text ≤ model_limit → length (printed_text m) < 2 ^ 32
-small text m (ls, cut, derives, few) h =
+pub small : (text : List ℕ) (x : tree.Source) → Reads text x → length text ≤ model_limit → length (printed_text x) < 2 ^ 32
+small text x (ls, cut, derives, few) h =
+    let m = x.model in
     let low : brackets m ≤ 64 = few in
     let each : 2 * brackets m + 124 ≤ 252 = omega (arith, low) in
-    below (length (printed_text m)) (bytes_for_each m * length text) (252 * length text) (252 * 1048576) (2 ^ 32)
-    (bounded text m (ls, cut, derives, few)) (mul-le-mul_right (length text) each) (mul-le-mul_left 252 h) (lit< tt)
+    below (length (printed_text x)) (bytes_for_each m * length text) (252 * length text) (252 * 1048576) (2 ^ 32)
+    (bounded text x (ls, cut, derives, few)) (mul-le-mul_right (length text) each) (mul-le-mul_left 252 h) (lit< tt)

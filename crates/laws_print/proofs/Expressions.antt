@@ -4,21 +4,20 @@ use Rattle.std.specs.Prelude.{nat_le, nat_lt}
 use Rattle.std.proofs.lemmas.Bool.{and_parts, leb-true}
 use Rattle.std.proofs.lemmas.List.{length-append}
 use Rattle.model_print.specs.SimTime.declared.moments.Unit.{Unit as TimeUnit}
-use Rattle.model_print.specs.SimTime.declared.moments.Unit.TheVariants as unit
 use Rattle.model_print.specs.ModelTree.declared.vocabulary.Word.TheVariants as w
 use Rattle.model_print.specs.ModelTree.declared.vocabulary.Symbol.TheVariants as s
 use Rattle.model_print.specs.ModelTree.Leaves.{is_name}
 use Rattle.model_print.specs.ModelTree.Limits.{level, operand_level, primary_level, chain_level, is_number, is_formed, token_count, token_limit, depth, fits}
 use Rattle.model_print.specs.ModelTree.Tree as tree
-use Rattle.model_lexer.specs.ModelGrammar.Tokens.{name, number, logic, word, symbol}
-use Rattle.model_lexer.specs.ModelGrammar.Rules.{Rule}
+use Rattle.model_lexer.specs.ModelGrammar.Tokens.{name, number, logic, word, symbol, unit_token}
+use Rattle.model_lexer.specs.ModelGrammar.Rules.{Rule, Takes}
 use Rattle.model_lexer.specs.ModelGrammar.Expressions.{Parenthesized, DerivesAt, DerivesExpression}
 use Rattle.model_print.specs.ModelTree.Spelling.{unit_name, unary_symbol, binary_symbol, truth_word, conversion_word, constant_word}
 use Rattle.model_print.specs.Layout.{Piece}
 use Rattle.model_print.specs.Pieces as piece
 use Rattle.model_print.specs.Printed as printed
 use Rattle.laws_print.specs.Unlined as unlined
-use Rattle.laws_print.proofs.Pieces.{word_piece, type_word_piece, name_piece, number_piece, logic_piece, operator_piece, prefix_piece, dot_piece, at_piece, left_paren_piece, left_bracket_piece, right_paren_piece, right_bracket_piece, comma_piece}
+use Rattle.laws_print.proofs.Pieces.{word_piece, type_word_piece, name_piece, unit_piece, number_piece, logic_piece, operator_piece, prefix_piece, dot_piece, at_piece, left_paren_piece, left_bracket_piece, right_paren_piece, right_bracket_piece, comma_piece}
 use Rattle.laws_print.proofs.Spelled.{Spelled, both, as_one, moved, short, loose, led, led_at, one, one_at, ended_by, never, led_wide}
 
 -- an expression that is this one but for line numbers
@@ -29,13 +28,12 @@ Alike e y = unlined.expression y ≡ unlined.expression e
 abbrev pub SpelledAt : ℕ → tree.Expression → Type 0
 SpelledAt n e = (a : Spelled true (DerivesAt n) (Alike e) (printed.expression e)) × (length a.tokens ≡ token_count e)
 
-pub unit_named : (u : TimeUnit) → is_name (unit_name u) ≡ true
-unfolding Rattle.model_print.specs.ModelTree.Vocabulary.word_of
-unit_named unit.Ps = refl
-unit_named _ = refl
-
 level_of : (n m : ℕ) → nat_le n m ≡ true → n ≤ m
 level_of n m h = leb-true n m h
+
+-- a unit
+abbrev pub unit_spelled : (u : TimeUnit) → Spelled false (λ (y : Unit {0}). Takes (unit_token u)) (λ (y : Unit {0}). Unit {0}) (piece.name (unit_name u) ∷ [])
+unit_spelled u = one false (piece.name (unit_name u)) (unit_token u) (unit_piece u) refl refl
 
 -- what stands in round brackets
 abbrev pub in_brackets : {A : Type 0} {R : A → Rule} {S : A → Type 0} {xs : List Piece} → (firm : Bool) → (a : Spelled true R S xs) → length a.tokens ≤ token_limit → Spelled firm (λ y. Parenthesized (R y)) S (piece.bracketed xs)
@@ -48,7 +46,7 @@ expression_spelled (tree.number line v) n h few =
 expression_spelled (tree.time line v u) n h few =
     let both = and_parts (nat_le n primary_level) (is_number v) h in (
       as_one (λ y. tree.time y.0 v u) (λ y s. refl) (λ y ts rest d. (level_of n primary_level both.0, d))
-          (led_at true (piece.number v) (number v) (number_piece v both.1) refl (one false (piece.name (unit_name u)) (name (unit_name u)) (name_piece (unit_name u) (unit_named u)) refl refl)),
+          (led_at true (piece.number v) (number v) (number_piece v both.1) refl (unit_spelled u)),
       refl,
     )
 expression_spelled (tree.logic line ds) n h few =

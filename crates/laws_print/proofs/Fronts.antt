@@ -20,7 +20,7 @@ use Rattle.model_print.specs.ModelTree.declared.vocabulary.Symbol.TheVariants as
 use Rattle.model_print.specs.ModelTree.Vocabulary.{word_text, symbol_text, word_of}
 use Rattle.model_print.specs.ModelTree.Leaves.{is_letter, is_word_byte, is_word, is_name, is_print_byte, is_print_text}
 use Rattle.model_print.specs.ModelTree.Limits.{is_number}
-use Rattle.model_lexer.specs.ModelGrammar.Tokens.{Token, name, number, logic, quoted, word, symbol, symbol_of}
+use Rattle.model_lexer.specs.ModelGrammar.Tokens.{Token, name, number, logic, quoted, word, symbol, symbol_of, word_or_name}
 use Rattle.model_lexer.proofs.ModelGrammar.Symbols.{symbol_of_spells}
 use Rattle.model_lexer.specs.declared.forms.Form.{Form}
 use Rattle.model_lexer.specs.declared.forms.Form.TheVariants as form
@@ -28,7 +28,7 @@ use Rattle.model_lexer.specs.Forms.{is_digit, is_hex_digit, is_logic_byte, is_de
 use Rattle.model_lexer.specs.Meanings.{logic_digit, inner}
 use Rattle.model_lexer.specs.Fronts.{piece_at, piece, opens_hexadecimal, closed_at}
 use Rattle.model_lexer.proofs.Longest.{digit_excludes}
-use Rattle.laws_print.proofs.Reading.{ReadsAs, reads_front}
+use Rattle.laws_print.proofs.Reading.{as_cut, ReadsAs, reads_front}
 
 -- whether bytes begin with one that passes the test
 abbrev pub begins : (ℕ → Bool) → List ℕ → Bool
@@ -51,10 +51,10 @@ run p (x ∷ w) r h k =
 word_found : (b : ℕ) (bs r : List ℕ) → is_letter b ≡ true → list_all is_word_byte bs ≡ true → begins is_word_byte r ≡ false → piece_at ((b ∷ bs) ++ r) ≡ Some (piece form.Word (length (b ∷ bs)))
 word_found b bs r l h k = rw (l, run is_word_byte bs r h k, one-add) refl
 
-word_again : (x : Word) → word_of (word_text x) ≡ Some x
+word_meant : (x : Word) → word_or_name (word_of (word_text x)) (word_text x) ≡ Some (as_cut (word x))
 unfolding word_of
-word_again w.Module = refl
-word_again _ = refl
+word_meant w.Module = refl
+word_meant _ = refl
 
 pub word_formed : (x : Word) → is_word (word_text x) ≡ true
 word_formed w.Module = refl
@@ -64,8 +64,8 @@ word_front : (bs r : List ℕ) → is_word bs ≡ true → begins is_word_byte r
 word_front [] r h k = cc
 word_front (b ∷ bs) r h k = let both = and_parts (is_letter b) (list_all is_word_byte bs) h in word_found b bs r both.0 both.1 k
 
-pub reads_word : (x : Word) (r : List ℕ) (ts : List Token) → begins is_word_byte r ≡ false → ReadsAs r ts → ReadsAs (word_text x ++ r) (word x ∷ ts)
-reads_word x r ts k h = reads_front (word_text x) r form.Word (word x) ts (word_front (word_text x) r (word_formed x) k) (rw (word_again x) refl) h
+pub reads_word : (x : Word) (r : List ℕ) (ts : List Token) → begins is_word_byte r ≡ false → ReadsAs r ts → ReadsAs (word_text x ++ r) (as_cut (word x) ∷ ts)
+reads_word x r ts k h = reads_front (word_text x) r form.Word (as_cut (word x)) ts (word_front (word_text x) r (word_formed x) k) (word_meant x) h
 
 -- names
 no_word : (o : Option Word) → is_none o ≡ true → o ≡ None

@@ -31,7 +31,7 @@ use Rattle.model_print.specs.ModelTree.Limits.{is_number, within, option_name, f
 use Rattle.model_print.specs.ModelTree.Tree as tree
 use Rattle.model_lexer.specs.ModelGrammar.Tokens.{Tokens, name, number, logic, word, symbol}
 use Rattle.model_lexer.specs.ModelGrammar.Rules.{At, Takes, Maybe}
-use Rattle.model_print.specs.ModelTree.Spelling.{truth_word, unit_name}
+use Rattle.model_print.specs.ModelTree.Spelling.{truth_word}
 use Rattle.model_lexer.specs.ModelGrammar.Items.{DerivesConstantForm, DerivesConstant, DerivesFirstValue, DerivesTime, DerivesStart, DerivesFifoSize, DerivesInterface, DerivesBound, DerivesPortSize, DerivesHandler, DerivesInitiatorRole, DerivesTargetRole, DerivesEnd, DerivesMode, DerivesParameter, DerivesParameters, DerivesAnswer, DerivesItem, DerivesModule, DerivesTop, DerivesModel}
 use Rattle.model_print.specs.ModelTree.Spelling.{signal_word, plain_word, process_word}
 use Rattle.model_print.specs.Pieces as piece
@@ -41,7 +41,7 @@ use Rattle.laws_print.specs.Unlined as unlined
 use Rattle.laws_print.proofs.Pieces.{word_piece, name_piece, number_piece, logic_piece, operator_piece, minus_piece, left_paren_piece, left_bracket_piece, right_paren_piece, right_bracket_piece}
 use Rattle.laws_print.proofs.Spelled.{Spelled, both, as_one, moved, loose, led, led_at, one, one_at, ended_by, of_nothing}
 use Rattle.laws_print.proofs.Lists.{name_spelled, flag_spelled, maybe_fixed, maybe_spelled, All, each_spelled, some_spelled}
-use Rattle.laws_print.proofs.Expressions.{unit_named}
+use Rattle.laws_print.proofs.Expressions.{unit_spelled}
 use Rattle.laws_print.proofs.Statements.{Fixed, opened, type_spelled, typed_at, typed, member_spelled, sensitive_spelled, option_named}
 use Rattle.laws_print.proofs.Actions.{headed, headed_name}
 use Rattle.laws_print.proofs.Blocks.{closed, braced, given, block_spelled}
@@ -60,7 +60,7 @@ form_spelled (constant.Negative n) h =
     as_one (λ y. y.0) (λ y s. tt) (λ y ts rest d. d)
     (led_at true (piece.prefix s.Minus) (symbol s.Minus) minus_piece refl (one true (piece.number n) (number n) (number_piece n h) refl refl))
 form_spelled (constant.Time n u) h =
-    as_one (λ y. y.0) (λ y s. tt) (λ y ts rest d. d) (led_at true (piece.number n) (number n) (number_piece n h) refl (name_spelled false (unit_name u) (unit_named u)))
+    as_one (λ y. y.0) (λ y s. tt) (λ y ts rest d. d) (led_at true (piece.number n) (number n) (number_piece n h) refl (unit_spelled u))
 form_spelled (constant.Logic v) h = one_at true (piece.logic (digits v)) (logic (digits v)) (logic_piece (digits v) (digits_few v)) refl refl
 form_spelled (constant.Truth b) h = one_at true (piece.word (truth_word b)) (word (truth_word b)) (word_piece (truth_word b)) refl refl
 
@@ -75,7 +75,7 @@ first_value_spelled o h = maybe_spelled unlined.constant DerivesFirstValue (λ x
 
 -- times
 pub time_spelled : (t : Span) → is_number t.count ≡ true → Fixed false (DerivesTime t) (leaf.span t)
-time_spelled t h = led false (piece.number t.count) (number t.count) (number_piece t.count h) refl (name_spelled false (unit_name t.unit) (unit_named t.unit))
+time_spelled t h = led false (piece.number t.count) (number t.count) (number_piece t.count h) refl (unit_spelled t.unit)
 
 span_fits : (o : Option Span) (t : Span) → fits_span o ≡ true → o ≡ Some t → is_number t.count ≡ true
 span_fits o t h e = subst (λ (z : Option Span). fits_span z ≡ true) e h
@@ -311,8 +311,8 @@ top_spelled : (t : Top) → is_name t.module ≡ true → is_name t.name ≡ tru
 top_spelled t h k =
     as_one (λ y. record { line = y.0; «module» = t.module; name = t.name }) (λ y s. refl) (λ y ts rest d. d) (headed_name w.Top t.module h (closed (name_spelled false t.name k)))
 
--- a whole text
-pub model_spelled : (m : tree.Model) → is_sound m ≡ true → Spelled false DerivesModel (λ y. unlined.model y ≡ unlined.model m) (printed.printed m)
+-- the modules and the instance at the top
+pub model_spelled : (m : tree.Model) → is_sound m ≡ true → Spelled false DerivesModel (λ y. unlined.model y ≡ unlined.model m) (printed.model m)
 model_spelled m h =
     let parts = and_parts (fits_modules m.modules bracket_limit) (is_name m.top.module && is_name m.top.name) h in
     let last = and_parts (is_name m.top.module) (is_name m.top.name) parts.1 in

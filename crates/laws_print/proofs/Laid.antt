@@ -1,5 +1,5 @@
 -- That a layout reads as the tokens of its pieces.
-use Rattle.std.proofs.Common.{◌≡◌, ℕ, zero, suc, ◌-◌, Bool, true, false, ◌&&◌, ◌||◌, List, [], ◌∷◌, ◌++◌, length, take, codes, append_assoc, append-nil, ◌∙◌, refl, sym, subst, ⊎_elim, arith}
+use Rattle.std.proofs.Common.{◌≡◌, ℕ, zero, suc, ◌-◌, Bool, true, false, ◌&&◌, ◌||◌, List, [], ◌∷◌, ◌++◌, length, take, codes, append_assoc, append-nil, ◌∙◌, refl, sym, ap, subst, ⊎_elim, arith}
 use Rattle.std.specs.Prelude.{not, ◌==◌, map}
 use Rattle.std.specs.List.{list_all}
 use Rattle.std.proofs.lemmas.Bool.{and_parts, cases_Bool, eqb-true}
@@ -9,7 +9,7 @@ use Rattle.model_lexer.specs.Cut.{Lexeme, Cut}
 use Rattle.model_print.specs.declared.shapes.Shape.{Shape}
 use Rattle.model_print.specs.declared.shapes.Shape.TheVariants as shape
 use Rattle.model_print.specs.Layout.{Page, Piece, is_spaced, ends_line, margin_after, margin_before, gap, line_end, put, put_all, blank, layout}
-use Rattle.laws_print.proofs.Reading.{ReadsAs, reads_nothing, reads_blank}
+use Rattle.laws_print.proofs.Reading.{as_cut, ReadsAs, reads_nothing, reads_blank}
 use Rattle.laws_print.proofs.Fronts.{is_second}
 use Rattle.laws_print.proofs.Pieces.{is_open, is_stop, is_operator, is_tight, Stops, Opens, Reads}
 
@@ -171,17 +171,22 @@ over_gap page a r ts m more =
     (cases_Bool (is_spaced page.last a)))
     (cases_Bool (ends_line page.last))
 
-reads_laid : (page : Page) (ps : List Piece) (ts : List Token) (tight : Bool) → are_blanks page.margin → Mean ps ts → apart tight ps ≡ true → ReadsAs (laid page ps) ts
-reads_laid page [] ts tight m e h = subst (ReadsAs []) (sym e) reads_nothing
+-- the tokens of two parts, as a text is cut into them
+cut_both : (us vs : List Token) → map as_cut (us ++ vs) ≡ map as_cut us ++ map as_cut vs
+cut_both [] vs = refl
+cut_both (u ∷ us) vs = ap (λ (x : List Token). as_cut u ∷ x) (cut_both us vs)
+
+reads_laid : (page : Page) (ps : List Piece) (ts : List Token) (tight : Bool) → are_blanks page.margin → Mean ps ts → apart tight ps ≡ true → ReadsAs (laid page ps) (map as_cut ts)
+reads_laid page [] ts tight m e h = subst (λ (x : List Token). ReadsAs [] (map as_cut x)) (sym e) reads_nothing
 reads_laid page (p ∷ ps) ts tight m (us, vs, same, reads, more) h =
     let next : apart (is_tight p.shape) ps ≡ true = (and_parts (not (tight && is_operator p.shape)) (apart (is_tight p.shape) ps) h).1 in
     let rest : List ℕ = line_end p.shape ++ laid (put page p) ps in
-    let read : ReadsAs rest vs = over_end p.shape (laid (put page p) ps) vs (reads_laid (put page p) ps vs (is_tight p.shape) (after_blanks page.margin p.shape m) more next) in
-    over_gap page p.shape (p.bytes ++ rest) ts m
-    (subst (ReadsAs (p.bytes ++ rest)) (sym same) (reads.reads rest vs (behind page p ps vs more next) read))
+    let read : ReadsAs rest (map as_cut vs) = over_end p.shape (laid (put page p) ps) (map as_cut vs) (reads_laid (put page p) ps vs (is_tight p.shape) (after_blanks page.margin p.shape m) more next) in
+    over_gap page p.shape (p.bytes ++ rest) (map as_cut ts) m
+    (subst (ReadsAs (p.bytes ++ rest)) (sym (ap (map as_cut) same ∙ cut_both us vs)) (reads.reads rest (map as_cut vs) (behind page p ps vs more next) read))
 
 -- the layout of pieces is cut into the tokens that they read as
-pub layout_cut : (ps : List Piece) (ts : List Token) → Mean ps ts → apart false ps ≡ true → (ls : List Lexeme) × (map (λ l. l.token) ls ≡ ts) × Cut (layout ps) ls
+pub layout_cut : (ps : List Piece) (ts : List Token) → Mean ps ts → apart false ps ≡ true → (ls : List Lexeme) × (map (λ l. l.token) ls ≡ map as_cut ts) × Cut (layout ps) ls
 layout_cut ps ts m h =
-    let read : ReadsAs (laid blank ps) ts = reads_laid blank ps ts false refl m h in
+    let read : ReadsAs (laid blank ps) (map as_cut ts) = reads_laid blank ps ts false refl m h in
     read (layout ps) 0 (omega arith) (laid_is blank ps)

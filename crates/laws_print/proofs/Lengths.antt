@@ -25,15 +25,18 @@ use Rattle.model_print.specs.ModelTree.declared.items.InitiatorRole.{InitiatorRo
 use Rattle.model_print.specs.ModelTree.declared.items.InitiatorRole.TheVariants as initiator
 use Rattle.model_print.specs.ModelTree.declared.items.TargetRole.{TargetRole}
 use Rattle.model_print.specs.ModelTree.declared.items.TargetRole.TheVariants as target
+use Rattle.model_print.specs.ModelTree.declared.items.ResolutionLine.{ResolutionLine}
+use Rattle.model_print.specs.ModelTree.declared.items.Head.{Head}
+use Rattle.model_print.specs.ModelTree.declared.items.Head.TheVariants as head
 use Rattle.model_print.specs.ModelTree.declared.items.Top.{Top}
 use Rattle.model_print.specs.ModelTree.Limits.{level, primary_level, chain_level, depth}
-use Rattle.model_print.specs.ModelTree.Spelling.{unit_name, unary_symbol, binary_symbol, truth_word, conversion_word, constant_word, control_word, signal_word, plain_word, process_word}
+use Rattle.model_print.specs.ModelTree.Spelling.{unary_symbol, binary_symbol, truth_word, conversion_word, constant_word, control_word, signal_word, plain_word, process_word}
 use Rattle.model_print.specs.ModelTree.Tree as tree
 use Rattle.model_lexer.specs.ModelGrammar.Tokens.{Token, name, word, symbol}
 use Rattle.model_lexer.specs.ModelGrammar.Rules.{Rule, ◌⨾◌, At, Takes, Each, Maybe, Binds}
 use Rattle.model_lexer.specs.ModelGrammar.Expressions.{Short, Parenthesized, DerivesAt, DerivesExpression}
 use Rattle.model_lexer.specs.ModelGrammar.Statements.{DerivesForm, DerivesVarTypeAt, DerivesVarType, DerivesPlace, DerivesChannel, DerivesMember, DerivesEvent, DerivesSensitive, DerivesArguments, DerivesIndex, DerivesTarget, NextName, NextExpression, DerivesOperation, DerivesResult, DerivesSpan, DerivesWaiting, DerivesNotification, DerivesHandle, DerivesSpawn, DerivesWho, DerivesAction, DerivesInitial, HasHandler, DerivesStatement, DerivesStatements, DerivesElse, DerivesHandlers}
-use Rattle.model_lexer.specs.ModelGrammar.Items.{DerivesConstantForm, DerivesFirstValue, DerivesTime, DerivesStart, DerivesFifoSize, DerivesInterface, DerivesBound, DerivesPortSize, DerivesHandler, DerivesInitiatorRole, DerivesTargetRole, DerivesEnd, DerivesMode, DerivesParameter, DerivesParameters, DerivesAnswer, DerivesItem, DerivesModule, DerivesTop, DerivesModel}
+use Rattle.model_lexer.specs.ModelGrammar.Items.{DerivesConstantForm, DerivesFirstValue, DerivesTime, DerivesStart, DerivesFifoSize, DerivesInterface, DerivesBound, DerivesPortSize, DerivesHandler, DerivesInitiatorRole, DerivesTargetRole, DerivesEnd, DerivesMode, DerivesParameter, DerivesParameters, DerivesAnswer, DerivesItem, DerivesModule, DerivesTop, DerivesModel, DerivesResolution, DerivesHead, DerivesSource}
 use Rattle.model_lexer.specs.ModelGrammar.Brackets.{in_events, in_statement, in_block, in_else, in_handlers, in_item, in_items, in_modules, brackets}
 use Rattle.model_print.specs.declared.shapes.Shape.TheVariants as shape
 use Rattle.model_print.specs.Layout.{Piece}
@@ -41,7 +44,7 @@ use Rattle.model_print.specs.Pieces as piece
 use Rattle.model_print.specs.Leaves as leaf
 use Rattle.model_print.specs.Printed as printed
 use Rattle.laws_print.proofs.Actions.{five}
-use Rattle.laws_print.proofs.Weighed.{Weighs, nothing, by, moved, both, braced_in, word_at, word_taken, type_word_at, name_at, name_taken, number_at, number_taken, logic_at, quoted_taken, symbol_at, symbol_taken, wide_at, written, maybe, separated}
+use Rattle.laws_print.proofs.Weighed.{Weighs, nothing, by, moved, both, braced_in, word_at, word_taken, type_word_at, name_at, name_taken, unit_taken, number_at, number_taken, logic_at, quoted_taken, symbol_at, symbol_taken, wide_at, written, maybe, separated}
 
 -- expressions
 
@@ -56,7 +59,7 @@ parenthesized d a = both (symbol_taken d shape.Open s.LeftParen refl) (both (sho
 
 at_expression : (d n : ℕ) (e : tree.Expression) → Weighs d (DerivesAt n e) (printed.expression e)
 at_expression d n (tree.number line v) = bind (number_at d line v)
-at_expression d n (tree.time line v u) = bind (both (number_at d line v) (name_taken d (unit_name u)))
+at_expression d n (tree.time line v u) = bind (both (number_at d line v) (unit_taken d u))
 at_expression d n (tree.logic line ds) = bind (logic_at d line ds)
 at_expression d n (tree.truth line b) = bind (word_at d line (truth_word b))
 at_expression d n (tree.now line) = bind (word_at d line w.Now)
@@ -229,8 +232,8 @@ action d line (tree.qk_set x e) = both (word_at d line w.QkSet) (both (name_take
 action d line (tree.qk_reset x) = with_name d line w.QkReset x
 action d line (tree.qk_sync x) = with_name d line w.QkSync x
 action d line (tree.spawn x) = spawn d line x
-action d line (tree.control c p) = both (word_at d line (control_word c)) (process_named d p)
-action d line (tree.throw_it p x) = both (word_at d line w.ThrowIt) (both (process_named d p) (name_taken d x))
+action d line (tree.control c p all) = both (word_at d line (control_word c)) (both (process_named d p) (written d w.Descendants all))
+action d line (tree.throw_it p x all) = both (word_at d line w.ThrowIt) (both (process_named d p) (both (name_taken d x) (written d w.Descendants all)))
 action d line (tree.throw x) = with_name d line w.Throw x
 action d line (tree.return_ e) = both (word_at d line w.Return) (optional d e)
 action d line tree.stop = word_at d line w.Stop
@@ -294,7 +297,7 @@ mutual
 constant_form : (d line : ℕ) (f : ConstantForm) → Weighs d (DerivesConstantForm line f) (leaf.constant_form f)
 constant_form d line (constant.Number n) = number_at d line n
 constant_form d line (constant.Negative n) = both (symbol_at d line shape.Prefix s.Minus refl) (number_taken d n)
-constant_form d line (constant.Time n u) = both (number_at d line n) (name_taken d (unit_name u))
+constant_form d line (constant.Time n u) = both (number_at d line n) (unit_taken d u)
 constant_form d line (constant.Logic v) = logic_at d line (digits v)
 constant_form d line (constant.Truth b) = word_at d line (truth_word b)
 
@@ -302,7 +305,7 @@ first_value : (d : ℕ) (o : Option Constant) → Weighs d (Maybe DerivesFirstVa
 first_value d o = maybe d DerivesFirstValue (λ c. piece.operator s.Equal ∷ leaf.constant_form c.form) (λ c. both (symbol_taken d shape.Operator s.Equal refl) (constant_form d c.line c.form)) o
 
 time : (d : ℕ) (t : Span) → Weighs d (DerivesTime t) (leaf.span t)
-time d t = both (number_taken d t.count) (name_taken d (unit_name t.unit))
+time d t = both (number_taken d t.count) (unit_taken d t.unit)
 
 start : (d : ℕ) (o : Option Span) → Weighs d (Maybe DerivesStart o) (printed.start o)
 start d o = maybe d DerivesStart (λ t. piece.word w.Start ∷ leaf.span t) (λ t. both (word_taken d w.Start) (time d t)) o
@@ -409,6 +412,18 @@ modules d (m ∷ ms) h =
 top : (d : ℕ) (t : Top) → Weighs d (DerivesTop t) (printed.top t)
 top d t = both (word_at d t.line w.Top) (both (name_taken d t.module) (both (name_taken d t.name) (end d)))
 
+model : (m : tree.Model) → Weighs (brackets m) (DerivesModel m) (printed.model m)
+model m = let all : in_modules m.modules ≤ in_modules m.modules = omega arith in both (modules (brackets m) m.modules all) (top (brackets m) m.top)
+
+-- what a text says of its language
+
+resolution : (d : ℕ) (r : ResolutionLine) → Weighs d (DerivesResolution r) (printed.resolution r)
+resolution d r = both (word_at d r.line w.Resolution) (both (time d r.span) (end d))
+
+first_lines : (d : ℕ) (h : Head) → Weighs d (DerivesHead h) (printed.first_lines h)
+first_lines d head.First = nothing d
+first_lines d (head.Second r) = both (word_taken d w.Language) (both (number_taken d 2) (both (end d) (maybe d DerivesResolution printed.resolution (resolution d) r)))
+
 -- a whole text
-pub whole : (m : tree.Model) → Weighs (brackets m) (DerivesModel m) (printed.printed m)
-whole m = let all : in_modules m.modules ≤ in_modules m.modules = omega arith in both (modules (brackets m) m.modules all) (top (brackets m) m.top)
+pub whole : (x : tree.Source) → Weighs (brackets x.model) (DerivesSource x) (printed.printed x)
+whole x = both (first_lines (brackets x.model) x.head) (model x.model)

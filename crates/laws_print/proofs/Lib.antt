@@ -11,6 +11,7 @@ pub mod Blocks
 pub mod Items
 pub mod Depths
 pub mod Unprinted
+pub mod Meant
 pub mod Weighed
 pub mod Lengths
 pub mod Bounds

@@ -7,7 +7,10 @@ use Rattle.std.proofs.lemmas.Bool.{and_parts}
 use Rattle.std.proofs.lemmas.Bool.Decides.{nat_tests}
 use Rattle.model_print.specs.LogicValues.declared.kinds.Digit.{Digit}
 use Rattle.model_print.specs.LogicValues.ValueText.{letter_of}
+use Rattle.model_print.specs.SimTime.declared.moments.Unit.{Unit as TimeUnit}
+use Rattle.model_print.specs.SimTime.declared.moments.Unit.TheVariants as unit
 use Rattle.model_print.specs.ModelTree.declared.vocabulary.Word.{Word}
+use Rattle.model_print.specs.ModelTree.declared.vocabulary.Word.TheVariants as w
 use Rattle.model_print.specs.ModelTree.declared.vocabulary.Symbol.{Symbol}
 use Rattle.model_print.specs.ModelTree.declared.vocabulary.Symbol.TheVariants as s
 use Rattle.model_print.specs.ModelTree.declared.expressions.UnaryOp.{UnaryOp}
@@ -15,14 +18,14 @@ use Rattle.model_print.specs.ModelTree.declared.expressions.UnaryOp.TheVariants 
 use Rattle.model_print.specs.ModelTree.Vocabulary.{word_text, symbol_text}
 use Rattle.model_print.specs.ModelTree.Leaves.{is_letter, is_word_byte, is_word, is_name, is_print_text}
 use Rattle.model_print.specs.ModelTree.Limits.{is_number}
-use Rattle.model_lexer.specs.ModelGrammar.Tokens.{Token, name, number, logic, quoted, word, symbol}
-use Rattle.model_print.specs.ModelTree.Spelling.{unary_symbol}
+use Rattle.model_lexer.specs.ModelGrammar.Tokens.{Token, name, number, logic, quoted, word, symbol, unit_token}
+use Rattle.model_print.specs.ModelTree.Spelling.{unary_symbol, unit_name}
 use Rattle.model_lexer.specs.Forms.{is_digit, is_decimal}
 use Rattle.model_print.specs.declared.shapes.Shape.{Shape}
 use Rattle.model_print.specs.declared.shapes.Shape.TheVariants as shape
 use Rattle.model_print.specs.Layout.{Piece}
 use Rattle.model_print.specs.Pieces as piece
-use Rattle.laws_print.proofs.Reading.{ReadsAs}
+use Rattle.laws_print.proofs.Reading.{as_cut, ReadsAs}
 use Rattle.laws_print.proofs.Fronts.{begins, is_second, word_formed, name_parts, decimal_formed, number_small, reads_word, reads_name, reads_number, reads_logic, reads_quoted, reads_symbol}
 
 -- whether a byte of a word would go on with it
@@ -64,10 +67,10 @@ pub record Opens (b : Shape) (bytes : List ℕ) : Type 0 where
   pub mark : is_operator b ≡ false → begins is_second bytes ≡ false
   pub word : is_stop b ≡ true → begins is_word_byte bytes ≡ false
 
--- a token reads as these
+-- a token reads as these, as a text is cut into them
 pub record Reads (p : Piece) (ts : List Token) : Type 0 where
   pub opens : (r : List ℕ) → Opens p.shape (p.bytes ++ r)
-  pub reads : (r : List ℕ) (us : List Token) → Stops p.shape r → ReadsAs r us → ReadsAs (p.bytes ++ r) (ts ++ us)
+  pub reads : (r : List ℕ) (us : List Token) → Stops p.shape r → ReadsAs r us → ReadsAs (p.bytes ++ r) (map as_cut ts ++ us)
 
 -- how a word begins
 letter_apart : (b : ℕ) → is_letter b ≡ true → is_second b ≡ false
@@ -108,6 +111,16 @@ name_piece x k = record {
   opens = λ r. other_opens shape.Plain (x ++ r) refl (word_begins x r (name_parts x k).0);
   reads = λ r us stop h. reads_name x r us k (stop.word refl) h;
 }
+
+-- a unit
+pub unit_piece : (u : TimeUnit) → Reads (piece.name (unit_name u)) (unit_token u ∷ [])
+unfolding Rattle.model_print.specs.ModelTree.Vocabulary.word_of
+unit_piece unit.Fs = type_word_piece w.Fs
+unit_piece unit.Ps = name_piece (codes "ps") refl
+unit_piece unit.Ns = name_piece (codes "ns") refl
+unit_piece unit.Us = name_piece (codes "us") refl
+unit_piece unit.Ms = name_piece (codes "ms") refl
+unit_piece unit.S = name_piece (codes "s") refl
 
 pub number_piece : (n : ℕ) → is_number n ≡ true → Reads (piece.number n) (number n ∷ [])
 number_piece n k = record {

@@ -1,9 +1,11 @@
 -- What bytes read as, whatever text they end.
 use Rattle.std.proofs.Common.{◌≡◌, ℕ, ◌+◌, ◌-◌, ◌≤◌, List, [], ◌∷◌, ◌++◌, length, length-drop, take, drop, Some, ◌∙◌, refl, sym, ap, subst, arith}
-use Rattle.std.specs.Prelude.{map}
+use Rattle.std.specs.Prelude.{map, if◌then◌else◌}
 use Rattle.std.proofs.Math.Seq.{take-append_seam, drop-append_seam}
 use Rattle.std.proofs.lemmas.List.{drop-drop}
-use Rattle.model_lexer.specs.ModelGrammar.Tokens.{Token}
+use Rattle.model_print.specs.ModelTree.Vocabulary.{word_text}
+use Rattle.model_lexer.specs.ModelGrammar.Tokens.{Token, name, number, logic, quoted, word, symbol}
+use Rattle.model_lexer.specs.ModelGrammar.Versions.{is_later_word}
 use Rattle.model_lexer.specs.declared.forms.Form.{Form}
 use Rattle.model_lexer.specs.declared.forms.Form.TheVariants as form
 use Rattle.model_lexer.specs.Meanings.{meaning}
@@ -11,6 +13,15 @@ use Rattle.model_lexer.specs.Fronts.{piece_at, piece}
 use Rattle.model_lexer.specs.Cut.{IsPiece, Lexeme, IsGap, CutFrom}
 use Rattle.model_lexer.proofs.Cuts.{piece_within, gap_in, token_in, lexeme}
 use Rattle.model_lexer.proofs.Longest.{Finds, found}
+
+-- a token as a text is cut into it, before the words that language 2 has besides are known
+abbrev pub as_cut : Token → Token
+as_cut (name x) = name x
+as_cut (number n) = number n
+as_cut (logic ds) = logic ds
+as_cut (quoted x) = quoted x
+as_cut (word u) = if is_later_word u then name (word_text u) else word u
+as_cut (symbol u) = symbol u
 
 -- the end of any text, where it is these bytes, is cut into these tokens
 abbrev pub ReadsAs : List ℕ → List Token → Type 0

@@ -1,5 +1,5 @@
 -- Line numbers are not printed: a tree without them has the same printed tokens.
-use Rattle.std.proofs.Common.{◌≡◌, List, [], ◌∷◌, Option, Some, None, ◌∙◌, refl, sym, ap}
+use Rattle.std.proofs.Common.{◌≡◌, List, [], ◌∷◌, ◌++◌, Option, Some, None, ◌∙◌, refl, sym, ap}
 use Rattle.std.specs.Prelude.{map, option_map}
 use Rattle.model_print.specs.ModelTree.declared.vocabulary.Word.TheVariants as w
 use Rattle.model_print.specs.ModelTree.declared.types.VarType.{VarType}
@@ -10,6 +10,8 @@ use Rattle.model_print.specs.ModelTree.declared.types.Interface.TheVariants as i
 use Rattle.model_print.specs.ModelTree.declared.types.Parameter.{Parameter}
 use Rattle.model_print.specs.ModelTree.declared.statements.Who.{Who}
 use Rattle.model_print.specs.ModelTree.declared.statements.Who.TheVariants as who
+use Rattle.model_print.specs.ModelTree.declared.items.Head.{Head}
+use Rattle.model_print.specs.ModelTree.declared.items.Head.TheVariants as head
 use Rattle.model_print.specs.ModelTree.Tree as tree
 use Rattle.model_print.specs.Layout.{Piece, layout}
 use Rattle.model_print.specs.Pieces as piece
@@ -124,8 +126,8 @@ same_action (tree.qk_global e) = rw (same_expression e) refl
 same_action (tree.qk_inc x e) = rw (same_expression e) refl
 same_action (tree.qk_set x e) = rw (same_expression e) refl
 same_action (tree.spawn x) = same_spawn x
-same_action (tree.control c p) = rw (same_who p) refl
-same_action (tree.throw_it p x) = rw (same_who p) refl
+same_action (tree.control c p all) = rw (same_who p) refl
+same_action (tree.throw_it p x all) = rw (same_who p) refl
 same_action (tree.return_ e) = rw (same_option e) refl
 same_action _ = refl
 
@@ -199,9 +201,18 @@ same_item _ = refl
 same_module : (m : tree.Module) → printed.module_ (unlined.module_ m) ≡ printed.module_ m
 same_module m = rw (same_each unlined.item printed.item same_item m.items) refl
 
-same_printed : (m : tree.Model) → printed.printed (unlined.model m) ≡ printed.printed m
-same_printed m = rw (same_each unlined.module_ printed.module_ same_module m.modules) refl
+same_model : (m : tree.Model) → printed.model (unlined.model m) ≡ printed.model m
+same_model m = rw (same_each unlined.module_ printed.module_ same_module m.modules) refl
+
+same_head : (h : Head) → printed.first_lines (unlined.head h) ≡ printed.first_lines h
+same_head head.First = refl
+same_head (head.Second None) = refl
+same_head (head.Second (Some r)) = refl
+
+same_printed : (x : tree.Source) → printed.printed (unlined.source x) ≡ printed.printed x
+same_printed x =
+    ap (λ (ps : List Piece). ps ++ printed.model (unlined.model x.model)) (same_head x.head) ∙ ap (λ (ps : List Piece). printed.first_lines x.head ++ ps) (same_model x.model)
 
 -- trees that are the same but for line numbers have one printed text
-pub same_text : (m n : tree.Model) → unlined.SameButLines m n → printed.printed_text m ≡ printed.printed_text n
-same_text m n e = ap layout (sym (same_printed m) ∙ ap printed.printed e ∙ same_printed n)
+pub same_text : (x y : tree.Source) → unlined.SameButLines x y → printed.printed_text x ≡ printed.printed_text y
+same_text x y e = ap layout (sym (same_printed x) ∙ ap printed.printed e ∙ same_printed y)

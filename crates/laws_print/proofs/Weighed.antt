@@ -9,14 +9,17 @@ use Rattle.std.proofs.lemmas.Fmt.{length-decimal-le}
 use Rattle.std.proofs.lemmas.List.{length-append, length-take-le, length-map, length-reverse}
 use Rattle.model_print.specs.LogicValues.declared.kinds.Digit.{Digit}
 use Rattle.model_print.specs.LogicValues.ValueText.{letter_of}
+use Rattle.model_print.specs.SimTime.declared.moments.Unit.{Unit as TimeUnit}
+use Rattle.model_print.specs.SimTime.declared.moments.Unit.TheVariants as unit
 use Rattle.model_print.specs.ModelTree.declared.vocabulary.Word.{Word}
 use Rattle.model_print.specs.ModelTree.declared.vocabulary.Word.TheVariants as w
 use Rattle.model_print.specs.ModelTree.declared.vocabulary.Symbol.{Symbol}
 use Rattle.model_print.specs.ModelTree.declared.vocabulary.Symbol.TheVariants as s
 use Rattle.model_print.specs.ModelTree.Vocabulary.{word_of, word_text, symbol_text}
+use Rattle.model_print.specs.ModelTree.Spelling.{unit_name}
 use Rattle.model_print.specs.ModelTree.Leaves.{is_word, is_name, is_print_byte, is_print_text}
 use Rattle.model_print.specs.ModelTree.Limits.{is_number}
-use Rattle.model_lexer.specs.ModelGrammar.Tokens.{Token, Tokens, name, number, logic, quoted, word, symbol, is_limited, are_limited}
+use Rattle.model_lexer.specs.ModelGrammar.Tokens.{Token, Tokens, name, number, logic, quoted, word, symbol, unit_token, is_limited, are_limited}
 use Rattle.model_lexer.specs.ModelGrammar.Rules.{Rule, ◌⨾◌, At, Takes, Nothing, Each, Separated, Maybe, Written}
 use Rattle.model_lexer.specs.ModelGrammar.Statements.{Width, Braced}
 use Rattle.model_print.specs.declared.shapes.Shape.{Shape}
@@ -236,6 +239,13 @@ name_at d line x = at d line (piece.name x) (name x) refl (name_short x)
 
 pub name_taken : (d : ℕ) (x : List ℕ) → Weighs d (Takes (name x)) (piece.name x ∷ [])
 name_taken d x = takes d (piece.name x) (name x) refl (name_short x)
+
+unit_short : (u : TimeUnit) → length (unit_name u) ≤ 122
+unit_short unit.Ps = lit≤ tt
+unit_short _ = lit≤ tt
+
+pub unit_taken : (d : ℕ) (u : TimeUnit) → Weighs d (Takes (unit_token u)) (piece.name (unit_name u) ∷ [])
+unit_taken d u = takes d (piece.name (unit_name u)) (unit_token u) refl (λ h. unit_short u)
 
 pub number_at : (d line n : ℕ) → Weighs d (At line (number n)) (piece.number n ∷ [])
 number_at d line n = at d line (piece.number n) (number n) refl (λ h. omega (arith, number_short n h))

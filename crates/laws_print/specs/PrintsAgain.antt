@@ -6,5 +6,5 @@ use Rattle.model_lexer.specs.Reads.{Reads}
 use Rattle.laws_print.specs.Unlined.{SameButLines}
 
 -- the text reads as a tree that is this one but for line numbers, and of which the same bytes are printed
-abbrev pub PrintsAgain : List ℕ → tree.Model → Type 0
-PrintsAgain text m = (n : tree.Model) × Reads text n × SameButLines m n × (printed_text n ≡ text)
+abbrev pub PrintsAgain : List ℕ → tree.Source → Type 0
+PrintsAgain text x = (y : tree.Source) × Reads text y × SameButLines x y × (printed_text y ≡ text)

@@ -5,5 +5,5 @@ use Rattle.model_lexer.specs.Reads.{Reads}
 use Rattle.laws_print.specs.Unlined.{SameButLines}
 
 -- the text reads as a tree that is this one but for line numbers
-abbrev pub ReadsBack : List ℕ → tree.Model → Type 0
-ReadsBack text m = (n : tree.Model) × Reads text n × SameButLines m n
+abbrev pub ReadsBack : List ℕ → tree.Source → Type 0
+ReadsBack text x = (y : tree.Source) × Reads text y × SameButLines x y

@@ -12,6 +12,9 @@ use Rattle.model_print.specs.ModelTree.declared.types.End.{End}
 use Rattle.model_print.specs.ModelTree.declared.statements.Who.{Who}
 use Rattle.model_print.specs.ModelTree.declared.statements.Who.TheVariants as who
 use Rattle.model_print.specs.ModelTree.declared.items.SignalItem.{SignalItem}
+use Rattle.model_print.specs.ModelTree.declared.items.ResolutionLine.{ResolutionLine}
+use Rattle.model_print.specs.ModelTree.declared.items.Head.{Head}
+use Rattle.model_print.specs.ModelTree.declared.items.Head.TheVariants as heads
 use Rattle.model_print.specs.ModelTree.declared.items.Top.{Top}
 
 abbrev pub expression : tree.Expression → tree.Expression
@@ -100,8 +103,8 @@ action (tree.qk_set x e) = tree.qk_set x (expression e)
 action (tree.qk_reset x) = tree.qk_reset x
 action (tree.qk_sync x) = tree.qk_sync x
 action (tree.spawn x) = tree.spawn (spawn x)
-action (tree.control c p) = tree.control c (process p)
-action (tree.throw_it p x) = tree.throw_it (process p) x
+action (tree.control c p all) = tree.control c (process p) all
+action (tree.throw_it p x all) = tree.throw_it (process p) x all
 action (tree.throw x) = tree.throw x
 action (tree.return_ e) = tree.return_ (option_map expression e)
 action tree.stop = tree.stop
@@ -191,6 +194,16 @@ top t = record { line = 0; «module» = t.module; name = t.name }
 abbrev pub model : tree.Model → tree.Model
 model m = record { modules = map module_ m.modules; top = top m.top }
 
+abbrev pub resolution : ResolutionLine → ResolutionLine
+resolution r = record { line = 0; span = r.span }
+
+abbrev pub head : Head → Head
+head heads.First = heads.First
+head (heads.Second r) = heads.Second (option_map resolution r)
+
+abbrev pub source : tree.Source → tree.Source
+source x = record { head = head x.head; model = model x.model }
+
 -- two trees are the same but for line numbers
-abbrev pub SameButLines : tree.Model → tree.Model → Type 0
-SameButLines m n = model m ≡ model n
+abbrev pub SameButLines : tree.Source → tree.Source → Type 0
+SameButLines x y = source x ≡ source y

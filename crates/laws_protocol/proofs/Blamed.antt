@@ -14,9 +14,9 @@ use Rattle.laws_unwinding.specs.FlatDesign.declared.faults.RunFault.{RunFault}
 use Rattle.laws_unwinding.specs.FlatDesign.declared.faults.RunFault.TheVariants as fault
 use Rattle.laws_unwinding.specs.SimModel.Values.{on_ok}
 use Rattle.laws_unwinding.specs.SimModel.Residual as residual
-use Rattle.laws_unwinding.specs.SimModel.Residual.{Residual, Frame, Next, skip, put, next_of}
+use Rattle.laws_unwinding.specs.SimModel.Residual.{Residual, Frame, Next, skip, put, taken_off, next_of}
 use Rattle.laws_unwinding.specs.SimModel.Payloads.{payload_of}
-use Rattle.laws_unwinding.specs.SimModel.Configuration.{Config, Instance, arena, instance_at}
+use Rattle.laws_unwinding.specs.SimModel.Configuration.{Config, Instance, arena, instance_at, with_residual}
 use Rattle.laws_unwinding.specs.SimModel.Reading.{Here, here, denotes, payload_number, live_payload, not_freed}
 use Rattle.laws_unwinding.specs.SimModel.Storing.{passes, set_name, stored_if}
 use Rattle.laws_unwinding.specs.SimModel.Calls.{answer_of, final_value}
@@ -175,6 +175,7 @@ module _ (c : Config) where
 
     next_is : (k : Next) → next_of r ≡ k → IfFault (do_next d p j r k)
     next_is (residual.statement s) next = statement_is s next (statement_at (arena c) s) refl
+    next_is (residual.owes s q) next = faults.owed-fault B (with_residual d p (taken_off r)) q (statement_at (arena d) s)
     next_is (residual.leaves x) next = calling_is x next x.call refl
     next_is residual.done next = tt
     next_is (residual.reaches k) next = tt

@@ -47,8 +47,8 @@ use Rattle.laws_unwinding.specs.SimModel.Waiting.{object_event, named_object_eve
 use Rattle.laws_unwinding.specs.SimModel.Channels.{channel_in, written_unless, write_signal, write_channel, do_write, do_nb_write}
 use Rattle.laws_unwinding.specs.SimModel.Calls.{locals_in, argument_value, argument_values, may_enter, do_call, thrown, may_spawn, first_arguments, do_spawn}
 use Rattle.laws_unwinding.specs.SimModel.Transport.{size_within, size_or, may_make, do_make, kept, with_keeper, keeper_named, on_keeper, do_qk_inc, do_qk_set, do_qk_reset, may_enter_handler, do_b_transport, do_nb_transport}
-use Rattle.laws_unwinding.specs.SimModel.Statements.{do_statement}
-use Rattle.laws_unwinding.specs.SimModel.Control.{is_top, is_below_top, is_thread, ends_or_restarts, injected, throws_at, controlled_by, unless_ended, target_of, do_control, do_throw_it}
+use Rattle.laws_unwinding.specs.SimModel.Statements.{do_statement, owed_call, owed_by}
+use Rattle.laws_unwinding.specs.SimModel.Control.{is_top, is_below_top, is_thread, ends_or_restarts, injected, throws_at, controlled_by, unless_ended, control_call, throw_call, target_of, do_control, do_throw_it}
 
 -- B is what is said of a fault of the protocol, by its rule, its hop and its payload; of other faults nothing is said
 module _ (B : ℕ → ℕ → ℕ → Type 0) where
@@ -352,6 +352,21 @@ module _ (B : ℕ → ℕ → ℕ → Type 0) where
   unless_ended_is c None f h = tt
   unless_ended_is c (Some i) f h = either-fault i.ended (Ok c) (f i) tt (h i)
 
+  control_is : (c : Config) (q : ℕ) (k : Control) → IfFault (control_call c q k)
+  control_is c q k = unless_ended_is c (instance_at c q) _ (λ j. controlled_is c q j k)
+
+  throw_is : (c : Config) (q e : ℕ) → IfFault (throw_call c q e)
+  throw_is c q e = unless_ended_is c (instance_at c q) _ (λ j. throws_is c q j e)
+
+  owed_call_is : (c : Config) (q : ℕ) (x : Statement) → IfFault (owed_call c q x)
+  owed_call_is c q (code.control k who all) = control_is c q k
+  owed_call_is c q (code.throw_it who e all) = throw_is c q e
+  owed_call_is c q other = tt
+
+  pub owed-fault : (c : Config) (q : ℕ) (o : Option Statement) → IfFault (owed_by c q o)
+  owed-fault c q None = tt
+  owed-fault c q (Some x) = owed_call_is c q x
+
   assign_is : (c : Config) (p : ℕ) (r : Residual) (h : Here) (x : DestinationTerm) (e : Term) → IfFault (do_assign c p r h x e)
   assign_is c p r h (code.to_name target) e = then_on (val h e) _ (val_is h e) (λ v. tt)
   assign_is c p r h (code.to_field n f) e =
@@ -402,11 +417,13 @@ module _ (B : ℕ → ℕ → ℕ → Type 0) where
     after_statement : (n : ℕ) (e : Term) → IfFault (do_notify_after c p r h n e)
     after_statement n e = then_on (val h e) _ (val_is h e) (λ v. then_on (when_after c.cycle.now (moment v)) _ (when_is h c.cycle.now (moment v)) (λ w. tt))
 
-    control_statement : (k : Control) (who : Controlled) → IfFault (do_control c p r h k who)
-    control_statement k who = then_on (target_of h p who) _ (target_is h p who) (λ q. unless_ended_is (passes c p r) (instance_at (passes c p r) q) _ (λ j. controlled_is (passes c p r) q j k))
+    control_statement : (s : ℕ) (k : Control) (who : Controlled) (all : Bool) → IfFault (do_control c p r h s k who all)
+    control_statement s k who false = then_on (target_of h p who) _ (target_is h p who) (λ q. control_is (passes c p r) q k)
+    control_statement s k who true = then_on (target_of h p who) _ (target_is h p who) (λ q. tt)
 
-    throw_it_statement : (who : Controlled) (e : ℕ) → IfFault (do_throw_it c p r h who e)
-    throw_it_statement who e = then_on (target_of h p who) _ (target_is h p who) (λ q. unless_ended_is (passes c p r) (instance_at (passes c p r) q) _ (λ j. throws_is (passes c p r) q j e))
+    throw_it_statement : (s : ℕ) (who : Controlled) (e : ℕ) (all : Bool) → IfFault (do_throw_it c p r h s who e all)
+    throw_it_statement s who e false = then_on (target_of h p who) _ (target_is h p who) (λ q. throw_is (passes c p r) q e)
+    throw_it_statement s who e true = then_on (target_of h p who) _ (target_is h p who) (λ q. tt)
 
     -- whatever is said of faults of the protocol holds of those of a statement, but of the two transport calls
     pub statement-fault : (s : ℕ) (x : Statement) → ((socket : ℕ) (n d : NameUse) → x ≡ code.b_transport socket n d → IfFault (do_b_transport c p r h s socket n d))
@@ -439,8 +456,8 @@ module _ (B : ℕ → ℕ → ℕ → Type 0) where
     statement-fault s (code.qk_set n e) one two = set_statement n e
     statement-fault s (code.qk_reset n) one two = reset_statement n
     statement-fault s (code.spawn x) one two = spawn_statement x
-    statement-fault s (code.control k who) one two = control_statement k who
-    statement-fault s (code.throw_it who e) one two = throw_it_statement who e
+    statement-fault s (code.control k who all) one two = control_statement s k who all
+    statement-fault s (code.throw_it who e all) one two = throw_it_statement s who e all
     statement-fault s (code.throw e) one two = thrown-fault c p r e
     statement-fault s (code.return_ e) one two = then_on (val_if h e) _ (val_if_is h e) (λ v. tt)
     statement-fault s (code.if_ e b other) one two = then_on (val h e) _ (val_is h e) (λ v. tt)

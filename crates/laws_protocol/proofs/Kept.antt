@@ -14,7 +14,7 @@ use Rattle.laws_unwinding.specs.FlatDesign.Code as code
 use Rattle.laws_unwinding.specs.FlatDesign.Code.{Statement, statement_at}
 use Rattle.laws_unwinding.specs.FlatDesign.declared.design.Hop.{Hop}
 use Rattle.laws_unwinding.specs.SimModel.Residual as residual_
-use Rattle.laws_unwinding.specs.SimModel.Residual.{Frame, Residual, begun, block, enter, entered, goal, guard, has_goal, in_innermost, leaves, next_of, put, settle, skip, statement}
+use Rattle.laws_unwinding.specs.SimModel.Residual.{Frame, Residual, begun, block, enter, entered, goal, guard, has_goal, in_innermost, leaves, next_of, put, taken_off, settle, skip, statement}
 use Rattle.laws_unwinding.specs.SimModel.Unwinding.{catches, left_by_raise, left_by_unw, left_via, raise, return_marks, returned, unw}
 use Rattle.laws_unwinding.specs.SimModel.Configuration.{Instance, change}
 use Rattle.laws_unwinding.specs.SimModel.Storing.{with_local}
@@ -29,7 +29,7 @@ use Rattle.laws_unwinding.proofs.Kept.{AllRooted, Marked, marked-kept, marked-se
 use Rattle.laws_protocol.specs.Calls.{call_of}
 use Rattle.laws_protocol.proofs.Histories.{history_of, IsHop, hop-stays, call-open, Hopped, same-hopped, kept-here, closes-hopped, opens-hopped}
 use Rattle.laws_protocol.proofs.Calls.{call-closed, b_call-closed, call-opened, b_call-opened}
-use Rattle.laws_protocol.proofs.Vias.{block-vias, settle-vias, put-vias, leaves-vias, returned-vias, local-vias, unw-vias, raise-vias, calls-vias, entered-vias, IsCallOver, KindFor, Kinds, block-kinds, settle-kinds, put-kinds, returned-kinds, local-kinds, unw-kinds, raise-kinds, calls-kinds, entered-kinds, leaves-kind, passes-vias}
+use Rattle.laws_protocol.proofs.Vias.{block-vias, settle-vias, put-vias, leaves-vias, returned-vias, local-vias, off-vias, unw-vias, raise-vias, calls-vias, entered-vias, IsCallOver, KindFor, Kinds, block-kinds, settle-kinds, put-kinds, returned-kinds, local-kinds, off-kinds, unw-kinds, raise-kinds, calls-kinds, entered-kinds, leaves-kind, passes-vias}
 
 abbrev pub vias_at : Option Instance → List Via
 vias_at None = []
@@ -262,6 +262,9 @@ module _ (p : ℕ) where
   protocol_puts : (x : Parts) (i : Instance) (r : Residual) (n : ℕ) → At x p i r → next_of r ≡ residual_.statement n → (new : Residual) → IsNew new → Protocol x → Protocol (residual_in x p (put r new))
   protocol_puts = λ x i r n at next new is_new h. told_here x p i r (put r new) at.here at.is (put-vias r new n next ∙ ap (λ vs. vs ++ left_by_unw r) (calls-vias new is_new.calls)) (put-kinds x.design new (calls-kinds x.design new is_new.calls) r) h
 
+  protocol_takes_off : (x : Parts) (i : Instance) (r : Residual) → At x p i r → Protocol x → Protocol (residual_in x p (taken_off r))
+  protocol_takes_off = λ x i r at h. told_here x p i r (taken_off r) at.here at.is (off-vias r) (off-kinds x.design r) h
+
   protocol_guards : (x : Parts) (i : Instance) (r : Residual) (n : ℕ) → At x p i r → next_of r ≡ residual_.statement n → (b u : ℕ) → Protocol x
       → Protocol (record (residual_in x p (put r (guard (block (code_of x.design) b) x.next_guard u))) { marks = x.marks ++ enter p x.next_guard ∷ []; next_guard = x.next_guard + 1 })
   protocol_guards = λ x i r n at next b u h.
@@ -312,6 +315,7 @@ module _ (p : ℕ) where
     pushes = λ x q more top off h. record { marked = (marked-kept p).pushes x q more top off h.marked; protocol = protocol_pushes x q more top off h.protocol };
     passes = λ x i r at may h. record { marked = (marked-kept p).passes x i r at may h.marked; protocol = protocol_passes x i r at may h.protocol };
     puts = λ x i r n at next new is_new h. record { marked = (marked-kept p).puts x i r n at next new is_new h.marked; protocol = protocol_puts x i r n at next new is_new h.protocol };
+    takes_off = λ x i r at h. record { marked = (marked-kept p).takes_off x i r at h.marked; protocol = protocol_takes_off x i r at h.protocol };
     guards = λ x i r n at next b u h. record { marked = (marked-kept p).guards x i r n at next b u h.marked; protocol = protocol_guards x i r n at next b u h.protocol };
     returns = λ x i r n at next v h. record { marked = (marked-kept p).returns x i r n at next v h.marked; protocol = protocol_returns x i r n at next v h.protocol };
     locals = λ x n v h. record { marked = (marked-kept p).locals x n v h.marked; protocol = protocol_locals x n v h.protocol };

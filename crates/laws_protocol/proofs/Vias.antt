@@ -6,7 +6,7 @@ use Rattle.laws_unwinding.specs.FlatDesign.Code.{Arena, Statement, block_at, bod
 use Rattle.laws_unwinding.specs.FlatDesign.declared.code.CodeBody.{CodeBody}
 use Rattle.laws_unwinding.specs.FlatDesign.declared.code.Handler.{Handler}
 use Rattle.laws_unwinding.specs.FlatDesign.declared.design.Design.{Design}
-use Rattle.laws_unwinding.specs.SimModel.Residual.{Residual, Frame, Next, skip, one, seq, owing, guard, try_, frame, shell, run, goal, followed, statements, block, then_on, in_run, then_owed, in_guard, in_try, in_shell, settle, frame_or, goal_or, put, innermost, changed_if, in_innermost, in_frame, frame_end, before_goal, next_of, statement, leaves, done, reaches, nothing, entered, entered_in}
+use Rattle.laws_unwinding.specs.SimModel.Residual.{Residual, Frame, Next, skip, one, batch, seq, owing, guard, try_, frame, shell, run, goal, followed, statements, block, then_on, in_run, then_owed, in_guard, in_try, in_shell, settle, frame_or, goal_or, put, taken_off, innermost, changed_if, in_innermost, in_frame, frame_end, before_goal, next_of, statement, owes, leaves, done, reaches, nothing, entered, entered_in}
 use Rattle.laws_unwinding.specs.SimModel.Unwinding.{unw, catches, handles, handler_block, handler_of, handled, raise, left_via, left_by_unw, left_by_raise, has_exit, returned}
 use Rattle.laws_unwinding.specs.SimModel.Storing.{with_local}
 use Rattle.laws_unwinding.specs.SimModel.declared.plain.Goal.{Goal}
@@ -34,6 +34,7 @@ module _ (a : Arena) where
   then_vias : (r : Residual) (ss : List ℕ) → left_by_unw (then_on r ss) ≡ left_by_unw r
   then_vias skip ss = statements_vias ss
   then_vias (one s) ss = followed_vias (one s) ss
+  then_vias (batch s qs) ss = followed_vias (batch s qs) ss
   then_vias (seq r us) ss = followed_vias (seq r us) ss
   then_vias (owing r g u) ss = followed_vias (owing r g u) ss
   then_vias (guard r g u) ss = followed_vias (guard r g u) ss
@@ -66,6 +67,8 @@ module _ (a : Arena) where
   pub settle-vias : (r : Residual) → left_by_unw (settle a r) ≡ left_by_unw r
   settle-vias skip = refl
   settle-vias (one s) = refl
+  settle-vias (batch s []) = refl
+  settle-vias (batch s (q ∷ qs)) = refl
   settle-vias (seq r ss) = then_vias (settle a r) ss ∙ settle-vias r
   settle-vias (owing r g u) = owed_vias (settle a r) g u ∙ settle-vias r
   settle-vias (guard r g u) = guard_vias (settle a r) g u ∙ settle-vias r
@@ -91,6 +94,7 @@ goal_kept other k n inside s is = refl
 pub put-vias : (r n : Residual) (s : ℕ) → next_of r ≡ statement s → left_by_unw (put r n) ≡ left_by_unw n ++ left_by_unw r
 put-vias skip n s is = cc
 put-vias (one t) n s is = sym (append-nil (left_by_unw n))
+put-vias (batch t qs) n s is = sym (append-nil (left_by_unw n))
 put-vias (seq r ss) n s is = followed_vias (put r n) ss ∙ put-vias r n s is
 put-vias (owing r g u) n s is = put-vias r n s is
 put-vias (guard r g u) n s is = put-vias r n s is
@@ -106,6 +110,7 @@ put-vias (goal r k) n s is = let there = before_statement (next_of r) k s is in 
 
 in_frame_some : (n : Next) (x : Frame) → in_frame n x ≡ nothing → ⊥
 in_frame_some (statement s) x is = cc
+in_frame_some (owes s q) x is = cc
 in_frame_some (leaves y) x is = cc
 in_frame_some done x is = cc
 in_frame_some (reaches k) x is = cc
@@ -117,6 +122,7 @@ in_frame_some nothing x is = ends x.call is
 
 before_some : (n : Next) (k : Goal) → before_goal n k ≡ nothing → ⊥
 before_some (statement s) k is = cc
+before_some (owes s q) k is = cc
 before_some (leaves y) k is = cc
 before_some done k is = cc
 before_some (reaches j) k is = cc
@@ -128,6 +134,8 @@ not_left r is left = subst IsLeft is left
 tight_nothing : (r : Residual) → IsTight r → next_of r ≡ nothing → r ≡ skip
 tight_nothing skip t is = refl
 tight_nothing (one s) t is = cc
+tight_nothing (batch s []) t is = absurd t
+tight_nothing (batch s (q ∷ qs)) t is = cc
 tight_nothing (seq r ss) t is = absurd (not_left r (tight_nothing r t.1 is) t.0)
 tight_nothing (owing r g u) t is = absurd (not_left r (tight_nothing r t.1 is) t.0)
 tight_nothing (guard r g u) t is = absurd (not_left r (tight_nothing r t.1 is) t.0)
@@ -148,6 +156,7 @@ ends_with (Some s) x y e = same_leaves x y e
 
 inner_leaves : (n : Next) (x y : Frame) → in_frame n x ≡ leaves y → (n ≡ nothing → ⊥) → n ≡ leaves y
 inner_leaves (statement s) x y e some = cc
+inner_leaves (owes s q) x y e some = cc
 inner_leaves (leaves z) x y e some = e
 inner_leaves done x y e some = cc
 inner_leaves (reaches k) x y e some = cc
@@ -161,6 +170,7 @@ frame_case other x y t e later =
 
 goal_leaves : (n : Next) (k : Goal) (y : Frame) → before_goal n k ≡ leaves y → n ≡ leaves y
 goal_leaves (statement s) k y e = cc
+goal_leaves (owes s q) k y e = cc
 goal_leaves (leaves z) k y e = e
 goal_leaves done k y e = cc
 goal_leaves (reaches j) k y e = cc
@@ -173,6 +183,8 @@ goal_case other k y e later = later
 pub leaves-vias : (r : Residual) (y : Frame) → IsTight r → next_of r ≡ leaves y → left_by_unw r ≡ left_via y.via ++ left_by_unw (put r skip)
 leaves-vias skip y t e = cc
 leaves-vias (one s) y t e = cc
+leaves-vias (batch s []) y t e = cc
+leaves-vias (batch s (q ∷ qs)) y t e = cc
 leaves-vias (seq r ss) y t e = leaves-vias r y t.1 e ∙ ap (λ vs. left_via y.via ++ vs) (sym (followed_vias (put r skip) ss))
 leaves-vias (owing r g u) y t e = leaves-vias r y t.1 e
 leaves-vias (guard r g u) y t e = leaves-vias r y t.1 e
@@ -186,6 +198,7 @@ leaves-vias (goal r k) y t e = let inner = goal_leaves (next_of r) k y e in goal
 
 frame_reaches : (n : Next) (x : Frame) (k : Goal) → in_frame n x ≡ reaches k → n ≡ reaches k
 frame_reaches (statement s) x k e = cc
+frame_reaches (owes s q) x k e = cc
 frame_reaches (leaves y) x k e = cc
 frame_reaches done x k e = cc
 frame_reaches (reaches j) x k e = e
@@ -205,6 +218,7 @@ goal_same other j later = later
 
 goal_reached : (n : Next) (r : Residual) (j k : Goal) → next_of r ≡ n → IsTight r → before_goal n j ≡ reaches k → (n ≡ reaches k → left_by_unw (put r skip) ≡ left_by_unw r) → left_by_unw (goal_or r j skip (put r skip)) ≡ left_by_unw r
 goal_reached (statement s) r j k is t e later = cc
+goal_reached (owes s q) r j k is t e later = cc
 goal_reached (leaves y) r j k is t e later = cc
 goal_reached done r j k is t e later = cc
 goal_reached (reaches i) r j k is t e later = goal_same r j (later e)
@@ -213,6 +227,7 @@ goal_reached nothing r j k is t e later = subst (λ q. left_by_unw (goal_or q j 
 pub reaches-vias : (r : Residual) (k : Goal) → IsTight r → next_of r ≡ reaches k → left_by_unw (put r skip) ≡ left_by_unw r
 reaches-vias skip k t e = refl
 reaches-vias (one s) k t e = refl
+reaches-vias (batch s qs) k t e = refl
 reaches-vias (seq r ss) k t e = followed_vias (put r skip) ss ∙ reaches-vias r k t.1 e
 reaches-vias (owing r g u) k t e = reaches-vias r k t.1 e
 reaches-vias (guard r g u) k t e = reaches-vias r k t.1 e
@@ -227,6 +242,7 @@ reaches-vias (goal r j) k t e = goal_reached (next_of r) r j k refl t e (reaches
 no_exit : (r : Residual) → has_exit r ≡ false → left_by_unw r ≡ []
 no_exit skip h = refl
 no_exit (one s) h = refl
+no_exit (batch s qs) h = refl
 no_exit (seq r ss) h = no_exit r h
 no_exit (owing r g u) h = no_exit r h
 no_exit (guard r g u) h = no_exit r h
@@ -248,6 +264,7 @@ module _ (v : Option Value) where
   pub returned-vias : (r : Residual) → left_by_unw (returned v r) ≡ left_by_unw r
   returned-vias skip = refl
   returned-vias (one s) = refl
+  returned-vias (batch s qs) = refl
   returned-vias (seq r ss) = returned-vias r
   returned-vias (owing r g u) = returned-vias r
   returned-vias (guard r g u) = returned-vias r
@@ -265,6 +282,7 @@ module _ (n : ℕ) (v : Value) where
   pub local-vias : (r : Residual) → left_by_unw (in_innermost (with_local n v) r) ≡ left_by_unw r
   local-vias skip = refl
   local-vias (one s) = refl
+  local-vias (batch s qs) = refl
   local-vias (seq r ss) = local-vias r
   local-vias (owing r g u) = local-vias r
   local-vias (guard r g u) = local-vias r
@@ -274,9 +292,25 @@ module _ (n : ℕ) (v : Value) where
   local-vias (run g r) = local-vias r
   local-vias (goal r k) = local-vias r
 
+-- ---- a call that is owed to one instance less
+
+pub off-vias : (r : Residual) → left_by_unw (taken_off r) ≡ left_by_unw r
+off-vias skip = refl
+off-vias (one s) = refl
+off-vias (batch s qs) = refl
+off-vias (seq r ss) = off-vias r
+off-vias (owing r g u) = off-vias r
+off-vias (guard r g u) = off-vias r
+off-vias (try_ r handlers) = off-vias r
+off-vias (frame r x) = ap (λ vs. vs ++ left_via x.via) (off-vias r)
+off-vias (shell r x) = off-vias r
+off-vias (run g r) = off-vias r
+off-vias (goal r k) = off-vias r
+
 pub unw-vias : (r : Residual) → left_by_unw (unw r) ≡ []
 unw-vias skip = refl
 unw-vias (one s) = refl
+unw-vias (batch s qs) = refl
 unw-vias (seq r ss) = unw-vias r
 unw-vias (owing r g u) = unw-vias r
 unw-vias (guard r g u) = unw-vias r
@@ -297,6 +331,7 @@ module _ (a : Arena) (e : ℕ) (k : Goal) where
   pub raise-vias : (r : Residual) → left_by_unw r ≡ left_by_raise r e ++ left_by_unw (raise a r e k)
   raise-vias skip = refl
   raise-vias (one s) = refl
+  raise-vias (batch s qs) = refl
   raise-vias (seq r ss) = raise-vias r
   raise-vias (owing r g u) = raise-vias r
   raise-vias (guard r g u) = raise-vias r
@@ -311,6 +346,7 @@ module _ (a : Arena) (e : ℕ) (k : Goal) where
 pub calls-vias : (r : Residual) → OnlyCalls r → left_by_unw r ≡ []
 calls-vias skip h = refl
 calls-vias (one s) h = refl
+calls-vias (batch s qs) h = refl
 calls-vias (seq r ss) h = calls-vias r h
 calls-vias (owing r g u) h = calls-vias r h
 calls-vias (guard r g u) h = calls-vias r h
@@ -342,6 +378,7 @@ KindFor s (Some via) = IsCallOver s via.blocking
 abbrev pub Kinds : Design → Residual → Type 0
 Kinds d skip = Unit {0}
 Kinds d (one s) = Unit {0}
+Kinds d (batch s qs) = Unit {0}
 Kinds d (seq r ss) = Kinds d r
 Kinds d (owing r g u) = Kinds d r
 Kinds d (guard r g u) = Kinds d r
@@ -370,6 +407,7 @@ module _ (d : Design) where
   then_kinds : (r : Residual) (ss : List ℕ) → Kinds d r → Kinds d (then_on r ss)
   then_kinds skip ss h = statements_kinds ss
   then_kinds (one s) ss h = followed_kinds (one s) ss h
+  then_kinds (batch s qs) ss h = followed_kinds (batch s qs) ss h
   then_kinds (seq r us) ss h = followed_kinds (seq r us) ss h
   then_kinds (owing r g u) ss h = followed_kinds (owing r g u) ss h
   then_kinds (guard r g u) ss h = followed_kinds (guard r g u) ss h
@@ -402,6 +440,8 @@ module _ (d : Design) where
   pub settle-kinds : (r : Residual) → Kinds d r → Kinds d (settle a r)
   settle-kinds skip h = tt
   settle-kinds (one s) h = tt
+  settle-kinds (batch s []) h = tt
+  settle-kinds (batch s (q ∷ qs)) h = tt
   settle-kinds (seq r ss) h = then_kinds (settle a r) ss (settle-kinds r h)
   settle-kinds (owing r g u) h = owed_kinds (settle a r) g u (settle-kinds r h)
   settle-kinds (guard r g u) h = guard_kinds (settle a r) g u (settle-kinds r h)
@@ -423,6 +463,7 @@ module _ (d : Design) where
     pub put-kinds : (r : Residual) → Kinds d r → Kinds d (put r n)
     put-kinds skip h = tt
     put-kinds (one s) h = new
+    put-kinds (batch s qs) h = new
     put-kinds (seq r ss) h = followed_kinds (put r n) ss (put-kinds r h)
     put-kinds (owing r g u) h = put-kinds r h
     put-kinds (guard r g u) h = put-kinds r h
@@ -440,6 +481,7 @@ module _ (d : Design) where
     pub returned-kinds : (r : Residual) → Kinds d r → Kinds d (returned v r)
     returned-kinds skip h = tt
     returned-kinds (one s) h = tt
+    returned-kinds (batch s qs) h = tt
     returned-kinds (seq r ss) h = returned-kinds r h
     returned-kinds (owing r g u) h = returned-kinds r h
     returned-kinds (guard r g u) h = returned-kinds r h
@@ -457,6 +499,7 @@ module _ (d : Design) where
     pub local-kinds : (r : Residual) → Kinds d r → Kinds d (in_innermost (with_local n v) r)
     local-kinds skip h = tt
     local-kinds (one s) h = tt
+    local-kinds (batch s qs) h = tt
     local-kinds (seq r ss) h = local-kinds r h
     local-kinds (owing r g u) h = local-kinds r h
     local-kinds (guard r g u) h = local-kinds r h
@@ -466,9 +509,23 @@ module _ (d : Design) where
     local-kinds (run g r) h = local-kinds r h
     local-kinds (goal r k) h = local-kinds r h
 
+  pub off-kinds : (r : Residual) → Kinds d r → Kinds d (taken_off r)
+  off-kinds skip h = tt
+  off-kinds (one s) h = tt
+  off-kinds (batch s qs) h = tt
+  off-kinds (seq r ss) h = off-kinds r h
+  off-kinds (owing r g u) h = off-kinds r h
+  off-kinds (guard r g u) h = off-kinds r h
+  off-kinds (try_ r handlers) h = off-kinds r h
+  off-kinds (frame r x) h = (h.0, off-kinds r h.1)
+  off-kinds (shell r x) h = off-kinds r h
+  off-kinds (run g r) h = off-kinds r h
+  off-kinds (goal r k) h = off-kinds r h
+
   pub unw-kinds : (r : Residual) → Kinds d r → Kinds d (unw r)
   unw-kinds skip h = tt
   unw-kinds (one s) h = tt
+  unw-kinds (batch s qs) h = tt
   unw-kinds (seq r ss) h = unw-kinds r h
   unw-kinds (owing r g u) h = unw-kinds r h
   unw-kinds (guard r g u) h = unw-kinds r h
@@ -487,6 +544,7 @@ module _ (d : Design) where
     pub raise-kinds : (r : Residual) → Kinds d r → Kinds d (raise a r e k)
     raise-kinds skip h = tt
     raise-kinds (one s) h = tt
+    raise-kinds (batch s qs) h = tt
     raise-kinds (seq r ss) h = raise-kinds r h
     raise-kinds (owing r g u) h = raise-kinds r h
     raise-kinds (guard r g u) h = raise-kinds r h
@@ -499,6 +557,7 @@ module _ (d : Design) where
   pub calls-kinds : (r : Residual) → OnlyCalls r → Kinds d r
   calls-kinds skip h = tt
   calls-kinds (one s) h = tt
+  calls-kinds (batch s qs) h = tt
   calls-kinds (seq r ss) h = calls-kinds r h
   calls-kinds (owing r g u) h = calls-kinds r h
   calls-kinds (guard r g u) h = calls-kinds r h
@@ -518,6 +577,7 @@ module _ (d : Design) where
   -- the call that ends is one of them
   frame_kind : (n : Next) (x y : Frame) → in_frame n x ≡ leaves y → KindFor (caller d x.call) x.via → (n ≡ leaves y → KindFor (caller d y.call) y.via) → KindFor (caller d y.call) y.via
   frame_kind (statement s) x y e kind later = cc
+  frame_kind (owes s q) x y e kind later = cc
   frame_kind (leaves z) x y e kind later = later e
   frame_kind done x y e kind later = cc
   frame_kind (reaches k) x y e kind later = cc
@@ -526,6 +586,8 @@ module _ (d : Design) where
   pub leaves-kind : (r : Residual) (y : Frame) → Kinds d r → next_of r ≡ leaves y → KindFor (caller d y.call) y.via
   leaves-kind skip y h e = cc
   leaves-kind (one s) y h e = cc
+  leaves-kind (batch s []) y h e = cc
+  leaves-kind (batch s (q ∷ qs)) y h e = cc
   leaves-kind (seq r ss) y h e = leaves-kind r y h e
   leaves-kind (owing r g u) y h e = leaves-kind r y h e
   leaves-kind (guard r g u) y h e = leaves-kind r y h e
@@ -544,6 +606,7 @@ module _ (d : Design) where
 
   pub passes-vias : (r : Residual) (n : Next) → next_of r ≡ n → IsTight r → Kinds d r → MayPass d n → left_by_unw (put r skip) ≡ left_by_unw r
   passes-vias r (statement s) is t kinds may = put-vias r skip s is
+  passes-vias r (owes s q) is t kinds may = absurd may
   passes-vias r (leaves y) is t kinds may =
       sym (leaves-vias r y t is ∙ ap (λ vs. vs ++ left_by_unw (put r skip)) (no_via (caller d y.call) y.via (leaves-kind r y kinds is) may))
   passes-vias r done is t kinds may = absurd may

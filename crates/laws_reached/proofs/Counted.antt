@@ -41,7 +41,7 @@ use Rattle.flat_design.specs.declared.design.ChannelId.{ChannelId}
 use Rattle.flat_design.specs.declared.design.ChannelId.TheVariants as channel
 use Rattle.laws_unwinding.specs.SimModel.Values.{on_ok, bits, cut_to, index_within, moment, signed, truth}
 use Rattle.laws_unwinding.specs.SimModel.Residual as residual
-use Rattle.laws_unwinding.specs.SimModel.Residual.{Residual, Frame, Next, put, skip, settle, next_of, innermost, goal, has_goal}
+use Rattle.laws_unwinding.specs.SimModel.Residual.{Residual, Frame, Next, put, skip, settle, next_of, taken_off, innermost, goal, has_goal}
 use Rattle.laws_unwinding.specs.SimModel.Unwinding.{unw, left_by_unw, returned, return_marks, catches, left_by_raise, raise}
 use Rattle.laws_unwinding.specs.SimModel.Configuration.{Config, Instance, Wait, changed_at, waits_for_nothing, waits_statically, waits_for_any, waits_for_all, line, change_instance, with_residual, with_runnable, with_marks, with_told, instance_at, arena}
 use Rattle.laws_unwinding.specs.SimModel.Reading.{Here, here, denotes, keeper_at, val, val_if, place_in, payload_number, live_payload, memory_here, memory_number}
@@ -52,8 +52,8 @@ use Rattle.laws_unwinding.specs.SimModel.Channels.{channel_in, blocks, set_fifo,
 use Rattle.laws_unwinding.specs.SimModel.Calls.{argument_values, locals_in, may_enter, enters, final_value, given_back, call_ends, answer_of, with_entry, with_left, thrown, cut_answer, answer_type, first_arguments, may_spawn, new_instance, added, runnable_unless, handle_stored, spawns}
 use Rattle.laws_unwinding.specs.SimModel.Transport.{with_pool, size_within, size_or, may_make, socket_of, history, is_complete, judged, judged_by, blocking_handler, nonblocking_handler, path_of_call, may_enter_handler, enters_handler, int_of, value_named, b_transport_on, nb_transport_on, complete_now, for_freed, b_transport_ends, nb_transport_ends, with_global, with_keeper, kept as keeps_time, on_keeper, keeper_named}
 use Rattle.laws_unwinding.specs.SimModel.Payloads.{with_made, with_acquired, with_released}
-use Rattle.laws_unwinding.specs.SimModel.Control.{is_top, is_below_top, is_thread, with_kept, yields, suspends, resumes, pushed, pushed_unless_top, unwinds, ends_or_restarts, injected, throws_at, controlled_by, unless_ended, control_call, throw_call, target_of, ended_instance, ends, begins, stays_kept, restarts, reaches_goal, done_by}
-use Rattle.laws_unwinding.specs.SimModel.Statements.{via_ends, hands_back, handed_back, calling_statement, on_statement, do_statement, do_next, settled_in, step_by, statement_step}
+use Rattle.laws_unwinding.specs.SimModel.Control.{is_top, is_below_top, is_thread, with_kept, yields, suspends, resumes, pushed, pushed_unless_top, unwinds, ends_or_restarts, injected, throws_at, controlled_by, unless_ended, control_call, throw_call, target_of, targets, with_owed, ended_instance, ends, begins, stays_kept, restarts, reaches_goal, done_by}
+use Rattle.laws_unwinding.specs.SimModel.Statements.{via_ends, hands_back, handed_back, calling_statement, on_statement, do_statement, owed_call, owed_by, do_next, settled_in, step_by, statement_step}
 use Rattle.laws_unwinding.specs.SimModel.declared.plain.Goal.{Goal}
 use Rattle.laws_unwinding.specs.SimModel.declared.plain.Goal.TheVariants as goal_of
 use Rattle.laws_unwinding.specs.SimModel.declared.plain.Via.{Via}
@@ -449,6 +449,12 @@ module _ (c : Config) where
       (ok_either c (is_top d q) (if has_goal i.residual then Ok d else thrown d q i.residual e) (injected d q i e)
       (ok_either c (has_goal i.residual) (Ok d) (thrown d q i.residual e) k (thrown_near d q i.residual e k)) (injected_near d q i e k))
 
+  control_near : (d : Config) (q : ℕ) (x : Control) → Near c d → NearIfOk c (control_call d q x)
+  control_near d q x k = alive_near d (instance_at d q) (λ j. controlled_by d q j x) k (λ j. controlled_near d q j x k)
+
+  throw_near : (d : Config) (q e : ℕ) → Near c d → NearIfOk c (throw_call d q e)
+  throw_near d q e k = alive_near d (instance_at d q) (λ j. throws_at d q j e) k (λ j. thrown_at_near d q j e k)
+
   -- ---- all forms
 
   pub statement_near : (p : ℕ) (i : Instance) (r : Residual) (h : Here) (s : ℕ) (x : Statement) → NearIfOk c (do_statement c p i r h s x)
@@ -516,12 +522,10 @@ module _ (c : Config) where
   statement_near p i r h s (code.spawn x) =
       ok c (first_arguments h (locals_in (body_at (arena c) x.function)) 0 x.arguments) (λ vs. on_ok (may_spawn c) (λ u. Ok (spawns (passes c p r) p h x vs))) (λ vs.
       ok c (may_spawn c) (λ u. Ok (spawns (passes c p r) p h x vs)) (λ u. spawns_near (passes c p r) p h x vs (stays c)))
-  statement_near p i r h s (code.control x who) =
-      ok c (target_of h p who) (λ q. control_call (passes c p r) q x) (λ q.
-      alive_near (passes c p r) (instance_at (passes c p r) q) (λ j. controlled_by (passes c p r) q j x) (stays c) (λ j. controlled_near (passes c p r) q j x (stays c)))
-  statement_near p i r h s (code.throw_it who e) =
-      ok c (target_of h p who) (λ q. throw_call (passes c p r) q e) (λ q.
-      alive_near (passes c p r) (instance_at (passes c p r) q) (λ j. throws_at (passes c p r) q j e) (stays c) (λ j. thrown_at_near (passes c p r) q j e (stays c)))
+  statement_near p i r h s (code.control x who false) = ok c (target_of h p who) (λ q. control_call (passes c p r) q x) (λ q. control_near (passes c p r) q x (stays c))
+  statement_near p i r h s (code.control x who true) = ok c (target_of h p who) (λ q. Ok (with_owed c p r s (targets c q p))) (λ q. stays c)
+  statement_near p i r h s (code.throw_it who e false) = ok c (target_of h p who) (λ q. throw_call (passes c p r) q e) (λ q. throw_near (passes c p r) q e (stays c))
+  statement_near p i r h s (code.throw_it who e true) = ok c (target_of h p who) (λ q. Ok (with_owed c p r s (targets c q p))) (λ q. stays c)
   statement_near p i r h s (code.throw e) = thrown_near c p r e (stays c)
   statement_near p i r h s (code.return_ e) = ok c (val_if h e) (λ v. Ok (with_marks (with_residual c p (returned (cut_answer (answer_type (arena c) (innermost r)) v) r)) (return_marks p r))) (λ v. (stays c))
   statement_near p i r h s code.stop = stays c
@@ -570,12 +574,22 @@ module _ (c : Config) where
 
   -- ---- the step
 
+  owed_call_near : (d : Config) (q : ℕ) (x : Statement) → Near c d → NearIfOk c (owed_call d q x)
+  owed_call_near d q (code.control x who all) k = control_near d q x k
+  owed_call_near d q (code.throw_it who e all) k = throw_near d q e k
+  owed_call_near d q other k = k
+
+  owed_near : (d : Config) (q : ℕ) (o : Option Statement) → Near c d → NearIfOk c (owed_by d q o)
+  owed_near d q None k = k
+  owed_near d q (Some x) k = owed_call_near d q x k
+
   on_statement_near : (p : ℕ) (i : Instance) (r : Residual) (s : ℕ) (o : Option Statement) → NearIfOk c (on_statement c p i r s o)
   on_statement_near p i r s None = stays c
   on_statement_near p i r s (Some x) = statement_near p i r (here c p i r) s x
 
   next_near : (p : ℕ) (i : Instance) (r : Residual) (x : Next) → NearIfOk c (do_next c p i r x)
   next_near p i r (residual.statement s) = on_statement_near p i r s (statement_at (arena c) s)
+  next_near p i r (residual.owes s q) = owed_near (with_residual c p (taken_off r)) q (statement_at (arena c) s) (stays c)
   next_near p i r (residual.leaves x) = handed_near (passes c p r) p (here (passes c p r) p i (put r skip)) x (calling_statement c x.call) (stays c)
   next_near p i r residual.done = done_near p i i.kind
   next_near p i r (residual.reaches k) = goal_near p i r k

@@ -59,6 +59,7 @@ module _ (d : Design) where
     pushes = λ x q rest top none h. h;
     passes = λ x i r at may h. h;
     puts = λ x i r n at next new plain h. h;
+    takes_off = λ x i r at h. h;
     guards = λ x i r n at next b u h. h;
     returns = λ x i r n at next v h. h;
     locals = λ x n v h. h;

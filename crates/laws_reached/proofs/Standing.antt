@@ -82,3 +82,11 @@ lives-on-top k c h clean p rest top =
     let here : times p c.processes.stack ≡ 1 + times p rest = ap (times p) top ∙ times-here p rest in
     let live = clean.live p (omega (arith, here)) in
     lives-there k c h p live.instance live.made live.lives
+
+pub kept-on-top : (k : Kernel) (c : Config) → StandsFor k c → CleanProcesses c.processes → (p : ℕ) → IsOnTop k p → (kept : Kept) × (kept_at k.schedule p ≡ Some kept)
+kept-on-top k c h clean p top =
+    let on : c.processes.stack ≡ p ∷ reverse top.0 = h.processes.stack ∙ ap reverse top.1 ∙ reverse-append top.0 (p ∷ []) in
+    let here : times p c.processes.stack ≡ 1 + times p (reverse top.0) = ap (times p) on ∙ times-here p (reverse top.0) in
+    let live = clean.live p (omega (arith, here)) in
+    let told = told-live k c h p live.instance live.made live.lives in
+    (told.kept.0, told.kept.1.0)

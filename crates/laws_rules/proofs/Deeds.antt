@@ -273,8 +273,8 @@ module _ (s : Scope) (known : TypesAreKnown s) where
       (mapped_some code.spawn (spawn_term h s x)
       (four_some _ (if_written (use_of s) x.handle) (function_number h s x.function) (each (term_of s) x.arguments) (each (static_use s) x.sensitive)
       m.0 (has_number h s x.function m.1) (each_there s known x.arguments p.0) (static_events_there s known x.sensitive p.1)))
-  action_there h line (tree.control c w) n a parts = single_some _ (mapped_some (code.control c) (controlled_by s w) (who_there s known w parts))
-  action_there h line (tree.throw_it w name) n a parts = single_some _ (two_some code.throw_it (controlled_by s w) (exception_number h name) (who_there s known w parts) n.0)
+  action_there h line (tree.control c w all) n a parts = single_some _ (mapped_some (λ q. code.control c q all) (controlled_by s w) (who_there s known w parts))
+  action_there h line (tree.throw_it w name all) n a parts = single_some _ (two_some (λ q e. code.throw_it q e all) (controlled_by s w) (exception_number h name) (who_there s known w parts) n.0)
   action_there h line (tree.throw name) n a parts = single_some _ (mapped_some code.throw (exception_number h name) n.0)
   action_there h line (tree.return_ e) n a parts = single_some _ (mapped_some code.return_ (if_written (term_of s) e) (option_there s known e parts))
   action_there h line tree.stop n a parts = refl

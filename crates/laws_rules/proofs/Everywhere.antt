@@ -139,8 +139,8 @@ module _ (s : Scope) (known : TypesAreKnown s) where
   action_there (tree.qk_reset name) = tt
   action_there (tree.qk_sync name) = tt
   action_there (tree.spawn x) = joined (argument_sites s x.arguments) (events_sites s true x.sensitive) (arguments_there x.arguments) (events_there true x.sensitive)
-  action_there (tree.control c w) = (known, tt)
-  action_there (tree.throw_it w name) = (known, tt)
+  action_there (tree.control c w all) = (known, tt)
+  action_there (tree.throw_it w name all) = (known, tt)
   action_there (tree.throw name) = tt
   action_there (tree.return_ e) = option_there e
   action_there tree.stop = tt

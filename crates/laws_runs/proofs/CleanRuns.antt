@@ -11,6 +11,7 @@ use Rattle.sim_model.specs.declared.plain.Command.{Command}
 use Rattle.laws_runs.proofs.Times.{times-holds}
 use Rattle.laws_runs.proofs.Fits.{nowhere-if, clean-from_fits}
 use Rattle.laws_runs.proofs.Start.{first-fits}
+use Rattle.laws_runs.proofs.Parents.{HaveParents, step-parents, taking-parents, first-parents}
 use Rattle.laws_runs.proofs.Steps.{Good, IfWent, step-good, taking-good, taken-runnable}
 
 -- ---- the induction, for any P that each step and each taking keeps
@@ -36,7 +37,7 @@ pub good-after : (d : Design) (script : List Command) (n : ℕ) (choices : List 
 good-after d script n choices last reached = holds-after Good step-good taking-good n choices (start d script) last (first-fits d, λ e. refl) reached
 
 pub clean-after : (d : Design) (script : List Command) (n : ℕ) (choices : List ℕ) (last : Config) → after n choices (start d script) ≡ Some last → CleanProcesses last.processes
-clean-after d script n choices last reached = clean-from_fits last.processes (good-after d script n choices last reached).0
+clean-after d script n choices last reached = let h = holds-after (λ (c : Config). HaveParents c.processes) step-parents taking-parents n choices (start d script) last (first-parents d script) reached in clean-from_fits last.processes (good-after d script n choices last reached).0 h.0 h.1
 
 -- what is taken was made and has not ended
 pub live-taken : (d : Design) (script : List Command) (n : ℕ) (choices : List ℕ) (last : Config) → after n choices (start d script) ≡ Some last → (p : ℕ) (next : Config) → taking last p ≡ Some next → IsLive last.processes p

@@ -1,6 +1,6 @@
 -- What one instance has to be, by how often it stands in the runnable list and on the stack; and that instances keep to it
 -- while one of them moves.
-use Rattle.std.proofs.Common.{◌≡◌, ◌≢◌, ◌+◌, ◌<◌, ◌≤◌, ℕ, zero, suc, Bool, true, false, slice_get, Option, Some, None, refl, sym, ◌∙◌, subst, arith, true≢false, ⊎_elim}
+use Rattle.std.proofs.Common.{◌≡◌, ◌≢◌, ◌+◌, ◌<◌, ◌≤◌, ℕ, zero, suc, Bool, true, false, length, slice_get, Option, Some, None, refl, sym, ◌∙◌, subst, arith, true≢false, ⊎_elim}
 use Rattle.std.proofs.lemmas.Bool.{cases_eq}
 use Rattle.sim_model.specs.Residual.{skip}
 use Rattle.sim_model.specs.Configuration.{Instance, Processes, waits_for_nothing, no_deadline, change}
@@ -40,14 +40,16 @@ once_at (Some i) r s fits = fits.once
 pub stands-at : (ps : Processes) (p : ℕ) (i : Instance) → slice_get ps.instances p ≡ Some i → AllFit ps → Stands i (times p ps.runnable) (times p ps.stack)
 stands-at ps p i at fits = subst (λ o. Fits o (times p ps.runnable) (times p ps.stack)) at (fits p)
 
-pub clean-from_fits : (ps : Processes) → AllFit ps → CleanProcesses ps
-clean-from_fits ps fits = record {
+pub clean-from_fits : (ps : Processes) → AllFit ps → (length ps.parents ≡ length ps.instances) → ((p q : ℕ) → slice_get ps.parents p ≡ Some (Some q) → q < p) → CleanProcesses ps
+clean-from_fits ps fits counted parents = record {
   live = λ p stands. made_at ps p (slice_get ps.instances p) refl (fits p) stands;
   over = λ p i at e. (stands-at ps p i at fits).over e;
   once = λ p. once_at (slice_get ps.instances p) (times p ps.runnable) (times p ps.stack) (fits p);
   free = λ p i at stands. (stands-at ps p i at fits).free stands;
   kept = λ p i at e. (stands-at ps p i at fits).kept e;
   suspended = λ p i at e. (stands-at ps p i at fits).suspended e;
+  counted = counted;
+  parents = parents;
   nothing_left = λ p i at e. (stands-at ps p i at fits).left e;
 }
 

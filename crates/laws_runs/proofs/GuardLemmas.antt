@@ -2,7 +2,7 @@
 use Rattle.std.proofs.Common.{◌≡◌, ℕ, Bool, true, false, cond, List, [], ◌∷◌, ◌++◌, refl, ap, ◌∙◌}
 use Rattle.sim_model.specs.FlatDesign.Code.{Arena}
 use Rattle.sim_model.specs.FlatDesign.declared.code.Handler.{Handler}
-use Rattle.sim_model.specs.Residual.{Residual, Frame, skip, one, seq, owing, guard, try_, frame, shell, run, goal, followed, frame_or, goal_or, put, in_innermost, next_of, statement}
+use Rattle.sim_model.specs.Residual.{Residual, Frame, skip, one, batch, seq, owing, guard, try_, frame, shell, run, goal, followed, frame_or, goal_or, put, in_innermost, next_of, statement}
 use Rattle.sim_model.specs.Unwinding.{unw, catches, handles, handler_block, handler_of, handled, raise}
 use Rattle.sim_model.specs.Clean.{guards_of}
 use Rattle.sim_model.specs.declared.plain.Goal.{Goal}
@@ -26,6 +26,7 @@ past_goal other k inside h = h
 pub guards-past : (r : Residual) → guards_of (put r skip) ≡ guards_of r
 guards-past skip = refl
 guards-past (one s) = refl
+guards-past (batch s qs) = refl
 guards-past (seq r ss) = followed_guards (put r skip) ss ∙ guards-past r
 guards-past (owing r g u) = ap (λ gs. g ∷ gs) (guards-past r)
 guards-past (guard r g u) = ap (λ gs. g ∷ gs) (guards-past r)
@@ -48,6 +49,7 @@ goal_kept other k n inside s is = refl
 pub guards-put : (r n : Residual) (s : ℕ) → next_of r ≡ statement s → guards_of (put r n) ≡ guards_of r ++ guards_of n
 guards-put skip n s is = cc
 guards-put (one t) n s is = refl
+guards-put (batch t qs) n s is = refl
 guards-put (seq r ss) n s is = followed_guards (put r n) ss ∙ guards-put r n s is
 guards-put (owing r g u) n s is = ap (λ gs. g ∷ gs) (guards-put r n s is)
 guards-put (guard r g u) n s is = ap (λ gs. g ∷ gs) (guards-put r n s is)
@@ -62,6 +64,7 @@ guards-put (goal r k) n s is = let there = before_statement (next_of r) k s is i
 pub guards-local : (f : Frame → Frame) (r : Residual) → guards_of (in_innermost f r) ≡ guards_of r
 guards-local f skip = refl
 guards-local f (one s) = refl
+guards-local f (batch s qs) = refl
 guards-local f (seq r ss) = guards-local f r
 guards-local f (owing r g u) = ap (λ gs. g ∷ gs) (guards-local f r)
 guards-local f (guard r g u) = ap (λ gs. g ∷ gs) (guards-local f r)
@@ -80,6 +83,7 @@ module _ (a : Arena) (e : ℕ) (k : Goal) where
   pub guards-raise : (r : Residual) → guards_of (raise a r e k) ≡ guards_of r
   guards-raise skip = refl
   guards-raise (one s) = refl
+  guards-raise (batch s qs) = refl
   guards-raise (seq r ss) = guards-raise r
   guards-raise (owing r g u) = ap (λ gs. g ∷ gs) (guards-raise r)
   guards-raise (guard r g u) = ap (λ gs. g ∷ gs) (guards-raise r)

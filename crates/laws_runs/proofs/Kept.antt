@@ -5,7 +5,7 @@ use Rattle.sim_model.specs.FlatDesign.Code.{block_at}
 use Rattle.sim_model.specs.FlatDesign.Typed.{EachOf}
 use Rattle.sim_model.specs.FlatDesign.declared.code.Handler.{Handler}
 use Rattle.sim_model.specs.FlatDesign.declared.design.Design.{Design}
-use Rattle.sim_model.specs.Residual.{Residual, Frame, skip, one, seq, owing, guard, try_, frame, shell, run, goal, followed, statements, block, then_on, in_run, then_owed, in_guard, in_try, in_shell, settle, changed_if, innermost, in_innermost, has_goal}
+use Rattle.sim_model.specs.Residual.{Residual, Frame, skip, one, batch, seq, owing, guard, try_, frame, shell, run, goal, followed, statements, block, then_on, in_run, then_owed, in_guard, in_try, in_shell, settle, changed_if, innermost, taken_off, in_innermost, has_goal}
 use Rattle.sim_model.specs.Unwinding.{unw, catches, handles, handler_block, handler_of, handled, raise, has_exit, returned}
 use Rattle.sim_model.specs.Reading.{home_of_via}
 use Rattle.sim_model.specs.Storing.{with_local}
@@ -19,6 +19,7 @@ use Rattle.laws_runs.proofs.Blocks.{unwind-block}
 pub ordinary-standing : (d : Design) (home : ℕ) (r : Residual) → IsOrdinary (OfBody d) d home r → IsStanding d home r
 ordinary-standing d home skip h = tt
 ordinary-standing d home (one s) h = h
+ordinary-standing d home (batch s qs) h = h
 ordinary-standing d home (seq r ss) h = (ordinary-standing d home r h.0, h.1)
 ordinary-standing d home (owing r g u) h = absurd h
 ordinary-standing d home (guard r g u) h = (ordinary-standing d home r h.0, h.1)
@@ -31,6 +32,7 @@ ordinary-standing d home (goal r k) h = absurd h
 pub goalless-ordinary : (d : Design) (home : ℕ) (r : Residual) → IsStanding d home r → has_goal r ≡ false → IsOrdinary (OfBody d) d home r
 goalless-ordinary d home skip h none = tt
 goalless-ordinary d home (one s) h none = h
+goalless-ordinary d home (batch s qs) h none = h
 goalless-ordinary d home (seq r ss) h none = (goalless-ordinary d home r h.0 none, h.1)
 goalless-ordinary d home (owing r g u) h none = absurd h
 goalless-ordinary d home (guard r g u) h none = (goalless-ordinary d home r h.0 none, h.1)
@@ -72,6 +74,8 @@ followed-standing d home r (s ∷ ss) h e = (h, e)
 pub settle-ordinary : (P : ℕ → ℕ → Type 0) (d : Design) (home : ℕ) (r : Residual) → IsOrdinary P d home r → IsOrdinary P d home (settle (code_of d) r)
 settle-ordinary P d home skip h = tt
 settle-ordinary P d home (one s) h = h
+settle-ordinary P d home (batch s []) h = tt
+settle-ordinary P d home (batch s (q ∷ qs)) h = h
 settle-ordinary P d home (seq r ss) h = then_ordinary P d home (settle (code_of d) r) ss (settle-ordinary P d home r h.0) h.1
 settle-ordinary P d home (owing r g u) h = absurd h
 settle-ordinary P d home (guard r g u) h = guard_ordinary P d home (settle (code_of d) r) g u (settle-ordinary P d home r h.0) h.1
@@ -97,6 +101,7 @@ module _ (d : Design) where
   pub settle-unwinding : (home : ℕ) (r : Residual) → IsUnwinding d home r → IsUnwinding d home (settle (code_of d) r)
   settle-unwinding home skip h = tt
   settle-unwinding home (one s) h = absurd h
+  settle-unwinding home (batch s qs) h = absurd h
   settle-unwinding home (seq r ss) h = absurd h
   settle-unwinding home (owing r g u) h = owed_unwinding home (settle (code_of d) r) g u (settle-unwinding home r h.0) h.1
   settle-unwinding home (guard r g u) h = absurd h
@@ -121,6 +126,8 @@ module _ (d : Design) where
   pub settle-standing : (home : ℕ) (r : Residual) → IsStanding d home r → IsStanding d home (settle (code_of d) r)
   settle-standing home skip h = tt
   settle-standing home (one s) h = h
+  settle-standing home (batch s []) h = tt
+  settle-standing home (batch s (q ∷ qs)) h = h
   settle-standing home (seq r ss) h = then_standing home (settle (code_of d) r) ss (settle-standing home r h.0) h.1
   settle-standing home (owing r g u) h = absurd h
   settle-standing home (guard r g u) h = guard_standing home (settle (code_of d) r) g u (settle-standing home r h.0) h.1
@@ -140,6 +147,7 @@ module _ (v : Option Value) where
   returned_ordinary : (P : ℕ → ℕ → Type 0) (d : Design) (home : ℕ) (r : Residual) → IsOrdinary P d home r → IsOrdinary P d home (returned v r)
   returned_ordinary P d home skip h = tt
   returned_ordinary P d home (one s) h = h
+  returned_ordinary P d home (batch s qs) h = h
   returned_ordinary P d home (seq r ss) h = (returned_ordinary P d home r h.0, h.1)
   returned_ordinary P d home (owing r g u) h = absurd h
   returned_ordinary P d home (guard r g u) h = (returned_ordinary P d home r h.0, h.1)
@@ -157,6 +165,7 @@ module _ (v : Option Value) where
   returned_unwinding : (d : Design) (home : ℕ) (r : Residual) → IsUnwinding d home r → IsUnwinding d home (returned v r)
   returned_unwinding d home skip h = tt
   returned_unwinding d home (one s) h = absurd h
+  returned_unwinding d home (batch s qs) h = absurd h
   returned_unwinding d home (seq r ss) h = absurd h
   returned_unwinding d home (owing r g u) h = (returned_unwinding d home r h.0, h.1)
   returned_unwinding d home (guard r g u) h = absurd h
@@ -173,6 +182,7 @@ module _ (v : Option Value) where
   pub returned-standing : (d : Design) (home : ℕ) (r : Residual) → IsStanding d home r → IsStanding d home (returned v r)
   returned-standing d home skip h = tt
   returned-standing d home (one s) h = h
+  returned-standing d home (batch s qs) h = h
   returned-standing d home (seq r ss) h = (returned-standing d home r h.0, h.1)
   returned-standing d home (owing r g u) h = absurd h
   returned-standing d home (guard r g u) h = (returned-standing d home r h.0, h.1)
@@ -191,6 +201,7 @@ module _ (n : ℕ) (v : Value) where
   local_ordinary : (P : ℕ → ℕ → Type 0) (d : Design) (home : ℕ) (r : Residual) → IsOrdinary P d home r → IsOrdinary P d home (in_innermost (with_local n v) r)
   local_ordinary P d home skip h = tt
   local_ordinary P d home (one s) h = h
+  local_ordinary P d home (batch s qs) h = h
   local_ordinary P d home (seq r ss) h = (local_ordinary P d home r h.0, h.1)
   local_ordinary P d home (owing r g u) h = absurd h
   local_ordinary P d home (guard r g u) h = (local_ordinary P d home r h.0, h.1)
@@ -204,6 +215,7 @@ module _ (n : ℕ) (v : Value) where
   local_unwinding : (d : Design) (home : ℕ) (r : Residual) → IsUnwinding d home r → IsUnwinding d home (in_innermost (with_local n v) r)
   local_unwinding d home skip h = tt
   local_unwinding d home (one s) h = absurd h
+  local_unwinding d home (batch s qs) h = absurd h
   local_unwinding d home (seq r ss) h = absurd h
   local_unwinding d home (owing r g u) h = (local_unwinding d home r h.0, h.1)
   local_unwinding d home (guard r g u) h = absurd h
@@ -217,6 +229,7 @@ module _ (n : ℕ) (v : Value) where
   pub local-standing : (d : Design) (home : ℕ) (r : Residual) → IsStanding d home r → IsStanding d home (in_innermost (with_local n v) r)
   local-standing d home skip h = tt
   local-standing d home (one s) h = h
+  local-standing d home (batch s qs) h = h
   local-standing d home (seq r ss) h = (local-standing d home r h.0, h.1)
   local-standing d home (owing r g u) h = absurd h
   local-standing d home (guard r g u) h = (local-standing d home r h.0, h.1)
@@ -227,11 +240,53 @@ module _ (n : ℕ) (v : Value) where
   local-standing d home (run g r) h = absurd h
   local-standing d home (goal r k) h = local_unwinding d home r h
 
+-- ---- a call that is owed to one instance less
+
+off_ordinary : (P : ℕ → ℕ → Type 0) (d : Design) (home : ℕ) (r : Residual) → IsOrdinary P d home r → IsOrdinary P d home (taken_off r)
+off_ordinary P d home skip h = tt
+off_ordinary P d home (one s) h = h
+off_ordinary P d home (batch s qs) h = h
+off_ordinary P d home (seq r ss) h = (off_ordinary P d home r h.0, h.1)
+off_ordinary P d home (owing r g u) h = absurd h
+off_ordinary P d home (guard r g u) h = (off_ordinary P d home r h.0, h.1)
+off_ordinary P d home (try_ r handlers) h = (off_ordinary P d home r h.0, h.1)
+off_ordinary P d home (frame r x) h = (h.0, off_ordinary P d (home_of_via d home x.via) r h.1)
+off_ordinary P d home (shell r x) h = absurd h
+off_ordinary P d home (run g r) h = absurd h
+off_ordinary P d home (goal r k) h = absurd h
+
+off_unwinding : (d : Design) (home : ℕ) (r : Residual) → IsUnwinding d home r → IsUnwinding d home (taken_off r)
+off_unwinding d home skip h = tt
+off_unwinding d home (one s) h = absurd h
+off_unwinding d home (batch s qs) h = absurd h
+off_unwinding d home (seq r ss) h = absurd h
+off_unwinding d home (owing r g u) h = (off_unwinding d home r h.0, h.1)
+off_unwinding d home (guard r g u) h = absurd h
+off_unwinding d home (try_ r handlers) h = absurd h
+off_unwinding d home (frame r x) h = absurd h
+off_unwinding d home (shell r x) h = (h.0, off_unwinding d (home_of_via d home x.via) r h.1)
+off_unwinding d home (run g r) h = off_ordinary (OfUnwindBlock d) d home r h
+off_unwinding d home (goal r k) h = absurd h
+
+pub off-standing : (d : Design) (home : ℕ) (r : Residual) → IsStanding d home r → IsStanding d home (taken_off r)
+off-standing d home skip h = tt
+off-standing d home (one s) h = h
+off-standing d home (batch s qs) h = h
+off-standing d home (seq r ss) h = (off-standing d home r h.0, h.1)
+off-standing d home (owing r g u) h = absurd h
+off-standing d home (guard r g u) h = (off-standing d home r h.0, h.1)
+off-standing d home (try_ r handlers) h = (off-standing d home r h.0, h.1)
+off-standing d home (frame r x) h = (h.0, off-standing d (home_of_via d home x.via) r h.1)
+off-standing d home (shell r x) h = absurd h
+off-standing d home (run g r) h = absurd h
+off-standing d home (goal r k) h = off_unwinding d home r h
+
 -- ---- unwinding, and exceptions
 
 pub unw-unwinding : (P : ℕ → ℕ → Type 0) (d : Design) (home : ℕ) (r : Residual) → IsOrdinary P d home r → IsUnwinding d home (unw r)
 unw-unwinding P d home skip h = tt
 unw-unwinding P d home (one s) h = tt
+unw-unwinding P d home (batch s qs) h = tt
 unw-unwinding P d home (seq r ss) h = unw-unwinding P d home r h.0
 unw-unwinding P d home (owing r g u) h = absurd h
 unw-unwinding P d home (guard r g u) h = (unw-unwinding P d home r h.0, h.1)
@@ -259,6 +314,7 @@ module _ (d : Design) (e : ℕ) (k : Goal) where
   pub raise-standing : (home : ℕ) (r : Residual) → IsOrdinary (OfBody d) d home r → IsStanding d home (raise (code_of d) r e k)
   raise-standing home skip h = tt
   raise-standing home (one s) h = h
+  raise-standing home (batch s qs) h = h
   raise-standing home (seq r ss) h = (raise-standing home r h.0, h.1)
   raise-standing home (owing r g u) h = absurd h
   raise-standing home (guard r g u) h = (raise-standing home r h.0, h.1)

@@ -17,6 +17,7 @@ pub mod PhaseMoves
 pub mod MovesFit
 pub mod Start
 pub mod Steps
+mod Parents
 pub mod CleanRuns
 mod SnapshotSteps
 pub mod LogicValues

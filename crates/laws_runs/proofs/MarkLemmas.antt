@@ -4,7 +4,7 @@ use Rattle.std.specs.List.{list_any}
 use Rattle.std.proofs.lemmas.List.Folds.{list_any-append}
 use Rattle.sim_model.specs.LogicValues.declared.kinds.Value.{Value}
 use Rattle.sim_model.specs.FlatDesign.Code.{Arena, block_at}
-use Rattle.sim_model.specs.Residual.{Residual, Frame, Mark, Next, skip, one, seq, owing, guard, try_, frame, shell, run, goal, leave, begin, finish, statements, block, then_on, in_run, then_owed, in_guard, in_try, in_shell, settle, finished_if, begun_if, left_if, fall, in_frame, before_goal, frame_end, next_of, statement, leaves, done, reaches, nothing}
+use Rattle.sim_model.specs.Residual.{Residual, Frame, Mark, Next, skip, one, batch, seq, owing, guard, try_, frame, shell, run, goal, leave, begin, finish, statements, block, then_on, in_run, then_owed, in_guard, in_try, in_shell, settle, finished_if, begun_if, left_if, fall, in_frame, before_goal, frame_end, next_of, statement, owes, leaves, done, reaches, nothing}
 use Rattle.sim_model.specs.Unwinding.{has_exit, returned, guards_left, return_marks}
 use Rattle.sim_model.specs.Waits.{holds}
 use Rattle.sim_model.specs.Clean.{guards_of, closes}
@@ -66,6 +66,7 @@ open_in p n ms ns one_ two = list_any-append (closes p n) ms ns ∙ neither _ _ 
 pub fall-closes : (p n : ℕ) (a : Arena) (r : Residual) → holds (guards_of r) n ≡ false → list_any (closes p n) (fall p a r) ≡ false
 fall-closes p n a skip h = refl
 fall-closes p n a (one s) h = refl
+fall-closes p n a (batch s qs) h = refl
 fall-closes p n a (seq r ss) h = fall-closes p n a r h
 fall-closes p n a (owing r g u) h =
     open_in p n (fall p a r) (begun_if p a (settle a r) g u) (fall-closes p n a r (or_right (g == n) _ h)) (begun_if_only p g a u (settle a r) n (other_way g n (or_left (g == n) _ h)))
@@ -119,7 +120,9 @@ module _ (p : ℕ) (a : Arena) where
   then_guards : (r : Residual) (ss : List ℕ) → guards_of (then_on r ss) ≡ guards_of r
   then_guards skip ss = guards-statements ss
   then_guards (one s) [] = refl
+  then_guards (batch s qs) [] = refl
   then_guards (one s) (t ∷ ss) = refl
+  then_guards (batch s qs) (t ∷ ss) = refl
   then_guards (seq r us) [] = refl
   then_guards (seq r us) (t ∷ ss) = refl
   then_guards (owing r g u) [] = refl
@@ -167,6 +170,8 @@ module _ (p : ℕ) (a : Arena) where
   pub fall-open : (r : Residual) → IsDistinct (guards_of r) → still_open p (fall p a r) (guards_of r) ≡ guards_of (settle a r)
   fall-open skip d = refl
   fall-open (one s) d = refl
+  fall-open (batch s []) d = refl
+  fall-open (batch s (q ∷ qs)) d = refl
   fall-open (seq r ss) d = fall-open r d ∙ sym (then_guards (settle a r) ss)
   fall-open (owing r g u) d = owed_open g (fall p a r) (guards_of r) (fall-closes p g a r d.0) d.0 (settle a r) u (fall-open r d.1)
   fall-open (guard r g u) d = guard_open g (fall p a r) (guards_of r) (fall-closes p g a r d.0) d.0 (settle a r) u (fall-open r d.1)
@@ -182,6 +187,7 @@ module _ (p : ℕ) (a : Arena) where
 unwound_still : (r : Residual) (s : ℕ) → IsUnwound r → has_exit r ≡ false → next_of r ≡ statement s → ⊥
 unwound_still skip s h none is = cc
 unwound_still (one t) s h none is = h
+unwound_still (batch t qs) s h none is = h
 unwound_still (seq r ss) s h none is = h
 unwound_still (owing r g u) s h none is = unwound_still r s h none is
 unwound_still (guard r g u) s h none is = h
@@ -193,6 +199,7 @@ unwound_still (goal r k) s h none is = h
 
 pub before_statement : (n : Next) (k : _) (s : ℕ) → before_goal n k ≡ statement s → n ≡ statement s
 before_statement (statement t) k s is = is
+before_statement (owes t q) k s is = is
 before_statement (leaves x) k s is = is
 before_statement done k s is = is
 before_statement (reaches j) k s is = is
@@ -200,6 +207,7 @@ before_statement nothing k s is = cc
 
 pub frame_statement : (n : Next) (x : Frame) (s : ℕ) → in_frame n x ≡ statement s → n ≡ statement s
 frame_statement (statement t) x s is = is
+frame_statement (owes t q) x s is = is
 frame_statement (leaves y) x s is = is
 frame_statement done x s is = is
 frame_statement (reaches j) x s is = is
@@ -212,6 +220,7 @@ frame_statement nothing x s is = absurd (ends x.call is)
 inner_normal : (r : Residual) (s : ℕ) → IsShaped r → has_exit r ≡ false → next_of r ≡ statement s → IsNormal r
 inner_normal skip s h none is = tt
 inner_normal (one t) s h none is = tt
+inner_normal (batch t qs) s h none is = tt
 inner_normal (seq r ss) s h none is = inner_normal r s h none is
 inner_normal (owing r g u) s h none is = absurd h
 inner_normal (guard r g u) s h none is = inner_normal r s h none is
@@ -225,6 +234,7 @@ inner_normal (goal r k) s h none is = absurd (unwound_still r s h none (before_s
 left_closes : (p n : ℕ) (r : Residual) → holds (guards_of r) n ≡ false → list_any (closes p n) (guards_left p r) ≡ false
 left_closes p n skip h = refl
 left_closes p n (one s) h = refl
+left_closes p n (batch s qs) h = refl
 left_closes p n (seq r ss) h = left_closes p n r h
 left_closes p n (owing r g u) h = left_closes p n r (or_right (g == n) _ h)
 left_closes p n (guard r g u) h =
@@ -245,6 +255,7 @@ closes_if false p n ms ns one_ two = two
 return_closes : (p n : ℕ) (r : Residual) → holds (guards_of r) n ≡ false → list_any (closes p n) (return_marks p r) ≡ false
 return_closes p n skip h = refl
 return_closes p n (one s) h = refl
+return_closes p n (batch s qs) h = refl
 return_closes p n (seq r ss) h = return_closes p n r h
 return_closes p n (owing r g u) h = return_closes p n r (or_right (g == n) _ h)
 return_closes p n (guard r g u) h = return_closes p n r (or_right (g == n) _ h)
@@ -261,6 +272,7 @@ head_open p g ms gs out unclosed inner = ap (λ b. cond (not b) (g ∷ still_ope
 all_left : (p : ℕ) (r : Residual) → IsNormal r → IsDistinct (guards_of r) → still_open p (guards_left p r) (guards_of r) ≡ []
 all_left p skip h d = refl
 all_left p (one s) h d = refl
+all_left p (batch s qs) h d = refl
 all_left p (seq r ss) h d = all_left p r h d
 all_left p (owing r g u) h d = absurd h
 all_left p (guard r g u) h d = outer_open p g (guards_left p r) (leave p g ∷ []) (guards_of r) [] true (left_closes p g r d.0) d.0 (left_only p g) (itself p g) (all_left p r h d.1)
@@ -289,6 +301,7 @@ module _ (p : ℕ) (v : Option Value) where
   normal_returned : (r : Residual) → IsNormal r → IsDistinct (guards_of r) → still_open p (return_marks p r) (guards_of r) ≡ guards_of (returned v r)
   normal_returned skip h d = refl
   normal_returned (one s) h d = refl
+  normal_returned (batch s qs) h d = refl
   normal_returned (seq r ss) h d = normal_returned r h d
   normal_returned (owing r g u) h d = absurd h
   normal_returned (guard r g u) h d = head_open p g (return_marks p r) (guards_of r) (guards_of (returned v r)) (return_closes p g r d.0) (normal_returned r h d.1)
@@ -301,6 +314,7 @@ module _ (p : ℕ) (v : Option Value) where
   unwound_returned : (r : Residual) → IsUnwound r → IsDistinct (guards_of r) → still_open p (return_marks p r) (guards_of r) ≡ guards_of (returned v r)
   unwound_returned skip h d = refl
   unwound_returned (one s) h d = absurd h
+  unwound_returned (batch s qs) h d = absurd h
   unwound_returned (seq r ss) h d = absurd h
   unwound_returned (owing r g u) h d = head_open p g (return_marks p r) (guards_of r) (guards_of (returned v r)) (return_closes p g r d.0) (unwound_returned r h d.1)
   unwound_returned (guard r g u) h d = absurd h
@@ -313,6 +327,7 @@ module _ (p : ℕ) (v : Option Value) where
   pub return-open : (r : Residual) (s : ℕ) → IsShaped r → next_of r ≡ statement s → IsDistinct (guards_of r) → still_open p (return_marks p r) (guards_of r) ≡ guards_of (returned v r)
   return-open skip s h is d = refl
   return-open (one t) s h is d = refl
+  return-open (batch t qs) s h is d = refl
   return-open (seq r ss) s h is d = return-open r s h is d
   return-open (owing r g u) s h is d = absurd h
   return-open (guard r g u) s h is d = head_open p g (return_marks p r) (guards_of r) (guards_of (returned v r)) (return_closes p g r d.0) (return-open r s h is d.1)

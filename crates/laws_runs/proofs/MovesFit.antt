@@ -1,9 +1,9 @@
 -- Each move keeps who stands where: what is runnable or active was made and has not ended, stands there once, and waits for nothing.
-use Rattle.std.proofs.Common.{◌≡◌, ◌≢◌, ◌+◌, ◌<◌, ℕ, Bool, true, false, cond, List, [], ◌∷◌, ◌++◌, drop, length, Option, Some, None, refl, sym, ap, ◌∙◌, subst, arith}
+use Rattle.std.proofs.Common.{◌≡◌, ◌≢◌, ◌+◌, ◌<◌, ℕ, Bool, true, false, cond, List, [], ◌∷◌, ◌++◌, drop, length, slice_get, Option, Some, None, refl, sym, ap, ◌∙◌, subst, arith}
 use Rattle.std.proofs.lemmas.Option.{same_Some}
 use Rattle.sim_model.specs.LogicValues.declared.kinds.Value.{Value}
 use Rattle.sim_model.specs.FlatDesign.Code.{SpawnTerm}
-use Rattle.sim_model.specs.Residual.{Residual, goal, skip, put, guard, block, entered, in_innermost}
+use Rattle.sim_model.specs.Residual.{Residual, goal, skip, put, taken_off, guard, block, entered, in_innermost}
 use Rattle.sim_model.specs.Unwinding.{unw, raise, returned, left_by_unw, left_by_raise}
 use Rattle.sim_model.specs.Configuration.{Config, Instance, Processes, Wait, waits_for_nothing, waits_statically, Deadline, change, change_instance, instance_at, with_residual, arena}
 use Rattle.sim_model.specs.Reading.{Here}
@@ -38,7 +38,7 @@ left_fits (via ∷ more) c h = left_fits more (with_entry c via.hop _) h
 
 -- ---- the instance on top of the stack
 
-left_move : (ps : Processes) (p : ℕ) (f : Instance → Instance) → Moved p ps (record { runnable = ps.runnable; stack = drop 1 ps.stack; instances = change ps.instances p f })
+left_move : (ps : Processes) (p : ℕ) (f : Instance → Instance) → Moved p ps (record { runnable = ps.runnable; stack = drop 1 ps.stack; instances = change ps.instances p f; parents = ps.parents })
 left_move ps p f = record {
   others = λ q apart. change-other ps.instances p q f apart;
   runnable = λ q apart. omega arith;
@@ -125,7 +125,7 @@ module _ (c : Config) (q : ℕ) (i : Instance) (at : instance_at c q ≡ Some i)
         suspended = λ e. off;
       })
 
-  cut_move : (f g : Instance → Instance) → Moved q c.processes (record { runnable = without c.processes.runnable q; stack = c.processes.stack; instances = change (change c.processes.instances q f) q g })
+  cut_move : (f g : Instance → Instance) → Moved q c.processes (record { runnable = without c.processes.runnable q; stack = c.processes.stack; instances = change (change c.processes.instances q f) q g; parents = c.processes.parents })
   cut_move f g = record {
     others = λ p apart. change-other (change c.processes.instances q f) q p g apart ∙ change-other c.processes.instances q p f apart;
     runnable = λ p apart. let same = times-cut_other q p c.processes.runnable apart in omega (arith, same);
@@ -147,7 +147,7 @@ module _ (c : Config) (q : ℕ) (i : Instance) (at : instance_at c q ≡ Some i)
       let t = top-is c q is in
       top_stays (with_suspended c q) q t.0 t.1 (suspended_here off) (record i { suspended = true }) (change-here c.processes.instances q (λ k. record k { suspended = true }) i at) refl
 
-  last_move : (f : Instance → Instance) → Moved q c.processes (record { runnable = c.processes.runnable ++ q ∷ []; stack = c.processes.stack; instances = change c.processes.instances q f })
+  last_move : (f : Instance → Instance) → Moved q c.processes (record { runnable = c.processes.runnable ++ q ∷ []; stack = c.processes.stack; instances = change c.processes.instances q f; parents = c.processes.parents })
   last_move f = record {
     others = λ p apart. change-other c.processes.instances q p f apart;
     runnable = λ p apart. let same = times-last_other q p c.processes.runnable apart in omega (arith, same);
@@ -179,7 +179,7 @@ module _ (c : Config) (q : ℕ) (i : Instance) (at : instance_at c q ≡ Some i)
 
   -- ---- a push
 
-  push_move : (f : Instance → Instance) → Moved q c.processes (record { runnable = without c.processes.runnable q; stack = q ∷ c.processes.stack; instances = change c.processes.instances q f })
+  push_move : (f : Instance → Instance) → Moved q c.processes (record { runnable = without c.processes.runnable q; stack = q ∷ c.processes.stack; instances = change c.processes.instances q f; parents = c.processes.parents })
   push_move f = record {
     others = λ p apart. change-other c.processes.instances q p f apart;
     runnable = λ p apart. let same = times-cut_other q p c.processes.runnable apart in omega (arith, same);
@@ -206,9 +206,9 @@ module _ (c : Config) (q : ℕ) (i : Instance) (at : instance_at c q ≡ Some i)
 
 -- ---- a new instance
 
-added_move : (ps : Processes) (i : Instance) (runnable : List ℕ) → ((p : ℕ) → p ≢ length ps.instances → times p runnable ≡ times p ps.runnable)
-    → Moved (length ps.instances) ps (record { runnable = runnable; stack = ps.stack; instances = ps.instances ++ i ∷ [] })
-added_move ps i runnable same = record {
+added_move : (ps : Processes) (i : Instance) (runnable : List ℕ) (parents : List (Option ℕ)) → ((p : ℕ) → p ≢ length ps.instances → times p runnable ≡ times p ps.runnable)
+    → Moved (length ps.instances) ps (record { runnable = runnable; stack = ps.stack; instances = ps.instances ++ i ∷ []; parents = parents })
+added_move ps i runnable parents same = record {
   others = λ p apart. last-other ps.instances i p apart;
   runnable = λ p apart. let e = same p apart in omega (arith, e);
   active = λ p apart. omega arith;
@@ -220,13 +220,13 @@ new_place ps fits = subst (λ o. Fits o (times (length ps.instances) ps.runnable
 
 spawned : (c : Config) (h : Here) (x : SpawnTerm) (args : List Value) (b : Bool) → x.dont_initialize ≡ b → AllFit c.processes → AllFit (runnable_unless b (length c.processes.instances) (added c (new_instance c h x args))).processes
 spawned c h x args true is fits =
-    moved-to (length c.processes.instances) c.processes _ (new_instance c h x args) (added_move c.processes (new_instance c h x args) c.processes.runnable (λ p apart. refl)) (last-here c.processes.instances (new_instance c h x args)) fits
+    moved-to (length c.processes.instances) c.processes _ (new_instance c h x args) (added_move c.processes (new_instance c h x args) c.processes.runnable (c.processes.parents ++ slice_get c.processes.stack 0 ∷ []) (λ p apart. refl)) (last-here c.processes.instances (new_instance c h x args)) fits
     (stands-nowhere (new_instance c h x args) _ _ (new_place c.processes fits) refl refl)
 spawned c h x args false is fits =
     let q = length c.processes.instances in
     let none = new_place c.processes fits in
     let last = times-last_here q c.processes.runnable in
-    moved-to q c.processes _ (new_instance c h x args) (added_move c.processes (new_instance c h x args) (c.processes.runnable ++ q ∷ []) (λ p apart. times-last_other q p c.processes.runnable apart)) (last-here c.processes.instances (new_instance c h x args)) fits
+    moved-to q c.processes _ (new_instance c h x args) (added_move c.processes (new_instance c h x args) (c.processes.runnable ++ q ∷ []) (c.processes.parents ++ slice_get c.processes.stack 0 ∷ []) (λ p apart. times-last_other q p c.processes.runnable apart)) (last-here c.processes.instances (new_instance c h x args)) fits
     (stands-free (new_instance c h x args) (times q (c.processes.runnable ++ q ∷ [])) (times q c.processes.stack) (omega (arith, none, last))
     (record { wait = ap (λ b. cond b waits_statically waits_for_nothing) is; deadline = refl; kept = refl }) refl (never false refl))
 
@@ -254,6 +254,7 @@ pub each-fits : (w : Option ℕ) → EachKeeps w (λ (c : Config). AllFit c.proc
 each-fits w c (move.passing p r) (t, may) h = top_residual-fits c p t.rest t.top h (put r skip)
 each-fits w c (move.placing p r new) (s, x, t, g) h = top_residual-fits c p t.turn.rest t.turn.top h (put r new)
 each-fits w c (move.entering p r b u) (s, t) h = top_residual-fits c p t.turn.rest t.turn.top h (put r (guard (block (arena c) b) c.trace.next_guard u))
+each-fits w c (move.taking_off p r) (s, q, t, next) h = top_residual-fits c p t.rest t.top h (taken_off r)
 each-fits w c (move.returning p r v) (s, e, t) h = top_residual-fits c p t.turn.rest t.turn.top h (returned v r)
 each-fits w c (move.beginning p f args) (t, i, at, is, same, too) h = begins-fits c p t.rest t.top h _ (λ i. refl) (λ i. refl) (λ i. refl) (λ i. refl) (λ i. refl)
 each-fits w c (move.ending p) (r, t, over) h = top_ends c p t.rest t.top h

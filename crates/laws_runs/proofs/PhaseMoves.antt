@@ -51,7 +51,7 @@ pub record Unbegun (ps : Processes) (q : ℕ) : Type 0 where
   pub suspended : instance.suspended ≡ false
   pub nowhere : times q ps.runnable + times q ps.stack ≡ 0
 
-last_move : (ps : Processes) (p : ℕ) (f : Instance → Instance) → Moved p ps (record { runnable = ps.runnable ++ p ∷ []; stack = ps.stack; instances = change ps.instances p f })
+last_move : (ps : Processes) (p : ℕ) (f : Instance → Instance) → Moved p ps (record { runnable = ps.runnable ++ p ∷ []; stack = ps.stack; instances = change ps.instances p f; parents = ps.parents })
 last_move ps p f = record {
   others = λ q apart. change-other ps.instances p q f apart;
   runnable = λ q apart. let same = times-last_other p q ps.runnable apart in omega (arith, same);

@@ -1,10 +1,10 @@
 -- Where the statement in place runs, what is said of it, and what may be put there.
-use Rattle.std.proofs.Common.{◌≡◌, ℕ, true, slice_get, option_map, unwrap_or, Option, Some, None, refl, sym, ap, ◌∙◌, subst, true≢false}
+use Rattle.std.proofs.Common.{◌≡◌, ℕ, true, [], ◌∷◌, slice_get, option_map, unwrap_or, Option, Some, None, refl, sym, ap, ◌∙◌, subst, true≢false}
 use Rattle.std.proofs.lemmas.Option.{none-some}
 use Rattle.sim_model.specs.FlatDesign.Code.{block_at}
 use Rattle.sim_model.specs.FlatDesign.declared.design.Design.{Design}
 use Rattle.sim_model.specs.FlatDesign.declared.design.Hop.{Hop}
-use Rattle.sim_model.specs.Residual.{Residual, Frame, Next, skip, one, seq, owing, guard, try_, frame, shell, run, goal, frame_or, goal_or, put, or_via, within, in_frame, frame_end, before_goal, next_of, statement, leaves, done, reaches, nothing, has_goal}
+use Rattle.sim_model.specs.Residual.{Residual, Frame, Next, skip, one, batch, seq, owing, guard, try_, frame, shell, run, goal, frame_or, goal_or, put, or_via, within, in_frame, frame_end, before_goal, next_of, statement, owes, leaves, done, reaches, nothing, has_goal}
 use Rattle.sim_model.specs.Reading.{far_home, home_of_via}
 use Rattle.sim_model.specs.Clean.{EachInBlock, EachLeft, EachBelowGoal, IsOfUnwindBlock}
 use Rattle.sim_model.specs.declared.plain.Goal.{Goal}
@@ -20,6 +20,7 @@ same_statement n m e = ap number e
   where
     number : Next → ℕ
     number (statement k) = k
+    number (owes k q) = k
     number other = 0
 
 no_end : (call : Option ℕ) (x : Frame) (s : ℕ) → frame_end call x ≡ statement s → ⊥
@@ -28,6 +29,7 @@ no_end (Some t) x s e = cc
 
 in-frame : (n : Next) (x : Frame) (s : ℕ) → in_frame n x ≡ statement s → n ≡ statement s
 in-frame (statement t) x s is = is
+in-frame (owes t q) x s is = is
 in-frame (leaves y) x s is = is
 in-frame done x s is = is
 in-frame (reaches j) x s is = is
@@ -35,6 +37,7 @@ in-frame nothing x s is = absurd (no_end x.call x s is)
 
 before-goal : (n : Next) (k : Goal) (s : ℕ) → before_goal n k ≡ statement s → n ≡ statement s
 before-goal (statement t) k s is = is
+before-goal (owes t q) k s is = is
 before-goal (leaves x) k s is = is
 before-goal done k s is = is
 before-goal (reaches j) k s is = is
@@ -66,6 +69,7 @@ or_over d (Some w) v one_ two = one_
 over_ordinary : (P : ℕ → ℕ → Type 0) (d : Design) (home : ℕ) (r : Residual) → IsOrdinary P d home r → IsOverHop d (within r)
 over_ordinary P d home skip h = tt
 over_ordinary P d home (one s) h = tt
+over_ordinary P d home (batch s qs) h = tt
 over_ordinary P d home (seq r ss) h = over_ordinary P d home r h.0
 over_ordinary P d home (owing r g u) h = absurd h
 over_ordinary P d home (guard r g u) h = over_ordinary P d home r h.0
@@ -78,6 +82,7 @@ over_ordinary P d home (goal r k) h = absurd h
 over_unwinding : (d : Design) (home : ℕ) (r : Residual) → IsUnwinding d home r → IsOverHop d (within r)
 over_unwinding d home skip h = tt
 over_unwinding d home (one s) h = absurd h
+over_unwinding d home (batch s qs) h = absurd h
 over_unwinding d home (seq r ss) h = absurd h
 over_unwinding d home (owing r g u) h = over_unwinding d home r h.0
 over_unwinding d home (guard r g u) h = absurd h
@@ -90,6 +95,7 @@ over_unwinding d home (goal r k) h = absurd h
 over_standing : (d : Design) (home : ℕ) (r : Residual) → IsStanding d home r → IsOverHop d (within r)
 over_standing d home skip h = tt
 over_standing d home (one s) h = tt
+over_standing d home (batch s qs) h = tt
 over_standing d home (seq r ss) h = over_standing d home r h.0
 over_standing d home (owing r g u) h = absurd h
 over_standing d home (guard r g u) h = over_standing d home r h.0
@@ -104,6 +110,8 @@ over_standing d home (goal r k) h = over_unwinding d home r h
 pub next-ordinary : (P : ℕ → ℕ → Type 0) (d : Design) (home : ℕ) (r : Residual) (s : ℕ) → IsOrdinary P d home r → next_of r ≡ statement s → P (place_of d home r) s
 next-ordinary P d home skip s h is = cc
 next-ordinary P d home (one t) s h is = subst (P home) (same_statement t s is) h
+next-ordinary P d home (batch t []) s h is = absurd cc
+next-ordinary P d home (batch t (q ∷ qs)) s h is = absurd cc
 next-ordinary P d home (seq r ss) s h is = next-ordinary P d home r s h.0 is
 next-ordinary P d home (owing r g u) s h is = absurd h
 next-ordinary P d home (guard r g u) s h is = next-ordinary P d home r s h.0 is
@@ -118,6 +126,7 @@ next-ordinary P d home (goal r k) s h is = absurd h
 next_unwinding : (d : Design) (home : ℕ) (r : Residual) (s : ℕ) → IsUnwinding d home r → next_of r ≡ statement s → OfUnwindBlock d (place_of d home r) s
 next_unwinding d home skip s h is = cc
 next_unwinding d home (one t) s h is = absurd h
+next_unwinding d home (batch t qs) s h is = absurd h
 next_unwinding d home (seq r ss) s h is = absurd h
 next_unwinding d home (owing r g u) s h is = next_unwinding d home r s h.0 is
 next_unwinding d home (guard r g u) s h is = absurd h
@@ -137,6 +146,8 @@ pub record InPlace (d : Design) (home : ℕ) (r : Residual) (s : ℕ) : Type 0 w
 pub next-standing : (d : Design) (home : ℕ) (r : Residual) (s : ℕ) → IsStanding d home r → next_of r ≡ statement s → InPlace d home r s
 next-standing d home skip s h is = cc
 next-standing d home (one t) s h is = record { of_body = subst (OfBody d home) (same_statement t s is) h; of_unwind = λ e. absurd (true≢false (sym e)) }
+next-standing d home (batch t []) s h is = absurd cc
+next-standing d home (batch t (q ∷ qs)) s h is = absurd cc
 next-standing d home (seq r ss) s h is = let i = next-standing d home r s h.0 is in record { of_body = i.of_body; of_unwind = i.of_unwind }
 next-standing d home (owing r g u) s h is = absurd h
 next-standing d home (guard r g u) s h is = let i = next-standing d home r s h.0 is in record { of_body = i.of_body; of_unwind = i.of_unwind }
@@ -157,6 +168,7 @@ next-standing d home (goal r k) s h is =
 pub put-ordinary : (P : ℕ → ℕ → Type 0) (d : Design) (home : ℕ) (r n : Residual) (s : ℕ) → IsOrdinary P d home r → next_of r ≡ statement s → IsOrdinary P d (place_of d home r) n → IsOrdinary P d home (put r n)
 put-ordinary P d home skip n s h is new = tt
 put-ordinary P d home (one t) n s h is new = new
+put-ordinary P d home (batch t qs) n s h is new = new
 put-ordinary P d home (seq r ss) n s h is new = followed-ordinary P d home (put r n) ss (put-ordinary P d home r n s h.0 is new) h.1
 put-ordinary P d home (owing r g u) n s h is new = absurd h
 put-ordinary P d home (guard r g u) n s h is new = (put-ordinary P d home r n s h.0 is new, h.1)
@@ -173,6 +185,7 @@ put-ordinary P d home (goal r k) n s h is new = absurd h
 put_unwinding : (d : Design) (home : ℕ) (r n : Residual) (s : ℕ) → IsUnwinding d home r → next_of r ≡ statement s → IsOrdinary (OfUnwindBlock d) d (place_of d home r) n → IsUnwinding d home (put r n)
 put_unwinding d home skip n s h is new = tt
 put_unwinding d home (one t) n s h is new = absurd h
+put_unwinding d home (batch t qs) n s h is new = absurd h
 put_unwinding d home (seq r ss) n s h is new = absurd h
 put_unwinding d home (owing r g u) n s h is new = (put_unwinding d home r n s h.0 is new, h.1)
 put_unwinding d home (guard r g u) n s h is new = absurd h
@@ -188,6 +201,7 @@ pub put-standing : (d : Design) (home : ℕ) (r n : Residual) (s : ℕ) → IsSt
     → (has_goal r ≡ true → IsOrdinary (OfUnwindBlock d) d (place_of d home r) n) → IsStanding d home (put r n)
 put-standing d home skip n s h is new under = tt
 put-standing d home (one t) n s h is new under = ordinary-standing d home n new
+put-standing d home (batch t qs) n s h is new under = ordinary-standing d home n new
 put-standing d home (seq r ss) n s h is new under = followed-standing d home (put r n) ss (put-standing d home r n s h.0 is new under) h.1
 put-standing d home (owing r g u) n s h is new under = absurd h
 put-standing d home (guard r g u) n s h is new under = (put-standing d home r n s h.0 is new under, h.1)
@@ -213,6 +227,7 @@ past_call P d home other x inside o h = (o, h)
 pub past-ordinary : (P : ℕ → ℕ → Type 0) (d : Design) (home : ℕ) (r : Residual) → IsOrdinary P d home r → IsOrdinary P d home (put r skip)
 past-ordinary P d home skip h = tt
 past-ordinary P d home (one s) h = tt
+past-ordinary P d home (batch s qs) h = tt
 past-ordinary P d home (seq r ss) h = followed-ordinary P d home (put r skip) ss (past-ordinary P d home r h.0) h.1
 past-ordinary P d home (owing r g u) h = absurd h
 past-ordinary P d home (guard r g u) h = (past-ordinary P d home r h.0, h.1)
@@ -225,6 +240,7 @@ past-ordinary P d home (goal r k) h = absurd h
 past_unwinding : (d : Design) (home : ℕ) (r : Residual) → IsUnwinding d home r → IsUnwinding d home (put r skip)
 past_unwinding d home skip h = tt
 past_unwinding d home (one s) h = absurd h
+past_unwinding d home (batch s qs) h = absurd h
 past_unwinding d home (seq r ss) h = absurd h
 past_unwinding d home (owing r g u) h = (past_unwinding d home r h.0, h.1)
 past_unwinding d home (guard r g u) h = absurd h
@@ -245,6 +261,7 @@ past_goal d home other k inside h = h
 pub past-standing : (d : Design) (home : ℕ) (r : Residual) → IsStanding d home r → IsStanding d home (put r skip)
 past-standing d home skip h = tt
 past-standing d home (one s) h = tt
+past-standing d home (batch s qs) h = tt
 past-standing d home (seq r ss) h = followed-standing d home (put r skip) ss (past-standing d home r h.0) h.1
 past-standing d home (owing r g u) h = absurd h
 past-standing d home (guard r g u) h = (past-standing d home r h.0, h.1)
@@ -265,6 +282,7 @@ block_left d home u h = each-weaker (OfUnwindBlock d home) (IsOfUnwindBlock (cod
 ordinary_left : (d : Design) (home : ℕ) (r : Residual) → IsOrdinary (OfUnwindBlock d) d home r → EachLeft (IsOfUnwindBlock (code_of d)) (code_of d) r
 ordinary_left d home skip h = tt
 ordinary_left d home (one s) h = of_unwind d home s h
+ordinary_left d home (batch s qs) h = of_unwind d home s h
 ordinary_left d home (seq r ss) h = (ordinary_left d home r h.0, each-weaker (OfUnwindBlock d home) (IsOfUnwindBlock (code_of d)) (of_unwind d home) ss h.1)
 ordinary_left d home (owing r g u) h = absurd h
 ordinary_left d home (guard r g u) h = (ordinary_left d home r h.0, block_left d home u h.1)
@@ -277,6 +295,7 @@ ordinary_left d home (goal r k) h = absurd h
 unwinding_left : (d : Design) (home : ℕ) (r : Residual) → IsUnwinding d home r → EachLeft (IsOfUnwindBlock (code_of d)) (code_of d) r
 unwinding_left d home skip h = tt
 unwinding_left d home (one s) h = absurd h
+unwinding_left d home (batch s qs) h = absurd h
 unwinding_left d home (seq r ss) h = absurd h
 unwinding_left d home (owing r g u) h = (unwinding_left d home r h.0, block_left d home u h.1)
 unwinding_left d home (guard r g u) h = absurd h
@@ -289,6 +308,7 @@ unwinding_left d home (goal r k) h = absurd h
 pub standing-below : (d : Design) (home : ℕ) (r : Residual) → IsStanding d home r → EachBelowGoal (IsOfUnwindBlock (code_of d)) (code_of d) r
 standing-below d home skip h = tt
 standing-below d home (one s) h = tt
+standing-below d home (batch s qs) h = tt
 standing-below d home (seq r ss) h = standing-below d home r h.0
 standing-below d home (owing r g u) h = absurd h
 standing-below d home (guard r g u) h = standing-below d home r h.0

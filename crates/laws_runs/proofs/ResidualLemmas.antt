@@ -2,7 +2,7 @@
 use Rattle.std.proofs.Common.{◌≡◌, ℕ, List, [], ◌∷◌, false, refl, ap}
 use Rattle.sim_model.specs.FlatDesign.Code.{Arena, block_at}
 use Rattle.sim_model.specs.FlatDesign.declared.code.Handler.{Handler}
-use Rattle.sim_model.specs.Residual.{Residual, Frame, skip, one, seq, owing, guard, try_, frame, shell, run, goal, statements, block, then_on, in_run, then_owed, in_guard, in_try, in_shell, settle}
+use Rattle.sim_model.specs.Residual.{Residual, Frame, skip, one, batch, seq, owing, guard, try_, frame, shell, run, goal, statements, block, then_on, in_run, then_owed, in_guard, in_try, in_shell, settle}
 use Rattle.sim_model.specs.Unwinding.{unw, catches}
 use Rattle.sim_model.specs.Clean.{guards_of}
 
@@ -17,7 +17,9 @@ module _ (a : Arena) where
   seq-settled : (r : Residual) (ss : List ℕ) → settle a r ≡ r → settle a (then_on r ss) ≡ then_on r ss
   seq-settled skip ss h = statements-settled a ss
   seq-settled (one s) [] h = h
+  seq-settled (batch s qs) [] h = h
   seq-settled (one s) (t ∷ ss) h = refl
+  seq-settled (batch s qs) (t ∷ ss) h = ap (λ x. then_on x (t ∷ ss)) h
   seq-settled (seq r us) [] h = h
   seq-settled (seq r us) (t ∷ ss) h = ap (λ x. then_on x (t ∷ ss)) h
   seq-settled (owing r g u) [] h = h
@@ -58,6 +60,8 @@ module _ (a : Arena) where
   pub settle-settled : (r : Residual) → settle a (settle a r) ≡ settle a r
   settle-settled skip = refl
   settle-settled (one s) = refl
+  settle-settled (batch s []) = refl
+  settle-settled (batch s (q ∷ qs)) = refl
   settle-settled (seq r ss) = seq-settled (settle a r) ss (settle-settled r)
   settle-settled (owing r g u) = owed-settled (settle a r) g u (settle-settled r)
   settle-settled (guard r g u) = guard-settled (settle a r) g u (settle-settled r)
@@ -72,6 +76,7 @@ module _ (a : Arena) where
 pub unw-unwound : (r : Residual) → unw (unw r) ≡ unw r
 unw-unwound skip = refl
 unw-unwound (one s) = refl
+unw-unwound (batch s qs) = refl
 unw-unwound (seq r ss) = unw-unwound r
 unw-unwound (owing r g u) = ap (λ x. owing x g u) (unw-unwound r)
 unw-unwound (guard r g u) = ap (λ x. owing x g u) (unw-unwound r)
@@ -84,6 +89,7 @@ unw-unwound (goal r k) = unw-unwound r
 pub guards-unwound : (r : Residual) → guards_of (unw r) ≡ guards_of r
 guards-unwound skip = refl
 guards-unwound (one s) = refl
+guards-unwound (batch s qs) = refl
 guards-unwound (seq r ss) = guards-unwound r
 guards-unwound (owing r g u) = ap (λ gs. g ∷ gs) (guards-unwound r)
 guards-unwound (guard r g u) = ap (λ gs. g ∷ gs) (guards-unwound r)
@@ -96,6 +102,7 @@ guards-unwound (goal r k) = guards-unwound r
 pub nothing-caught : (r : Residual) (e : ℕ) → catches (unw r) e ≡ false
 nothing-caught skip e = refl
 nothing-caught (one s) e = refl
+nothing-caught (batch s qs) e = refl
 nothing-caught (seq r ss) e = nothing-caught r e
 nothing-caught (owing r g u) e = nothing-caught r e
 nothing-caught (guard r g u) e = nothing-caught r e

@@ -4,7 +4,7 @@ use Rattle.sim_model.specs.LogicValues.declared.kinds.Value.{Value}
 use Rattle.sim_model.specs.FlatDesign.Code.{Arena, block_at, body_at}
 use Rattle.sim_model.specs.FlatDesign.declared.code.CodeBody.{CodeBody}
 use Rattle.sim_model.specs.FlatDesign.declared.code.Handler.{Handler}
-use Rattle.sim_model.specs.Residual.{Residual, Frame, skip, one, seq, owing, guard, try_, frame, shell, run, goal, followed, statements, block, then_on, in_run, then_owed, in_guard, in_try, in_shell, settle, frame_or, goal_or, put, in_innermost, has_goal, entered_in, entered}
+use Rattle.sim_model.specs.Residual.{Residual, Frame, skip, one, batch, seq, owing, guard, try_, frame, shell, run, goal, followed, statements, block, then_on, in_run, then_owed, in_guard, in_try, in_shell, settle, frame_or, goal_or, put, in_innermost, has_goal, entered_in, entered}
 use Rattle.sim_model.specs.Unwinding.{unw, catches, handles, handler_block, handler_of, handled, raise, has_exit, returned}
 use Rattle.sim_model.specs.Clean.{goals_in, owes, OneAtATime}
 use Rattle.sim_model.specs.declared.plain.Goal.{Goal}
@@ -16,6 +16,7 @@ use Rattle.laws_runs.specs.Shapes.{IsNormal, IsUnwound, IsShaped}
 pub normal-shaped : (r : Residual) → IsNormal r → IsShaped r
 normal-shaped skip h = tt
 normal-shaped (one s) h = tt
+normal-shaped (batch s qs) h = tt
 normal-shaped (seq r ss) h = normal-shaped r h
 normal-shaped (owing r g u) h = absurd h
 normal-shaped (guard r g u) h = normal-shaped r h
@@ -28,6 +29,7 @@ normal-shaped (goal r k) h = absurd h
 pub goalless-normal : (r : Residual) → IsShaped r → has_goal r ≡ false → IsNormal r
 goalless-normal skip h none = tt
 goalless-normal (one s) h none = tt
+goalless-normal (batch s qs) h none = tt
 goalless-normal (seq r ss) h none = goalless-normal r h none
 goalless-normal (owing r g u) h none = absurd h
 goalless-normal (guard r g u) h none = goalless-normal r h none
@@ -79,6 +81,8 @@ module _ (a : Arena) where
   pub settle-normal : (r : Residual) → IsNormal r → IsNormal (settle a r)
   settle-normal skip h = tt
   settle-normal (one s) h = tt
+  settle-normal (batch s []) h = tt
+  settle-normal (batch s (q ∷ qs)) h = tt
   settle-normal (seq r ss) h = then_normal (settle a r) ss (settle-normal r h)
   settle-normal (owing r g u) h = absurd h
   settle-normal (guard r g u) h = guard_normal (settle a r) g u (settle-normal r h)
@@ -103,6 +107,7 @@ module _ (a : Arena) where
   pub settle-unwound : (r : Residual) → IsUnwound r → IsUnwound (settle a r)
   settle-unwound skip h = tt
   settle-unwound (one s) h = absurd h
+  settle-unwound (batch s qs) h = absurd h
   settle-unwound (seq r ss) h = absurd h
   settle-unwound (owing r g u) h = owed_unwound (settle a r) g u (settle-unwound r h)
   settle-unwound (guard r g u) h = absurd h
@@ -127,6 +132,8 @@ module _ (a : Arena) where
   pub settle-shaped : (r : Residual) → IsShaped r → IsShaped (settle a r)
   settle-shaped skip h = tt
   settle-shaped (one s) h = tt
+  settle-shaped (batch s []) h = tt
+  settle-shaped (batch s (q ∷ qs)) h = tt
   settle-shaped (seq r ss) h = then_shaped (settle a r) ss (settle-shaped r h)
   settle-shaped (owing r g u) h = absurd h
   settle-shaped (guard r g u) h = guard_shaped (settle a r) g u (settle-shaped r h)
@@ -146,6 +153,7 @@ module _ (n : Residual) (normal : IsNormal n) where
   put-normal : (r : Residual) → IsNormal r → IsNormal (put r n)
   put-normal skip h = tt
   put-normal (one s) h = normal
+  put-normal (batch s qs) h = normal
   put-normal (seq r ss) h = followed-normal (put r n) ss (put-normal r h)
   put-normal (owing r g u) h = absurd h
   put-normal (guard r g u) h = put-normal r h
@@ -158,6 +166,7 @@ module _ (n : Residual) (normal : IsNormal n) where
   put-unwound : (r : Residual) → IsUnwound r → IsUnwound (put r n)
   put-unwound skip h = tt
   put-unwound (one s) h = absurd h
+  put-unwound (batch s qs) h = absurd h
   put-unwound (seq r ss) h = absurd h
   put-unwound (owing r g u) h = put-unwound r h
   put-unwound (guard r g u) h = absurd h
@@ -178,6 +187,7 @@ module _ (n : Residual) (normal : IsNormal n) where
   pub put-shaped : (r : Residual) → IsShaped r → IsShaped (put r n)
   put-shaped skip h = tt
   put-shaped (one s) h = normal-shaped n normal
+  put-shaped (batch s qs) h = normal-shaped n normal
   put-shaped (seq r ss) h = followed-shaped (put r n) ss (put-shaped r h)
   put-shaped (owing r g u) h = absurd h
   put-shaped (guard r g u) h = put-shaped r h
@@ -197,6 +207,7 @@ module _ (v : Option Value) where
   returned-normal : (r : Residual) → IsNormal r → IsNormal (returned v r)
   returned-normal skip h = tt
   returned-normal (one s) h = tt
+  returned-normal (batch s qs) h = tt
   returned-normal (seq r ss) h = returned-normal r h
   returned-normal (owing r g u) h = absurd h
   returned-normal (guard r g u) h = returned-normal r h
@@ -213,6 +224,7 @@ module _ (v : Option Value) where
   returned-unwound : (r : Residual) → IsUnwound r → IsUnwound (returned v r)
   returned-unwound skip h = tt
   returned-unwound (one s) h = absurd h
+  returned-unwound (batch s qs) h = absurd h
   returned-unwound (seq r ss) h = absurd h
   returned-unwound (owing r g u) h = returned-unwound r h
   returned-unwound (guard r g u) h = absurd h
@@ -229,6 +241,7 @@ module _ (v : Option Value) where
   pub returned-shaped : (r : Residual) → IsShaped r → IsShaped (returned v r)
   returned-shaped skip h = tt
   returned-shaped (one s) h = tt
+  returned-shaped (batch s qs) h = tt
   returned-shaped (seq r ss) h = returned-shaped r h
   returned-shaped (owing r g u) h = absurd h
   returned-shaped (guard r g u) h = returned-shaped r h
@@ -242,6 +255,7 @@ module _ (f : Frame → Frame) where
   local_normal : (r : Residual) → IsNormal r → IsNormal (in_innermost f r)
   local_normal skip h = tt
   local_normal (one s) h = tt
+  local_normal (batch s qs) h = tt
   local_normal (seq r ss) h = local_normal r h
   local_normal (owing r g u) h = absurd h
   local_normal (guard r g u) h = local_normal r h
@@ -254,6 +268,7 @@ module _ (f : Frame → Frame) where
   local_unwound : (r : Residual) → IsUnwound r → IsUnwound (in_innermost f r)
   local_unwound skip h = tt
   local_unwound (one s) h = absurd h
+  local_unwound (batch s qs) h = absurd h
   local_unwound (seq r ss) h = absurd h
   local_unwound (owing r g u) h = local_unwound r h
   local_unwound (guard r g u) h = absurd h
@@ -266,6 +281,7 @@ module _ (f : Frame → Frame) where
   pub local-shaped : (r : Residual) → IsShaped r → IsShaped (in_innermost f r)
   local-shaped skip h = tt
   local-shaped (one s) h = tt
+  local-shaped (batch s qs) h = tt
   local-shaped (seq r ss) h = local-shaped r h
   local-shaped (owing r g u) h = absurd h
   local-shaped (guard r g u) h = local-shaped r h
@@ -280,6 +296,7 @@ module _ (f : Frame → Frame) where
 pub unw-unwound : (r : Residual) → IsNormal r → IsUnwound (unw r)
 unw-unwound skip h = tt
 unw-unwound (one s) h = tt
+unw-unwound (batch s qs) h = tt
 unw-unwound (seq r ss) h = unw-unwound r h
 unw-unwound (owing r g u) h = absurd h
 unw-unwound (guard r g u) h = unw-unwound r h
@@ -298,6 +315,7 @@ module _ (a : Arena) (e : ℕ) (k : Goal) where
   pub raise-shaped : (r : Residual) → IsNormal r → IsShaped (raise a r e k)
   raise-shaped skip h = tt
   raise-shaped (one s) h = tt
+  raise-shaped (batch s qs) h = tt
   raise-shaped (seq r ss) h = raise-shaped r h
   raise-shaped (owing r g u) h = absurd h
   raise-shaped (guard r g u) h = raise-shaped r h
@@ -312,6 +330,7 @@ module _ (a : Arena) (e : ℕ) (k : Goal) where
 normal_goals : (r : Residual) → IsNormal r → goals_in r ≡ 0
 normal_goals skip h = refl
 normal_goals (one s) h = refl
+normal_goals (batch s qs) h = refl
 normal_goals (seq r ss) h = normal_goals r h
 normal_goals (owing r g u) h = absurd h
 normal_goals (guard r g u) h = normal_goals r h
@@ -324,6 +343,7 @@ normal_goals (goal r k) h = absurd h
 unwound_goals : (r : Residual) → IsUnwound r → goals_in r ≡ 0
 unwound_goals skip h = refl
 unwound_goals (one s) h = absurd h
+unwound_goals (batch s qs) h = absurd h
 unwound_goals (seq r ss) h = absurd h
 unwound_goals (owing r g u) h = unwound_goals r h
 unwound_goals (guard r g u) h = absurd h
@@ -336,6 +356,7 @@ unwound_goals (goal r k) h = absurd h
 pub shaped-goals : (r : Residual) → IsShaped r → goals_in r ≤ 1
 shaped-goals skip h = omega arith
 shaped-goals (one s) h = omega arith
+shaped-goals (batch s qs) h = omega arith
 shaped-goals (seq r ss) h = shaped-goals r h
 shaped-goals (owing r g u) h = absurd h
 shaped-goals (guard r g u) h = shaped-goals r h
@@ -348,6 +369,7 @@ shaped-goals (goal r k) h = let none = unwound_goals r h in omega (arith, none)
 normal_owes : (r : Residual) → IsNormal r → owes r ≡ false
 normal_owes skip h = refl
 normal_owes (one s) h = refl
+normal_owes (batch s qs) h = refl
 normal_owes (seq r ss) h = normal_owes r h
 normal_owes (owing r g u) h = absurd h
 normal_owes (guard r g u) h = normal_owes r h
@@ -360,6 +382,7 @@ normal_owes (goal r k) h = absurd h
 unwound_one : (r : Residual) → IsUnwound r → OneAtATime r
 unwound_one skip h = tt
 unwound_one (one s) h = absurd h
+unwound_one (batch s qs) h = absurd h
 unwound_one (seq r ss) h = absurd h
 unwound_one (owing r g u) h = unwound_one r h
 unwound_one (guard r g u) h = absurd h
@@ -372,6 +395,7 @@ unwound_one (goal r k) h = absurd h
 pub shaped-one : (r : Residual) → IsShaped r → OneAtATime r
 shaped-one skip h = tt
 shaped-one (one s) h = tt
+shaped-one (batch s qs) h = tt
 shaped-one (seq r ss) h = shaped-one r h
 shaped-one (owing r g u) h = absurd h
 shaped-one (guard r g u) h = shaped-one r h

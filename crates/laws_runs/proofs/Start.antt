@@ -3,14 +3,12 @@ use Rattle.std.proofs.Common.{List, [], map, slice_get, Option, Some, None, opti
 use Rattle.std.proofs.lemmas.Option.{slice_get-map}
 use Rattle.sim_model.specs.FlatDesign.declared.design.ProcessPart.{ProcessPart}
 use Rattle.sim_model.specs.FlatDesign.declared.design.Design.{Design}
-use Rattle.sim_model.specs.Configuration.{Processes, first_instance, start}
-use Rattle.sim_model.specs.Clean.{CleanProcesses}
-use Rattle.sim_model.specs.declared.plain.Command.{Command}
-use Rattle.laws_runs.proofs.Fits.{Fits, AllFit, stands-nowhere, clean-from_fits}
+use Rattle.sim_model.specs.Configuration.{Processes, first_instance}
+use Rattle.laws_runs.proofs.Fits.{Fits, AllFit, stands-nowhere}
 
 -- the processes of a design before the first command
 abbrev pub first_processes : Design → Processes
-first_processes d = record { runnable = []; stack = []; instances = map (first_instance d) d.processes }
+first_processes d = record { runnable = []; stack = []; instances = map (first_instance d) d.processes; parents = map (λ (p : ProcessPart). None) d.processes }
 
 first_at : (d : Design) (o : Option ProcessPart) → Fits (option_map (first_instance d) o) 0 0
 first_at d None = omega arith
@@ -18,6 +16,3 @@ first_at d (Some p) = stands-nowhere (first_instance d p) 0 0 (omega arith) refl
 
 pub first-fits : (d : Design) → AllFit (first_processes d)
 first-fits d p = subst (λ o. Fits o 0 0) (sym (slice_get-map (first_instance d) d.processes p)) (first_at d (slice_get d.processes p))
-
-pub start-clean : (d : Design) (script : List Command) → CleanProcesses (start d script).processes
-start-clean d script = clean-from_fits (start d script).processes (first-fits d)

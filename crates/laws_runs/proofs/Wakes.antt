@@ -12,7 +12,7 @@ use Rattle.laws_runs.proofs.Fits.{Stands, AllFit, Moved, stands-at, never, nowhe
 
 -- ---- a wake
 
-joined-move : (ps : Processes) (p : ℕ) (f : Instance → Instance) → Moved p ps (record { runnable = joined ps.runnable p; stack = ps.stack; instances = change ps.instances p f })
+joined-move : (ps : Processes) (p : ℕ) (f : Instance → Instance) → Moved p ps (record { runnable = joined ps.runnable p; stack = ps.stack; instances = change ps.instances p f; parents = ps.parents })
 joined-move ps p f = record {
   others = λ q apart. change-other ps.instances p q f apart;
   runnable = λ q apart. let same = times-joined_other p q ps.runnable apart in omega (arith, same);

@@ -1,11 +1,12 @@
 -- What is left of a body has one of few shapes: no unwinding; or one, inside what it leaves alone.
 use Rattle.std.specs.Prelude.{⊤}
-use Rattle.sim_model.specs.Residual.{Residual, skip, one, seq, owing, guard, try_, frame, shell, run, goal}
+use Rattle.sim_model.specs.Residual.{Residual, skip, one, batch, seq, owing, guard, try_, frame, shell, run, goal}
 
 -- nothing is being unwound
 abbrev pub IsNormal : Residual → Type 0
 IsNormal skip = ⊤
 IsNormal (one s) = ⊤
+IsNormal (batch s qs) = ⊤
 IsNormal (seq r ss) = IsNormal r
 IsNormal (owing r g u) = ⊥
 IsNormal (guard r g u) = IsNormal r
@@ -20,6 +21,7 @@ IsNormal (goal r k) = ⊥
 abbrev pub IsUnwound : Residual → Type 0
 IsUnwound skip = ⊤
 IsUnwound (one s) = ⊥
+IsUnwound (batch s qs) = ⊥
 IsUnwound (seq r ss) = ⊥
 IsUnwound (owing r g u) = IsUnwound r
 IsUnwound (guard r g u) = ⊥
@@ -33,6 +35,7 @@ IsUnwound (goal r k) = ⊥
 abbrev pub IsShaped : Residual → Type 0
 IsShaped skip = ⊤
 IsShaped (one s) = ⊤
+IsShaped (batch s qs) = ⊤
 IsShaped (seq r ss) = IsShaped r
 IsShaped (owing r g u) = ⊥
 IsShaped (guard r g u) = IsShaped r

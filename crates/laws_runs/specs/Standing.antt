@@ -9,7 +9,7 @@ use Rattle.sim_model.specs.FlatDesign.Sound.{IsHomeOf}
 use Rattle.sim_model.specs.FlatDesign.declared.code.CodeBody.{CodeBody}
 use Rattle.sim_model.specs.FlatDesign.declared.design.Hop.{Hop}
 use Rattle.sim_model.specs.FlatDesign.declared.design.Design.{Design}
-use Rattle.sim_model.specs.Residual.{Residual, skip, one, seq, owing, guard, try_, frame, shell, run, goal, within}
+use Rattle.sim_model.specs.Residual.{Residual, skip, one, batch, seq, owing, guard, try_, frame, shell, run, goal, within}
 use Rattle.sim_model.specs.Reading.{home_of_via}
 use Rattle.sim_model.specs.Clean.{EachInHandlers}
 use Rattle.sim_model.specs.declared.plain.Via.{Via}
@@ -53,6 +53,7 @@ IsOverHop d (Some via) = (h : Hop) × (slice_get d.hops via.hop ≡ Some h)
 abbrev pub IsOrdinary : (ℕ → ℕ → Type 0) → Design → ℕ → Residual → Type 0
 IsOrdinary P d home skip = ⊤
 IsOrdinary P d home (one s) = P home s
+IsOrdinary P d home (batch s qs) = P home s
 IsOrdinary P d home (seq r ss) = IsOrdinary P d home r × EachOf (P home) ss
 IsOrdinary P d home (owing r g u) = ⊥
 IsOrdinary P d home (guard r g u) = IsOrdinary P d home r × IsUnwindBlock d home u
@@ -66,6 +67,7 @@ IsOrdinary P d home (goal r k) = ⊥
 abbrev pub IsUnwinding : Design → ℕ → Residual → Type 0
 IsUnwinding d home skip = ⊤
 IsUnwinding d home (one s) = ⊥
+IsUnwinding d home (batch s qs) = ⊥
 IsUnwinding d home (seq r ss) = ⊥
 IsUnwinding d home (owing r g u) = IsUnwinding d home r × IsUnwindBlock d home u
 IsUnwinding d home (guard r g u) = ⊥
@@ -79,6 +81,7 @@ IsUnwinding d home (goal r k) = ⊥
 abbrev pub IsStanding : Design → ℕ → Residual → Type 0
 IsStanding d home skip = ⊤
 IsStanding d home (one s) = OfBody d home s
+IsStanding d home (batch s qs) = OfBody d home s
 IsStanding d home (seq r ss) = IsStanding d home r × EachOf (OfBody d home) ss
 IsStanding d home (owing r g u) = ⊥
 IsStanding d home (guard r g u) = IsStanding d home r × IsUnwindBlock d home u

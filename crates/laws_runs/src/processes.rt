@@ -10,7 +10,8 @@ ghost use Rattle.sim_model.specs.declared.plain.Command.{Command};
 
 /// Whatever is chosen, and however control calls are nested, after any number of steps: what is runnable or active was
 /// made and has not ended, stands there once, and has no wait, deadline or kept mark; a kept instance is suspended, a
-/// suspended one is not runnable; and of an instance that has ended nothing is left (IEEE 1666-2011, 4.2.1 and 5.6.6).
+/// suspended one is not runnable; the parent of an instance is a smaller serial; and of an instance that has ended nothing is
+/// left (IEEE 1666-2011, 4.2.1 and 5.6.6).
 /// No steps are among them, so the configuration before the first command is clean too.
 pub fn runs_have_clean_processes()
     ensures { (design : Design) (script : List Command) (steps : ℕ) (choices : List ℕ) (last : Config) → after steps choices (start design script) ≡ Some last

@@ -1,14 +1,17 @@
 -- The lines of the constructs of a tree that was read never fall.
 use Rattle.std.proofs.Common.{◌≡◌, ℕ, ◌+◌, ◌-◌, ◌≤◌, List, [], ◌∷◌, length, ap, arith}
 use Rattle.model_rules.specs.ModelTree.Tree as tree
+use Rattle.model_rules.specs.ModelTree.declared.items.Head.{Head}
+use Rattle.model_rules.specs.ModelTree.declared.items.Head.TheVariants as head
 use Rattle.model_rules.specs.Sites.{Site, sites}
+use Rattle.model_lexer.specs.ModelGrammar.Items.{DerivesResolution, DerivesHead, DerivesSource}
 use Rattle.model_lexer.specs.Cut.{line_at, Lexeme, CutUpTo}
 use Rattle.model_lexer.specs.Laws.{with_lines, AreInOrder}
 use Rattle.model_lexer.specs.Reads.{Reads}
 use Rattle.model_lexer.proofs.CutLaws.{cut_ordered}
 use Rattle.model_lexer.proofs.Turns.{line_past}
 use Rattle.laws_sites.specs.Order.{RisesFrom, LinesNeverFall}
-use Rattle.laws_sites.proofs.Along.{Rising, UpTo}
+use Rattle.laws_sites.proofs.Along.{Along, Rising, UpTo, nothing, last, past, past_at, trail, both, maybe}
 use Rattle.laws_sites.proofs.Items.{whole}
 
 -- a later place is on no earlier line
@@ -28,8 +31,16 @@ rises : (line up : ℕ) (xs : List Site) → UpTo line xs up → RisesFrom line 
 rises line up [] h = tt
 rises line up (x ∷ xs) h = (h.0, rises x.line up xs h.1)
 
-pub never_fall : (text : List ℕ) (m : tree.Model) → Reads text m → LinesNeverFall (sites m)
-never_fall text m (ls, cut, derives, few) =
+-- what a text says of its language has no site
+first_lines : (h : Head) → Along (DerivesHead h) []
+first_lines head.First = nothing
+first_lines (head.Second r) = past (past (past (maybe DerivesResolution (λ x. past_at (trail (past last) last)) r)))
+
+whole_source : (x : tree.Source) → Along (DerivesSource x) (sites x.model)
+whole_source x = both {xs = []} {ys = sites x.model} (first_lines x.head) (whole x.model)
+
+pub never_fall : (text : List ℕ) (x : tree.Source) → Reads text x → LinesNeverFall (sites x.model)
+never_fall text x (ls, cut, derives, few) =
     let rising = tokens_rise text 0 (length text) 1 ls cut (cut_ordered text 0 ls cut) (omega arith) in
-    let (up, along, left) = (whole m).along 1 (with_lines ls) [] derives rising in
-    rises 1 up (sites m) along
+    let (up, along, left) = (whole_source x).along 1 (with_lines ls) [] derives rising in
+    rises 1 up (sites x.model) along

@@ -13,5 +13,5 @@ pub fn sites_are_productions()
 
 /// Along the sites of a tree that was read lines never fall.
 pub fn lines_never_fall()
-    ensures { (text : List ℕ) (m : tree.Model) → Reads text m → LinesNeverFall (sites m) }
+    ensures { (text : List ℕ) (x : tree.Source) → Reads text x → LinesNeverFall (sites x.model) }
 {}

@@ -54,7 +54,7 @@ use Rattle.laws_unwinding.specs.LogicValues.Integers.{bits_of}
 use Rattle.laws_unwinding.specs.SimModel.Payloads.{with_made, with_acquired, with_released, with_payload}
 use Rattle.laws_unwinding.specs.PayloadPool.Transfer.{memory_after, carried}
 use Rattle.laws_unwinding.specs.SimModel.Values.{on_ok, bits, moment, signed, cut_to, index_within}
-use Rattle.laws_unwinding.specs.SimModel.Residual.{Residual, Frame, skip, guard, try_, followed, block, entered, put, innermost, next_of, statement}
+use Rattle.laws_unwinding.specs.SimModel.Residual.{Residual, Frame, skip, batch, guard, try_, followed, block, entered, put, innermost, next_of, statement}
 use Rattle.laws_unwinding.specs.SimModel.Unwinding.{returned}
 use Rattle.laws_unwinding.specs.SimModel.Configuration.{Config, Instance, Wait, waits_for_any, Deadline, no_deadline, change_instance, instance_at, with_residual}
 use Rattle.laws_unwinding.specs.SimModel.Reading.{far_home, read_denoted, Here, here, denotes, val, val_if, place_in, payload_number, live_payload, memory_number, memory_here, keeper_at}
@@ -64,7 +64,7 @@ use Rattle.laws_unwinding.specs.SimModel.Waiting.{channel_event, awaited, when_a
 use Rattle.laws_unwinding.specs.SimModel.Channels.{mutex_of, semaphore_of, element, set_fifo, taken_from, blocks, written_unless, write_signal, write_fifo, write_channel, channel_in, do_write, fifo_of, fifo_here, with_fifo, read_value, read_fifo, do_read, nb_read_value, nb_read_fifo, do_nb_read, nb_write_fifo, do_nb_write, answered, set_mutex, set_semaphore, lock_mutex, lock_at, trylock_mutex, trylock_at, unlock_mutex, unlock_at, sem_wait_value, sem_wait_at, sem_trywait_value, sem_trywait_at, post_value, post_at}
 use Rattle.laws_unwinding.specs.SimModel.Calls.{thrown, argument_values, locals_in, may_enter, answer_in, answer_type, cut_answer, do_call, do_return, do_guard, do_try, new_instance, added, runnable_unless, handle_stored, first_arguments, may_spawn, do_spawn}
 use Rattle.laws_unwinding.specs.SimModel.Transport.{socket_of, may_enter_handler, value_or, value_named, int_of, path_of_call, is_complete, history, judged_by, enters_handler, blocking_handler, nonblocking_handler, b_transport_on, nb_transport_on, may_make, keeper_named, size_within, size_or, with_pool, do_make, do_acquire, do_release, do_carry, kept, on_keeper, do_qk_global, do_qk_inc, do_qk_set, do_qk_reset}
-use Rattle.laws_unwinding.specs.SimModel.Control.{target_of, control_call, throw_call, do_control, do_throw_it}
+use Rattle.laws_unwinding.specs.SimModel.Control.{target_of, targets, with_owed, control_call, throw_call, do_control, do_throw_it}
 use Rattle.laws_unwinding.proofs.LawsRuns.Changes.{change-here}
 use Rattle.laws_unwinding.specs.LawsRuns.Standing.{code_of, place_of, IsStanding}
 use Rattle.laws_types.specs.Contents.{Pairwise, IsOf, LocalFits, SignalFits, FifoFits, PayloadFits, context_of}
@@ -252,11 +252,16 @@ module _ (c : Config) (p : ℕ) (i : Instance) (at : instance_at c p ≡ Some i)
     throw-form : (e : ℕ) → IfOk (thrown c p r e) (Fits d)
     throw-form e = thrown-fits d c refl k p i at r e is
 
-    control-form : (x : Control) (who : Controlled) → IfOk (do_control c p r h x who) (Fits d)
-    control-form x who = if-any (Fits d) (target_of h p who) (λ q. control_call (passes c p r) q x) (λ q. control-fits d (passes c p r) refl passed.0 q x)
+    owed_fits : (q : ℕ) → Fits d (with_owed c p r n (targets c q p))
+    owed_fits q = new_fits (batch n (targets c q p)) inside
 
-    throw_it-form : (who : Controlled) (e : ℕ) → IfOk (do_throw_it c p r h who e) (Fits d)
-    throw_it-form who e = if-any (Fits d) (target_of h p who) (λ q. throw_call (passes c p r) q e) (λ q. throw-fits d (passes c p r) refl passed.0 q e)
+    control-form : (x : Control) (who : Controlled) (all : Bool) → IfOk (do_control c p r h n x who all) (Fits d)
+    control-form x who true = if-any (Fits d) (target_of h p who) (λ q. Ok (with_owed c p r n (targets c q p))) owed_fits
+    control-form x who false = if-any (Fits d) (target_of h p who) (λ q. control_call (passes c p r) q x) (λ q. control-fits d (passes c p r) refl passed.0 q x)
+
+    throw_it-form : (who : Controlled) (e : ℕ) (all : Bool) → IfOk (do_throw_it c p r h n who e all) (Fits d)
+    throw_it-form who e true = if-any (Fits d) (target_of h p who) (λ q. Ok (with_owed c p r n (targets c q p))) owed_fits
+    throw_it-form who e false = if-any (Fits d) (target_of h p who) (λ q. throw_call (passes c p r) q e) (λ q. throw-fits d (passes c p r) refl passed.0 q e)
 
     -- ---- waits and events
 
@@ -681,8 +686,8 @@ module _ (c : Config) (p : ℕ) (i : Instance) (at : instance_at c p ≡ Some i)
     form-fits (code.qk_set m e) found typed = qk_set-form m e
     form-fits (code.qk_reset m) found typed = qk_reset-form m
     form-fits (code.spawn x) found typed = spawn-form x typed
-    form-fits (code.control x who) found typed = control-form x who
-    form-fits (code.throw_it who e) found typed = throw_it-form who e
+    form-fits (code.control x who all) found typed = control-form x who all
+    form-fits (code.throw_it who e all) found typed = throw_it-form who e all
     form-fits (code.throw e) found typed = throw-form e
     form-fits (code.return_ e) found typed = return-fits e typed
     form-fits code.stop found typed = passed.0

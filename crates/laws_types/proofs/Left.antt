@@ -7,7 +7,7 @@ use Rattle.laws_unwinding.specs.FlatDesign.Sound.{IsHomeOf}
 use Rattle.laws_unwinding.specs.FlatDesign.declared.code.CodeBody.{CodeBody}
 use Rattle.laws_unwinding.specs.FlatDesign.declared.code.Handler.{Handler}
 use Rattle.laws_unwinding.specs.FlatDesign.declared.design.Design.{Design}
-use Rattle.laws_unwinding.specs.SimModel.Residual.{Residual, Frame, skip, one, seq, owing, guard, try_, frame, shell, run, goal, followed, statements, block, then_on, in_run, then_owed, in_guard, in_try, in_shell, settle, or_frame, innermost, or_via, within, frame_or, goal_or, put, next_of, statement}
+use Rattle.laws_unwinding.specs.SimModel.Residual.{Residual, Frame, skip, one, batch, seq, owing, guard, try_, frame, shell, run, goal, followed, statements, block, then_on, in_run, then_owed, in_guard, in_try, in_shell, settle, or_frame, innermost, or_via, within, frame_or, goal_or, put, next_of, statement}
 use Rattle.laws_unwinding.specs.SimModel.Reading.{home_of_via}
 use Rattle.laws_unwinding.specs.SimModel.Clean.{EachInBlock, EachInHandlers}
 use Rattle.laws_unwinding.specs.SimModel.declared.plain.Goal.{Goal}
@@ -34,6 +34,7 @@ inner-call o x (Some y) = refl
 pub over-fits : (d : Design) (o : Option ℕ) (home : ℕ) (r : Residual) → LeftFits d o home r → IsOverHop d (within r)
 over-fits d o home skip h = tt
 over-fits d o home (one s) h = tt
+over-fits d o home (batch s qs) h = tt
 over-fits d o home (seq r ss) h = over-fits d o home r h.0
 over-fits d o home (owing r g u) h = over-fits d o home r h.0
 over-fits d o home (guard r g u) h = over-fits d o home r h.0
@@ -120,6 +121,8 @@ module _ (d : Design) (o : Option ℕ) (home : ℕ) where
 pub settle-fits : (d : Design) (o : Option ℕ) (home : ℕ) (r : Residual) → LeftFits d o home r → LeftFits d o home (settle (code_of d) r)
 settle-fits d o home skip h = tt
 settle-fits d o home (one s) h = h
+settle-fits d o home (batch s []) h = tt
+settle-fits d o home (batch s (q ∷ qs)) h = h
 settle-fits d o home (seq r ss) h = then_fits d o home (settle (code_of d) r) ss (settle-fits d o home r h.0) h.1
 settle-fits d o home (owing r g u) h = owed_fits d o home (settle (code_of d) r) g u (settle-fits d o home r h.0) h.1
 settle-fits d o home (guard r g u) h = guard_fits d o home (settle (code_of d) r) g u (settle-fits d o home r h.0) h.1
@@ -134,6 +137,7 @@ settle-fits d o home (goal r k) h = settle-fits d o home r h
 pub put-fits : (d : Design) (o : Option ℕ) (home : ℕ) (r n : Residual) (s : ℕ) → LeftFits d o home r → next_of r ≡ statement s → LeftFits d (inner o r) (place_of d home r) n → LeftFits d o home (put r n)
 put-fits d o home skip n s h is new = tt
 put-fits d o home (one t) n s h is new = new
+put-fits d o home (batch t qs) n s h is new = new
 put-fits d o home (seq r ss) n s h is new = followed-fits d o home (put r n) ss (put-fits d o home r n s h.0 is new) h.1
 put-fits d o home (owing r g u) n s h is new = (put-fits d o home r n s h.0 is new, h.1)
 put-fits d o home (guard r g u) n s h is new = (put-fits d o home r n s h.0 is new, h.1)
@@ -150,6 +154,7 @@ put-fits d o home (goal r k) n s h is new =
 pub past-fits : (d : Design) (o : Option ℕ) (home : ℕ) (r : Residual) → LeftFits d o home r → LeftFits d o home (put r skip)
 past-fits d o home skip h = tt
 past-fits d o home (one s) h = tt
+past-fits d o home (batch s qs) h = tt
 past-fits d o home (seq r ss) h = followed-fits d o home (put r skip) ss (past-fits d o home r h.0) h.1
 past-fits d o home (owing r g u) h = (past-fits d o home r h.0, h.1)
 past-fits d o home (guard r g u) h = (past-fits d o home r h.0, h.1)
@@ -167,6 +172,8 @@ same_statement n m e = cc
 pub next-inside : (d : Design) (o : Option ℕ) (home : ℕ) (r : Residual) (s : ℕ) → LeftFits d o home r → next_of r ≡ statement s → IsInside d (inner o r) s
 next-inside d o home skip s h is = cc
 next-inside d o home (one t) s h is = subst (IsInside d o) (same_statement t s is) h
+next-inside d o home (batch t []) s h is = absurd cc
+next-inside d o home (batch t (q ∷ qs)) s h is = absurd cc
 next-inside d o home (seq r ss) s h is = next-inside d o home r s h.0 is
 next-inside d o home (owing r g u) s h is = next-inside d o home r s h.0 is
 next-inside d o home (guard r g u) s h is = next-inside d o home r s h.0 is
@@ -193,6 +200,7 @@ no_frame (Some y) x e = cc
 frameless : (r : Residual) → innermost r ≡ None → within r ≡ None
 frameless skip e = refl
 frameless (one s) e = refl
+frameless (batch s qs) e = refl
 frameless (seq r ss) e = frameless r e
 frameless (owing r g u) e = frameless r e
 frameless (guard r g u) e = frameless r e
@@ -212,6 +220,7 @@ inner_runs d o home r y x f h later (Some z) is e =
 pub innermost-runs : (d : Design) (o : Option ℕ) (home : ℕ) (r : Residual) (x : Frame) → LeftFits d o home r → innermost r ≡ Some x → Runs d (place_of d home r) x
 innermost-runs d o home skip x h is = absurd (none-some x is)
 innermost-runs d o home (one s) x h is = absurd (none-some x is)
+innermost-runs d o home (batch s qs) x h is = absurd (none-some x is)
 innermost-runs d o home (seq r ss) x h is = innermost-runs d o home r x h.0 is
 innermost-runs d o home (owing r g u) x h is = innermost-runs d o home r x h.0 is
 innermost-runs d o home (guard r g u) x h is = innermost-runs d o home r x h.0 is

@@ -5,7 +5,7 @@ use Rattle.laws_unwinding.specs.LogicValues.declared.kinds.Value.{Value}
 use Rattle.laws_unwinding.specs.FlatDesign.Code.{body_at}
 use Rattle.laws_unwinding.specs.FlatDesign.declared.code.CodeBody.{CodeBody}
 use Rattle.laws_unwinding.specs.FlatDesign.declared.design.Design.{Design}
-use Rattle.laws_unwinding.specs.SimModel.Residual.{Residual, Frame, Next, skip, one, seq, owing, guard, try_, frame, shell, run, goal, followed, innermost, frame_or, goal_or, put, in_frame, frame_end, before_goal, next_of, statement, leaves, done, reaches, nothing}
+use Rattle.laws_unwinding.specs.SimModel.Residual.{Residual, Frame, Next, skip, one, batch, seq, owing, guard, try_, frame, shell, run, goal, followed, innermost, frame_or, goal_or, put, in_frame, frame_end, before_goal, next_of, statement, owes, leaves, done, reaches, nothing}
 use Rattle.laws_unwinding.specs.SimModel.Unwinding.{has_exit, returned}
 use Rattle.laws_unwinding.specs.SimModel.Reading.{home_of_via}
 use Rattle.laws_unwinding.specs.SimModel.declared.plain.Goal.{Goal}
@@ -23,6 +23,7 @@ NoStatement r = (s : ℕ) → has_exit r ≡ false → next_of r ≡ statement s
 abbrev pub IsQuiet : Residual → Type 0
 IsQuiet skip = Unit {0}
 IsQuiet (one s) = Unit {0}
+IsQuiet (batch s qs) = Unit {0}
 IsQuiet (seq r ss) = IsQuiet r
 IsQuiet (owing r g u) = IsQuiet r
 IsQuiet (guard r g u) = IsQuiet r
@@ -36,6 +37,7 @@ module _ (d : Design) where
   ordinary_quiet : (P : ℕ → ℕ → Type 0) (home : ℕ) (r : Residual) → IsOrdinary P d home r → IsQuiet r
   ordinary_quiet P home skip h = tt
   ordinary_quiet P home (one s) h = tt
+  ordinary_quiet P home (batch s qs) h = tt
   ordinary_quiet P home (seq r ss) h = ordinary_quiet P home r h.0
   ordinary_quiet P home (owing r g u) h = absurd h
   ordinary_quiet P home (guard r g u) h = ordinary_quiet P home r h.0
@@ -48,6 +50,7 @@ module _ (d : Design) where
   unwinding_silent : (home : ℕ) (r : Residual) → IsUnwinding d home r → NoStatement r
   unwinding_silent home skip h s none is = cc
   unwinding_silent home (one t) h s none is = absurd h
+  unwinding_silent home (batch t qs) h s none is = absurd h
   unwinding_silent home (seq r ss) h s none is = absurd h
   unwinding_silent home (owing r g u) h s none is = unwinding_silent home r h.0 s none is
   unwinding_silent home (guard r g u) h s none is = absurd h
@@ -60,6 +63,7 @@ module _ (d : Design) where
   unwinding_quiet : (home : ℕ) (r : Residual) → IsUnwinding d home r → IsQuiet r
   unwinding_quiet home skip h = tt
   unwinding_quiet home (one s) h = absurd h
+  unwinding_quiet home (batch s qs) h = absurd h
   unwinding_quiet home (seq r ss) h = absurd h
   unwinding_quiet home (owing r g u) h = unwinding_quiet home r h.0
   unwinding_quiet home (guard r g u) h = absurd h
@@ -72,6 +76,7 @@ module _ (d : Design) where
   pub standing-quiet : (home : ℕ) (r : Residual) → IsStanding d home r → IsQuiet r
   standing-quiet home skip h = tt
   standing-quiet home (one s) h = tt
+  standing-quiet home (batch s qs) h = tt
   standing-quiet home (seq r ss) h = standing-quiet home r h.0
   standing-quiet home (owing r g u) h = absurd h
   standing-quiet home (guard r g u) h = standing-quiet home r h.0
@@ -85,6 +90,7 @@ module _ (d : Design) where
 exitless : (r : Residual) (s : ℕ) → IsQuiet r → has_exit r ≡ false → next_of r ≡ statement s → innermost r ≡ None
 exitless skip s q none is = refl
 exitless (one t) s q none is = refl
+exitless (batch t qs) s q none is = refl
 exitless (seq r ss) s q none is = exitless r s q none is
 exitless (owing r g u) s q none is = exitless r s q none is
 exitless (guard r g u) s q none is = exitless r s q none is
@@ -120,6 +126,7 @@ module _ (d : Design) (f : ℕ) (b : CodeBody) (found : body_at (code_of d) f �
   pub returned-fits : (o : Option ℕ) (home : ℕ) (r : Residual) → IsQuiet r → LeftFits d o home r → next_of r ≡ statement s → inner o r ≡ Some f → LeftFits d o home (returned v r)
   returned-fits o home skip q h is there = tt
   returned-fits o home (one t) q h is there = h
+  returned-fits o home (batch t qs) q h is there = h
   returned-fits o home (seq r ss) q h is there = (returned-fits o home r q h.0 is there, h.1)
   returned-fits o home (owing r g u) q h is there = (returned-fits o home r q h.0 is there, h.1)
   returned-fits o home (guard r g u) q h is there = (returned-fits o home r q h.0 is there, h.1)
@@ -141,6 +148,7 @@ no_end (Some t) x e = cc
 
 frame_ends : (n : Next) (x : Frame) → in_frame n x ≡ nothing → ⊥
 frame_ends (statement t) x e = cc
+frame_ends (owes t q) x e = cc
 frame_ends (leaves y) x e = cc
 frame_ends done x e = cc
 frame_ends (reaches k) x e = cc
@@ -148,6 +156,7 @@ frame_ends nothing x e = no_end x.call x e
 
 goal_ends : (n : Next) (k : Goal) → before_goal n k ≡ nothing → ⊥
 goal_ends (statement t) k e = cc
+goal_ends (owes t q) k e = cc
 goal_ends (leaves y) k e = cc
 goal_ends done k e = cc
 goal_ends (reaches j) k e = cc
@@ -156,6 +165,8 @@ goal_ends nothing k e = cc
 something : (r : Residual) → IsLeft r → IsTight r → next_of r ≡ nothing → ⊥
 something skip l t e = absurd l
 something (one s) l t e = cc
+something (batch s []) l t e = t
+something (batch s (q ∷ qs)) l t e = cc
 something (seq r ss) l t e = something r t.0 t.1 e
 something (owing r g u) l t e = something r t.0 t.1 e
 something (guard r g u) l t e = something r t.0 t.1 e
@@ -182,6 +193,7 @@ module _ (d : Design) (x : Frame) where
   frame_at : (o : Option ℕ) (home : ℕ) (r : Residual) (y : Frame) (n : Next) → next_of r ≡ n → in_frame n y ≡ leaves x → IsTight r → FrameFits d o home y → LeftFits d (Some y.body) (home_of_via d home y.via) r
       → (next_of r ≡ leaves x → FitsAt (Some y.body) (home_of_via d home y.via) (put r skip)) → FitsAt o home (frame_or r y skip (put r skip))
   frame_at o home r y (statement t) at e tight f h later = cc
+  frame_at o home r y (owes t q) at e tight f h later = cc
   frame_at o home skip y (leaves z) at e tight f h later = cc
   frame_at o home r y (leaves z) at e tight f h later = moved-in (λ n p. FrameFits d n p x) d o home (put r skip) y (past-fits d (Some y.body) (home_of_via d home y.via) r h) (later (at ∙ e))
   frame_at o home r y done at e tight f h later = cc
@@ -191,6 +203,7 @@ module _ (d : Design) (x : Frame) where
 
   before_leaves : (n : Next) (k : Goal) → before_goal n k ≡ leaves x → n ≡ leaves x
   before_leaves (statement t) k e = e
+  before_leaves (owes t q) k e = e
   before_leaves (leaves y) k e = e
   before_leaves done k e = e
   before_leaves (reaches j) k e = e
@@ -203,6 +216,8 @@ module _ (d : Design) (x : Frame) where
   pub leaves-at : (o : Option ℕ) (home : ℕ) (r : Residual) → IsTight r → LeftFits d o home r → next_of r ≡ leaves x → FitsAt o home (put r skip)
   leaves-at o home skip t h e = cc
   leaves-at o home (one s) t h e = cc
+  leaves-at o home (batch s []) t h e = cc
+  leaves-at o home (batch s (q ∷ qs)) t h e = cc
   leaves-at o home (seq r ss) t h e = followed_at o home (put r skip) ss (leaves-at o home r t.1 h.0 e)
   leaves-at o home (owing r g u) t h e = leaves-at o home r t.1 h.0 e
   leaves-at o home (guard r g u) t h e = leaves-at o home r t.1 h.0 e

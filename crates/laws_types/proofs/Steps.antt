@@ -12,6 +12,7 @@ use Rattle.laws_unwinding.specs.SignalChannel.declared.signal.Signal.{Signal}
 use Rattle.laws_unwinding.specs.SignalChannel.declared.signal.Changed.{Changed}
 use Rattle.laws_unwinding.specs.FifoSync.Fifos.{Queued, after_update}
 use Rattle.laws_unwinding.specs.SimTime.declared.moments.Time.{Time}
+use Rattle.laws_unwinding.specs.FlatDesign.Code as code
 use Rattle.laws_unwinding.specs.FlatDesign.Code.{Statement, statement_at}
 use Rattle.laws_unwinding.specs.FlatDesign.Typed.{EachOf}
 use Rattle.laws_unwinding.specs.FlatDesign.Sound.{SoundDesign}
@@ -26,12 +27,12 @@ use Rattle.laws_unwinding.specs.FlatDesign.declared.design.Design.{Design}
 use Rattle.laws_unwinding.specs.FlatDesign.declared.faults.RunFault.{RunFault}
 use Rattle.laws_unwinding.specs.SimModel.Values.{on_ok, time_within}
 use Rattle.laws_unwinding.specs.SimModel.Residual as residual
-use Rattle.laws_unwinding.specs.SimModel.Residual.{Residual, Next, skip, settle, put, next_of}
-use Rattle.laws_unwinding.specs.SimModel.Configuration.{Config, Instance, Deadline, no_deadline, arena, change, changed_at, change_instance, instance_at, with_runnable, with_stack, with_told, turn}
+use Rattle.laws_unwinding.specs.SimModel.Residual.{Residual, Next, skip, settle, put, taken_off, next_of}
+use Rattle.laws_unwinding.specs.SimModel.Configuration.{Config, Instance, Deadline, no_deadline, arena, change, changed_at, change_instance, instance_at, with_residual, with_runnable, with_stack, with_told, turn}
 use Rattle.laws_unwinding.specs.SimModel.Storing.{passes}
 use Rattle.laws_unwinding.specs.SimModel.Waits.{freed, holds, without, fire, fire_all}
 use Rattle.laws_unwinding.specs.SimModel.Control.{begins, stays_kept, restarts, reaches_goal}
-use Rattle.laws_unwinding.specs.SimModel.Statements.{on_statement, do_next, settled_in, step_by, statement_step}
+use Rattle.laws_unwinding.specs.SimModel.Statements.{owed_call, owed_by, on_statement, do_next, settled_in, step_by, statement_step}
 use Rattle.laws_unwinding.specs.SimModel.Phases.{was_some, notified_if, announced, announce_signals, announce_resolved, announce_fifos, resettled_all, channels_updated, update_phase, session_stopped, due_events, due_instances, without_pending, without_deadline, fire_due, is_delta, is_zero_timeout, initialize_each, now_becomes, run_over, is_at, is_due_at, is_past, earliest, timed_at, update_step, unchanged}
 use Rattle.laws_unwinding.specs.SimModel.Steps.{Outcome, ended, as_outcome, shows, sets, sets_visible, run_begun, begin_run, carry_out, next_command, evaluate, step_in, step, turn_line, instance_taken, taken_if, taking}
 use Rattle.laws_unwinding.specs.SimModel.declared.plain.Goal.{Goal}
@@ -55,6 +56,8 @@ use Rattle.laws_types.proofs.EachLists.{each-map}
 use Rattle.laws_types.proofs.Left.{settle-fits, past-fits}
 use Rattle.laws_types.proofs.Wakes.{Alike, fire-keeps, fire_all-keeps, wake_all-keeps}
 use Rattle.laws_types.proofs.Moves.{alike-fits, Fits, same-fits, residual-fits}
+use Rattle.laws_types.proofs.Unwound.{off-fits}
+use Rattle.laws_types.proofs.Controls.{control-fits, throw-fits}
 use Rattle.laws_types.proofs.Parts.{channels-fit}
 use Rattle.laws_types.proofs.Forms.{form-kept}
 use Rattle.laws_types.proofs.Ends.{leaves-fits, ends-fits, done-fits, begins-fits, kept-fits, gone-fits}
@@ -114,8 +117,21 @@ module _ (c : Config) (p : ℕ) (i : Instance) (at : instance_at c p ≡ Some i)
   statement_fits n next None there = passed c.design types c p i r at is k
   statement_fits n next (Some x) there = form-kept c p i at r is sound types k standing n next x there
 
+  off_fits : Fits c.design (with_residual c p (taken_off r))
+  off_fits = residual-fits c.design c p (taken_off r) (λ j there h. off-fits c.design None j.home r (subst (LeftFits c.design None j.home) (ap (λ (x : Instance). x.residual) (same_Some j i (sym there ∙ at)) ∙ is) h.left)) k
+
+  call_fits : (q : ℕ) (x : Statement) → IfOk (owed_call (with_residual c p (taken_off r)) q x) (Fits c.design)
+  call_fits q (code.control x who all) = control-fits c.design (with_residual c p (taken_off r)) refl off_fits q x
+  call_fits q (code.throw_it who e all) = throw-fits c.design (with_residual c p (taken_off r)) refl off_fits q e
+  call_fits q other = off_fits
+
+  owed_fits : (q : ℕ) (o : Option Statement) → IfOk (owed_by (with_residual c p (taken_off r)) q o) (Fits c.design)
+  owed_fits q None = off_fits
+  owed_fits q (Some x) = call_fits q x
+
   next_fits : (n : Next) → next_of r ≡ n → IfOk (do_next c p i r n) (Fits c.design)
   next_fits (residual.statement n) next = statement_fits n next (statement_at (code_of c.design) n) refl
+  next_fits (residual.owes s q) next = owed_fits q (statement_at (code_of c.design) s)
   next_fits (residual.leaves x) next = leaves-fits c p i at r is sound types k tight x next
   next_fits residual.done next = done-fits c.design types c p i i.kind k
   next_fits (residual.reaches g) next = reaches_fit c.design types c p i r g at is k

@@ -114,8 +114,8 @@ module _ (c : Context) where
   terms-typed a m answer (code.qk_set n e) h = (time e h.1, tt)
   terms-typed a m answer (code.qk_reset n) h = tt
   terms-typed a m answer (code.spawn s) h = first_typed _ s.arguments h.2
-  terms-typed a m answer (code.control k who) h = tt
-  terms-typed a m answer (code.throw_it who n) h = tt
+  terms-typed a m answer (code.control k who all) h = tt
+  terms-typed a m answer (code.throw_it who n all) h = tt
   terms-typed a m answer (code.throw n) h = tt
   terms-typed a m answer (code.return_ e) h = returned_typed answer e h
   terms-typed a m answer code.stop h = tt

@@ -9,7 +9,7 @@ use Rattle.laws_unwinding.specs.FlatDesign.declared.code.CodeBody.{CodeBody}
 use Rattle.laws_unwinding.specs.FlatDesign.declared.code.Handler.{Handler}
 use Rattle.laws_unwinding.specs.FlatDesign.declared.code.Local.{Local}
 use Rattle.laws_unwinding.specs.FlatDesign.declared.design.Design.{Design}
-use Rattle.laws_unwinding.specs.SimModel.Residual.{Residual, Frame, skip, one, seq, owing, guard, try_, frame, shell, run, goal, followed, changed_if, or_frame, innermost, in_innermost, frame_or, goal_or, put, next_of, statement}
+use Rattle.laws_unwinding.specs.SimModel.Residual.{Residual, Frame, skip, one, batch, seq, owing, guard, try_, frame, shell, run, goal, followed, changed_if, or_frame, innermost, taken_off, in_innermost, frame_or, goal_or, put, next_of, statement}
 use Rattle.laws_unwinding.specs.SimModel.Unwinding.{unw, catches, handles, handler_block, handler_of, handled, raise}
 use Rattle.laws_unwinding.specs.SimModel.Reading.{home_of_via}
 use Rattle.laws_unwinding.specs.SimModel.Storing.{with_local}
@@ -27,6 +27,7 @@ use Rattle.laws_types.proofs.Left.{number_or, inner, inner-call, followed-fits}
 pub unw-fits : (d : Design) (o : Option ℕ) (home : ℕ) (r : Residual) → LeftFits d o home r → LeftFits d o home (unw r)
 unw-fits d o home skip h = tt
 unw-fits d o home (one s) h = tt
+unw-fits d o home (batch s qs) h = tt
 unw-fits d o home (seq r ss) h = unw-fits d o home r h.0
 unw-fits d o home (owing r g u) h = (unw-fits d o home r h.0, h.1)
 unw-fits d o home (guard r g u) h = (unw-fits d o home r h.0, h.1)
@@ -56,6 +57,7 @@ module _ (d : Design) (e : ℕ) (k : Goal) where
   pub raise-fits : (o : Option ℕ) (home : ℕ) (r : Residual) → LeftFits d o home r → LeftFits d o home (raise (code_of d) r e k)
   raise-fits o home skip h = tt
   raise-fits o home (one s) h = h
+  raise-fits o home (batch s qs) h = h
   raise-fits o home (seq r ss) h = (raise-fits o home r h.0, h.1)
   raise-fits o home (owing r g u) h = (raise-fits o home r h.0, h.1)
   raise-fits o home (guard r g u) h = (raise-fits o home r h.0, h.1)
@@ -64,6 +66,21 @@ module _ (d : Design) (e : ℕ) (k : Goal) where
   raise-fits o home (shell r x) h = (h.0, raise-fits (Some x.body) (home_of_via d home x.via) r h.1)
   raise-fits o home (run g r) h = raise-fits o home r h
   raise-fits o home (goal r j) h = raise-fits o home r h
+
+-- ---- a call that is owed to one instance less
+
+pub off-fits : (d : Design) (o : Option ℕ) (home : ℕ) (r : Residual) → LeftFits d o home r → LeftFits d o home (taken_off r)
+off-fits d o home skip h = tt
+off-fits d o home (one s) h = h
+off-fits d o home (batch s qs) h = h
+off-fits d o home (seq r ss) h = (off-fits d o home r h.0, h.1)
+off-fits d o home (owing r g u) h = (off-fits d o home r h.0, h.1)
+off-fits d o home (guard r g u) h = (off-fits d o home r h.0, h.1)
+off-fits d o home (try_ r handlers) h = (off-fits d o home r h.0, h.1)
+off-fits d o home (frame r x) h = (h.0, off-fits d (Some x.body) (home_of_via d home x.via) r h.1)
+off-fits d o home (shell r x) h = (h.0, off-fits d (Some x.body) (home_of_via d home x.via) r h.1)
+off-fits d o home (run g r) h = off-fits d o home r h
+off-fits d o home (goal r k) h = off-fits d o home r h
 
 -- ---- a local variable of the call in place gets a value of its type
 
@@ -89,6 +106,7 @@ module _ (d : Design) (f : ℕ) (b : CodeBody) (found : body_at (code_of d) f �
   pub local-fits : (o : Option ℕ) (home : ℕ) (r : Residual) → LeftFits d o home r → inner o r ≡ Some f → LeftFits d o home (in_innermost (with_local n v) r)
   local-fits o home skip h is = tt
   local-fits o home (one s) h is = h
+  local-fits o home (batch s qs) h is = h
   local-fits o home (seq r ss) h is = (local-fits o home r h.0 is, h.1)
   local-fits o home (owing r g u) h is = (local-fits o home r h.0 is, h.1)
   local-fits o home (guard r g u) h is = (local-fits o home r h.0 is, h.1)
@@ -112,6 +130,7 @@ number_set n v o (Some y) x (Some z) e = e
 pub local-inner : (n : ℕ) (v : Value) (o : Option ℕ) (r : Residual) → inner o (in_innermost (with_local n v) r) ≡ inner o r
 local-inner n v o skip = refl
 local-inner n v o (one s) = refl
+local-inner n v o (batch s qs) = refl
 local-inner n v o (seq r ss) = local-inner n v o r
 local-inner n v o (owing r g u) = local-inner n v o r
 local-inner n v o (guard r g u) = local-inner n v o r
@@ -137,6 +156,7 @@ goal_left o other k inside s is = refl
 pub past-inner : (o : Option ℕ) (r : Residual) (s : ℕ) → next_of r ≡ statement s → inner o (put r skip) ≡ inner o r
 past-inner o skip s is = refl
 past-inner o (one t) s is = refl
+past-inner o (batch t qs) s is = refl
 past-inner o (seq r ss) s is = inner_followed o (put r skip) ss ∙ past-inner o r s is
 past-inner o (owing r g u) s is = past-inner o r s is
 past-inner o (guard r g u) s is = past-inner o r s is

@@ -11,7 +11,7 @@ use Rattle.laws_unwinding.specs.FlatDesign.declared.value_types.ValueType.{Value
 use Rattle.laws_unwinding.specs.FlatDesign.declared.value_types.ValueType.TheVariants as type
 use Rattle.laws_unwinding.specs.FlatDesign.declared.code.CodeBody.{CodeBody}
 use Rattle.laws_unwinding.specs.FlatDesign.declared.design.Design.{Design}
-use Rattle.laws_unwinding.specs.SimModel.Residual.{Residual, Frame, skip, one, seq, owing, guard, try_, frame, shell, run, goal}
+use Rattle.laws_unwinding.specs.SimModel.Residual.{Residual, Frame, skip, one, batch, seq, owing, guard, try_, frame, shell, run, goal}
 use Rattle.laws_unwinding.specs.SimModel.Configuration.{Instance}
 use Rattle.laws_unwinding.specs.SimModel.Reading.{home_of_via}
 use Rattle.laws_unwinding.specs.SimModel.Clean.{EachInBlock, EachInHandlers}
@@ -56,6 +56,7 @@ pub record FrameFits (d : Design) (outer : Option ℕ) (home : ℕ) (x : Frame) 
 abbrev pub LeftFits : Design → Option ℕ → ℕ → Residual → Type 0
 LeftFits d outer home skip = ⊤
 LeftFits d outer home (one s) = IsInside d outer s
+LeftFits d outer home (batch s qs) = IsInside d outer s
 LeftFits d outer home (seq r ss) = LeftFits d outer home r × EachOf (IsInside d outer) ss
 LeftFits d outer home (owing r g u) = LeftFits d outer home r × EachInBlock (IsInside d outer) (code_of d) u
 LeftFits d outer home (guard r g u) = LeftFits d outer home r × EachInBlock (IsInside d outer) (code_of d) u

@@ -1,5 +1,6 @@
 -- A design by which it can be tried what the laws ask for: a bool signal, and a thread with a local variable of so many digits.
 use Rattle.std.specs.Prelude.{ℕ, false, [], ◌∷◌, List, None, codes}
+use Rattle.std.proofs.Common.{lit≤}
 use Rattle.laws_unwinding.specs.LogicValues.declared.kinds.Value.TheVariants as value
 use Rattle.laws_unwinding.specs.ModelTree.declared.items.ProcessKind.TheVariants as process
 use Rattle.laws_unwinding.specs.ModelTree.declared.items.SignalKind.TheVariants as signal_kind
@@ -15,6 +16,7 @@ use Rattle.laws_unwinding.specs.SimModel.declared.plain.Command.TheVariants as c
 
 abbrev pub tried : ℕ → Design
 tried width = record {
+  resolution = record { power = 3; small = lit≤ tt };
   objects = record {
     list = (record { name = codes "m"; line = 1; parent = 0; form = form.Instance 0 })
         ∷ (record { name = codes "t"; line = 2; parent = 0; form = form.Process process.Thread 0 false })

@@ -39,7 +39,7 @@ fine_more d None s t more f = tt
 fine_more d (Some i) s t more f = record { body = f.body; found = f.found; home_of = f.home_of; standing = f.standing; active = λ e. more (f.active e) }
 
 -- the stack alone is another one
-pub stack-fine : (d : Design) (ps : Processes) (runnable stack : List ℕ) → ((p : ℕ) → 0 < times p ps.stack → 0 < times p stack) → AllFine d ps → AllFine d (record { runnable = runnable; stack = stack; instances = ps.instances })
+pub stack-fine : (d : Design) (ps : Processes) (runnable stack : List ℕ) → ((p : ℕ) → 0 < times p ps.stack → 0 < times p stack) → AllFine d ps → AllFine d (record { runnable = runnable; stack = stack; instances = ps.instances; parents = ps.parents })
 stack-fine d ps runnable stack more fine p = fine_more d (slice_get ps.instances p) (times p ps.stack) (times p stack) (more p) (fine p)
 
 -- p becomes f of it, and the stack is another one on which all others stand as often
@@ -50,7 +50,7 @@ module _ (d : Design) (ps : Processes) (p : ℕ) (f : Instance → Instance) (ru
   moved_here (Some i) at becomes fine = subst (λ o. FineAt d o (times p stack)) (sym (change-here ps.instances p f i at)) (becomes i at fine)
 
   pub moved-fine : ((q : ℕ) → q ≢ p → 0 < times q ps.stack → 0 < times q stack) → ((i : Instance) → slice_get ps.instances p ≡ Some i → Fine d i (times p ps.stack) → Fine d (f i) (times p stack)) → AllFine d ps
-      → AllFine d (record { runnable = runnable; stack = stack; instances = change ps.instances p f })
+      → AllFine d (record { runnable = runnable; stack = stack; instances = change ps.instances p f; parents = ps.parents })
   moved-fine others becomes fine q = ⊎_elim same other (cases_eq q p)
     where
       same : q ≡ p → FineAt d (slice_get (change ps.instances p f) q) (times q stack)

@@ -3,7 +3,7 @@ use Rattle.std.proofs.Common.{◌≡◌, ◌≢◌, ◌+◌, ℕ, Bool, true, fa
 use Rattle.std.proofs.lemmas.Bool.{cases_eq}
 use Rattle.std.proofs.lemmas.Option.{same_Some, slice_get-map}
 use Rattle.laws_runs.specs.LogicValues.declared.kinds.Value.{Value}
-use Rattle.laws_runs.specs.SimModel.Residual.{Residual, goal, Mark, enter, leave, begin, finish, skip, settle, fall, put, guard, block, entered, begun, next_of, statement}
+use Rattle.laws_runs.specs.SimModel.Residual.{Residual, goal, Mark, enter, leave, begin, finish, skip, settle, fall, put, taken_off, guard, block, entered, begun, next_of, statement}
 use Rattle.laws_runs.specs.SimModel.Unwinding.{unw, raise, returned, return_marks}
 use Rattle.laws_runs.specs.SimModel.Storing.{with_local}
 use Rattle.laws_runs.specs.SimModel.Configuration.{Instance, change}
@@ -12,8 +12,8 @@ use Rattle.laws_runs.specs.Standing.{code_of}
 use Rattle.laws_unwinding.proofs.Parts.{Parts, changed_in, residual_in, At, Alike, IsOver, IsKept, IsSettled, IsKeptBetween, IsKeptByTakings}
 use Rattle.laws_unwinding.proofs.Each.{Each, each-change, each-last, each-map}
 use Rattle.laws_unwinding.specs.Nesting.{Part, unbegun, on_some, after_marks, parts_of, parts_at, numbers_entered, first_numbers}
-use Rattle.laws_unwinding.proofs.Roots.{IsRooted, IsInside, rooted-over, rooted-unbegun, settle-rooted, put-rooted, passes-not_over, normal-inside, block-inside, called-inside, returned-rooted, local-rooted, unwound-rooted, raised-rooted, begun-rooted}
-use Rattle.laws_unwinding.proofs.Nested.{Own, marks-then, own-apart, fall-own, return-own, enters-one, fall-nested, return-nested, past-parts, put-parts, no_guards-parts, local-parts, unw-parts, raise-parts, block-parts, entered-parts, bare-parts}
+use Rattle.laws_unwinding.proofs.Roots.{IsRooted, IsInside, rooted-over, rooted-unbegun, settle-rooted, put-rooted, passes-not_over, normal-inside, block-inside, called-inside, returned-rooted, local-rooted, off-rooted, unwound-rooted, raised-rooted, begun-rooted}
+use Rattle.laws_unwinding.proofs.Nested.{Own, marks-then, own-apart, fall-own, return-own, enters-one, fall-nested, return-nested, past-parts, put-parts, no_guards-parts, local-parts, off-parts, unw-parts, raise-parts, block-parts, entered-parts, bare-parts}
 use Rattle.laws_unwinding.proofs.Shaped.{standing-shaped}
 
 -- ---- bodies are bodies
@@ -190,6 +190,7 @@ module _ (p : ℕ) where
     pushes = λ x q more top off h. record { rooted = h.rooted; nested = h.nested; numbered = h.numbered };
     passes = λ x i r at may h. put_marked x i r at.here at.is skip tt (passes-not_over x.design (next_of r) may) (past-parts r) h;
     puts = λ x i r n at next new is_new h. put_marked x i r at.here at.is new (normal-inside new is_new.normal is_new.calls) (λ over. subst IsOver next over) (put-parts r new n next ∙ ap (λ ys. ys ++ parts_of r) (no_guards-parts new is_new.guards)) h;
+    takes_off = λ x i r at h. marked_to x p i (taken_off r) at.here (rooted_here x i r at.here at.is taken_off (λ s k. off-rooted s r k)) (off-parts r ∙ ap parts_of (sym at.is)) h;
     guards = guards_marked;
     returns = returns_marked;
     locals = λ x n v h. record {

@@ -5,7 +5,7 @@ use Rattle.laws_runs.specs.EventCore.declared.event.Ev.{Ev}
 use Rattle.laws_runs.specs.FlatDesign.Code as code
 use Rattle.laws_runs.specs.FlatDesign.Code.{Statement}
 use Rattle.laws_runs.specs.SimModel.Residual as residual
-use Rattle.laws_runs.specs.SimModel.Residual.{Residual, goal, skip, put, block, has_goal, in_nb, next_of}
+use Rattle.laws_runs.specs.SimModel.Residual.{Residual, goal, skip, batch, put, block, has_goal, in_nb, next_of}
 use Rattle.laws_runs.specs.SimModel.Unwinding.{unw, raise, left_by_unw, left_by_raise}
 use Rattle.laws_runs.specs.SimModel.Configuration.{Config, Instance, Wait, Deadline, waits_for_any, waits_for_all, no_deadline, change, change_instance, instance_at, with_residual, arena}
 use Rattle.laws_runs.specs.SimModel.Waits.{freed}
@@ -18,7 +18,7 @@ use Rattle.laws_runs.specs.SimModel.declared.plain.Goal.{Goal}
 use Rattle.laws_runs.specs.SimModel.declared.plain.Goal.TheVariants as goal_of
 use Rattle.laws_runs.specs.SimModel.declared.plain.Via.{Via}
 use Rattle.laws_runs.specs.LawsMoves.Moves as move
-use Rattle.laws_runs.specs.LawsMoves.Moves.{made, with_suspended, OnTop, InTurn, Gives, chooses, loops, tries, calls}
+use Rattle.laws_runs.specs.LawsMoves.Moves.{made, with_suspended, OnTop, InTurn, Gives, chooses, loops, tries, calls, controls, throws}
 use Rattle.laws_runs.proofs.LawsMoves.Kept.{EachKeeps}
 use Rattle.laws_runs.specs.Standing.{OfBody, IsStanding}
 use Rattle.laws_runs.proofs.Changes.{change-here}
@@ -30,7 +30,7 @@ use Rattle.laws_unwinding.proofs.Fine.{Fine, fine-at}
 use Rattle.laws_unwinding.proofs.Moves.{Sound}
 use Rattle.laws_unwinding.proofs.MovesFine.{each-sound, turn-standing, turn-tight, no-goal, block-goal, throw-goal, off-goal, no-goal-by}
 use Rattle.laws_unwinding.proofs.Parts.{Parts, parts, left_in, Kept, Alike, At, IsOver, IsOuter, IsEntryOf, IsKept, IsKeptBetween}
-use Rattle.laws_unwinding.proofs.News.{skip-new, block-new, looped-new, try-new, call-new, change-same}
+use Rattle.laws_unwinding.proofs.News.{skip-new, block-new, looped-new, try-new, call-new, batch-new, change-same}
 
 and_right : (a b : Bool) → (a && b) ≡ true → b ≡ true
 and_right true b h = h
@@ -133,6 +133,8 @@ module _ (p : ℕ) (Q : Parts → Type 0) (moves : IsKept p Q) where
     gives_kept n _ _ next (loops e b false) = mine.puts (parts c) i r n here_at next skip skip-new h
     gives_kept n _ _ next (tries b handlers) = mine.puts (parts c) i r n here_at next _ (try-new (arena c) b handlers) h
     gives_kept n _ _ next (calls y f arguments args) = mine.puts (parts c) i r n here_at next _ (call-new (arena c) f args n) h
+    gives_kept n _ _ next (controls k whom qs) = mine.puts (parts c) i r n here_at next (batch n qs) (batch-new n qs) h
+    gives_kept n _ _ next (throws whom e qs) = mine.puts (parts c) i r n here_at next (batch n qs) (batch-new n qs) h
 
     waits_kept : (n : ℕ) → next_of r ≡ residual.statement n → has_goal r ≡ false → (v : Wait) (d : Deadline) → Kept Q (made c (move.waiting q r v d))
     waits_kept n next none v d =
@@ -180,6 +182,7 @@ module _ (p : ℕ) (Q : Parts → Type 0) (moves : IsKept p Q) where
   turn-kept c (move.passing q r) (t, may) s h = passed c q r t s h may
   turn-kept c (move.placing q r new) (n, x, t, g) s h = gives_kept c q r t.turn s h n x new t.next g
   turn-kept c (move.entering q r b u) (n, t) s h = (at q t.turn.is_turn).guards (parts c) t.turn.instance r n (here_at c q r t.turn s h) t.next b u h
+  turn-kept c (move.taking_off q r) (n, o, t, next) s h = (at q t.is_turn).takes_off (parts c) t.instance r (here_at c q r t s h) h
   turn-kept c (move.returning q r v) (n, e, t) s h = (at q t.turn.is_turn).returns (parts c) t.turn.instance r n (here_at c q r t.turn s h) t.next v h
   turn-kept c (move.beginning q f args) (t, i, there, not, same, too) s h = moves.begins (parts c) q i f args there (λ e. absurd (true≢false (sym e ∙ not))) h
   turn-kept c (move.ending q) (r, t, over) s h = over_leaves c q r t s h over ended_instance (λ j. refl) (λ j e. refl)
@@ -235,6 +238,7 @@ module _ (Q : Parts → Type 0) (between : IsKeptBetween Q) where
   between_kept c (move.passing q r) (t, may) h = nobody q t.is_turn
   between_kept c (move.placing q r new) (n, x, t, g) h = nobody q t.turn.is_turn
   between_kept c (move.entering q r b u) (n, t) h = nobody q t.turn.is_turn
+  between_kept c (move.taking_off q r) (n, o, t, next) h = nobody q t.is_turn
   between_kept c (move.returning q r v) (n, e, t) h = nobody q t.turn.is_turn
   between_kept c (move.beginning q f args) (t, i, there, not, same, too) h = nobody q t.is_turn
   between_kept c (move.ending q) (r, t, over) h = nobody q t.is_turn

@@ -11,7 +11,7 @@ use Rattle.laws_runs.specs.TransportPhases.History.{Entry}
 use Rattle.laws_runs.specs.FlatDesign.Code.{SpawnTerm, Statement, statement_at, body_at, block_at}
 use Rattle.laws_runs.specs.FlatDesign.Denotes.{denoted_at}
 use Rattle.laws_runs.specs.FlatDesign.Blocking.{DoesNotBlock, IsPlain}
-use Rattle.laws_runs.specs.SimModel.Residual.{Residual, skip, guard, try_, followed, block, entered, put, has_goal, next_of, statement, goal, in_nb, begun, entered_in, reaches}
+use Rattle.laws_runs.specs.SimModel.Residual.{Residual, skip, batch, guard, try_, followed, block, entered, put, taken_off, has_goal, next_of, statement, goal, in_nb, begun, entered_in, reaches}
 use Rattle.laws_runs.specs.SimModel.Unwinding.{returned, unw, raise, left_by_unw, left_by_raise}
 use Rattle.laws_runs.specs.SimModel.Configuration.{Config, Instance, Wait, Deadline, arena, instance_at, with_residual, change, change_instance, with_runnable}
 use Rattle.laws_runs.specs.SimModel.Reading.{here}
@@ -26,7 +26,7 @@ use Rattle.laws_runs.proofs.Changes.{change-here, last-here, last-other}
 use Rattle.laws_runs.proofs.Fits.{is-false}
 use Rattle.laws_runs.specs.Standing.{OfBody, OfUnwindBlock, IsOrdinary, IsStanding, place_of, code_of}
 use Rattle.laws_runs.proofs.Blocks.{IsClosed, closed-body, closed-unwind, body-block}
-use Rattle.laws_runs.proofs.Kept.{goalless-ordinary, returned-standing, unw-unwinding, raise-standing, ordinary-standing, statements-ordinary}
+use Rattle.laws_runs.proofs.Kept.{goalless-ordinary, returned-standing, off-standing, unw-unwinding, raise-standing, ordinary-standing, statements-ordinary}
 use Rattle.laws_runs.proofs.Places.{InPlace, next-standing, put-standing, past-ordinary, past-standing}
 use Rattle.laws_runs.proofs.Tight.{ordinary-goalless, IsTight, goal-gone, settle-tight}
 use Rattle.laws_unwinding.proofs.Fine.{Fine, FineAt, fine-at, moved-fine, stack-fine, same-fine, residual-fine, Same}
@@ -40,7 +40,7 @@ use Rattle.laws_runs.specs.FlatDesign.declared.code.CodeBody.{CodeBody}
 use Rattle.laws_runs.specs.FlatDesign.declared.design.Design.{Design}
 use Rattle.laws_unwinding.proofs.Wakes.{timeless-fine}
 use Rattle.laws_runs.specs.SimModel.Phases.{is_zero_timeout, is_due_at}
-use Rattle.laws_runs.specs.LawsMoves.Moves.{made, with_suspended, InTurn, Gives, chooses, loops, tries, calls, MayBlock, IsHandler, IsEntryOf}
+use Rattle.laws_runs.specs.LawsMoves.Moves.{made, with_suspended, InTurn, Gives, chooses, loops, tries, calls, controls, throws, MayBlock, IsHandler, IsEntryOf}
 use Rattle.laws_runs.proofs.LawsMoves.Kept.{EachKeeps}
 
 -- ---- small ones
@@ -79,11 +79,11 @@ pushed_with c q i x at standing h =
     let stack = q ∷ c.processes.stack in
     let up = stack-fine c.design c.processes c.processes.runnable stack (λ p n. pushed_more q p c.processes.stack n) h.1 in
     let here = times-here q c.processes.stack in
-    let changed = moved-fine c.design (record { runnable = c.processes.runnable; stack = stack; instances = c.processes.instances }) q (λ j. record j { residual = x }) c.processes.runnable stack (λ p apart n. n)
+    let changed = moved-fine c.design (record { runnable = c.processes.runnable; stack = stack; instances = c.processes.instances; parents = c.processes.parents }) q (λ j. record j { residual = x }) c.processes.runnable stack (λ p apart n. n)
     (λ j there f. residual-fine c.design j (record j { residual = x }) (times q stack) (times q stack) x refl refl refl
     (subst (λ (k : Instance). IsStanding c.design k.home x) (same_Some i j (sym at ∙ there)) standing) (λ g. omega (arith, here)) f) up in (
       h.0,
-      moved-fine c.design (record { runnable = c.processes.runnable; stack = stack; instances = change c.processes.instances q (λ j. record j { residual = x }) }) q (λ j. record (freed j) { kept = false; trigger = None }) (without c.processes.runnable q) stack (λ p apart n. n)
+      moved-fine c.design (record { runnable = c.processes.runnable; stack = stack; instances = change c.processes.instances q (λ j. record j { residual = x }); parents = c.processes.parents }) q (λ j. record (freed j) { kept = false; trigger = None }) (without c.processes.runnable q) stack (λ p apart n. n)
           (λ j there f. same-fine c.design j (record (freed j) { kept = false; trigger = None }) (times q stack) (times q stack) (record { home = refl; code = refl; residual = refl }) (λ n. n) f) changed,
     )
 
@@ -163,6 +163,9 @@ module _ (who : Option ℕ) (c : Config) (p : ℕ) (r : Residual) (t : InTurn wh
             ∙ goal-gone c.design i.home r goal_of.Injected turn-standing turn-tight next,
       )) passed
 
+  off_sound : Sound (with_residual c p (taken_off r))
+  off_sound = residual-sound c p i (taken_off r) t.at (off-standing c.design i.home r turn-standing) (λ g. active) s
+
   -- where there is no goal, a wait is past and the instance leaves the stack; and so does one that is blocked
   waits_sound : has_goal r ≡ false → (w : Wait) (d : Deadline) → Sound (waits (passes c p r) p w d)
   waits_sound none w d =
@@ -214,6 +217,8 @@ module _ (who : Option ℕ) (c : Config) (p : ℕ) (r : Residual) (t : InTurn wh
   gives_sound n _ _ next found (loops e b false) = puts n (code.while_ e b) next found skip (λ P closed here_. tt)
   gives_sound n _ _ next found (tries b handlers) = puts n (code.try_ b handlers) next found (try_ (block (arena c) b) handlers) (λ P closed here_. try-new P c.design closed place n here_ b handlers found)
   gives_sound n _ _ next found (calls y f arguments args) = puts n (code.call y f arguments) next found (entered (arena c) f args (Some n) None) (λ P closed here_. call-new P c.design closed place n here_ s.0 y f arguments args (Some n) found)
+  gives_sound n _ _ next found (controls k whom qs) = puts n (code.control k whom true) next found (batch n qs) (λ P closed here_. here_)
+  gives_sound n _ _ next found (throws whom e qs) = puts n (code.throw_it whom e true) next found (batch n qs) (λ P closed here_. here_)
 
   pub block-goal : (n : ℕ) (x : Statement) → next_of r ≡ statement n → statement_at (arena c) n ≡ Some x → MayBlock (here c p i r) x → has_goal r ≡ false
   block-goal n (code.read y ch) next found may = no-goal n (code.read y ch) next found (λ b. b.0)
@@ -312,6 +317,7 @@ each-sound w c (move.passing p r) (t, may) s = passed w c p r t s
 each-sound w c (move.placing p r new) (n, x, t, g) s = gives_sound w c p r t.turn s n x new t.next t.found g
 each-sound w c (move.entering p r b u) (n, t) s =
     puts w c p r t.turn s n (code.guard b u) t.next t.found (guard (block (arena c) b) c.trace.next_guard u) (λ P closed here_. guard-new P c.design closed (place_of c.design t.turn.instance.home r) n here_ b u c.trace.next_guard t.found)
+each-sound w c (move.taking_off p r) (n, q, t, next) s = off_sound w c p r t s
 each-sound w c (move.returning p r v) (n, e, t) s = returned_sound w c p r t.turn s v
 each-sound w c (move.beginning p f args) (t, i, at, not, same, too) s = begins_sound c p t.rest t.top s f args i at same
 each-sound w c (move.ending p) (r, t, over) s = bare_leaves c p t.rest t.top s ended_instance (λ j. refl) (λ j. refl) (λ j. refl)

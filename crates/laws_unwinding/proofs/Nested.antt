@@ -4,7 +4,7 @@ use Rattle.laws_runs.specs.LogicValues.declared.kinds.Value.{Value}
 use Rattle.laws_runs.specs.FlatDesign.Code.{Arena, block_at, body_at}
 use Rattle.laws_runs.specs.FlatDesign.declared.code.CodeBody.{CodeBody}
 use Rattle.laws_runs.specs.FlatDesign.declared.code.Handler.{Handler}
-use Rattle.laws_runs.specs.SimModel.Residual.{Residual, Frame, Mark, skip, one, seq, owing, guard, try_, frame, shell, run, goal, enter, leave, begin, finish, followed, statements, block, then_on, in_run, then_owed, in_guard, in_try, in_shell, settle, finished_if, begun_if, left_if, fall, frame_or, goal_or, put, in_innermost, next_of, statement, entered, entered_in}
+use Rattle.laws_runs.specs.SimModel.Residual.{Residual, Frame, Mark, skip, one, batch, seq, owing, guard, try_, frame, shell, run, goal, enter, leave, begin, finish, followed, statements, block, then_on, in_run, then_owed, in_guard, in_try, in_shell, settle, finished_if, begun_if, left_if, fall, frame_or, goal_or, put, taken_off, in_innermost, next_of, statement, entered, entered_in}
 use Rattle.laws_runs.specs.SimModel.Unwinding.{unw, catches, handles, handler_block, handler_of, handled, raise, has_exit, returned, guards_left, return_marks}
 use Rattle.laws_runs.specs.SimModel.Clean.{guards_of}
 use Rattle.laws_runs.specs.SimModel.declared.plain.Goal.{Goal}
@@ -59,6 +59,7 @@ begun_if_own p g a u other = tt
 pub fall-own : (p : ℕ) (a : Arena) (r : Residual) → Own p (fall p a r)
 fall-own p a skip = tt
 fall-own p a (one s) = tt
+fall-own p a (batch s qs) = tt
 fall-own p a (seq r ss) = fall-own p a r
 fall-own p a (owing r g u) = own_append p (fall p a r) (begun_if p a (settle a r) g u) (fall-own p a r) (begun_if_own p g a u (settle a r))
 fall-own p a (guard r g u) = own_append p (fall p a r) (left_if p (settle a r) g) (fall-own p a r) (left_if_own p g (settle a r))
@@ -71,6 +72,7 @@ fall-own p a (goal r k) = fall-own p a r
 left_own : (p : ℕ) (r : Residual) → Own p (guards_left p r)
 left_own p skip = tt
 left_own p (one s) = tt
+left_own p (batch s qs) = tt
 left_own p (seq r ss) = left_own p r
 left_own p (owing r g u) = left_own p r
 left_own p (guard r g u) = own_append p (guards_left p r) (leave p g ∷ []) (left_own p r) (refl, tt)
@@ -87,6 +89,7 @@ own_if false p ms ns one_ two = two
 pub return-own : (p : ℕ) (r : Residual) → Own p (return_marks p r)
 return-own p skip = tt
 return-own p (one s) = tt
+return-own p (batch s qs) = tt
 return-own p (seq r ss) = return-own p r
 return-own p (owing r g u) = return-own p r
 return-own p (guard r g u) = return-own p r
@@ -113,6 +116,7 @@ own-apart p q (finish r g ∷ ms) s apart own = ap (λ b. on_some (after_marks q
 unwound_still : (r : Residual) (s : ℕ) → IsUnwound r → has_exit r ≡ false → next_of r ≡ statement s → ⊥
 unwound_still skip s h none is = cc
 unwound_still (one t) s h none is = h
+unwound_still (batch t qs) s h none is = h
 unwound_still (seq r ss) s h none is = h
 unwound_still (owing r g u) s h none is = unwound_still r s h none is
 unwound_still (guard r g u) s h none is = h
@@ -125,6 +129,7 @@ unwound_still (goal r k) s h none is = h
 inner_normal : (r : Residual) (s : ℕ) → IsShaped r → has_exit r ≡ false → next_of r ≡ statement s → IsNormal r
 inner_normal skip s h none is = tt
 inner_normal (one t) s h none is = tt
+inner_normal (batch t qs) s h none is = tt
 inner_normal (seq r ss) s h none is = inner_normal r s h none is
 inner_normal (owing r g u) s h none is = absurd h
 inner_normal (guard r g u) s h none is = inner_normal r s h none is
@@ -172,6 +177,7 @@ module _ (p : ℕ) where
   parts_then : (r : Residual) (ss : List ℕ) → parts_of (then_on r ss) ≡ parts_of r
   parts_then skip ss = parts_statements ss
   parts_then (one s) ss = parts_followed (one s) ss
+  parts_then (batch s qs) ss = parts_followed (batch s qs) ss
   parts_then (seq r us) ss = parts_followed (seq r us) ss
   parts_then (owing r g u) ss = parts_followed (owing r g u) ss
   parts_then (guard r g u) ss = parts_followed (guard r g u) ss
@@ -218,6 +224,8 @@ module _ (p : ℕ) where
     pub fall-nested : (r : Residual) (s : List Part) → after_marks p (fall p a r) (parts_of r ++ s) ≡ Some (parts_of (settle a r) ++ s)
     fall-nested skip s = refl
     fall-nested (one n) s = refl
+    fall-nested (batch n []) s = refl
+    fall-nested (batch n (q ∷ qs)) s = refl
     fall-nested (seq r ss) s = fall-nested r s ∙ ap (λ x. Some (x ++ s)) (sym (parts_then (settle a r) ss))
     fall-nested (owing r g u) s = outer r (unbegun g) (begun_if p a (settle a r) g u) s _ (fall-nested r (unbegun g ∷ s)) (owed_falls (settle a r) g u s)
     fall-nested (guard r g u) s = outer r (unbegun g) (left_if p (settle a r) g) s _ (fall-nested r (unbegun g ∷ s)) (guard_falls (settle a r) g u s)
@@ -232,6 +240,7 @@ module _ (p : ℕ) where
   left_nested : (r : Residual) → IsNormal r → (s : List Part) → after_marks p (guards_left p r) (parts_of r ++ s) ≡ Some s
   left_nested skip h s = refl
   left_nested (one n) h s = refl
+  left_nested (batch n qs) h s = refl
   left_nested (seq r ss) h s = left_nested r h s
   left_nested (owing r g u) h s = absurd h
   left_nested (guard r g u) h s = ap (after_marks p (guards_left p r ++ leave p g ∷ [])) (behind (parts_of r) (unbegun g) s) ∙ marks-then p (guards_left p r) (leave p g ∷ []) (parts_of r ++ unbegun g ∷ s) (unbegun g ∷ s) (left_nested r h (unbegun g ∷ s)) ∙ leaves_marks g s
@@ -259,6 +268,7 @@ module _ (p : ℕ) where
     normal_returned : (r : Residual) → IsNormal r → (s : List Part) → after_marks p (return_marks p r) (parts_of r ++ s) ≡ Some (parts_of (returned v r) ++ s)
     normal_returned skip h s = refl
     normal_returned (one n) h s = refl
+    normal_returned (batch n qs) h s = refl
     normal_returned (seq r ss) h s = normal_returned r h s
     normal_returned (owing r g u) h s = absurd h
     normal_returned (guard r g u) h s = around r (returned v r) (unbegun g) (return_marks p r) s (normal_returned r h (unbegun g ∷ s))
@@ -271,6 +281,7 @@ module _ (p : ℕ) where
     unwound_returned : (r : Residual) → IsUnwound r → (s : List Part) → after_marks p (return_marks p r) (parts_of r ++ s) ≡ Some (parts_of (returned v r) ++ s)
     unwound_returned skip h s = refl
     unwound_returned (one n) h s = absurd h
+    unwound_returned (batch n qs) h s = absurd h
     unwound_returned (seq r ss) h s = absurd h
     unwound_returned (owing r g u) h s = around r (returned v r) (unbegun g) (return_marks p r) s (unwound_returned r h (unbegun g ∷ s))
     unwound_returned (guard r g u) h s = absurd h
@@ -283,6 +294,7 @@ module _ (p : ℕ) where
     pub return-nested : (r : Residual) (n : ℕ) → IsShaped r → next_of r ≡ statement n → (s : List Part) → after_marks p (return_marks p r) (parts_of r ++ s) ≡ Some (parts_of (returned v r) ++ s)
     return-nested skip n h is s = refl
     return-nested (one m) n h is s = refl
+    return-nested (batch m qs) n h is s = refl
     return-nested (seq r ss) n h is s = return-nested r n h is s
     return-nested (owing r g u) n h is s = absurd h
     return-nested (guard r g u) n h is s = around r (returned v r) (unbegun g) (return_marks p r) s (return-nested r n h is (unbegun g ∷ s))
@@ -311,6 +323,7 @@ past_goal other k inside h = h
 pub past-parts : (r : Residual) → parts_of (put r skip) ≡ parts_of r
 past-parts skip = refl
 past-parts (one s) = refl
+past-parts (batch s qs) = refl
 past-parts (seq r ss) = followed_parts (put r skip) ss ∙ past-parts r
 past-parts (owing r g u) = ap (λ xs. xs ++ unbegun g ∷ []) (past-parts r)
 past-parts (guard r g u) = ap (λ xs. xs ++ unbegun g ∷ []) (past-parts r)
@@ -334,6 +347,7 @@ inside_more new xs x out h = ap (λ ys. ys ++ x ∷ []) h ∙ append_assoc new x
 pub put-parts : (r n : Residual) (s : ℕ) → next_of r ≡ statement s → parts_of (put r n) ≡ parts_of n ++ parts_of r
 put-parts skip n s is = cc
 put-parts (one t) n s is = sym (append-nil (parts_of n))
+put-parts (batch t qs) n s is = sym (append-nil (parts_of n))
 put-parts (seq r ss) n s is = followed_parts (put r n) ss ∙ put-parts r n s is
 put-parts (owing r g u) n s is = inside_more (parts_of n) (parts_of r) (unbegun g) (parts_of (put r n)) (put-parts r n s is)
 put-parts (guard r g u) n s is = inside_more (parts_of n) (parts_of r) (unbegun g) (parts_of (put r n)) (put-parts r n s is)
@@ -346,6 +360,7 @@ put-parts (goal r k) n s is = let there = before_statement (next_of r) k s is in
 pub no_guards-parts : (r : Residual) → guards_of r ≡ [] → parts_of r ≡ []
 no_guards-parts skip h = refl
 no_guards-parts (one s) h = refl
+no_guards-parts (batch s qs) h = refl
 no_guards-parts (seq r ss) h = no_guards-parts r h
 no_guards-parts (owing r g u) h = cc
 no_guards-parts (guard r g u) h = cc
@@ -358,6 +373,7 @@ no_guards-parts (goal r k) h = no_guards-parts r h
 pub local-parts : (f : Frame → Frame) (r : Residual) → parts_of (in_innermost f r) ≡ parts_of r
 local-parts f skip = refl
 local-parts f (one s) = refl
+local-parts f (batch s qs) = refl
 local-parts f (seq r ss) = local-parts f r
 local-parts f (owing r g u) = ap (λ xs. xs ++ unbegun g ∷ []) (local-parts f r)
 local-parts f (guard r g u) = ap (λ xs. xs ++ unbegun g ∷ []) (local-parts f r)
@@ -367,9 +383,24 @@ local-parts f (shell r x) = local-parts f r
 local-parts f (run g r) = ap (λ xs. xs ++ running g ∷ []) (local-parts f r)
 local-parts f (goal r k) = local-parts f r
 
+-- a call that is owed to one instance less
+pub off-parts : (r : Residual) → parts_of (taken_off r) ≡ parts_of r
+off-parts skip = refl
+off-parts (one s) = refl
+off-parts (batch s qs) = refl
+off-parts (seq r ss) = off-parts r
+off-parts (owing r g u) = ap (λ xs. xs ++ unbegun g ∷ []) (off-parts r)
+off-parts (guard r g u) = ap (λ xs. xs ++ unbegun g ∷ []) (off-parts r)
+off-parts (try_ r handlers) = off-parts r
+off-parts (frame r x) = off-parts r
+off-parts (shell r x) = off-parts r
+off-parts (run g r) = ap (λ xs. xs ++ running g ∷ []) (off-parts r)
+off-parts (goal r k) = off-parts r
+
 pub unw-parts : (r : Residual) → parts_of (unw r) ≡ parts_of r
 unw-parts skip = refl
 unw-parts (one s) = refl
+unw-parts (batch s qs) = refl
 unw-parts (seq r ss) = unw-parts r
 unw-parts (owing r g u) = ap (λ xs. xs ++ unbegun g ∷ []) (unw-parts r)
 unw-parts (guard r g u) = ap (λ xs. xs ++ unbegun g ∷ []) (unw-parts r)
@@ -388,6 +419,7 @@ module _ (a : Arena) (e : ℕ) (k : Goal) where
   pub raise-parts : (r : Residual) → parts_of (raise a r e k) ≡ parts_of r
   raise-parts skip = refl
   raise-parts (one s) = refl
+  raise-parts (batch s qs) = refl
   raise-parts (seq r ss) = raise-parts r
   raise-parts (owing r g u) = ap (λ xs. xs ++ unbegun g ∷ []) (raise-parts r)
   raise-parts (guard r g u) = ap (λ xs. xs ++ unbegun g ∷ []) (raise-parts r)

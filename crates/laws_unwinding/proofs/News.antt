@@ -5,7 +5,7 @@ use Rattle.laws_runs.specs.LogicValues.declared.kinds.Value.{Value}
 use Rattle.laws_runs.specs.FlatDesign.Code.{Arena, block_at, body_at}
 use Rattle.laws_runs.specs.FlatDesign.declared.code.CodeBody.{CodeBody}
 use Rattle.laws_runs.specs.FlatDesign.declared.code.Handler.{Handler}
-use Rattle.laws_runs.specs.SimModel.Residual.{skip, try_, statements, followed, block, entered, entered_in}
+use Rattle.laws_runs.specs.SimModel.Residual.{skip, batch, try_, statements, followed, block, entered, entered_in}
 use Rattle.laws_runs.specs.SimModel.Configuration.{change, changed_at}
 use Rattle.laws_unwinding.proofs.Parts.{IsNew}
 
@@ -32,6 +32,9 @@ entered_new a f args n (Some b) = let h = block-new a b.block in record { normal
 
 pub call-new : (a : Arena) (f : ℕ) (args : List Value) (n : ℕ) → IsNew (entered a f args (Some n) None)
 call-new a f args n = entered_new a f args n (body_at a f)
+
+pub batch-new : (n : ℕ) (qs : List ℕ) → IsNew (batch n qs)
+batch-new n qs = record { normal = tt; guards = refl; calls = tt }
 
 -- ---- an element that is changed to itself
 

@@ -3,7 +3,7 @@ use Rattle.std.proofs.Common.{◌≡◌, ◌+◌, ◌<◌, ◌≤◌, ◌==◌, 
 use Rattle.std.specs.List.{list_any}
 use Rattle.std.proofs.lemmas.Bool.{cases_eq, cases_lt}
 use Rattle.std.proofs.lemmas.Option.{same_Some}
-use Rattle.laws_runs.specs.SimModel.Residual.{Mark, enter, leave, begin, finish, Residual, skip, one, seq, owing, guard, try_, frame, shell, run, goal}
+use Rattle.laws_runs.specs.SimModel.Residual.{Mark, enter, leave, begin, finish, Residual, skip, one, batch, seq, owing, guard, try_, frame, shell, run, goal}
 use Rattle.laws_runs.specs.SimModel.Configuration.{Trace}
 use Rattle.laws_runs.specs.SimModel.Waits.{holds}
 use Rattle.laws_runs.specs.SimModel.Clean.{guards_of, closes, entered_by, open_guards, enters, leaves_or_begins, finishes, times, CleanMarks}
@@ -29,6 +29,7 @@ outside_last (y ∷ s) x = ap (λ gs. gs ++ number y ∷ []) (outside_last s x)
 pub outside-parts : (r : Residual) → outside (parts_of r) ≡ guards_of r
 outside-parts skip = refl
 outside-parts (one s) = refl
+outside-parts (batch s qs) = refl
 outside-parts (seq r ss) = outside-parts r
 outside-parts (owing r g u) = outside_last (parts_of r) (unbegun g) ∙ ap (λ gs. g ∷ gs) (outside-parts r)
 outside-parts (guard r g u) = outside_last (parts_of r) (unbegun g) ∙ ap (λ gs. g ∷ gs) (outside-parts r)

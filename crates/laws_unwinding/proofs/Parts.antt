@@ -7,7 +7,7 @@ use Rattle.laws_runs.specs.FlatDesign.Code as code
 use Rattle.laws_runs.specs.FlatDesign.Code.{Statement, statement_at}
 use Rattle.laws_runs.specs.FlatDesign.declared.design.Design.{Design}
 use Rattle.laws_runs.specs.SimModel.Residual as residual
-use Rattle.laws_runs.specs.SimModel.Residual.{Residual, Frame, Next, Mark, skip, guard, settle, fall, block, entered, put, in_innermost, next_of, has_goal, begun, enter}
+use Rattle.laws_runs.specs.SimModel.Residual.{Residual, Frame, Next, Mark, skip, guard, settle, fall, block, entered, put, taken_off, in_innermost, next_of, has_goal, begun, enter}
 use Rattle.laws_runs.specs.SimModel.Unwinding.{unw, catches, raise, left_by_unw, left_by_raise, returned, return_marks}
 use Rattle.laws_runs.specs.SimModel.Configuration.{Config, Instance, change}
 use Rattle.laws_runs.specs.SimModel.Storing.{with_local}
@@ -80,6 +80,7 @@ caller d (Some s) = statement_at (code_of d) s
 -- what may be past at no other change: a statement; a call, but a transport call; and the goal of an exception
 abbrev pub MayPass : Design → Next → Type 0
 MayPass d (residual.statement s) = ⊤
+MayPass d (residual.owes s q) = ⊥
 MayPass d (residual.leaves y) = is_transport (caller d y.call) ≡ true → y.via ≡ None
 MayPass d residual.done = ⊥
 MayPass d (residual.reaches goal_of.End) = ⊥
@@ -91,6 +92,7 @@ MayPass d residual.nothing = ⊥
 -- where a body is over
 abbrev pub IsOver : Next → Type 0
 IsOver (residual.statement s) = ⊥
+IsOver (residual.owes s q) = ⊥
 IsOver (residual.leaves y) = ⊥
 IsOver residual.done = ⊤
 IsOver (residual.reaches goal_of.End) = ⊤
@@ -120,6 +122,7 @@ IsCalled (Some s) = ⊤
 abbrev pub OnlyCalls : Residual → Type 0
 OnlyCalls residual.skip = ⊤
 OnlyCalls (residual.one s) = ⊤
+OnlyCalls (residual.batch s qs) = ⊤
 OnlyCalls (residual.seq r ss) = OnlyCalls r
 OnlyCalls (residual.owing r g u) = OnlyCalls r
 OnlyCalls (residual.guard r g u) = OnlyCalls r
@@ -157,6 +160,8 @@ pub record IsKept (p : ℕ) (Q : Parts → Type 0) : Type 0 where
   -- what comes next is past; or something without guards comes in its place
   pub passes : (x : Parts) (i : Instance) (r : Residual) → At x p i r → MayPass x.design (next_of r) → Q x → Q (residual_in x p (put r skip))
   pub puts : (x : Parts) (i : Instance) (r : Residual) (n : ℕ) → At x p i r → next_of r ≡ residual.statement n → (new : Residual) → IsNew new → Q x → Q (residual_in x p (put r new))
+  -- a call is owed to one instance less
+  pub takes_off : (x : Parts) (i : Instance) (r : Residual) → At x p i r → Q x → Q (residual_in x p (taken_off r))
   -- a guard is entered; a return; a local variable is set
   pub guards : (x : Parts) (i : Instance) (r : Residual) (n : ℕ) → At x p i r → next_of r ≡ residual.statement n → (b u : ℕ) → Q x
       → Q (record (residual_in x p (put r (guard (block (code_of x.design) b) x.next_guard u))) { marks = x.marks ++ enter p x.next_guard ∷ []; next_guard = x.next_guard + 1 })

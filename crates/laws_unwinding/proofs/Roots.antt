@@ -5,7 +5,7 @@ use Rattle.laws_runs.specs.FlatDesign.Code.{Arena, block_at, body_at}
 use Rattle.laws_runs.specs.FlatDesign.declared.code.CodeBody.{CodeBody}
 use Rattle.laws_runs.specs.FlatDesign.declared.code.Handler.{Handler}
 use Rattle.laws_runs.specs.FlatDesign.declared.design.Design.{Design}
-use Rattle.laws_runs.specs.SimModel.Residual.{Residual, Frame, Next, skip, one, seq, owing, guard, try_, frame, shell, run, goal, followed, statements, block, then_on, in_run, then_owed, in_guard, in_try, in_shell, settle, frame_or, goal_or, put, innermost, changed_if, in_innermost, in_frame, frame_end, before_goal, next_of, statement, leaves, done, reaches, nothing, has_goal, entered, entered_in, begun}
+use Rattle.laws_runs.specs.SimModel.Residual.{Residual, Frame, Next, skip, one, batch, seq, owing, guard, try_, frame, shell, run, goal, followed, statements, block, then_on, in_run, then_owed, in_guard, in_try, in_shell, settle, frame_or, goal_or, put, innermost, changed_if, in_innermost, taken_off, in_frame, frame_end, before_goal, next_of, statement, owes, leaves, done, reaches, nothing, has_goal, entered, entered_in, begun}
 use Rattle.laws_runs.specs.SimModel.Unwinding.{unw, catches, handles, handler_block, handler_of, handled, raise, has_exit, returned}
 use Rattle.laws_runs.specs.SimModel.Storing.{with_local}
 use Rattle.laws_runs.specs.SimModel.declared.plain.Goal.{Goal}
@@ -19,6 +19,7 @@ use Rattle.laws_unwinding.proofs.Parts.{MayPass, IsOver, IsOuter, IsInner, IsCal
 abbrev pub IsInside : Residual → Type 0
 IsInside skip = Unit {0}
 IsInside (one s) = Unit {0}
+IsInside (batch s qs) = Unit {0}
 IsInside (seq r ss) = IsInside r
 IsInside (owing r g u) = IsInside r
 IsInside (guard r g u) = IsInside r
@@ -50,6 +51,7 @@ called_over (Some s) x called over = over
 
 in_called : (n : Next) (x : Frame) → IsCalled x.call → IsOver (in_frame n x) → IsOver n × (n ≡ nothing → ⊥)
 in_called (statement s) x called over = absurd over
+in_called (owes s q) x called over = absurd over
 in_called (leaves y) x called over = absurd over
 in_called done x called over = (tt, λ e. cc)
 in_called (reaches k) x called over = (over, λ e. cc)
@@ -57,6 +59,7 @@ in_called nothing x called over = absurd (called_over x.call x called over)
 
 in_inner : (n : Next) (k : Goal) → IsInner k → IsOver (before_goal n k) → IsOver n × (n ≡ nothing → ⊥)
 in_inner (statement s) k inner over = absurd over
+in_inner (owes s q) k inner over = absurd over
 in_inner (leaves y) k inner over = absurd over
 in_inner done k inner over = (tt, λ e. cc)
 in_inner (reaches j) k inner over = (over, λ e. cc)
@@ -71,6 +74,8 @@ not_left r is left = subst IsLeft is left
 pub inside-over : (r : Residual) → IsInside r → IsTight r → IsOver (next_of r) → r ≡ skip
 inside-over skip inside tight over = refl
 inside-over (one s) inside tight over = absurd over
+inside-over (batch s []) inside tight over = absurd tight
+inside-over (batch s (q ∷ qs)) inside tight over = absurd over
 inside-over (seq r ss) inside tight over = absurd (not_left r (inside-over r inside tight.1 over) tight.0)
 inside-over (owing r g u) inside tight over = absurd (not_left r (inside-over r inside tight.1 over) tight.0)
 inside-over (guard r g u) inside tight over = absurd (not_left r (inside-over r inside tight.1 over) tight.0)
@@ -82,6 +87,7 @@ inside-over (goal r k) inside tight over = let there = in_inner (next_of r) k in
 
 in_root : (n : Next) (x : Frame) → IsOver (in_frame n x) → IsOver n
 in_root (statement s) x over = over
+in_root (owes s q) x over = over
 in_root (leaves y) x over = over
 in_root done x over = tt
 in_root (reaches k) x over = over
@@ -89,6 +95,7 @@ in_root nothing x over = tt
 
 in_outer : (n : Next) (k : Goal) → IsOver (before_goal n k) → IsOver n
 in_outer (statement s) k over = over
+in_outer (owes s q) k over = over
 in_outer (leaves y) k over = over
 in_outer done k over = tt
 in_outer (reaches j) k over = over
@@ -131,6 +138,7 @@ rooted-unbegun other is = absurd is
 pub normal-inside : (r : Residual) → IsNormal r → OnlyCalls r → IsInside r
 normal-inside skip n c = tt
 normal-inside (one s) n c = tt
+normal-inside (batch s qs) n c = tt
 normal-inside (seq r ss) n c = normal-inside r n c
 normal-inside (owing r g u) n c = absurd n
 normal-inside (guard r g u) n c = normal-inside r n c
@@ -156,6 +164,7 @@ module _ (a : Arena) where
   then_inside : (r : Residual) (ss : List ℕ) → IsInside r → IsInside (then_on r ss)
   then_inside skip ss h = statements_inside ss
   then_inside (one s) ss h = followed_inside (one s) ss h
+  then_inside (batch s qs) ss h = followed_inside (batch s qs) ss h
   then_inside (seq r us) ss h = followed_inside (seq r us) ss h
   then_inside (owing r g u) ss h = followed_inside (owing r g u) ss h
   then_inside (guard r g u) ss h = followed_inside (guard r g u) ss h
@@ -188,6 +197,8 @@ module _ (a : Arena) where
   pub settle-inside : (r : Residual) → IsInside r → IsInside (settle a r)
   settle-inside skip h = tt
   settle-inside (one s) h = tt
+  settle-inside (batch s []) h = tt
+  settle-inside (batch s (q ∷ qs)) h = tt
   settle-inside (seq r ss) h = then_inside (settle a r) ss (settle-inside r h)
   settle-inside (owing r g u) h = owed_inside (settle a r) g u (settle-inside r h)
   settle-inside (guard r g u) h = guard_inside (settle a r) g u (settle-inside r h)
@@ -229,6 +240,7 @@ module _ (n : Residual) (new : IsInside n) where
   pub put-inside : (r : Residual) → IsInside r → IsInside (put r n)
   put-inside skip h = tt
   put-inside (one s) h = new
+  put-inside (batch s qs) h = new
   put-inside (seq r ss) h = followed_inside (put r n) ss (put-inside r h)
   put-inside (owing r g u) h = put-inside r h
   put-inside (guard r g u) h = put-inside r h
@@ -268,6 +280,7 @@ module _ (n : Residual) (new : IsInside n) where
 -- what may pass is not over
 pub passes-not_over : (d : Design) (n : Next) → MayPass d n → IsOver n → ⊥
 passes-not_over d (statement s) may over = over
+passes-not_over d (owes s q) may over = over
 passes-not_over d (leaves y) may over = over
 passes-not_over d done may over = may
 passes-not_over d (reaches goal_of.End) may over = may
@@ -286,6 +299,7 @@ module _ (v : Option Value) where
   returned_inside : (r : Residual) → IsInside r → IsInside (returned v r)
   returned_inside skip h = tt
   returned_inside (one s) h = tt
+  returned_inside (batch s qs) h = tt
   returned_inside (seq r ss) h = returned_inside r h
   returned_inside (owing r g u) h = returned_inside r h
   returned_inside (guard r g u) h = returned_inside r h
@@ -322,6 +336,7 @@ module _ (n : ℕ) (v : Value) where
   local_inside : (r : Residual) → IsInside r → IsInside (in_innermost (with_local n v) r)
   local_inside skip h = tt
   local_inside (one s) h = tt
+  local_inside (batch s qs) h = tt
   local_inside (seq r ss) h = local_inside r h
   local_inside (owing r g u) h = local_inside r h
   local_inside (guard r g u) h = local_inside r h
@@ -344,11 +359,40 @@ module _ (n : ℕ) (v : Value) where
   local-rooted true other h = absurd h
   local-rooted false other h = absurd h
 
+-- ---- a call that is owed to one instance less
+
+off_inside : (r : Residual) → IsInside r → IsInside (taken_off r)
+off_inside skip h = tt
+off_inside (one s) h = tt
+off_inside (batch s qs) h = tt
+off_inside (seq r ss) h = off_inside r h
+off_inside (owing r g u) h = off_inside r h
+off_inside (guard r g u) h = off_inside r h
+off_inside (try_ r handlers) h = off_inside r h
+off_inside (frame r x) h = (h.0, off_inside r h.1)
+off_inside (shell r x) h = (h.0, off_inside r h.1)
+off_inside (run g r) h = off_inside r h
+off_inside (goal r k) h = (h.0, off_inside r h.1)
+
+off_shell : (r : Residual) → IsShell r → IsShell (taken_off r)
+off_shell skip h = tt
+off_shell (shell r x) h = off_inside r h
+off_shell other h = absurd h
+
+pub off-rooted : (b : Bool) (r : Residual) → IsRooted b r → IsRooted b (taken_off r)
+off-rooted b skip h = tt
+off-rooted true (frame r x) h = (h.0, off_inside r h.1)
+off-rooted true (goal r k) h = (h.0, off_shell r h.1)
+off-rooted false (goal r k) h = (h.0, ap taken_off h.1)
+off-rooted true other h = absurd h
+off-rooted false other h = absurd h
+
 -- ---- a kill, a reset and an exception
 
 pub unw-inside : (r : Residual) → IsInside r → IsInside (unw r)
 unw-inside skip h = tt
 unw-inside (one s) h = tt
+unw-inside (batch s qs) h = tt
 unw-inside (seq r ss) h = unw-inside r h
 unw-inside (owing r g u) h = unw-inside r h
 unw-inside (guard r g u) h = unw-inside r h
@@ -376,6 +420,7 @@ module _ (a : Arena) (e : ℕ) (k : Goal) (inner : IsInner k) where
   raised_inside : (r : Residual) → IsInside r → IsInside (raise a r e k)
   raised_inside skip h = tt
   raised_inside (one s) h = tt
+  raised_inside (batch s qs) h = tt
   raised_inside (seq r ss) h = raised_inside r h
   raised_inside (owing r g u) h = raised_inside r h
   raised_inside (guard r g u) h = raised_inside r h

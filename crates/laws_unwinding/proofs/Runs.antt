@@ -3,7 +3,7 @@ use Rattle.std.proofs.Common.{◌≡◌, ℕ, zero, suc, List, [], ◌∷◌, Op
 use Rattle.std.proofs.lemmas.Option.{none-some, same_Some}
 use Rattle.laws_runs.specs.FlatDesign.Sound.{SoundDesign}
 use Rattle.laws_runs.specs.FlatDesign.declared.design.Design.{Design}
-use Rattle.laws_runs.specs.SimModel.Residual.{Residual, skip, one, seq, owing, guard, try_, frame, shell, run, goal}
+use Rattle.laws_runs.specs.SimModel.Residual.{Residual, skip, one, batch, seq, owing, guard, try_, frame, shell, run, goal}
 use Rattle.laws_runs.specs.SimModel.Reading.{home_of_via}
 use Rattle.laws_runs.specs.SimModel.Configuration.{Config, arena, start}
 use Rattle.laws_runs.specs.SimModel.Steps.{Outcome, went, faulted, takes, ended, step, taking}
@@ -23,6 +23,7 @@ use Rattle.laws_unwinding.proofs.Steps.{IfWent, step-sound, taking-sound, start-
 ordinary_normal : (P : ℕ → ℕ → Type 0) (d : Design) (home : ℕ) (r : Residual) → IsOrdinary P d home r → IsNormal r
 ordinary_normal P d home skip h = tt
 ordinary_normal P d home (one s) h = tt
+ordinary_normal P d home (batch s qs) h = tt
 ordinary_normal P d home (seq r ss) h = ordinary_normal P d home r h.0
 ordinary_normal P d home (owing r g u) h = h
 ordinary_normal P d home (guard r g u) h = ordinary_normal P d home r h.0
@@ -35,6 +36,7 @@ ordinary_normal P d home (goal r k) h = h
 unwinding_unwound : (d : Design) (home : ℕ) (r : Residual) → IsUnwinding d home r → IsUnwound r
 unwinding_unwound d home skip h = tt
 unwinding_unwound d home (one s) h = h
+unwinding_unwound d home (batch s qs) h = h
 unwinding_unwound d home (seq r ss) h = h
 unwinding_unwound d home (owing r g u) h = unwinding_unwound d home r h.0
 unwinding_unwound d home (guard r g u) h = h
@@ -47,6 +49,7 @@ unwinding_unwound d home (goal r k) h = h
 standing_shaped : (d : Design) (home : ℕ) (r : Residual) → IsStanding d home r → IsShaped r
 standing_shaped d home skip h = tt
 standing_shaped d home (one s) h = tt
+standing_shaped d home (batch s qs) h = tt
 standing_shaped d home (seq r ss) h = standing_shaped d home r h.0
 standing_shaped d home (owing r g u) h = h
 standing_shaped d home (guard r g u) h = standing_shaped d home r h.0

@@ -66,6 +66,7 @@ module _ (p : ℕ) (rest : List ℕ) (once : times p rest ≡ 0) where
     pushes = λ x q more top off h. pushes_moved x q more top off h;
     passes = λ x i r at may h. h;
     puts = λ x i r n at next new is_new h. h;
+    takes_off = λ x i r at h. h;
     guards = λ x i r n at next b u h. h;
     returns = λ x i r n at next v h. h;
     locals = λ x n v h. h;

@@ -1,6 +1,6 @@
 -- The marks of an instance are nested as brackets are: what they leave open, the innermost first.
 use Rattle.std.specs.Prelude.{ℕ, zero, suc, ◌==◌, List, [], ◌∷◌, ◌++◌, Option, Some, None, if◌then◌else◌}
-use Rattle.laws_runs.specs.SimModel.Residual.{Residual, skip, one, seq, owing, guard, try_, frame, shell, run, goal, Mark, enter, leave, begin, finish}
+use Rattle.laws_runs.specs.SimModel.Residual.{Residual, skip, one, batch, seq, owing, guard, try_, frame, shell, run, goal, Mark, enter, leave, begin, finish}
 use Rattle.laws_runs.specs.SimModel.Configuration.{Instance}
 
 -- a guard that is open: its unwind block has not begun, or runs
@@ -46,6 +46,7 @@ after_marks p (m ∷ ms) s = on_some (after_marks p ms) (after_mark p m s)
 abbrev pub parts_of : Residual → List Part
 parts_of skip = []
 parts_of (one s) = []
+parts_of (batch s qs) = []
 parts_of (seq r ss) = parts_of r
 parts_of (owing r g u) = parts_of r ++ unbegun g ∷ []
 parts_of (guard r g u) = parts_of r ++ unbegun g ∷ []

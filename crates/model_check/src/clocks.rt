@@ -10,7 +10,7 @@ ghost use Rattle.model_check.specs.Parts.{high_and_low};
 use code_blocks::{Laid, add, push_block};
 use code_rooms::logic_values_api::Value;
 use code_rooms::plain_lists_api::Items;
-use code_rooms::sim_time_api::of_unit;
+use code_rooms::sim_time_api::picoseconds_of;
 use flat_design::{Await, BlockId, ChannelUse, Expr, Statement, StmtId, ValueType};
 use model_tree::{ClockItem, Span};
 use std::alloc::{AllocError, Global};
@@ -19,7 +19,7 @@ use std::alloc::{AllocError, Global};
 fn span_time(span: Span) -> Result<u64, AllocError>
     ensures { IfOk result (λ time. time ≡ bodies.span_of span) }
 {
-    match of_unit(span.count, span.unit) {
+    match picoseconds_of(span.count, span.unit) {
         None => Err(AllocError),
         Some(time) => Ok(time.0),
     }

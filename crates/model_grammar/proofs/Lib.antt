@@ -5,3 +5,5 @@ pub mod SoundExpressions
 pub mod SoundStatements
 pub mod SoundItems
 pub mod LogicValues
+mod Versions
+pub mod Tokens

@@ -162,8 +162,8 @@ action_fits line (tree.qk_set x v) n few = at >>= λ e. takes >>= λ f. so (expr
 action_fits line (tree.qk_reset x) n few = at >>= λ e. takes
 action_fits line (tree.qk_sync x) n few = at >>= λ e. takes
 action_fits line (tree.spawn x) n few = at >>= λ e. spawn_fits x n (omega (arith, few)) (omega (arith, few))
-action_fits line (tree.control c x) n few = at >>= λ e. who_fits x
-action_fits line (tree.throw_it x exception) n few = at >>= λ e. who_fits x >>= λ f. so takes (λ g. and_from (fits_who x) (is_name exception) f g)
+action_fits line (tree.control c x all) n few = at >>= λ e. who_fits x >>= λ f. so (written (word w.Descendants) all) (λ g. f)
+action_fits line (tree.throw_it x exception all) n few = at >>= λ e. who_fits x >>= λ f. takes >>= λ g. so (written (word w.Descendants) all) (λ h. and_from (fits_who x) (is_name exception) f g)
 action_fits line (tree.throw x) n few = at >>= λ e. takes
 action_fits line (tree.return_ o) n few = at >>= λ e. option_fits DerivesExpression o n few (λ x h. expression_fits x n h)
 action_fits line tree.stop n few = at

@@ -5,15 +5,17 @@ use denote.Enum.Bare.{sameb}
 use Rattle.model_tree.specs.SimTime.declared.moments.Unit.{Unit as TimeUnit}
 use Rattle.model_tree.specs.SimTime.declared.moments.Unit.TheVariants as unit
 use Rattle.model_tree.specs.contracts.vocabulary.Symbol.{the_type as the_symbol}
+use Rattle.model_tree.specs.contracts.vocabulary.Word.{the_type as the_word}
+use Rattle.model_tree.specs.declared.vocabulary.Word.{Word}
 use Rattle.model_tree.specs.declared.vocabulary.Word.TheVariants as w
 use Rattle.model_tree.specs.declared.vocabulary.Symbol.{Symbol}
 use Rattle.model_tree.specs.declared.vocabulary.Symbol.TheVariants as s
 use Rattle.model_tree.specs.declared.expressions.BinaryOp.{BinaryOp}
 use Rattle.model_tree.specs.declared.expressions.BinaryOp.TheVariants as op
 use Rattle.model_tree.specs.Limits.{level, operand_level, primary_level, chain_level, token_limit, depth}
-use Rattle.model_tree.specs.Spelling.{unary_symbol, binary_symbol, truth_word, conversion_word, constant_word, unit_name}
+use Rattle.model_tree.specs.Spelling.{unary_symbol, binary_symbol, truth_word, conversion_word, constant_word}
 use Rattle.model_tree.specs.Tree as tree
-use Rattle.model_grammar.specs.Tokens.{Token, Tokens, name, number, logic, quoted, word, symbol}
+use Rattle.model_grammar.specs.Tokens.{Token, Tokens, name, number, logic, quoted, word, symbol, unit_token}
 use Rattle.model_grammar.specs.Rules.{Rule, ◌⨾◌, At, Takes, Binds}
 
 -- at most 256 tokens
@@ -33,7 +35,7 @@ Parenthesized P = Takes (symbol s.LeftParen) ⨾ Short P ⨾ Takes (symbol s.Rig
 -- The number is the level that is wanted: what binds more weakly has no reading there without parentheses.
 abbrev pub DerivesAt : ℕ → tree.Expression → Rule
 DerivesAt n (tree.number line v) = Binds n primary_level (At line (number v))
-DerivesAt n (tree.time line v u) = Binds n primary_level (At line (number v) ⨾ Takes (name (unit_name u)))
+DerivesAt n (tree.time line v u) = Binds n primary_level (At line (number v) ⨾ Takes (unit_token u))
 DerivesAt n (tree.logic line digits) = Binds n primary_level (At line (logic digits))
 DerivesAt n (tree.truth line b) = Binds n primary_level (At line (word (truth_word b)))
 DerivesAt n (tree.now line) = Binds n primary_level (At line (word w.Now))
@@ -104,12 +106,16 @@ operator_in (symbol u) = operator_of u
 abbrev pub unit_of : List ℕ → Option TimeUnit
 unit_of x = if bytes_eq x (codes "ps") then Some unit.Ps else (if bytes_eq x (codes "ns") then Some unit.Ns else (if bytes_eq x (codes "us") then Some unit.Us else (if bytes_eq x (codes "ms") then Some unit.Ms else (if bytes_eq x (codes "s") then Some unit.S else None))))
 
+-- the unit that a word is, if it is one
+abbrev pub unit_word : Word → Option TimeUnit
+unit_word u = if sameb the_word u w.Fs then Some unit.Fs else None
+
 abbrev pub unit_in : Token → Option TimeUnit
 unit_in (name x) = unit_of x
 unit_in (number v) = None
 unit_in (logic digits) = None
 unit_in (quoted x) = None
-unit_in (word u) = None
+unit_in (word u) = unit_word u
 unit_in (symbol u) = None
 
 -- whether the token is this symbol

@@ -21,18 +21,21 @@ use Rattle.model_tree.specs.declared.items.InitiatorRole.{InitiatorRole}
 use Rattle.model_tree.specs.declared.items.InitiatorRole.TheVariants as initiator
 use Rattle.model_tree.specs.declared.items.TargetRole.{TargetRole}
 use Rattle.model_tree.specs.declared.items.TargetRole.TheVariants as target
+use Rattle.model_tree.specs.declared.items.ResolutionLine.{ResolutionLine}
+use Rattle.model_tree.specs.declared.items.Head.{Head}
+use Rattle.model_tree.specs.declared.items.Head.TheVariants as head
 use Rattle.model_tree.specs.declared.items.Top.{Top}
 use Rattle.model_tree.specs.declared.types.VarType.{VarType}
-use Rattle.model_grammar.specs.Tokens.{Token, name, number, logic, word, symbol}
+use Rattle.model_grammar.specs.Tokens.{Token, name, number, logic, word, symbol, unit_token}
 use Rattle.model_grammar.specs.Rules.{Rule, ◌⨾◌, At, Takes, Nothing, Each, Separated, Maybe, Written}
-use Rattle.model_tree.specs.Spelling.{truth_word, unit_name}
+use Rattle.model_tree.specs.Spelling.{truth_word}
 use Rattle.model_grammar.specs.Statements.{DerivesType, DerivesVarTypeAt, DerivesVarType, DerivesMember, DerivesSensitive, DerivesBlock}
 
 -- const = [ "-" ] NUM | NUM unit | LOGIC | "true" | "false"
 abbrev pub DerivesConstantForm : ℕ → ConstantForm → Rule
 DerivesConstantForm line (constant.Number n) = At line (number n)
 DerivesConstantForm line (constant.Negative n) = At line (symbol s.Minus) ⨾ Takes (number n)
-DerivesConstantForm line (constant.Time n unit) = At line (number n) ⨾ Takes (name (unit_name unit))
+DerivesConstantForm line (constant.Time n unit) = At line (number n) ⨾ Takes (unit_token unit)
 DerivesConstantForm line (constant.Logic value) = At line (logic (digits value))
 DerivesConstantForm line (constant.Truth b) = At line (word (truth_word b))
 
@@ -45,7 +48,7 @@ DerivesFirstValue c = Takes (symbol s.Equal) ⨾ DerivesConstant c
 
 -- NUM unit
 abbrev pub DerivesTime : Span → Rule
-DerivesTime t = Takes (number t.count) ⨾ Takes (name (unit_name t.unit))
+DerivesTime t = Takes (number t.count) ⨾ Takes (unit_token t.unit)
 
 -- "start" NUM unit
 abbrev pub DerivesStart : Span → Rule
@@ -145,6 +148,19 @@ DerivesModule m = At m.line (word w.Module) ⨾ Takes (name m.name) ⨾ Takes (s
 abbrev pub DerivesTop : Top → Rule
 DerivesTop t = At t.line (word w.Top) ⨾ Takes (name t.module) ⨾ Takes (name t.name) ⨾ Takes (symbol s.Semicolon)
 
--- model = { module } "top" NAME NAME ";"
+-- { module } "top" NAME NAME ";"
 abbrev pub DerivesModel : tree.Model → Rule
 DerivesModel m = Each DerivesModule m.modules ⨾ DerivesTop m.top
+
+-- "resolution" NUM unit ";"
+abbrev pub DerivesResolution : ResolutionLine → Rule
+DerivesResolution r = At r.line (word w.Resolution) ⨾ DerivesTime r.span ⨾ Takes (symbol s.Semicolon)
+
+-- [ "language" NUM ";" [ "resolution" NUM unit ";" ] ], where the first number is 2
+abbrev pub DerivesHead : Head → Rule
+DerivesHead head.First = Nothing
+DerivesHead (head.Second r) = Takes (word w.Language) ⨾ Takes (number 2) ⨾ Takes (symbol s.Semicolon) ⨾ Maybe DerivesResolution r
+
+-- model = [ "language" NUM ";" [ "resolution" NUM unit ";" ] ] { module } "top" NAME NAME ";"
+abbrev pub DerivesSource : tree.Source → Rule
+DerivesSource x = DerivesHead x.head ⨾ DerivesModel x.model

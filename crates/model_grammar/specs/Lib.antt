@@ -1,4 +1,6 @@
 pub mod Tokens
+pub mod Languages
+pub mod Versions
 pub mod Rules
 pub mod Expressions
 pub mod Statements

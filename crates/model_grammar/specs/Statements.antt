@@ -139,7 +139,7 @@ DerivesWho (who.Myself line) = At line (word w.SelfProcess)
 --        | "make" NAME "," expr [ "," expr ] | ( "acquire" | "release" ) NAME | "carry" NAME "," NAME
 --        | "b_transport" NAME "," NAME "," NAME | "qk_global" expr | ( "qk_inc" | "qk_set" ) NAME expr
 --        | ( "qk_reset" | "qk_sync" ) NAME | "spawn" [ NAME "=" ] [ "method" ] NAME args [ sens ] [ "dont_initialize" ]
---        | ( "suspend" | "resume" | "disable" | "enable" | "kill" | "reset" ) who | "throw_it" who NAME
+--        | ( "suspend" | "resume" | "disable" | "enable" | "kill" | "reset" ) who [ "descendants" ] | "throw_it" who NAME [ "descendants" ]
 --        | "throw" NAME | "return" [ expr ] | "stop"
 abbrev pub DerivesAction : ℕ → tree.Action → Rule
 DerivesAction line (tree.write c e) = At line (word w.Write) ⨾ DerivesChannel c ⨾ DerivesExpression e
@@ -162,8 +162,8 @@ DerivesAction line (tree.qk_set x e) = At line (word w.QkSet) ⨾ Takes (name x)
 DerivesAction line (tree.qk_reset x) = At line (word w.QkReset) ⨾ Takes (name x)
 DerivesAction line (tree.qk_sync x) = At line (word w.QkSync) ⨾ Takes (name x)
 DerivesAction line (tree.spawn x) = At line (word w.Spawn) ⨾ DerivesSpawn x
-DerivesAction line (tree.control c x) = At line (word (control_word c)) ⨾ DerivesWho x
-DerivesAction line (tree.throw_it x exception) = At line (word w.ThrowIt) ⨾ DerivesWho x ⨾ Takes (name exception)
+DerivesAction line (tree.control c x all) = At line (word (control_word c)) ⨾ DerivesWho x ⨾ Written (word w.Descendants) all
+DerivesAction line (tree.throw_it x exception all) = At line (word w.ThrowIt) ⨾ DerivesWho x ⨾ Takes (name exception) ⨾ Written (word w.Descendants) all
 DerivesAction line (tree.throw x) = At line (word w.Throw) ⨾ Takes (name x)
 DerivesAction line (tree.return_ e) = At line (word w.Return) ⨾ Maybe DerivesExpression e
 DerivesAction line tree.stop = At line (word w.Stop)

@@ -1,11 +1,15 @@
 -- The tokens of a text: what each means, and their limits.
 use Rattle.std.specs.Prelude.{ℕ, Bool, true, ◌&&◌, if◌then◌else◌, List, [], ◌∷◌, length, nat_lt, nat_le, Option, Some, None, find}
 use Rattle.std.specs.Str.{bytes_eq}
+use Rattle.model_tree.specs.SimTime.declared.moments.Unit.{Unit as TimeUnit}
+use Rattle.model_tree.specs.SimTime.declared.moments.Unit.TheVariants as unit
 use Rattle.model_tree.specs.LogicValues.declared.kinds.Digit.{Digit}
 use Rattle.model_tree.specs.declared.vocabulary.Word.{Word}
+use Rattle.model_tree.specs.declared.vocabulary.Word.TheVariants as w
 use Rattle.model_tree.specs.declared.vocabulary.Symbol.{Symbol}
 use Rattle.model_tree.specs.declared.vocabulary.TheConstants.{SYMBOLS}
 use Rattle.model_tree.specs.Vocabulary.{symbol_text}
+use Rattle.model_tree.specs.Spelling.{unit_name}
 use Rattle.model_tree.specs.Leaves.{is_name, is_print_text}
 use Rattle.model_tree.specs.Limits.{is_number}
 
@@ -31,9 +35,12 @@ is_limited (quoted bytes) = is_print_text bytes
 is_limited (word w) = true
 is_limited (symbol s) = true
 
+abbrev pub each_is : (Token → Bool) → Tokens → Bool
+each_is test [] = true
+each_is test (t ∷ ts) = test t.0 && each_is test ts
+
 abbrev pub are_limited : Tokens → Bool
-are_limited [] = true
-are_limited (t ∷ ts) = is_limited t.0 && are_limited ts
+are_limited ts = each_is is_limited ts
 
 -- the symbol that these bytes spell, if they spell one
 unfoldable pub symbol_of : List ℕ → Option Symbol
@@ -43,3 +50,12 @@ symbol_of bytes = find (λ s. bytes_eq (symbol_text s) bytes) SYMBOLS
 abbrev pub word_or_name : Option Word → List ℕ → Option Token
 word_or_name (Some w) bytes = Some (word w)
 word_or_name None bytes = if is_name bytes then Some (name bytes) else None
+
+-- how a unit is written: a name in every language, but for femtoseconds
+abbrev pub unit_token : TimeUnit → Token
+unit_token unit.Fs = word w.Fs
+unit_token unit.Ps = name (unit_name unit.Ps)
+unit_token unit.Ns = name (unit_name unit.Ns)
+unit_token unit.Us = name (unit_name unit.Us)
+unit_token unit.Ms = name (unit_name unit.Ms)
+unit_token unit.S = name (unit_name unit.S)

@@ -3,15 +3,24 @@
 
 ghost use Rattle.std.specs.Prelude.{◌≡◌, ◌≤◌, [], true};
 ghost use Rattle.model_tree.specs.Tree as tree;
+ghost use Rattle.model_tree.specs.Languages.{keeps_language};
 ghost use Rattle.model_tree.specs.Limits.{is_sound, bracket_limit};
-ghost use Rattle.model_grammar.specs.Tokens.{Tokens, are_limited};
-ghost use Rattle.model_grammar.specs.Items.{DerivesModel};
+ghost use Rattle.model_grammar.specs.Tokens.{Tokens, are_limited, each_is};
+ghost use Rattle.model_grammar.specs.Languages.{in_language};
+ghost use Rattle.model_grammar.specs.Versions.{is_plain};
+ghost use Rattle.model_grammar.specs.Items.{DerivesModel, DerivesSource};
 ghost use Rattle.model_grammar.specs.Brackets.{brackets};
 
 /// A tree that tokens within their limits derive, with no more brackets open than may be, keeps the limits and
 /// the levels of the language.
 pub fn sound_tree()
     ensures { (m : tree.Model) (ts : Tokens) → DerivesModel m ts [] → are_limited ts ≡ true → brackets m ≤ bracket_limit → is_sound m ≡ true }
+{}
+
+/// What tokens derive, as the version of their language has them, keeps to that version. (No text is cut into the words that
+/// language 2 has besides.)
+pub fn keeps_to_language()
+    ensures { (x : tree.Source) (ts : Tokens) → DerivesSource x (in_language ts) [] → each_is is_plain ts ≡ true → keeps_language x.head x.model ≡ true }
 {}
 
 /// What is passed on of logic_values.
@@ -23,7 +32,7 @@ pub mod logic_values_api {
 pub mod model_tree_api {
     pub use model_tree::{
         CheckStop, Fault, Kind, ParseStop, SYMBOLS, Symbol, Word, is_letter, is_name,
-        is_print_byte, is_print_text, is_word_byte, symbol_text, word_of,
+        is_print_byte, is_print_text, is_word_byte, later_word_of, symbol_text, word_of,
     };
 }
 

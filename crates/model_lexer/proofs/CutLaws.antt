@@ -1,26 +1,100 @@
--- Limits and order of the tokens of a text.
+-- What the tokens of a text may be, their limits and their order.
 use Rattle.std.proofs.Common.{◌≡◌, ℕ, ◌+◌, ◌<◌, ◌≤◌, Bool, true, false, ◌&&◌, cond, List, [], ◌∷◌, length, take, drop, Option, Some, None, ◌∙◌, refl, sym, ap, ⊎_elim, arith}
-use Rattle.std.specs.Prelude.{IfSome, option_map, nat_lt, nat_le, map}
-use Rattle.std.proofs.lemmas.Bool.{and_from, cases_lt}
+use Rattle.std.specs.Prelude.{IfSome, option_map, nat_lt, nat_le, map, not, find}
+use Rattle.std.specs.List.{list_all}
+use Rattle.std.specs.Str.{bytes_eq}
+use Rattle.std.proofs.lemmas.Bool.{and_from, and_parts, cases_lt}
 use Rattle.std.proofs.lemmas.List.{length-reverse, length-map}
 use Rattle.model_grammar.specs.LogicValues.declared.kinds.Digit.{Digit}
 use Rattle.model_grammar.specs.ModelTree.declared.vocabulary.Word.{Word}
 use Rattle.model_grammar.specs.ModelTree.declared.vocabulary.Symbol.{Symbol}
-use Rattle.model_grammar.specs.ModelTree.Vocabulary.{word_of}
+use Rattle.model_grammar.specs.ModelTree.declared.vocabulary.TheConstants.{WORDS}
+use Rattle.model_grammar.specs.ModelTree.declared.items.Head.TheVariants as head
+use Rattle.model_grammar.specs.ModelTree.Vocabulary.{word_of, word_text}
+use Rattle.model_grammar.specs.ModelTree.Languages.{keeps_language}
+use Rattle.model_grammar.specs.ModelTree.Tree as tree
 use Rattle.model_grammar.specs.ModelTree.Leaves.{is_name, is_print_text}
 use Rattle.model_grammar.specs.ModelTree.Limits.{is_number}
-use Rattle.model_grammar.specs.Tokens.{Token, name, number, logic, quoted, symbol, symbol_of, is_limited, are_limited, word_or_name}
+use Rattle.model_grammar.specs.Tokens.{Token, name, number, logic, quoted, symbol, symbol_of, is_limited, are_limited, each_is, word_or_name}
+use Rattle.model_grammar.specs.Versions.{is_later_word, is_plain}
+use Rattle.model_grammar.proofs.Tokens.{plain_first, plain_keeps}
 use Rattle.std.specs.Str.Parse.{digits_value}
 use Rattle.model_lexer.specs.declared.forms.Form.{Form}
 use Rattle.model_lexer.specs.declared.forms.Form.TheVariants as form
 use Rattle.model_lexer.specs.declared.forms.Piece.{Piece}
 use Rattle.model_lexer.specs.Forms.{form_of, is_passed}
-use Rattle.model_lexer.specs.Meanings.{logic_digit, logic_digits, inner, meaning}
+use Rattle.model_lexer.specs.Meanings.{logic_digit, logic_digits, number_within, logic_within, inner, meaning}
 use Rattle.model_lexer.specs.Fronts.{piece_at}
 use Rattle.model_lexer.specs.Cut.{IsPiece, Lexeme, AreGaps, CutFrom}
 use Rattle.model_lexer.specs.Laws.{with_lines, AreInOrder, HasPiece, IsPastLimit}
+use Rattle.model_lexer.specs.Reads.{Reads}
 use Rattle.model_lexer.proofs.Longest.{Finds, found}
 use Rattle.model_lexer.proofs.Cuts.{piece_some, piece_within, piece_here, meant_here, one_piece}
+
+-- no word of a text is one that language 2 has besides
+
+abbrev pub IsPlain : Token → Type 0
+IsPlain t = is_plain t ≡ true
+
+found_all : {X : Type 0} (test passes : X → Bool) (xs : List X) (x : X) → list_all passes xs ≡ true → find test xs ≡ Some x → passes x ≡ true
+found_all test passes [] x all e = cc
+found_all test passes (y ∷ ys) x all e = let both = and_parts (passes y) (list_all passes ys) all in by_test (test y) both.0 e (λ h. found_all test passes ys x both.1 h)
+  where
+    by_test : (b : Bool) → passes y ≡ true → cond b (Some y) (find test ys) ≡ Some x → (find test ys ≡ Some x → passes x ≡ true) → passes x ≡ true
+    by_test true here e more = let same : y ≡ x = cc in ap passes (sym same) ∙ here
+    by_test false here e more = more e
+
+name_plain : (b : Bool) (bytes : List ℕ) → IfSome (cond b (Some (name bytes)) None) IsPlain
+name_plain true bytes = refl
+name_plain false bytes = tt
+
+number_plain : (o : Option ℕ) → IfSome (option_map number o) IsPlain
+number_plain None = tt
+number_plain (Some n) = refl
+
+logic_plain : (o : Option (List Digit)) → IfSome (option_map logic o) IsPlain
+logic_plain None = tt
+logic_plain (Some ds) = refl
+
+text_plain : (b : Bool) (bytes : List ℕ) → IfSome (cond b (Some (quoted bytes)) None) IsPlain
+text_plain true bytes = refl
+text_plain false bytes = tt
+
+symbol_plain : (o : Option Symbol) → IfSome (option_map symbol o) IsPlain
+symbol_plain None = tt
+symbol_plain (Some x) = refl
+
+word_plain : (o : Option Word) (bytes : List ℕ) → word_of bytes ≡ o → IfSome (word_or_name o bytes) IsPlain
+unfolding word_of
+word_plain (Some u) bytes e = found_all (λ x. bytes_eq (word_text x) bytes) (λ x. not (is_later_word x)) WORDS u refl e
+word_plain None bytes e = name_plain (is_name bytes) bytes
+
+meaning_plain : (f : Form) (bytes : List ℕ) → IfSome (meaning f bytes) IsPlain
+meaning_plain form.Blank bytes = tt
+meaning_plain form.Comment bytes = tt
+meaning_plain form.Word bytes = word_plain (word_of bytes) bytes refl
+meaning_plain form.Decimal bytes = number_plain (number_within (digits_value 10 bytes))
+meaning_plain form.Hexadecimal bytes = number_plain (number_within (digits_value 16 (drop 2 bytes)))
+meaning_plain form.Logic bytes = logic_plain (logic_within (inner bytes))
+meaning_plain form.Text bytes = text_plain (is_print_text (inner bytes)) (inner bytes)
+meaning_plain form.Symbol bytes = symbol_plain (symbol_of bytes)
+
+token_plain : (o : Option Token) (t : Token) → IfSome o IsPlain → o ≡ Some t → is_plain t ≡ true
+token_plain None t h e = cc
+token_plain (Some u) t h e = let same : u ≡ t = cc in ap is_plain (sym same) ∙ h
+
+pub cut_plain : (text : List ℕ) (at : ℕ) (ts : List Lexeme) → CutFrom text at ts → each_is is_plain (with_lines ts) ≡ true
+cut_plain text at [] c = refl
+cut_plain text at (t ∷ ts) (gap, k, more) =
+    and_from (is_plain t.token) (each_is is_plain (with_lines ts)) (token_plain (meaning k.form (take k.len (drop t.start text))) t.token (meaning_plain k.form (take k.len (drop t.start text))) k.meant) (cut_plain text t.end ts more)
+
+pub reads_first : (text : List ℕ) (x : tree.Source) → Reads text x → x.head ≡ head.First
+reads_first text x (ts, cut, derived, few) = plain_first x.head x.model (with_lines ts) derived (cut_plain text 0 ts cut)
+
+pub reads_keeps : (text : List ℕ) (x : tree.Source) → Reads text x → keeps_language x.head x.model ≡ true
+reads_keeps text x (ts, cut, derived, few) = plain_keeps x (with_lines ts) derived (cut_plain text 0 ts cut)
+
+-- the limits
 
 abbrev IsLimited : Token → Type 0
 IsLimited t = is_limited t ≡ true

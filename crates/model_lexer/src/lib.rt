@@ -9,7 +9,8 @@ mod meanings;
 mod token;
 
 pub use laws::{
-    limited_tokens, longest_piece, one_cut, one_form, one_piece, ordered_tokens, past_limit_refused,
+    limited_tokens, longest_piece, one_cut, one_form, one_piece, ordered_tokens,
+    past_limit_refused, plain_tokens, reads_language_1,
 };
 pub use lexing::tokens;
 pub use token::{Token, TokenKind, Tokens};

@@ -3,17 +3,20 @@ use Rattle.std.proofs.Common.{◌≡◌, ℕ, suc, ◌≤◌, true, false, List,
 use Rattle.std.proofs.lemmas.Option.{same_Some}
 use Rattle.model_tree.specs.declared.vocabulary.Word.TheVariants as w
 use Rattle.model_tree.specs.declared.vocabulary.Symbol.TheVariants as s
+use Rattle.model_tree.specs.declared.items.Head.{Head}
+use Rattle.model_tree.specs.declared.items.Head.TheVariants as head
 use Rattle.model_tree.specs.declared.items.Top.{Top}
+use Rattle.model_tree.specs.Languages.{keeps_language}
 use Rattle.model_tree.specs.Limits.{is_sound}
 use Rattle.model_tree.specs.Tree as tree
 use Rattle.parse_statements.specs.ModelGrammar.Tokens.{Tokens}
 use Rattle.parse_statements.specs.ModelGrammar.Rules.{Each}
-use Rattle.parse_statements.specs.ModelGrammar.Items.{DerivesModule, DerivesTop, DerivesModel}
+use Rattle.parse_statements.specs.ModelGrammar.Items.{DerivesModule, DerivesTop, DerivesModel, DerivesSource}
 use Rattle.parse_statements.specs.ModelGrammar.Brackets.{in_items, in_modules}
 use Rattle.parse_statements.proofs.ModelGrammar.Shrinks.{module_shortens}
 use Rattle.parse_statements.proofs.ModelGrammar.SoundItems.{model_sound}
 use Rattle.parse_statements.specs.ModelLexer.Laws.{with_lines}
-use Rattle.parse_statements.proofs.ModelLexer.CutLaws.{cut_limited}
+use Rattle.parse_statements.proofs.ModelLexer.CutLaws.{cut_limited, reads_first, reads_keeps}
 use Rattle.parse_statements.proofs.ModelLexer.Cuts.{one_cut_from}
 use Rattle.parse_statements.specs.ParseExpressions.Parse.{word, symbol, name}
 use Rattle.parse_statements.proofs.ParseExpressions.Parsers.{and_then_ok, made}
@@ -22,7 +25,7 @@ use Rattle.parse_statements.proofs.ParseExpressions.Many.{Every, many_ok, many_r
 use Rattle.model_parser.specs.Bodies.{items}
 use Rattle.model_parser.proofs.ItemLaws.{items_ok, items_reads}
 use Rattle.parse_statements.specs.ModelLexer.Reads.{Reads}
-use Rattle.model_parser.specs.Parse.{module_text, at_no_module, modules, top, model, whole, from_tokens, IsFound}
+use Rattle.model_parser.specs.Parse.{module_text, at_no_module, modules, top, model, whole, first_source, from_tokens, IsFound}
 
 -- a module, in which at most so many brackets are open between its braces
 abbrev Few : ℕ → tree.Module → Type 0
@@ -104,29 +107,53 @@ whole_ok (Some (y, [])) x h = ap (λ z. Some (z, [])) (same_Some y x h)
 whole_ok (Some (y, (t ∷ ts))) x h = cc
 
 -- what is read from a text, the text reads as
-pub found_reads : (text : List ℕ) (m : tree.Model) → IsFound text m → Reads text m
+pub found_reads : (text : List ℕ) (m : tree.Model) → IsFound text m → Reads text (first_source m)
 unfolding from_tokens
 found_reads text m (ts, cut, h) =
     let all = model_ok (with_lines ts) [] m (whole_ok (model (with_lines ts)) m h) in
-    (ts, cut, all.0, all.1)
+    (ts, cut, (with_lines ts, refl, all.0), all.1)
 
 -- what tokens derive is read from them
 pub derived_found : (m : tree.Model) (ts : Tokens) → DerivesModel m ts [] → in_modules m.modules ≤ 64 → from_tokens ts ≡ Some m
 unfolding from_tokens
 derived_found m ts h few = rw (model_reads m ts [] h few) refl
 
+-- a model behind a head
+abbrev behind_head : tree.Model → Head → tree.Source
+behind_head m h = record { head = h; model = m }
+
+-- no token is in front of the modules of a text of language 1
+first_derives : (h : Head) (m : tree.Model) (ts : Tokens) → h ≡ head.First → DerivesSource (behind_head m h) ts [] → DerivesModel m ts []
+first_derives h m ts is derived =
+    let (mid, none, all) = subst (λ (x : Head). DerivesSource (behind_head m x) ts []) is derived in
+    subst (λ (us : Tokens). DerivesModel m us []) (sym none) all
+
+-- so what a text reads as is found in it
+pub reads_found : (text : List ℕ) (x : tree.Source) → Reads text x → IsFound text x.model
+reads_found text x (ts, cut, derived, few) =
+    (ts, cut, derived_found x.model (with_lines ts) (first_derives x.head x.model (with_lines ts) (reads_first text x (ts, cut, derived, few)) derived) few)
+
 -- a text has one list of tokens, and so one tree
-pub found_one : (text : List ℕ) (m n : tree.Model) → IsFound text m → Reads text n → m ≡ n
-found_one text m n (ts, cut, h) (us, other, derived, few) =
+found_same : (text : List ℕ) (m n : tree.Model) → IsFound text m → IsFound text n → m ≡ n
+found_same text m n (ts, cut, h) (us, other, k) =
     let same : ts ≡ us = one_cut_from text 0 ts us cut other in
-    same_Some m n (sym h ∙ (ap (λ z. from_tokens (with_lines z)) same ∙ derived_found n (with_lines us) derived few))
+    same_Some m n (sym h ∙ (ap (λ z. from_tokens (with_lines z)) same ∙ k))
 
-pub reads_found : (text : List ℕ) (m : tree.Model) → Reads text m → IsFound text m
-reads_found text m (ts, cut, derived, few) = (ts, cut, derived_found m (with_lines ts) derived few)
+pub found_one : (text : List ℕ) (m : tree.Model) (x : tree.Source) → IsFound text m → Reads text x → first_source m ≡ x
+found_one text m x found reads =
+    let same : m ≡ x.model = found_same text m x.model found (reads_found text x reads) in
+    ap first_source same ∙ ap (behind_head x.model) (sym (reads_first text x reads))
 
-pub reads_one : (text : List ℕ) (m n : tree.Model) → Reads text m → Reads text n → m ≡ n
-reads_one text m n one two = found_one text m n (reads_found text m one) two
+pub reads_one : (text : List ℕ) (x y : tree.Source) → Reads text x → Reads text y → x ≡ y
+reads_one text x y one two = sym (found_one text x.model x (reads_found text x one) one) ∙ found_one text x.model y (reads_found text x one) two
 
 -- a tree that a text reads as keeps the limits of the language
-pub reads_sound : (text : List ℕ) (m : tree.Model) → Reads text m → is_sound m ≡ true
-reads_sound text m (ts, cut, derived, few) = model_sound m (with_lines ts) derived (cut_limited text 0 ts cut) few
+pub reads_sound : (text : List ℕ) (m : tree.Model) → IsFound text m → is_sound m ≡ true
+unfolding from_tokens
+reads_sound text m (ts, cut, h) =
+    let all = model_ok (with_lines ts) [] m (whole_ok (model (with_lines ts)) m h) in
+    model_sound m (with_lines ts) all.0 (cut_limited text 0 ts cut) all.1
+
+-- and the words of its version
+pub reads_kept : (text : List ℕ) (m : tree.Model) → IsFound text m → keeps_language head.First m ≡ true
+reads_kept text m found = reads_keeps text (first_source m) (found_reads text m found)

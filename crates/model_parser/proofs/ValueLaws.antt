@@ -18,7 +18,7 @@ use Rattle.parse_statements.specs.ModelGrammar.Tokens as t
 use Rattle.parse_statements.specs.ModelGrammar.Tokens.{Tokens}
 use Rattle.parse_statements.specs.ModelGrammar.Rules.{At, Takes, Maybe}
 use Rattle.parse_statements.specs.ModelGrammar.Expressions.{is_the_symbol, sees, unit_in}
-use Rattle.model_tree.specs.Spelling.{truth_word, unit_name}
+use Rattle.model_tree.specs.Spelling.{truth_word}
 use Rattle.parse_statements.specs.ModelGrammar.Items.{DerivesConstantForm, DerivesConstant, DerivesFirstValue, DerivesTime}
 use Rattle.parse_statements.specs.ParseExpressions.Parse.{pure, refuse, word, is_the_word, skip, symbol, number, numbered, logical, sees_number, unit_ahead}
 use Rattle.parse_statements.proofs.ParseExpressions.Parsers.{and_then_ok, choose_cases, choose_first, choose_other, where_cases, made}
@@ -29,14 +29,14 @@ use Rattle.model_parser.specs.ItemParse.{unit_behind, time_unit, time_span, cons
 
 -- times
 
-time_unit_ok : (ts rest : Tokens) (u : TimeUnit) → time_unit ts ≡ Some (u, rest) → Takes (t.name (unit_name u)) ts rest
+time_unit_ok : (ts rest : Tokens) (u : TimeUnit) → time_unit ts ≡ Some (u, rest) → Takes (t.unit_token u) ts rest
 unfolding time_unit
 time_unit_ok ts rest u h =
     where_cases (unit_ahead ts) refuse unit_behind ts (u, rest) h
     (λ none h1. cc)
     (λ v some h1.
     let (line, a, one, h2) = and_then_ok (skip ts) _ (u, rest) h1 in
-    made (λ x a. Takes (t.name (unit_name x)) ts a) h2 (unit_taken v line ts a some one))
+    made (λ x a. Takes (t.unit_token x) ts a) h2 (unit_taken v line ts a some one))
 
 pub time_span_ok : (ts rest : Tokens) (x : Span) → time_span ts ≡ Some (x, rest) → DerivesTime x ts rest
 unfolding time_span
@@ -45,9 +45,9 @@ time_span_ok ts rest x h =
     let (u, b, two, h2) = and_then_ok (time_unit a) _ (x, rest) h1 in
     made (λ x b. DerivesTime x ts b) h2 (a, number_ok ts a n one, time_unit_ok a b u two)
 
-time_unit_reads : (u : TimeUnit) (ts rest : Tokens) → Takes (t.name (unit_name u)) ts rest → time_unit ts ≡ Some (u, rest)
+time_unit_reads : (u : TimeUnit) (ts rest : Tokens) → Takes (t.unit_token u) ts rest → time_unit ts ≡ Some (u, rest)
 unfolding time_unit
-time_unit_reads u ts rest h = rw (unit_comes u ts rest h, skip_reads (t.name (unit_name u)) h.0 ts rest h.1) refl
+time_unit_reads u ts rest h = rw (unit_comes u ts rest h, skip_reads (t.unit_token u) h.0 ts rest h.1) refl
 
 pub time_span_reads : (x : Span) (ts rest : Tokens) → DerivesTime x ts rest → time_span ts ≡ Some (x, rest)
 unfolding time_span
@@ -127,7 +127,7 @@ form_reads line (constant_form.Negative n) ts rest (a, one, two) none =
     choose_other sees_number number_constant negative_or_less ts _ (rw one refl)
     (choose_first (sees (is_the_symbol s.Minus)) negative_constant truth_or_logic ts _ (rw one refl) read)
 form_reads line (constant_form.Time n u) ts rest (a, one, two) none =
-    let read : number_constant ts ≡ Some (record { line = line; form = constant_form.Time n u }, rest) = rw (numbered_reads line n ts a one, unit_comes u a rest two, skip_reads (t.name (unit_name u)) two.0 a rest two.1) refl in
+    let read : number_constant ts ≡ Some (record { line = line; form = constant_form.Time n u }, rest) = rw (numbered_reads line n ts a one, unit_comes u a rest two, skip_reads (t.unit_token u) two.0 a rest two.1) refl in
     choose_first sees_number number_constant negative_or_less ts _ (rw one refl) read
 form_reads line (constant_form.Logic v) ts rest h none =
     let read : logic_constant ts ≡ Some (record { line = line; form = constant_form.Logic v }, rest) = rw (logical_reads line (digits v) ts rest h) (vector_reads line v rest) in

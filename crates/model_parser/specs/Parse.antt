@@ -4,6 +4,7 @@ use Rattle.std.specs.Prelude.{◌≡◌, ◌≢◌, ℕ, Bool, not, List, [], �
 use Rattle.std.specs.Global.{Vec}
 use Rattle.model_tree.specs.declared.vocabulary.Word.TheVariants as w
 use Rattle.model_tree.specs.declared.vocabulary.Symbol.TheVariants as s
+use Rattle.model_tree.specs.declared.items.Head.TheVariants as head
 use Rattle.model_tree.specs.declared.items.Module.{Module}
 use Rattle.model_tree.specs.declared.items.Top.{Top}
 use Rattle.model_tree.specs.declared.faults.ParseStop.{ParseStop}
@@ -57,6 +58,10 @@ abbrev pub whole : {A : Type 0} → Option (A × t.Tokens) → Option A
 whole None = None
 whole (Some (x, [])) = Some x
 whole (Some (x, (t ∷ ts))) = None
+
+-- what is read of language 1
+abbrev pub first_source : tree.Model → tree.Source
+first_source m = record { head = head.First; model = m }
 
 unfoldable pub from_tokens : t.Tokens → Option tree.Model
 from_tokens ts = whole (model ts)

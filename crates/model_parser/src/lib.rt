@@ -18,5 +18,5 @@ pub use parsing::{one_tree, parse};
 
 /// What is passed on of model_lexer.
 pub mod model_lexer_api {
-    pub use parse_statements::model_lexer_api::{Token, TokenKind, tokens};
+    pub use parse_statements::model_lexer_api::{Token, TokenKind, reads_language_1, tokens};
 }

@@ -1,11 +1,11 @@
 ghost use Rattle.std.specs.Prelude.{◌≡◌, ℕ, ◌^◌, ◌<◌, List, length, IfOk, IfErr, MatchResult};
 ghost use Rattle.model_tree.specs.Tree as tree;
-ghost use Rattle.model_tree.specs.Seen.{model_of};
+ghost use Rattle.model_tree.specs.Seen.{source_of};
 ghost use Rattle.parse_statements.specs.ModelLexer.Reads.{Reads};
 ghost use Rattle.model_parser.specs.Parse as spec;
 
 use super::modules::model;
-use model_tree::{Module, ParseStop, Top, Tree};
+use model_tree::{Head, Module, ParseStop, Top, Tree};
 use parse_statements::model_lexer_api::tokens;
 use parse_statements::parse_expressions_api::Cursor;
 use std::alloc::Global;
@@ -38,17 +38,21 @@ fn read(alloc: Global, text: &[u8]) -> Result<(Vec<Module>, Top), ParseStop>
 /// The tree that the text reads as. Syntax exactly where it reads as none. The line is that of the first
 /// piece that is no token; or else of the token at which reading stops: one that no tree goes on with, a bracket past
 /// the 64th, or a token past the 256th of an expression; or else, where the text ends too early, one more than the
-/// number of its line ends. The text is shorter than 2^32 bytes.
+/// number of its line ends. Texts of language 1 alone are read. The text is shorter than 2^32 bytes.
 pub fn parse(alloc: Global, text: &[u8]) -> Result<Tree, ParseStop>
     requires { length text.now < 2 ^ 32 }
-    ensures found { IfOk result (λ t. Reads text.now (model_of t)) }
-    ensures only { (m : tree.Model) → Reads text.now m → MatchResult result (λ t. model_of t ≡ m) (λ e. e ≡ ParseStop.NoMemory) }
+    ensures found { IfOk result (λ t. Reads text.now (source_of t)) }
+    ensures only { (x : tree.Source) → Reads text.now x → MatchResult result (λ t. source_of t ≡ x) (λ e. e ≡ ParseStop.NoMemory) }
 {
     let (modules, top) = read(alloc, text)?;
-    Ok(Tree { modules, top })
+    Ok(Tree {
+        head: Head::First,
+        modules,
+        top,
+    })
 }
 
 /// No text reads as two trees.
 pub fn one_tree()
-    ensures { (text : List ℕ) (m n : tree.Model) → Reads text m → Reads text n → m ≡ n }
+    ensures { (text : List ℕ) (x y : tree.Source) → Reads text x → Reads text y → x ≡ y }
 {}

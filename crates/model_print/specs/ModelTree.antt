@@ -1,3 +1,4 @@
+pub use Rattle.model_tree.specs.Languages as Languages
 pub use Rattle.model_tree.specs.Leaves as Leaves
 pub use Rattle.model_tree.specs.Limits as Limits
 pub use Rattle.model_tree.specs.Seen as Seen

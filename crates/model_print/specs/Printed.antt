@@ -13,6 +13,9 @@ use Rattle.model_tree.specs.declared.items.TargetRole.{TargetRole}
 use Rattle.model_tree.specs.declared.items.TargetRole.TheVariants as receives
 use Rattle.model_tree.specs.declared.items.SignalItem.{SignalItem}
 use Rattle.model_tree.specs.declared.items.ClockItem.{ClockItem}
+use Rattle.model_tree.specs.declared.items.ResolutionLine.{ResolutionLine}
+use Rattle.model_tree.specs.declared.items.Head.{Head}
+use Rattle.model_tree.specs.declared.items.Head.TheVariants as head
 use Rattle.model_tree.specs.declared.items.Top.{Top}
 use Rattle.model_tree.specs.Spelling.{unary_symbol, binary_symbol, conversion_word, constant_word, control_word, signal_word, plain_word, process_word}
 use Rattle.model_print.specs.Layout.{Piece, layout}
@@ -150,8 +153,8 @@ action (tree.qk_set x e) = word w.QkSet ∷ name x ∷ expression e
 action (tree.qk_reset x) = with_name w.QkReset x
 action (tree.qk_sync x) = with_name w.QkSync x
 action (tree.spawn x) = spawn x
-action (tree.control c p) = word (control_word c) ∷ who p ∷ []
-action (tree.throw_it p x) = word w.ThrowIt ∷ who p ∷ name x ∷ []
+action (tree.control c p all) = word (control_word c) ∷ who p ∷ flag w.Descendants all
+action (tree.throw_it p x all) = word w.ThrowIt ∷ who p ∷ name x ∷ flag w.Descendants all
 action (tree.throw x) = with_name w.Throw x
 action (tree.return_ e) = word w.Return ∷ maybe expression e
 action tree.stop = word w.Stop ∷ []
@@ -259,10 +262,22 @@ module_ m = word w.Module ∷ name m.name ∷ braced (each item m.items)
 abbrev pub top : Top → List Piece
 top t = word w.Top ∷ name t.module ∷ name t.name ∷ semicolon ∷ []
 
+-- the modules and the instance at the top
+abbrev pub model : tree.Model → List Piece
+model m = each module_ m.modules ++ top m.top
+
+abbrev pub resolution : ResolutionLine → List Piece
+resolution r = word w.Resolution ∷ span r.span ++ semicolon ∷ []
+
+-- what a text says of its language
+abbrev pub first_lines : Head → List Piece
+first_lines head.First = []
+first_lines (head.Second r) = word w.Language ∷ number 2 ∷ semicolon ∷ maybe resolution r
+
 -- the tokens of a whole text
-abbrev pub printed : tree.Model → List Piece
-printed m = each module_ m.modules ++ top m.top
+abbrev pub printed : tree.Source → List Piece
+printed x = first_lines x.head ++ model x.model
 
 -- the bytes of a whole text
-abbrev pub printed_text : tree.Model → List ℕ
-printed_text m = layout (printed m)
+abbrev pub printed_text : tree.Source → List ℕ
+printed_text x = layout (printed x)

@@ -12,9 +12,9 @@ use super::leaves::{
 use super::statements::{block, sensitive, with_name};
 use crate::Page;
 use model_tree::{
-    ClockItem, FunctionItem, InitiatorRole, Item, Module, Name, Parameter, PlainKind, ProcessItem,
-    ProcessKind, SignalItem, SignalKind, Symbol, TargetRole, Top, VarType, Word, plain_word,
-    process_word, signal_word,
+    ClockItem, FunctionItem, Head, InitiatorRole, Item, Module, Name, Parameter, PlainKind,
+    ProcessItem, ProcessKind, ResolutionLine, SignalItem, SignalKind, Symbol, TargetRole, Top,
+    VarType, Word, plain_word, process_word, signal_word,
 };
 use std::alloc::AllocError;
 
@@ -236,6 +236,33 @@ fn module(page: &mut Page, one: &Module) -> Result<(), AllocError>
     page.left_brace()?;
     items(page, one.items.as_slice())?;
     page.right_brace()
+}
+
+/// Writes the resolution that a text asks for.
+fn resolution(page: &mut Page, resolution: &ResolutionLine) -> Result<(), AllocError>
+    ensures { OnOk result (page.new ≡ put_all page.old (spec.resolution resolution.now)) }
+{
+    page.word(Word::Resolution)?;
+    time(page, resolution.span.count, resolution.span.unit)?;
+    page.semicolon()
+}
+
+/// Writes what a text says of its language.
+pub fn first_lines(page: &mut Page, head: &Head) -> Result<(), AllocError>
+    ensures { OnOk result (page.new ≡ put_all page.old (spec.first_lines head.now)) }
+{
+    match head {
+        Head::First => Ok(()),
+        Head::Second(asked) => {
+            page.word(Word::Language)?;
+            page.number(2)?;
+            page.semicolon()?;
+            match asked {
+                None => Ok(()),
+                Some(line) => resolution(page, line),
+            }
+        }
+    }
 }
 
 /// Writes modules, one behind another.

@@ -339,14 +339,16 @@ fn action(page: &mut Page, action: &Action) -> Result<(), AllocError>
         Action::QkReset(keeper) => with_name(page, Word::QkReset, keeper),
         Action::QkSync(keeper) => with_name(page, Word::QkSync, keeper),
         Action::Spawn(new) => spawn(page, new),
-        Action::Control(control, process) => {
+        Action::Control(control, process, descendants) => {
             page.word(control_word(*control))?;
-            who(page, process)
+            who(page, process)?;
+            flag(page, Word::Descendants, *descendants)
         }
-        Action::ThrowIt(process, exception) => {
+        Action::ThrowIt(process, exception, descendants) => {
             page.word(Word::ThrowIt)?;
             who(page, process)?;
-            page.name(exception)
+            page.name(exception)?;
+            flag(page, Word::Descendants, *descendants)
         }
         Action::Throw(exception) => with_name(page, Word::Throw, exception),
         Action::Return(value) => {

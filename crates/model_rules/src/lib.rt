@@ -56,5 +56,5 @@ pub mod plain_lists_api {
 
 /// What is passed on of sim_time.
 pub mod sim_time_api {
-    pub use flat_design::sim_time_api::{Time, Unit, of_unit};
+    pub use flat_design::sim_time_api::{Time, Unit, picoseconds_of};
 }

@@ -4,6 +4,7 @@ pub mod Spelling
 pub mod Tree
 pub mod Views
 pub mod Limits
+pub mod Languages
 pub mod Seen
 pub mod Lines
 pub mod Stops

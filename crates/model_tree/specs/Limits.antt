@@ -13,6 +13,9 @@ use Rattle.model_tree.specs.declared.types.Constant.{Constant}
 use Rattle.model_tree.specs.declared.types.ConstantForm.{ConstantForm}
 use Rattle.model_tree.specs.declared.types.ConstantForm.TheVariants as constant
 use Rattle.model_tree.specs.declared.types.Span.{Span}
+use Rattle.model_tree.specs.declared.items.ResolutionLine.{ResolutionLine}
+use Rattle.model_tree.specs.declared.items.Head.{Head}
+use Rattle.model_tree.specs.declared.items.Head.TheVariants as head
 use Rattle.model_tree.specs.declared.types.Interface.{Interface}
 use Rattle.model_tree.specs.declared.types.Interface.TheVariants as interface
 use Rattle.model_tree.specs.declared.types.PortSize.{PortSize}
@@ -232,8 +235,8 @@ fits_action n (tree.qk_set name e) = is_name name && fits n e
 fits_action n (tree.qk_reset name) = is_name name
 fits_action n (tree.qk_sync name) = is_name name
 fits_action n (tree.spawn s) = fits_spawn n s
-fits_action n (tree.control c w) = fits_who w
-fits_action n (tree.throw_it w name) = fits_who w && is_name name
+fits_action n (tree.control c w all) = fits_who w
+fits_action n (tree.throw_it w name all) = fits_who w && is_name name
 fits_action n (tree.throw name) = is_name name
 fits_action n (tree.return_ e) = fits_option n e
 fits_action n tree.stop = true
@@ -361,3 +364,12 @@ fits_modules (m ∷ ms) n = (is_name m.name && within n (fits_items m.items)) &&
 -- a whole text within the limits
 abbrev pub is_sound : tree.Model → Bool
 is_sound m = fits_modules m.modules bracket_limit && (is_name m.top.module && is_name m.top.name)
+
+-- the number of a resolution keeps the limit of numbers
+abbrev pub fits_resolution : Option ResolutionLine → Bool
+fits_resolution None = true
+fits_resolution (Some r) = is_number r.span.count
+
+abbrev pub fits_head : Head → Bool
+fits_head head.First = true
+fits_head (head.Second r) = fits_resolution r

@@ -78,6 +78,7 @@ constant_word constant.Updated = w.Updated
 constant_word constant.Completed = w.Completed
 
 abbrev pub unit_name : TimeUnit → List ℕ
+unit_name unit.Fs = codes "fs"
 unit_name unit.Ps = codes "ps"
 unit_name unit.Ns = codes "ns"
 unit_name unit.Us = codes "us"

@@ -22,6 +22,7 @@ use Rattle.model_tree.specs.declared.items.TargetRole.{TargetRole}
 use Rattle.model_tree.specs.declared.items.PlainKind.{PlainKind}
 use Rattle.model_tree.specs.declared.items.ProcessKind.{ProcessKind}
 use Rattle.model_tree.specs.declared.items.Top.{Top}
+use Rattle.model_tree.specs.declared.items.Head.{Head}
 
 -- an expression; the number in front is the line of its first token, or else the first part's line serves
 pub data Expression : Type 0 where
@@ -103,7 +104,8 @@ pub record Spawn : Type 0 where
   pub sensitive : List Event
   pub dont_initialize : Bool
 
--- a statement that gives no value
+-- a statement that gives no value; of a control call and an exception for another it also says whether they reach the descendants of
+-- their target
 pub data Action : Type 0 where
   write : Channel → Expression → Action
   print : List ℕ → Option Expression → Action
@@ -125,8 +127,8 @@ pub data Action : Type 0 where
   qk_reset : List ℕ → Action
   qk_sync : List ℕ → Action
   spawn : Spawn → Action
-  control : Control → Who → Action
-  throw_it : Who → List ℕ → Action
+  control : Control → Who → Bool → Action
+  throw_it : Who → List ℕ → Bool → Action
   throw : List ℕ → Action
   return_ : Option Expression → Action
   stop : Action
@@ -195,7 +197,12 @@ pub record Module : Type 0 where
   pub name : List ℕ
   pub items : List Item
 
--- a whole text
+-- the modules of a text, and the instance at its top
 pub record Model : Type 0 where
   pub modules : List Module
   pub top : Top
+
+-- a whole text: what it says of its language, and its modules
+pub record Source : Type 0 where
+  pub head : Head
+  pub model : Model

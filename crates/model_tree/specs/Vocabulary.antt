@@ -5,7 +5,7 @@ use Rattle.model_tree.specs.declared.vocabulary.Word.{Word}
 use Rattle.model_tree.specs.declared.vocabulary.Word.TheVariants as word
 use Rattle.model_tree.specs.declared.vocabulary.Symbol.{Symbol}
 use Rattle.model_tree.specs.declared.vocabulary.Symbol.TheVariants as symbol
-use Rattle.model_tree.specs.declared.vocabulary.TheConstants.{WORDS}
+use Rattle.model_tree.specs.declared.vocabulary.TheConstants.{WORDS, LATER_WORDS}
 
 -- how a reserved word is written
 abbrev pub word_text : Word → List ℕ
@@ -131,6 +131,10 @@ word_text word.EndResp = codes "END_RESP"
 word_text word.Accepted = codes "ACCEPTED"
 word_text word.Updated = codes "UPDATED"
 word_text word.Completed = codes "COMPLETED"
+word_text word.Language = codes "language"
+word_text word.Resolution = codes "resolution"
+word_text word.Descendants = codes "descendants"
+word_text word.Fs = codes "fs"
 
 -- how a symbol is written
 abbrev pub symbol_text : Symbol → List ℕ
@@ -172,6 +176,10 @@ symbol_text symbol.At = codes "@"
 abbrev pub spelled : List Word → List ℕ → Option Word
 spelled words bytes = find (λ w. bytes_eq (word_text w) bytes) words
 
--- the reserved word that these bytes spell, if they spell one
+-- the word that these bytes spell of those that every language reserves, if they spell one
 unfoldable pub word_of : List ℕ → Option Word
 word_of bytes = spelled WORDS bytes
+
+-- the word that these bytes spell of those that language 2 reserves besides, if they spell one
+unfoldable pub later_word_of : List ℕ → Option Word
+later_word_of bytes = spelled LATER_WORDS bytes

@@ -40,7 +40,7 @@ pub enum Kind {
     TypeDiffers,
     /// A width, a slice bound or a literal place is out of range.
     WidthRange,
-    /// A time literal is 2^64 ps or more.
+    /// A time literal is 2^64 resolutions or more.
     LiteralRange,
     /// A blocking statement is reached from a method.
     WaitInMethod,
@@ -88,6 +88,10 @@ pub enum Kind {
     TooMany,
     /// A value of a script is out of form or range.
     BadValue,
+    /// The resolution is not 1, 10 or 100 of fs, ps, ns, us or ms, nor 1 s.
+    BadResolution,
+    /// A time literal is no whole number of resolutions.
+    InexactTime,
 }
 
 /// The first broken rule of a model or a script.

@@ -163,3 +163,21 @@ pub struct Top {
     /// Its own name.
     pub name: Name,
 }
+
+/// The resolution of time that a text asks for (IEEE 1666-2011, 5.11.3).
+#[derive(Clone, Copy)]
+pub struct ResolutionLine {
+    /// The line of the word `resolution`.
+    pub line: u32,
+    /// How long it is.
+    pub span: Span,
+}
+
+/// What a text says of its language before its modules.
+#[derive(Clone, Copy)]
+pub enum Head {
+    /// Nothing: it is a text of language 1.
+    First,
+    /// `language 2;`, and its resolution, where one is written.
+    Second(Option<ResolutionLine>),
+}

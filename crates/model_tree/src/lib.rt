@@ -15,8 +15,8 @@ mod whole;
 pub use expressions::{BinaryOp, Conversion, Expression, NamedConstant, UnaryOp};
 pub use faults::{CheckStop, Fault, Kind, ParseStop};
 pub use items::{
-    ClockItem, FunctionItem, InitiatorRole, Item, Module, PlainKind, ProcessItem, ProcessKind,
-    SignalItem, SignalKind, TargetRole, Top,
+    ClockItem, FunctionItem, Head, InitiatorRole, Item, Module, PlainKind, ProcessItem,
+    ProcessKind, ResolutionLine, SignalItem, SignalKind, TargetRole, Top,
 };
 pub use leaves::{
     NAME_LIMIT, Name, PRINT_LIMIT, PrintText, is_letter, is_name, is_print_byte, is_print_text,
@@ -35,7 +35,9 @@ pub use types::{
     BoundRule, Constant, ConstantForm, End, Interface, Parameter, PortSize, SignalType, Span,
     TypeForm, VarType,
 };
-pub use vocabulary::{SYMBOLS, Symbol, WORDS, Word, symbol_text, word_of, word_text};
+pub use vocabulary::{
+    LATER_WORDS, SYMBOLS, Symbol, WORDS, Word, later_word_of, symbol_text, word_of, word_text,
+};
 pub use whole::Tree;
 
 /// What is passed on of logic_values.
@@ -52,5 +54,5 @@ pub mod plain_lists_api {
 
 /// What is passed on of sim_time.
 pub mod sim_time_api {
-    pub use sim_time::Unit;
+    pub use sim_time::{Resolution, Time, Unit, UnitStop, of_unit};
 }

@@ -11,6 +11,7 @@ pub fn unit_name(unit: Unit) -> &'static str
     ensures { result.now ≡ spec.unit_name unit }
 {
     match unit {
+        Unit::Fs => "fs",
         Unit::Ps => "ps",
         Unit::Ns => "ns",
         Unit::Us => "us",

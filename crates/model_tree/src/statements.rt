@@ -179,10 +179,10 @@ pub enum Action {
     QkSync(Name),
     /// `spawn ..`
     Spawn(Spawn),
-    /// A control call.
-    Control(Control, Who),
-    /// `throw_it p E`
-    ThrowIt(Who, Name),
+    /// A control call, and whether it reaches the descendants of its target.
+    Control(Control, Who, bool),
+    /// `throw_it p E`, and whether it reaches the descendants of its target.
+    ThrowIt(Who, Name, bool),
     /// `throw E`
     Throw(Name),
     /// `return e`

@@ -248,6 +248,14 @@ pub enum Word {
     Updated,
     /// `COMPLETED`
     Completed,
+    /// `language`, reserved in language 2 alone
+    Language,
+    /// `resolution`, reserved in language 2 alone
+    Resolution,
+    /// `descendants`, reserved in language 2 alone
+    Descendants,
+    /// `fs`, a unit in language 2 alone
+    Fs,
 }
 
 /// A symbol of the model language.
@@ -321,7 +329,7 @@ pub enum Symbol {
     At,
 }
 
-/// Every word.
+/// The words that every language reserves.
 pub static WORDS: [Word; 122] = [
     Word::Module,
     Word::Top,
@@ -446,6 +454,9 @@ pub static WORDS: [Word; 122] = [
     Word::Updated,
     Word::Completed,
 ];
+
+/// The words that language 2 reserves besides.
+pub static LATER_WORDS: [Word; 3] = [Word::Language, Word::Resolution, Word::Descendants];
 
 /// Every symbol, those of two bytes first.
 pub static SYMBOLS: [Symbol; 33] = [
@@ -611,6 +622,10 @@ pub fn word_text(word: Word) -> &'static str
         Word::Accepted => "ACCEPTED",
         Word::Updated => "UPDATED",
         Word::Completed => "COMPLETED",
+        Word::Language => "language",
+        Word::Resolution => "resolution",
+        Word::Descendants => "descendants",
+        Word::Fs => "fs",
     }
 }
 
@@ -667,9 +682,16 @@ fn spelled(words: &[Word], bytes: &[u8]) -> Option<Word>
     None
 }
 
-/// The reserved word that these bytes spell, if they spell one.
+/// The word that these bytes spell of those that every language reserves, if they spell one.
 pub fn word_of(bytes: &[u8]) -> Option<Word>
     ensures { result ≡ spec.word_of bytes.now }
 {
     spelled(&WORDS, bytes)
+}
+
+/// The word that these bytes spell of those that language 2 reserves besides, if they spell one.
+pub fn later_word_of(bytes: &[u8]) -> Option<Word>
+    ensures { result ≡ spec.later_word_of bytes.now }
+{
+    spelled(&LATER_WORDS, bytes)
 }

@@ -79,8 +79,8 @@ pub(crate) fn add_statement(statement: &Statement, deeds: &mut Vec<Deed>) -> Res
         }
         Statement::QkReset(_) => add(Deed::Quantum, deeds),
         Statement::Spawn(_) => add(Deed::Unfit, deeds),
-        Statement::Control(_, _) => add(Deed::Unfit, deeds),
-        Statement::ThrowIt(_, _) => add(Deed::Unfit, deeds),
+        Statement::Control(_, _, _) => add(Deed::Unfit, deeds),
+        Statement::ThrowIt(_, _, _) => add(Deed::Unfit, deeds),
         Statement::Throw(_) => Ok(()),
         Statement::Return(e) => add_written(e, deeds),
         Statement::Stop => add(Deed::Unfit, deeds),

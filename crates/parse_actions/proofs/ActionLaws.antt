@@ -1,9 +1,9 @@
 -- What the parser functions of actions read, and what they read is derived.
-use Rattle.std.proofs.Common.{◌≡◌, ℕ, ◌≤◌, List, Option, Some, None, refl, arith}
+use Rattle.std.proofs.Common.{◌≡◌, ℕ, ◌≤◌, Bool, List, Option, Some, None, refl, arith}
 use Rattle.std.specs.Prelude.{max}
 use Rattle.model_tree.specs.declared.statements.Who.{Who}
 use Rattle.model_tree.specs.declared.statements.Control.{Control}
-use Rattle.model_tree.specs.declared.statements.Control.TheVariants as control
+use Rattle.model_tree.specs.declared.statements.Control.TheVariants as order
 use Rattle.model_tree.specs.declared.vocabulary.Word.{Word}
 use Rattle.model_tree.specs.declared.vocabulary.Word.TheVariants as w
 use Rattle.model_tree.specs.declared.vocabulary.Symbol.TheVariants as s
@@ -11,13 +11,13 @@ use Rattle.model_tree.specs.Tree as tree
 use Rattle.model_tree.specs.Limits.{depth}
 use Rattle.parse_expressions.specs.ModelGrammar.Tokens as t
 use Rattle.parse_expressions.specs.ModelGrammar.Tokens.{Tokens}
-use Rattle.parse_expressions.specs.ModelGrammar.Rules.{At, Takes, Maybe}
+use Rattle.parse_expressions.specs.ModelGrammar.Rules.{At, Takes, Maybe, Written}
 use Rattle.parse_expressions.specs.ModelGrammar.Expressions.{DerivesExpression, is_the_symbol, sees}
 use Rattle.parse_expressions.specs.ModelGrammar.Statements.{DerivesChannel, NextName, NextExpression, DerivesWaiting, DerivesNotification, DerivesSpawn, DerivesWho, DerivesAction}
 use Rattle.parse_expressions.specs.ModelGrammar.Brackets.{in_option, in_channel, in_notification, in_waiting, in_action}
-use Rattle.parse_expressions.specs.Parse.{pure, text, name, expression}
+use Rattle.parse_expressions.specs.Parse.{pure, text, name, flag, expression}
 use Rattle.parse_expressions.proofs.Parsers.{choose_cases, choose_first, choose_other, and_then_ok, made}
-use Rattle.parse_expressions.proofs.OneToken.{name_ok, name_reads, text_ok, text_reads}
+use Rattle.parse_expressions.proofs.OneToken.{name_ok, name_reads, text_ok, text_reads, flag_ok, flag_reads}
 use Rattle.parse_expressions.proofs.Sound.{expression_ok}
 use Rattle.parse_expressions.proofs.Complete.{at_begins_none}
 use Rattle.parse_actions.specs.ChannelParse.{channel, optional_expression}
@@ -25,7 +25,7 @@ use Rattle.parse_actions.proofs.ChannelLaws.{channel_ok, channel_reads}
 use Rattle.parse_actions.proofs.ArgumentLaws.{optional_expression_ok, optional_expression_reads}
 use Rattle.parse_actions.specs.Operations.{next_name, next_expression}
 use Rattle.parse_actions.specs.Waits.{waiting, notification, who, spawn}
-use Rattle.parse_actions.specs.Actions.{write, print, notify, some_next_expression, optional_next_expression, make, carry, b_transport, name_and_expression, throw_it, of_name, of_name_and_expression, of_waiting, of_expression, of_spawn, of_who, of_answer, started_action}
+use Rattle.parse_actions.specs.Actions.{write, print, notify, some_next_expression, optional_next_expression, make, carry, b_transport, name_and_expression, control, throw_it, of_name, of_name_and_expression, of_waiting, of_expression, of_spawn, of_answer, started_action}
 use Rattle.parse_actions.specs.Parse.{action_start}
 use Rattle.parse_actions.proofs.PartLaws.{next_name_ok, next_name_reads, next_expression_ok, next_expression_before, next_expression_between, expression_before}
 use Rattle.parse_actions.proofs.OperationLaws.{of_channel_ok}
@@ -102,7 +102,15 @@ unfolding throw_it
 throw_it_ok d line ts a rest o at h =
     let (p, b, one, h1) = and_then_ok (who a) _ (o, rest) h in
     let (x, c, two, h2) = and_then_ok (name b) _ (o, rest) h1 in
-    made (Acts d line ts) h2 ((a, at, (b, who_ok a b p one, name_ok b c x two)), omega arith)
+    let (all, e, three, h3) = and_then_ok (flag w.Descendants c) _ (o, rest) h2 in
+    made (Acts d line ts) h3 ((a, at, (b, who_ok a b p one, (c, name_ok b c x two, flag_ok w.Descendants c e all three))), omega arith)
+
+control_ok : (P : tree.Action → Tokens → Type 0) (c : Control) (ts rest : Tokens) (o : tree.Action) → ((x : Who) (all : Bool) (mid last : Tokens) → DerivesWho x ts mid → Written (t.word w.Descendants) all mid last → P (tree.control c x all) last) → control c ts ≡ Some (o, rest) → P o rest
+unfolding control
+control_ok P c ts rest o f h =
+    let (x, a, one, h1) = and_then_ok (who ts) _ (o, rest) h in
+    let (all, b, two, h2) = and_then_ok (flag w.Descendants a) _ (o, rest) h1 in
+    made P h2 (f x all a b (who_ok ts a x one) (flag_ok w.Descendants a b all two))
 
 -- what is made of a part
 
@@ -144,11 +152,6 @@ of_answer_ok d line ts a rest o at h =
     let inner = optional_expression_ok d a b e one in
     made (Acts d line ts) h1 ((a, at, inner.0), inner.1)
 
-of_who_ok : (P : tree.Action → Tokens → Type 0) (c : Control) (ts rest : Tokens) (o : tree.Action) → ((x : Who) (mid : Tokens) → DerivesWho x ts mid → P (tree.control c x) mid) → of_who c ts ≡ Some (o, rest) → P o rest
-of_who_ok P c ts rest o f h =
-    let (x, a, one, h1) = and_then_ok (who ts) _ (o, rest) h in
-    made P h1 (f x a (who_ok ts a x one))
-
 pub started_action_ok : (v : Word) (d line : ℕ) (ts a rest : Tokens) (o : tree.Action) → At line (t.word v) ts a → started_action d (action_start v) a ≡ Some (o, rest) → Acts d line ts o rest
 unfolding started_action
 started_action_ok w.Write d line ts a rest o at h = write_ok d line ts a rest o at h
@@ -171,12 +174,12 @@ started_action_ok w.QkSet d line ts a rest o at h = of_both_ok (Acts d line ts) 
 started_action_ok w.QkReset d line ts a rest o at h = of_name_ok (Acts d line ts) tree.qk_reset a rest o (λ x mid one. ((a, at, one), omega arith)) h
 started_action_ok w.QkSync d line ts a rest o at h = of_name_ok (Acts d line ts) tree.qk_sync a rest o (λ x mid one. ((a, at, one), omega arith)) h
 started_action_ok w.Spawn d line ts a rest o at h = of_spawn_ok d line ts a rest o at h
-started_action_ok w.Suspend d line ts a rest o at h = of_who_ok (Acts d line ts) control.Suspend a rest o (λ x mid one. ((a, at, one), omega arith)) h
-started_action_ok w.Resume d line ts a rest o at h = of_who_ok (Acts d line ts) control.Resume a rest o (λ x mid one. ((a, at, one), omega arith)) h
-started_action_ok w.Disable d line ts a rest o at h = of_who_ok (Acts d line ts) control.Disable a rest o (λ x mid one. ((a, at, one), omega arith)) h
-started_action_ok w.Enable d line ts a rest o at h = of_who_ok (Acts d line ts) control.Enable a rest o (λ x mid one. ((a, at, one), omega arith)) h
-started_action_ok w.Kill d line ts a rest o at h = of_who_ok (Acts d line ts) control.Kill a rest o (λ x mid one. ((a, at, one), omega arith)) h
-started_action_ok w.Reset d line ts a rest o at h = of_who_ok (Acts d line ts) control.Reset a rest o (λ x mid one. ((a, at, one), omega arith)) h
+started_action_ok w.Suspend d line ts a rest o at h = control_ok (Acts d line ts) order.Suspend a rest o (λ x all mid last one two. ((a, at, (mid, one, two)), omega arith)) h
+started_action_ok w.Resume d line ts a rest o at h = control_ok (Acts d line ts) order.Resume a rest o (λ x all mid last one two. ((a, at, (mid, one, two)), omega arith)) h
+started_action_ok w.Disable d line ts a rest o at h = control_ok (Acts d line ts) order.Disable a rest o (λ x all mid last one two. ((a, at, (mid, one, two)), omega arith)) h
+started_action_ok w.Enable d line ts a rest o at h = control_ok (Acts d line ts) order.Enable a rest o (λ x all mid last one two. ((a, at, (mid, one, two)), omega arith)) h
+started_action_ok w.Kill d line ts a rest o at h = control_ok (Acts d line ts) order.Kill a rest o (λ x all mid last one two. ((a, at, (mid, one, two)), omega arith)) h
+started_action_ok w.Reset d line ts a rest o at h = control_ok (Acts d line ts) order.Reset a rest o (λ x all mid last one two. ((a, at, (mid, one, two)), omega arith)) h
 started_action_ok w.ThrowIt d line ts a rest o at h = throw_it_ok d line ts a rest o at h
 started_action_ok w.Throw d line ts a rest o at h = of_name_ok (Acts d line ts) tree.throw a rest o (λ x mid one. ((a, at, one), omega arith)) h
 started_action_ok w.Return d line ts a rest o at h = of_answer_ok d line ts a rest o at h
@@ -223,9 +226,13 @@ pub b_transport_reads : (x y z : List ℕ) (ts a b rest : Tokens) → Takes (t.n
 unfolding b_transport
 b_transport_reads x y z ts a b rest one two three = rw (name_reads x ts a one, next_name_reads y a b two, next_name_reads z b rest three) refl
 
-pub throw_it_reads : (p : Who) (x : List ℕ) (ts a rest : Tokens) → DerivesWho p ts a → Takes (t.name x) a rest → throw_it ts ≡ Some (tree.throw_it p x, rest)
+pub throw_it_reads : (p : Who) (x : List ℕ) (all : Bool) (ts a b rest last : Tokens) → DerivesWho p ts a → Takes (t.name x) a b → Written (t.word w.Descendants) all b rest → Takes (t.symbol s.Semicolon) rest last → throw_it ts ≡ Some (tree.throw_it p x all, rest)
 unfolding throw_it
-throw_it_reads p x ts a rest one two = rw (who_reads p ts a one, name_reads x a rest two) refl
+throw_it_reads p x all ts a b rest last one two three end = rw (who_reads p ts a one, name_reads x a b two, flag_reads w.Descendants all b rest three (λ e. rw end.1 refl)) refl
+
+pub control_reads : (c : Control) (x : Who) (all : Bool) (ts a rest last : Tokens) → DerivesWho x ts a → Written (t.word w.Descendants) all a rest → Takes (t.symbol s.Semicolon) rest last → control c ts ≡ Some (tree.control c x all, rest)
+unfolding control
+control_reads c x all ts a rest last one two end = rw (who_reads x ts a one, flag_reads w.Descendants all a rest two (λ e. rw end.1 refl)) refl
 
 pub of_name_reads : (act : List ℕ → tree.Action) (x : List ℕ) (ts rest : Tokens) → Takes (t.name x) ts rest → of_name act ts ≡ Some (act x, rest)
 of_name_reads act x ts rest h = rw (name_reads x ts rest h) refl
@@ -245,6 +252,3 @@ of_spawn_reads d x ts rest last h few end = rw (spawn_reads d x ts rest last h f
 
 pub of_answer_reads : (d : ℕ) (x : Option tree.Expression) (ts rest last : Tokens) → Maybe DerivesExpression x ts rest → in_option x ≤ d → Takes (t.symbol s.Semicolon) rest last → of_answer d ts ≡ Some (tree.return_ x, rest)
 of_answer_reads d x ts rest last h few end = rw (optional_expression_reads d x ts rest h few (rw end.1 refl)) refl
-
-pub of_who_reads : (c : Control) (x : Who) (ts rest : Tokens) → DerivesWho x ts rest → of_who c ts ≡ Some (tree.control c x, rest)
-of_who_reads c x ts rest h = rw (who_reads x ts rest h) refl

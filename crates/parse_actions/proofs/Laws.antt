@@ -26,7 +26,7 @@ use Rattle.parse_actions.specs.Actions.{started_action}
 use Rattle.parse_actions.specs.Parse.{operation_start, action_start, begins_operation, begins_action, sees_operation, sees_action, operation_by, operation, action_by, action}
 use Rattle.parse_actions.proofs.PartLaws.{word_at, word_comes, semicolon_comes}
 use Rattle.parse_actions.proofs.OperationLaws.{of_channel_reads, started_operation_ok, call_reads, nb_read_reads, nb_write_reads, nb_transport_reads}
-use Rattle.parse_actions.proofs.ActionLaws.{started_action_ok, write_reads, print_reads, notify_reads, make_reads, carry_reads, b_transport_reads, throw_it_reads, of_name_reads, of_both_reads, of_waiting_reads, of_expression_reads, of_spawn_reads, of_answer_reads, of_who_reads}
+use Rattle.parse_actions.proofs.ActionLaws.{started_action_ok, write_reads, print_reads, notify_reads, make_reads, carry_reads, b_transport_reads, throw_it_reads, of_name_reads, of_both_reads, of_waiting_reads, of_expression_reads, of_spawn_reads, of_answer_reads, control_reads}
 
 -- operations
 
@@ -104,8 +104,8 @@ action_before d line (tree.qk_set x e) ts rest last (a, at, (b, one, two)) few e
 action_before d line (tree.qk_reset x) ts rest last (a, at, one) few end = action_so w.QkReset d line (tree.qk_reset x) ts a rest at (of_name_reads tree.qk_reset x a rest one)
 action_before d line (tree.qk_sync x) ts rest last (a, at, one) few end = action_so w.QkSync d line (tree.qk_sync x) ts a rest at (of_name_reads tree.qk_sync x a rest one)
 action_before d line (tree.spawn x) ts rest last (a, at, one) few end = action_so w.Spawn d line (tree.spawn x) ts a rest at (of_spawn_reads d x a rest last one few end)
-action_before d line (tree.control c x) ts rest last (a, at, one) few end = action_so (control_word c) d line (tree.control c x) ts a rest at (rw (control_starts c) (of_who_reads c x a rest one))
-action_before d line (tree.throw_it p x) ts rest last (a, at, (b, one, two)) few end = action_so w.ThrowIt d line (tree.throw_it p x) ts a rest at (throw_it_reads p x a b rest one two)
+action_before d line (tree.control c x all) ts rest last (a, at, (b, one, two)) few end = action_so (control_word c) d line (tree.control c x all) ts a rest at (rw (control_starts c) (control_reads c x all a b rest last one two end))
+action_before d line (tree.throw_it p x all) ts rest last (a, at, (b, one, (c, two, three))) few end = action_so w.ThrowIt d line (tree.throw_it p x all) ts a rest at (throw_it_reads p x all a b c rest last one two three end)
 action_before d line (tree.throw x) ts rest last (a, at, one) few end = action_so w.Throw d line (tree.throw x) ts a rest at (of_name_reads tree.throw x a rest one)
 action_before d line (tree.return_ x) ts rest last (a, at, one) few end = action_so w.Return d line (tree.return_ x) ts a rest at (of_answer_reads d x a rest last one few end)
 action_before d line tree.stop ts rest last at few end = action_so w.Stop d line tree.stop ts rest rest at refl
@@ -148,8 +148,8 @@ action_word (tree.qk_set x e) = w.QkSet
 action_word (tree.qk_reset x) = w.QkReset
 action_word (tree.qk_sync x) = w.QkSync
 action_word (tree.spawn x) = w.Spawn
-action_word (tree.control c x) = control_word c
-action_word (tree.throw_it p x) = w.ThrowIt
+action_word (tree.control c x all) = control_word c
+action_word (tree.throw_it p x all) = w.ThrowIt
 action_word (tree.throw x) = w.Throw
 action_word (tree.return_ x) = w.Return
 action_word tree.stop = w.Stop
@@ -185,8 +185,8 @@ action_begins line (tree.qk_set x e) ts rest h = (h.0, h.1)
 action_begins line (tree.qk_reset x) ts rest h = (h.0, h.1)
 action_begins line (tree.qk_sync x) ts rest h = (h.0, h.1)
 action_begins line (tree.spawn x) ts rest h = (h.0, h.1)
-action_begins line (tree.control c x) ts rest h = (h.0, h.1)
-action_begins line (tree.throw_it p x) ts rest h = (h.0, h.1)
+action_begins line (tree.control c x all) ts rest h = (h.0, h.1)
+action_begins line (tree.throw_it p x all) ts rest h = (h.0, h.1)
 action_begins line (tree.throw x) ts rest h = (h.0, h.1)
 action_begins line (tree.return_ x) ts rest h = (h.0, h.1)
 action_begins line tree.stop ts rest h = (rest, h)
@@ -232,8 +232,8 @@ action_words (tree.qk_set x e) = refl
 action_words (tree.qk_reset x) = refl
 action_words (tree.qk_sync x) = refl
 action_words (tree.spawn x) = refl
-action_words (tree.control c x) = control_words c
-action_words (tree.throw_it p x) = refl
+action_words (tree.control c x all) = control_words c
+action_words (tree.throw_it p x all) = refl
 action_words (tree.throw x) = refl
 action_words (tree.return_ x) = refl
 action_words tree.stop = refl

@@ -1,11 +1,12 @@
 -- Parser functions on lists of tokens for what stands behind the word of an action.
 -- They are no definition of the language: the grammar is.
 use Rattle.std.specs.Prelude.{ℕ, List, Option, Some, None}
+use Rattle.model_tree.specs.declared.vocabulary.Word.TheVariants as w
 use Rattle.model_tree.specs.declared.vocabulary.Symbol.TheVariants as s
 use Rattle.model_tree.specs.declared.statements.Control.{Control}
 use Rattle.model_tree.specs.Tree as tree
 use Rattle.parse_expressions.specs.ModelGrammar.Expressions.{is_the_symbol, sees}
-use Rattle.parse_expressions.specs.Parse.{Parser, ◌>>=◌, pure, choose, refuse, text, name, expression}
+use Rattle.parse_expressions.specs.Parse.{Parser, ◌>>=◌, pure, choose, refuse, text, name, flag, expression}
 use Rattle.parse_actions.specs.ChannelParse.{channel, optional_expression}
 use Rattle.parse_actions.specs.declared.starts.ActionStart.{ActionStart}
 use Rattle.parse_actions.specs.declared.starts.ActionStart.TheVariants as start
@@ -66,11 +67,18 @@ name_and_expression depth = do
   e ← expression depth
   pure (x, e)
 
+unfoldable pub control : Control → Parser tree.Action
+control order = do
+  p ← who
+  all ← flag w.Descendants
+  pure (tree.control order p all)
+
 unfoldable pub throw_it : Parser tree.Action
 throw_it = do
   p ← who
   x ← name
-  pure (tree.throw_it p x)
+  all ← flag w.Descendants
+  pure (tree.throw_it p x all)
 
 -- what is made of a part
 
@@ -99,11 +107,6 @@ of_spawn depth = do
   x ← spawn depth
   pure (tree.spawn x)
 
-abbrev pub of_who : Control → Parser tree.Action
-of_who c = do
-  x ← who
-  pure (tree.control c x)
-
 abbrev pub of_answer : ℕ → Parser tree.Action
 of_answer depth = do
   e ← optional_expression depth
@@ -131,7 +134,7 @@ started_action depth start.QkSet = of_name_and_expression depth tree.qk_set
 started_action depth start.QkReset = of_name tree.qk_reset
 started_action depth start.QkSync = of_name tree.qk_sync
 started_action depth start.Spawn = of_spawn depth
-started_action depth (start.Control c) = of_who c
+started_action depth (start.Control c) = control c
 started_action depth start.ThrowIt = throw_it
 started_action depth start.Throw = of_name tree.throw
 started_action depth start.Return = of_answer depth

@@ -7,7 +7,7 @@ use super::spawning::{spawn, who};
 use super::starts::ActionStart;
 use super::waiting::{notification, waiting};
 use crate::{channel, optional_expression};
-use model_tree::{Action, Expression, Name, ParseStop};
+use model_tree::{Action, Control, Expression, Name, ParseStop, Word};
 use parse_expressions::{Cursor, expression};
 use std::alloc::Global;
 
@@ -87,14 +87,25 @@ fn name_and_expression(
     Ok((name, value))
 }
 
-/// The process that is thrown at, and what.
+/// The process of a control call, and whether it reaches the descendants of its target.
+#[tactic(auto, unfolding(crate::specs::Actions::control))]
+fn control(alloc: Global, tokens: &mut Cursor<'_>, order: Control) -> Result<Action, ParseStop>
+    ensures { Parses views.action_of (spec.control order) tokens.old result tokens.new }
+{
+    let process = who(alloc, tokens)?;
+    let descendants = tokens.flag(Word::Descendants)?;
+    Ok(Action::Control(order, process, descendants))
+}
+
+/// The process that is thrown at, what, and whether it reaches the descendants of its target.
 #[tactic(auto, unfolding(crate::specs::Actions::throw_it))]
 fn throw_it(alloc: Global, tokens: &mut Cursor<'_>) -> Result<Action, ParseStop>
     ensures { Parses views.action_of spec.throw_it tokens.old result tokens.new }
 {
     let process = who(alloc, tokens)?;
     let name = tokens.name(alloc)?;
-    Ok(Action::ThrowIt(process, name))
+    let descendants = tokens.flag(Word::Descendants)?;
+    Ok(Action::ThrowIt(process, name, descendants))
 }
 
 /// The action that begins so, behind its word, which is on this line.
@@ -135,7 +146,7 @@ pub fn started_action(
         ActionStart::QkReset => Ok(Action::QkReset(tokens.name(alloc)?)),
         ActionStart::QkSync => Ok(Action::QkSync(tokens.name(alloc)?)),
         ActionStart::Spawn => Ok(Action::Spawn(spawn(alloc, tokens, depth)?)),
-        ActionStart::Control(control) => Ok(Action::Control(control, who(alloc, tokens)?)),
+        ActionStart::Control(order) => control(alloc, tokens, order),
         ActionStart::ThrowIt => throw_it(alloc, tokens),
         ActionStart::Throw => Ok(Action::Throw(tokens.name(alloc)?)),
         ActionStart::Return => Ok(Action::Return(optional_expression(alloc, tokens, depth)?)),

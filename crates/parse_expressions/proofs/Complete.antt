@@ -6,6 +6,7 @@ use Rattle.std.proofs.lemmas.Bool.Decides.{nat_tests}
 use Rattle.std.proofs.lemmas.Option.{same_Some}
 use Rattle.model_lexer.specs.LogicValues.declared.kinds.Digit.{Digit}
 use Rattle.model_lexer.specs.SimTime.declared.moments.Unit.{Unit as TimeUnit}
+use Rattle.model_lexer.specs.SimTime.declared.moments.Unit.TheVariants as unit
 use Rattle.model_tree.specs.declared.vocabulary.Symbol.{Symbol}
 use Rattle.model_tree.specs.declared.vocabulary.Symbol.TheVariants as s
 use Rattle.model_tree.specs.declared.expressions.BinaryOp.{BinaryOp}
@@ -24,7 +25,7 @@ use Rattle.parse_expressions.specs.declared.starts.Leaf.TheVariants as leaf
 use Rattle.parse_expressions.specs.declared.starts.Start.{Start}
 use Rattle.parse_expressions.specs.declared.starts.Start.TheVariants as start
 use Rattle.model_lexer.specs.ModelGrammar.Expressions.{Short, Parenthesized, DerivesAt, unit_in, operator_in, is_the_symbol, is_link, extends, goes_on, sees, IsOver, BeginsWith}
-use Rattle.model_tree.specs.Spelling.{unit_name, binary_symbol, unary_symbol, conversion_word}
+use Rattle.model_tree.specs.Spelling.{binary_symbol, unary_symbol, conversion_word}
 use Rattle.parse_expressions.specs.Parse.{Parser, and_then, repeat, unit_ahead, operator_ahead, sign_in, sign_ahead, token_start, start_of, leaf_tree, number_or_time, literal, leaf_expression, member, bounds, short, at_no_link, is_not_of, at_none_of, binary, levelled, sees_number, sees_bounds, group, paren, convert, vector, concat, placed, placed_by, place, channel, index, link, chain, primary_of, primary, unary, operand, climb, inside, expression}
 use Rattle.parse_expressions.proofs.Parsers.{choose_first, choose_other, repeat_stops, repeat_goes}
 use Rattle.parse_expressions.proofs.OneToken.{is_symbol_same, skip_reads, symbol_reads, opened_reads, named_reads, name_reads, numbered_reads, number_reads, logical_reads, symbol_sees, named_unit, operator_symbol, sign_symbol, truth_begins, conversion_begins, constant_begins}
@@ -172,9 +173,13 @@ no_colon op.Multiply = refl
 no_colon op.Divide = refl
 no_colon op.Remainder = refl
 
+no_colon_unit : (u : TimeUnit) → is_the_symbol s.Colon (t.unit_token u) ≡ false
+no_colon_unit unit.Fs = refl
+no_colon_unit _ = refl
+
 no_bounds_before : (e : tree.Expression) (n : ℕ) (ts rest : Tokens) → DerivesAt n e ts rest → sees (is_the_symbol s.Colon) rest ≡ false → sees_bounds ts ≡ false
 no_bounds_before (tree.number line v) n ts rest h c = rw h.1 c
-no_bounds_before (tree.time line v u) n ts rest (k, (a, h, g)) c = rw (h, g.1) refl
+no_bounds_before (tree.time line v u) n ts rest (k, (a, h, g)) c = rw (h, g.1) (no_colon_unit u)
 no_bounds_before (tree.logic line v) n ts rest h c = rw h.1 refl
 no_bounds_before (tree.truth line b) n ts rest h c = rw h.1 refl
 no_bounds_before (tree.now line) n ts rest h c = rw h.1 refl
@@ -253,10 +258,10 @@ number_reads_whole : (line v : ℕ) (ts rest : Tokens) → At line (t.number v) 
 unfolding number_or_time
 number_reads_whole line v ts rest h k = rw (numbered_reads line v ts rest h, no_unit rest k) refl
 
-pub unit_comes : (u : TimeUnit) (ts rest : Tokens) → Takes (t.name (unit_name u)) ts rest → unit_ahead ts ≡ Some u
+pub unit_comes : (u : TimeUnit) (ts rest : Tokens) → Takes (t.unit_token u) ts rest → unit_ahead ts ≡ Some u
 unit_comes u ts rest h = rw (h.1, named_unit u) refl
 
-time_reads : (line v : ℕ) (u : TimeUnit) (ts a rest : Tokens) → At line (t.number v) ts a → Takes (t.name (unit_name u)) a rest → number_or_time ts ≡ Some (tree.time line v u, rest)
+time_reads : (line v : ℕ) (u : TimeUnit) (ts a rest : Tokens) → At line (t.number v) ts a → Takes (t.unit_token u) a rest → number_or_time ts ≡ Some (tree.time line v u, rest)
 unfolding number_or_time
 time_reads line v u ts a rest h g = rw (numbered_reads line v ts a h, unit_comes u a rest g, skip_reads _ g.0 a rest g.1) refl
 

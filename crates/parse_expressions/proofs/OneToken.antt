@@ -4,7 +4,7 @@ use Rattle.std.specs.Prelude.{codes}
 use Rattle.std.specs.Str.{bytes_eq}
 use Rattle.std.proofs.lemmas.Option.{cond_some}
 use Rattle.std.proofs.lemmas.Slice.Eq.{bytes_eq-Decides}
-use denote.Enum.Bare.{same_true, true_same}
+use denote.Enum.Bare.{sameb, same_true, true_same}
 use Rattle.model_lexer.specs.LogicValues.declared.kinds.Digit.{Digit}
 use Rattle.model_lexer.specs.SimTime.declared.moments.Unit.{Unit as TimeUnit}
 use Rattle.model_lexer.specs.SimTime.declared.moments.Unit.TheVariants as unit
@@ -30,7 +30,7 @@ use Rattle.parse_expressions.specs.declared.starts.Leaf.TheVariants as leaf
 use Rattle.parse_expressions.specs.declared.starts.Start.{Start}
 use Rattle.parse_expressions.specs.declared.starts.Start.TheVariants as start
 use Rattle.model_lexer.specs.ModelGrammar.Expressions.{operator_of, operator_in, unit_of, unit_in, is_the_symbol, sees}
-use Rattle.model_tree.specs.Spelling.{unary_symbol, binary_symbol, truth_word, conversion_word, constant_word, unit_name}
+use Rattle.model_tree.specs.Spelling.{unary_symbol, binary_symbol, truth_word, conversion_word, constant_word}
 use Rattle.parse_expressions.specs.Parse.{skip, symbol, named, name_in, name, numbered, number_in, number, logical, logic_in, opened, operator_ahead, sign_of, sign_in, sign_ahead, word_start, symbol_start, token_start, start_of, pure, is_the_word, word, true_behind, flag, text_in, text}
 use Rattle.parse_expressions.proofs.Parsers.{and_then_ok, choose_cases, choose_first, choose_other}
 
@@ -188,27 +188,31 @@ logical_ok (y ∷ ts) rest x h = logic_in_ok y.0 y.1 ts rest x h
 
 -- tables, both ways
 
-unit_if : (b : Bool) (x : List ℕ) (v u : TimeUnit) (o : Option TimeUnit) → (b ≡ true → x ≡ unit_name v) → (o ≡ Some u → x ≡ unit_name u) → cond b (Some v) o ≡ Some u → x ≡ unit_name u
-unit_if true x v u o f g h = let e : v ≡ u = cc in subst (λ z. x ≡ unit_name z) e (f refl)
-unit_if false x v u o f g h = g h
+unit_if : (b : Bool) (y : t.Token) (v u : TimeUnit) (o : Option TimeUnit) → (b ≡ true → y ≡ t.unit_token v) → (o ≡ Some u → y ≡ t.unit_token u) → cond b (Some v) o ≡ Some u → y ≡ t.unit_token u
+unit_if true y v u o f g h = let e : v ≡ u = cc in subst (λ z. y ≡ t.unit_token z) e (f refl)
+unit_if false y v u o f g h = g h
 
-pub unit_named : (x : List ℕ) (u : TimeUnit) → unit_of x ≡ Some u → x ≡ unit_name u
+spelled_so : (x y : List ℕ) → bytes_eq x y ≡ true → t.name x ≡ t.name y
+spelled_so x y e = ap t.name ((bytes_eq-Decides x y).0 e)
+
+pub unit_named : (x : List ℕ) (u : TimeUnit) → unit_of x ≡ Some u → t.name x ≡ t.unit_token u
 unit_named x u h =
-    unit_if (bytes_eq x (codes "ps")) x unit.Ps u _ (λ e. (bytes_eq-Decides x (codes "ps")).0 e)
-    (λ h. unit_if (bytes_eq x (codes "ns")) x unit.Ns u _ (λ e. (bytes_eq-Decides x (codes "ns")).0 e)
-    (λ h. unit_if (bytes_eq x (codes "us")) x unit.Us u _ (λ e. (bytes_eq-Decides x (codes "us")).0 e)
-    (λ h. unit_if (bytes_eq x (codes "ms")) x unit.Ms u _ (λ e. (bytes_eq-Decides x (codes "ms")).0 e)
-    (λ h. unit_if (bytes_eq x (codes "s")) x unit.S u None (λ e. (bytes_eq-Decides x (codes "s")).0 e) (λ h. cc) h) h) h) h) h
+    unit_if (bytes_eq x (codes "ps")) (t.name x) unit.Ps u _ (spelled_so x (codes "ps"))
+    (λ h. unit_if (bytes_eq x (codes "ns")) (t.name x) unit.Ns u _ (spelled_so x (codes "ns"))
+    (λ h. unit_if (bytes_eq x (codes "us")) (t.name x) unit.Us u _ (spelled_so x (codes "us"))
+    (λ h. unit_if (bytes_eq x (codes "ms")) (t.name x) unit.Ms u _ (spelled_so x (codes "ms"))
+    (λ h. unit_if (bytes_eq x (codes "s")) (t.name x) unit.S u None (spelled_so x (codes "s")) (λ h. cc) h) h) h) h) h
 
-pub unit_in_named : (y : t.Token) (u : TimeUnit) → unit_in y ≡ Some u → y ≡ t.name (unit_name u)
-unit_in_named (t.name x) u h = ap t.name (unit_named x u h)
+pub unit_in_named : (y : t.Token) (u : TimeUnit) → unit_in y ≡ Some u → y ≡ t.unit_token u
+unit_in_named (t.name x) u h = unit_named x u h
 unit_in_named (t.number x) u h = cc
 unit_in_named (t.logic x) u h = cc
 unit_in_named (t.quoted x) u h = cc
-unit_in_named (t.word x) u h = cc
+unit_in_named (t.word x) u h = unit_if (sameb the_word x w.Fs) (t.word x) unit.Fs u None (λ e. ap t.word (same_true the_word tt x w.Fs e)) (λ h. cc) h
 unit_in_named (t.symbol x) u h = cc
 
-pub named_unit : (u : TimeUnit) → unit_of (unit_name u) ≡ Some u
+pub named_unit : (u : TimeUnit) → unit_in (t.unit_token u) ≡ Some u
+named_unit unit.Fs = refl
 named_unit unit.Ps = refl
 named_unit unit.Ns = refl
 named_unit unit.Us = refl

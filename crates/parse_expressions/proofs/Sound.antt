@@ -20,7 +20,6 @@ use Rattle.parse_expressions.specs.declared.starts.Leaf.TheVariants as leaf
 use Rattle.parse_expressions.specs.declared.starts.Start.{Start}
 use Rattle.parse_expressions.specs.declared.starts.Start.TheVariants as start
 use Rattle.model_lexer.specs.ModelGrammar.Expressions.{Short, Parenthesized, DerivesAt, unit_in, operator_in, is_the_symbol, is_link, extends, goes_on, sees, BeginsWith}
-use Rattle.model_tree.specs.Spelling.{unit_name}
 use Rattle.parse_expressions.specs.Parse.{Parser, pure, skip, named, name, numbered, number, logical, symbol, opened, unit_ahead, operator_ahead, sign_ahead, start_of, leaf_tree, with_unit, number_or_time, literal, leaf_expression, member, bounds, measured, short, at_no_link, is_not_of, at_none_of, with_operator, binary, levelled, sees_number, sees_bounds, group, paren, convert, vector, concat, placed, placed_by, place, channel, element, index, link, chain, primary_of, primary, unary, operand, climb, inside, expression}
 use Rattle.parse_expressions.proofs.Parsers.{choose_cases, where_cases, and_then_ok, made, repeat_ok}
 use Rattle.parse_expressions.proofs.OneToken.{symbol_ok, opened_ok, named_ok, name_ok, numbered_ok, number_ok, logical_ok, unit_in_named, sign_at, operator_at, leaf_word, leaf_at, conversion_at, vector_at, concat_at, at_front}
@@ -81,12 +80,12 @@ unit_unseen : (ts : Tokens) → unit_ahead ts ≡ None → sees (λ x. is_some (
 unit_unseen [] h = refl
 unit_unseen (y ∷ ts) h = let e : unit_in y.0 ≡ None = h in rw e refl
 
-pub unit_taken : (u : TimeUnit) (line : ℕ) (ts rest : Tokens) → unit_ahead ts ≡ Some u → skip ts ≡ Some (line, rest) → Takes (t.name (unit_name u)) ts rest
+pub unit_taken : (u : TimeUnit) (line : ℕ) (ts rest : Tokens) → unit_ahead ts ≡ Some u → skip ts ≡ Some (line, rest) → Takes (t.unit_token u) ts rest
 unfolding skip
 unit_taken u line [] rest h k = cc
 unit_taken u line (y ∷ ts) rest h k =
     let p : ◌≡◌ {A = ℕ × Tokens} (y.1, ts) (line, rest) = cc k in
-    subst (λ (z : ℕ × Tokens). Takes (t.name (unit_name u)) (y ∷ ts) z.1) p (y.1, at_front y.0 _ y.1 ts (unit_in_named y.0 u h))
+    subst (λ (z : ℕ × Tokens). Takes (t.unit_token u) (y ∷ ts) z.1) p (y.1, at_front y.0 _ y.1 ts (unit_in_named y.0 u h))
 
 number_or_time_ok : (d : ℕ) (ts rest : Tokens) (e : tree.Expression) → number_or_time ts ≡ Some (e, rest) → Good 11 d ts e rest
 unfolding number_or_time

@@ -3,7 +3,7 @@ ghost use Rattle.model_lexer.specs.Seen.{token_of};
 ghost use Rattle.model_lexer.specs.ModelGrammar.Expressions as grammar;
 ghost use Rattle.parse_expressions.specs.Parse as spec;
 
-use super::starts::{Start, operator_of, sign_of, symbol_start, unit_of, word_start};
+use super::starts::{Start, operator_of, sign_of, symbol_start, unit_of, unit_word, word_start};
 use model_lexer::TokenKind;
 use model_lexer::sim_time_api::Unit;
 use model_tree::{BinaryOp, Symbol, UnaryOp, Word};
@@ -44,6 +44,7 @@ pub fn unit_in(kind: TokenKind<'_>) -> Option<Unit>
 {
     match kind {
         TokenKind::Name(bytes) => unit_of(bytes),
+        TokenKind::Word(word) => unit_word(word),
         _ => None,
     }
 }

@@ -158,6 +158,17 @@ pub fn level(operator: BinaryOp) -> u8
     }
 }
 
+/// The unit that the word is, if it is one.
+pub fn unit_word(word: Word) -> Option<Unit>
+    ensures { result ≡ grammar.unit_word word }
+{
+    if word == Word::Fs {
+        Some(Unit::Fs)
+    } else {
+        None
+    }
+}
+
 /// The unit that these bytes name, if they name one.
 pub fn unit_of(bytes: &[u8]) -> Option<Unit>
     ensures { result ≡ grammar.unit_of bytes.now }

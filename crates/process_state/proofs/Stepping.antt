@@ -28,6 +28,7 @@ statement_comes (residual.statement t) (comes.Goal k) h e = cc
 statement_comes (residual.statement t) (comes.Statement s) h e = (s, refl, ap residual.statement (same_statement t s e))
 statement_comes (residual.statement t) (comes.InBlock s c) h e = (s, refl, ap residual.statement (same_statement t s e))
 statement_comes (residual.statement t) (comes.InUnwind s c) h e = (s, refl, ap residual.statement (same_statement t s e))
+statement_comes (residual.owes t q) c h e = absurd h
 statement_comes (residual.leaves x) c h e = absurd h
 statement_comes residual.done c h e = absurd h
 statement_comes (residual.reaches k) c h e = absurd h
@@ -51,6 +52,7 @@ goal_comes (residual.reaches g) (comes.Statement s) h e = cc
 goal_comes (residual.reaches g) (comes.InBlock s c) h e = cc
 goal_comes (residual.reaches g) (comes.InUnwind s c) h e = cc
 goal_comes (residual.statement s) c h e = absurd h
+goal_comes (residual.owes s q) c h e = absurd h
 goal_comes (residual.leaves x) c h e = absurd h
 goal_comes residual.done c h e = absurd h
 goal_comes residual.nothing c h e = absurd h
@@ -146,6 +148,16 @@ pub under_nothing : (a : Arena) (g : Option Goal) → (settle a (under g skip) �
 under_nothing a None = (refl, refl, refl)
 under_nothing a (Some k) = (refl, refl, refl)
 
+-- no call is owed to several
+pub never_owed : (c : Comes) (s q : ℕ) → shown_by c ≡ next.Batch s q → ⊥
+never_owed comes.Nothing s q e = cc
+never_owed comes.Leave s q e = cc
+never_owed comes.Done s q e = cc
+never_owed (comes.Goal k) s q e = cc
+never_owed (comes.Statement t) s q e = cc
+never_owed (comes.InBlock t c) s q e = cc
+never_owed (comes.InUnwind t c) s q e = cc
+
 pub some_same : (s t : ℕ) → Some s ≡ Some t → s ≡ t
 some_same s t e = cc
 
@@ -156,6 +168,7 @@ statement_same s t e = cc
 
 pub shown_statement : (n : residual.Next) (s : ℕ) → shown n ≡ next.Statement s → n ≡ residual.statement s
 shown_statement (residual.statement t) s e = ap residual.statement (same_statement t s e)
+shown_statement (residual.owes t q) s e = cc
 shown_statement (residual.leaves x) s e = cc
 shown_statement residual.done s e = cc
 shown_statement (residual.reaches k) s e = cc
@@ -163,6 +176,7 @@ shown_statement residual.nothing s e = cc
 
 pub shown_goal : (n : residual.Next) (k : Goal) → shown n ≡ next.Goal k → n ≡ residual.reaches k
 shown_goal (residual.statement t) k e = cc
+shown_goal (residual.owes t q) k e = cc
 shown_goal (residual.leaves x) k e = cc
 shown_goal residual.done k e = cc
 shown_goal (residual.reaches g) k e = ap residual.reaches same
@@ -173,6 +187,7 @@ shown_goal residual.nothing k e = cc
 
 pub shown_done : (n : residual.Next) → shown n ≡ next.Done → n ≡ residual.done
 shown_done (residual.statement t) e = cc
+shown_done (residual.owes t q) e = cc
 shown_done (residual.leaves x) e = cc
 shown_done residual.done e = refl
 shown_done (residual.reaches g) e = cc
@@ -180,6 +195,7 @@ shown_done residual.nothing e = cc
 
 pub shown_nothing : (n : residual.Next) → shown n ≡ next.Nothing → n ≡ residual.nothing
 shown_nothing (residual.statement t) e = cc
+shown_nothing (residual.owes t q) e = cc
 shown_nothing (residual.leaves x) e = cc
 shown_nothing residual.done e = cc
 shown_nothing (residual.reaches g) e = cc

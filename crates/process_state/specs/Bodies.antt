@@ -26,7 +26,8 @@ use Rattle.kernel_bodies.specs.Room.{FitsIn, FitsFrames, own_locals, own_blocks,
 
 -- A residual that saved frames and the place inside them stand for, read from the innermost frame outwards: r is what is left
 -- inside the frames fs, and inside the blocks os of the innermost of these, or inside the goal of all where none is left.
--- There is one constructor for each form of a residual; each lets the innermost block, or frame, go and puts r inside it.
+-- There is one constructor for each form of a residual, but for a call that is owed to several, which no body stands for; each lets
+-- the innermost block, or frame, go and puts r inside it.
 
 -- the goal of all stands outside all frames
 abbrev pub aim : Option Goal → List Open
@@ -86,6 +87,7 @@ pub record Keeps (old new : Body) : Type 0 where
 -- what comes next is a statement; a goal
 abbrev pub IsStatement : Next → Type 0
 IsStatement (next.Statement s) = Unit {0}
+IsStatement (next.Batch s q) = ⊥
 IsStatement next.Leave = ⊥
 IsStatement next.Done = ⊥
 IsStatement (next.Goal k) = ⊥
@@ -93,6 +95,7 @@ IsStatement next.Nothing = ⊥
 
 abbrev pub IsGoal : Next → Type 0
 IsGoal (next.Statement s) = ⊥
+IsGoal (next.Batch s q) = ⊥
 IsGoal next.Leave = ⊥
 IsGoal next.Done = ⊥
 IsGoal (next.Goal k) = Unit {0}

@@ -87,6 +87,7 @@ impl Body {
         ensures goal { (k : Aim) → result ≡ Next.Goal k → next_of (settled_in program.now self.now) ≡ residual.reaches k }
         ensures done { result ≡ Next.Done → next_of (settled_in program.now self.now) ≡ residual.done }
         ensures nothing { result ≡ Next.Nothing → next_of (settled_in program.now self.now) ≡ residual.nothing }
+        ensures alone { (s q : ℕ) → result ≡ Next.Batch s q → ⊥ }
     {
         match land(program, self.frames.as_slice(), self.statement) {
             Some(landing) => next_shown(landing.comes),

@@ -353,6 +353,7 @@ fn step(program: &Program, body: &mut Body, plain: &mut Plain) -> Option<Next>
             plain.statement = None;
             body.past(program);
         }
+        Next::Batch(_, _) => return None,
         Next::Leave => {
             let _ = plain.forms.pop();
             let _ = body.leave(program);

@@ -9,5 +9,5 @@ pub use keeper::{Keeper, local_quantum};
 
 /// What is passed on of sim_time.
 pub mod sim_time_api {
-    pub use sim_time::{Time, Unit, add, of_unit, sub, times};
+    pub use sim_time::{Time, Unit, add, picoseconds_of, sub, times};
 }

@@ -37,5 +37,7 @@ pub fn kind_word(kind: Kind) -> &'static str
         Kind::KindDiffers => "KindDiffers",
         Kind::TooMany => "TooMany",
         Kind::BadValue => "BadValue",
+        Kind::BadResolution => "BadResolution",
+        Kind::InexactTime => "InexactTime",
     }
 }

@@ -49,8 +49,8 @@ fn print_text(statement: &Statement) -> &[u8]
         | Statement::QkSet(_, _)
         | Statement::QkReset(_)
         | Statement::Spawn(_)
-        | Statement::Control(_, _)
-        | Statement::ThrowIt(_, _)
+        | Statement::Control(_, _, _)
+        | Statement::ThrowIt(_, _, _)
         | Statement::Throw(_)
         | Statement::Return(_)
         | Statement::Stop

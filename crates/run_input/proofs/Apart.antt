@@ -17,29 +17,29 @@ use Rattle.run_input.proofs.Designs.{same_naming}
 
 -- no text reads as two trees
 abbrev pub OneTree : Type 0
-OneTree = (text : List ℕ) (m n : tree.Model) → Reads text m → Reads text n → m ≡ n
+OneTree = (text : List ℕ) (m n : tree.Source) → Reads text m → Reads text n → m ≡ n
 
 -- nothing is found, and something is
 found_none : {T : Type 0} (found : Option T) → found ≡ None → IsSome found → ⊥
 found_none None none some = cc
 found_none (Some x) none some = cc
 
-found_both : {T : Type 0} (find : tree.Model → Option T) (m n : tree.Model) → m ≡ n → find m ≡ None → IsSome (find n) → ⊥
-found_both find m n e none some = let P : tree.Model → Type 0 = λ x. find x ≡ None in found_none (find n) (subst P e none) some
+found_both : {T : Type 0} (find : tree.Source → Option T) (m n : tree.Source) → m ≡ n → find m ≡ None → IsSome (find n) → ⊥
+found_both find m n e none some = let P : tree.Source → Type 0 = λ x. find x ≡ None in found_none (find n) (subst P e none) some
 
 -- a model is not both accepted and refused
-pub not_broken : OneTree → (model : List ℕ) (m : tree.Model) → AcceptsModel model m → IsBrokenModel model → ⊥
+pub not_broken : OneTree → (model : List ℕ) (m : tree.Source) → AcceptsModel model m → IsBrokenModel model → ⊥
 not_broken one model m a b =
     ⊎_elim (λ none. none m a.reads)
-    (⊎_elim (λ f. found_both first_fault m f.m (one model m f.m a.reads f.reads) a.faultless f.fault)
-    (λ w. found_both elaboration_fault m w.m (one model m w.m a.reads w.reads) a.elaborated w.fault)) b
+    (⊎_elim (λ f. found_both (λ (x : tree.Source). first_fault x.model) m f.m (one model m f.m a.reads f.reads) a.faultless f.fault)
+    (λ w. found_both (λ (x : tree.Source). elaboration_fault x.model) m w.m (one model m w.m a.reads w.reads) a.elaborated w.fault)) b
 
 -- nor refused for two causes
 pub not_unread : (model : List ℕ) → HasNoTree model → BreaksRule model ⊎ BreaksWhole model → ⊥
 not_unread model none b = ⊎_elim (λ f. none f.m f.reads) (λ w. none w.m w.reads) b
 
 pub not_ruled : OneTree → (model : List ℕ) → BreaksRule model → BreaksWhole model → ⊥
-not_ruled one model f w = found_both first_fault w.m f.m (one model w.m f.m w.reads f.reads) w.faultless f.fault
+not_ruled one model f w = found_both (λ (x : tree.Source). first_fault x.model) w.m f.m (one model w.m f.m w.reads f.reads) w.faultless f.fault
 
 -- a script is not both accepted and refused, over whatever designs of a model
 breaks : (d e : Design) (script : List ℕ) (text : List TextCommand) (commands : List Command) → ((cs : List TextCommand) → name_script d cs ≡ name_script e cs) → read_script script ≡ Ok text → name_script d text ≡ Ok commands → BreaksScript e script → ⊥
@@ -54,11 +54,11 @@ breaks d e script text commands same read named b =
         let there : name_script d text ≡ Err f = same text ∙ here in
         cc
 
-pub not_both : OneTree → (model script : List ℕ) (m n : tree.Model) (d : Design) (commands : List Command) → Accepts model script m d commands → AcceptsModel model n → IsBrokenScript n script → ⊥
+pub not_both : OneTree → (model script : List ℕ) (m n : tree.Source) (d : Design) (commands : List Command) → Accepts model script m d commands → AcceptsModel model n → IsBrokenScript n script → ⊥
 not_both one model script m n d commands a b broken =
-    let P : tree.Model → Type 0 = λ x. IsDesignOf x broken.design in
-    let is : IsDesignOf m broken.design = subst P (one model n m b.reads a.accepted.reads) broken.is_design in
-    breaks d broken.design script a.named.0 commands (same_naming m d broken.design a.is_design is) a.named.1 a.named.2 broken.breaks
+    let P : tree.Source → Type 0 = λ x. IsDesignOf x.model broken.design in
+    let is : IsDesignOf m.model broken.design = subst P (one model n m b.reads a.accepted.reads) broken.is_design in
+    breaks d broken.design script a.named.0 commands (same_naming m.model d broken.design a.is_design is) a.named.1 a.named.2 broken.breaks
 
 -- a replay text has a list or a line at which it does not read, and never both
 pub not_listed : (replay choices : Option (List ℕ)) → ReadsReplay replay choices → IsBrokenReplay replay → ⊥
@@ -67,7 +67,7 @@ not_listed (Some text) None h b = absurd h
 not_listed (Some text) (Some list) h b = let e = b.1 in cc
 
 -- the laid-out text of a model is that of each tree that it is accepted as
-pub one_page : OneTree → (model page : List ℕ) (m : tree.Model) → IsLayoutOf model page → AcceptsModel model m → page ≡ printed_text m
+pub one_page : OneTree → (model page : List ℕ) (m : tree.Source) → IsLayoutOf model page → AcceptsModel model m → page ≡ printed_text m
 one_page one model page m l a =
-    let P : tree.Model → Type 0 = λ x. page ≡ printed_text x in
+    let P : tree.Source → Type 0 = λ x. page ≡ printed_text x in
     subst P (one model l.m m l.accepted.reads a.reads) l.page_is

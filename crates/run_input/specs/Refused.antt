@@ -27,7 +27,7 @@ IfScriptFault script_stop.NoMemory P = ⊤
 -- are accepted, and what is said of the replay text is so
 abbrev pub HasTextFault : List ℕ → List ℕ → Option (List ℕ) → JudgeStop → Type 0
 HasTextFault model script replay (judge_stop.Model f) = HasModelFault model f
-HasTextFault model script replay (judge_stop.Script f) = (m : tree.Model) × (d : Design) × AcceptsModel model m × IsDesignOf m d × HasScriptFault d script f
+HasTextFault model script replay (judge_stop.Script f) = (m : tree.Source) × (d : Design) × AcceptsModel model m × IsDesignOf m.model d × HasScriptFault d script f
 HasTextFault model script replay (judge_stop.Replay line) =
-    (m : tree.Model) × (d : Design) × (commands : List Command) × Accepts model script m d commands × HasReplayFault replay line
+    (m : tree.Source) × (d : Design) × (commands : List Command) × Accepts model script m d commands × HasReplayFault replay line
 HasTextFault model script replay judge_stop.NoMemory = ⊤

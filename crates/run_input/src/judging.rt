@@ -1,7 +1,8 @@
 ghost use Rattle.std.specs.Prelude.{◌≡◌, ◌<◌, ◌^◌, ℕ, List, None, true, IfErr, IfOk, OnOk, length};
 ghost use Rattle.model_tree.specs.Tree as tree;
-ghost use Rattle.model_tree.specs.Seen.{model_of};
+ghost use Rattle.model_tree.specs.Seen.{model_of, source_of};
 ghost use Rattle.model_tree.specs.Stops.{IfSyntax};
+ghost use Rattle.model_tree.specs.declared.items.Head.TheVariants as head;
 ghost use Rattle.script_text.specs.ModelLexer.Reads.{Reads};
 ghost use Rattle.elaborate.specs.DesignRules.Designs.{IsDesignOf};
 ghost use Rattle.run_input.specs.Judged.{Accepts, AcceptsModel, CanRun, HasModelFault, HasReplayFault, HasScriptFault, IsDesignOfText, NamesScript, ReadsReplay};
@@ -12,6 +13,7 @@ use elaborate::laws_design_api::designs_are_few;
 use elaborate::model_check_api::check;
 use elaborate::sound_design;
 use flat_design::{Choices, Design};
+use model_parser::model_lexer_api::reads_language_1;
 use model_parser::parse;
 use model_tree::{CheckStop, ParseStop, Tree};
 use refusal_lines::{ModelFault, ScriptFault};
@@ -63,7 +65,7 @@ pub struct Judged {
 /// The tree of a model.
 pub(crate) fn read_model(alloc: Global, text: &[u8]) -> Result<Tree, ModelStop>
     requires { length text.now < 2 ^ 32 }
-    ensures reads { IfOk result (λ t. Reads text.now (model_of t)) }
+    ensures reads { IfOk result (λ t. Reads text.now (source_of t)) }
     ensures fault { IfErr result (λ stop. IfModelFault stop (HasModelFault text.now)) }
 {
     match parse(alloc, text) {
@@ -73,13 +75,15 @@ pub(crate) fn read_model(alloc: Global, text: &[u8]) -> Result<Tree, ModelStop>
     }
 }
 
-/// The design of a tree, which is judged by the rules on its modules, and then by those on its instances and bindings. What is
-/// said of it is so of each text that reads as this tree.
+/// The design of a tree of language 1, which is judged by the rules on its modules, and then by those on its instances and
+/// bindings. What is said of it is so of each text that reads as this tree. Its resolution is a picosecond.
 pub(crate) fn judge_tree(alloc: Global, tree: Tree) -> Result<Design, ModelStop>
-    ensures accepted { OnOk result ((text : List ℕ) → Reads text (model_of tree) → AcceptsModel text (model_of tree)) }
+    requires { (source_of tree).head ≡ head.First }
+    ensures accepted { OnOk result ((text : List ℕ) → Reads text (source_of tree) → AcceptsModel text (source_of tree)) }
     ensures design { IfOk result (IsDesignOf (model_of tree)) }
+    ensures resolution { IfOk result (λ design. design.resolution.power ≡ 3) }
     ensures runs { IfOk result CanRun }
-    ensures fault { IfErr result (λ stop. (text : List ℕ) → Reads text (model_of tree) → IfModelFault stop (HasModelFault text)) }
+    ensures fault { IfErr result (λ stop. (text : List ℕ) → Reads text (source_of tree) → IfModelFault stop (HasModelFault text)) }
 {
     designs_are_few();
     let checked = match check(alloc, tree) {
@@ -94,13 +98,15 @@ pub(crate) fn judge_tree(alloc: Global, tree: Tree) -> Result<Design, ModelStop>
     }
 }
 
-/// The design of a model, which is judged by all rules. A refusal has what is wrong with it.
+/// The design of a model, which is judged by all rules; its resolution is a picosecond. A refusal has what is wrong with it.
 pub fn judge_model(alloc: Global, text: &[u8]) -> Result<Design, ModelStop>
     requires { length text.now < 2 ^ 32 }
     ensures accepted { IfOk result (IsDesignOfText text.now) }
+    ensures resolution { IfOk result (λ design. design.resolution.power ≡ 3) }
     ensures runs { IfOk result CanRun }
     ensures fault { IfErr result (λ stop. IfModelFault stop (HasModelFault text.now)) }
 {
+    reads_language_1();
     match read_model(alloc, text) {
         Ok(tree) => judge_tree(alloc, tree),
         Err(stop) => Err(stop),
@@ -142,7 +148,7 @@ fn judge_replay(alloc: Global, texts: &Texts) -> Result<Option<Choices>, ParseSt
 /// the text.
 pub fn judge_text(alloc: Global, model: &[u8], script: &[u8]) -> Result<Judged, JudgeStop>
     requires { length model.now < 2 ^ 32 }
-    ensures accepted { IfOk result (λ judged. (m : tree.Model) × Accepts model.now script.now m judged.design judged.script) }
+    ensures accepted { IfOk result (λ judged. (m : tree.Source) × Accepts model.now script.now m judged.design judged.script) }
     ensures replay { IfOk result (λ judged. judged.replay ≡ None) }
     ensures runs { IfOk result (λ judged. CanRun judged.design) }
     ensures fault { IfErr result (HasTextFault model.now script.now None) }
@@ -167,7 +173,7 @@ pub fn judge_text(alloc: Global, model: &[u8], script: &[u8]) -> Result<Judged, 
 /// with the text.
 pub fn judge(alloc: Global, texts: &Texts) -> Result<Judged, JudgeStop>
     requires { length texts.now.model < 2 ^ 32 }
-    ensures accepted { IfOk result (λ judged. (m : tree.Model) × Accepts texts.now.model texts.now.script m judged.design judged.script) }
+    ensures accepted { IfOk result (λ judged. (m : tree.Source) × Accepts texts.now.model texts.now.script m judged.design judged.script) }
     ensures replay { IfOk result (λ judged. ReadsReplay texts.now.replay judged.replay) }
     ensures runs { IfOk result (λ judged. CanRun judged.design) }
     ensures fault { IfErr result (HasTextFault texts.now.model texts.now.script texts.now.replay) }

@@ -1,5 +1,5 @@
 ghost use Rattle.std.specs.Prelude.{◌≡◌, ◌⊎◌, ℕ, List};
-ghost use Rattle.model_tree.specs.Tree.{Model};
+ghost use Rattle.model_tree.specs.Tree.{Source};
 ghost use Rattle.script_text.specs.ModelLexer.Reads.{Reads};
 ghost use Rattle.run_input.specs.Judged.{AcceptsModel, BreaksRule, BreaksWhole, HasNoTree, IsBrokenModel};
 
@@ -8,8 +8,8 @@ use model_parser::one_tree;
 /// A text that reads is accepted, or breaks a rule on its modules, or is at fault as a whole; and of these, and of
 /// reading as no tree, no two are so of one text.
 pub fn one_cause()
-    ensures some { (text : List ℕ) (m : Model) → Reads text m → AcceptsModel text m ⊎ (BreaksRule text ⊎ BreaksWhole text) }
-    ensures accepted { (text : List ℕ) (m : Model) → AcceptsModel text m → IsBrokenModel text → ⊥ }
+    ensures some { (text : List ℕ) (m : Source) → Reads text m → AcceptsModel text m ⊎ (BreaksRule text ⊎ BreaksWhole text) }
+    ensures accepted { (text : List ℕ) (m : Source) → AcceptsModel text m → IsBrokenModel text → ⊥ }
     ensures unread { (text : List ℕ) → HasNoTree text → BreaksRule text ⊎ BreaksWhole text → ⊥ }
     ensures ruled { (text : List ℕ) → BreaksRule text → BreaksWhole text → ⊥ }
 {

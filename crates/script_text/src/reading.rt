@@ -9,7 +9,7 @@ ghost use Rattle.script_text.specs.Progress.{GoesOn, StopsAt};
 use super::forms::{CommandForm, LineForm, TextCommand};
 use sim_model::logic_values_api::Text;
 use sim_model::plain_lists_api::Items;
-use sim_model::sim_time_api::{Time, Unit, of_unit};
+use sim_model::sim_time_api::{Time, Unit, picoseconds_of};
 use std::alloc::{AllocError, Global};
 use text_lines::model_tree_api::ParseStop;
 use text_lines::{cut, is_comment, line_number, next_word, number_read, without_return};
@@ -85,7 +85,7 @@ fn unit_of(bytes: &[u8]) -> Option<Unit>
 fn units_read(number: u64, unit: Unit) -> Option<Time>
     ensures { result ≡ spec.units_read number unit }
 {
-    let time = of_unit(number, unit)?;
+    let time = picoseconds_of(number, unit)?;
     if time.0 > 0 { Some(time) } else { None }
 }
 

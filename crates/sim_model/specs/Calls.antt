@@ -212,8 +212,9 @@ new_instance c h s args = record {
   ended = false;
 }
 
+-- its parent is the instance on top of the stack
 abbrev pub added : Config → Instance → Config
-added c i = record c { processes = record c.processes { instances = c.processes.instances ++ i ∷ [] } }
+added c i = record c { processes = record c.processes { instances = c.processes.instances ++ i ∷ []; parents = c.processes.parents ++ slice_get c.processes.stack 0 ∷ [] } }
 
 abbrev pub runnable_unless : Bool → ℕ → Config → Config
 runnable_unless true q c = c

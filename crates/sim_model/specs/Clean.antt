@@ -1,6 +1,6 @@
 -- Clean configurations (IEEE 1666-2011, 4.2.1 and 5.6.6). In two groups of facts: who stands where, and that nothing of an
 -- instance that has ended is left; and how guards, unwind blocks and their marks agree.
-use Rattle.std.specs.Prelude.{◌≡◌, ℕ, ◌+◌, ◌==◌, ◌<◌, ◌≤◌, ⊤, Bool, true, false, not, ◌&&◌, List, [], ◌∷◌, ◌++◌, filter, count_by, slice_get, Some, Contains, if◌then◌else◌}
+use Rattle.std.specs.Prelude.{◌≡◌, ℕ, ◌+◌, ◌==◌, ◌<◌, ◌≤◌, ⊤, Bool, true, false, not, ◌&&◌, List, [], ◌∷◌, ◌++◌, filter, count_by, length, slice_get, Some, Contains, if◌then◌else◌}
 use Rattle.std.specs.List.{list_any}
 use Rattle.flat_design.specs.Code as code
 use Rattle.flat_design.specs.Code.{Arena, Statement, block_at, statement_at, body_at}
@@ -8,7 +8,7 @@ use Rattle.flat_design.specs.Typed.{EachOf}
 use Rattle.flat_design.specs.Reach.{Reached, InBody}
 use Rattle.flat_design.specs.declared.code.CodeBody.{CodeBody}
 use Rattle.flat_design.specs.declared.code.Handler.{Handler}
-use Rattle.sim_model.specs.Residual.{Residual, skip, one, seq, owing, guard, try_, frame, shell, run, goal, has_goal, Mark, enter, leave, begin, finish}
+use Rattle.sim_model.specs.Residual.{Residual, skip, one, batch, seq, owing, guard, try_, frame, shell, run, goal, has_goal, Mark, enter, leave, begin, finish}
 use Rattle.sim_model.specs.Configuration.{Config, Instance, Processes, Trace, waits_for_nothing, no_deadline, arena}
 
 -- ---- who stands where
@@ -45,6 +45,9 @@ pub record CleanProcesses (ps : Processes) : Type 0 where
   pub kept : (p : ℕ) (i : Instance) → slice_get ps.instances p ≡ Some i → i.kept ≡ true → i.suspended ≡ true
   -- a suspended instance is not runnable
   pub suspended : (p : ℕ) (i : Instance) → slice_get ps.instances p ≡ Some i → i.suspended ≡ true → times p ps.runnable ≡ 0
+  -- each instance has its parent, or none, which is a smaller serial
+  pub counted : length ps.parents ≡ length ps.instances
+  pub parents : (p q : ℕ) → slice_get ps.parents p ≡ Some (Some q) → q < p
   -- of an instance that has ended nothing is left
   pub nothing_left : (p : ℕ) (i : Instance) → slice_get ps.instances p ≡ Some i → i.ended ≡ true → i.residual ≡ skip
 
@@ -53,6 +56,7 @@ pub record CleanProcesses (ps : Processes) : Type 0 where
 abbrev pub goals_in : Residual → ℕ
 goals_in skip = 0
 goals_in (one s) = 0
+goals_in (batch s qs) = 0
 goals_in (seq r ss) = goals_in r
 goals_in (owing r g u) = goals_in r
 goals_in (guard r g u) = goals_in r
@@ -73,6 +77,7 @@ EachInHandlers P a handlers = EachOf (λ (h : Handler). EachInBlock P a h.block)
 abbrev pub EachLeft : (ℕ → Type 0) → Arena → Residual → Type 0
 EachLeft P a skip = ⊤
 EachLeft P a (one s) = P s
+EachLeft P a (batch s qs) = P s
 EachLeft P a (seq r ss) = EachLeft P a r × EachOf P ss
 EachLeft P a (owing r g u) = EachLeft P a r × EachInBlock P a u
 EachLeft P a (guard r g u) = EachLeft P a r × EachInBlock P a u
@@ -86,6 +91,7 @@ EachLeft P a (goal r k) = EachLeft P a r
 abbrev pub EachBelowGoal : (ℕ → Type 0) → Arena → Residual → Type 0
 EachBelowGoal P a skip = ⊤
 EachBelowGoal P a (one s) = ⊤
+EachBelowGoal P a (batch s qs) = ⊤
 EachBelowGoal P a (seq r ss) = EachBelowGoal P a r
 EachBelowGoal P a (owing r g u) = EachBelowGoal P a r
 EachBelowGoal P a (guard r g u) = EachBelowGoal P a r
@@ -111,6 +117,7 @@ pub record IsOfUnwindBlock (a : Arena) (n : ℕ) : Type 0 where
 abbrev pub guards_of : Residual → List ℕ
 guards_of skip = []
 guards_of (one s) = []
+guards_of (batch s qs) = []
 guards_of (seq r ss) = guards_of r
 guards_of (owing r g u) = g ∷ guards_of r
 guards_of (guard r g u) = g ∷ guards_of r
@@ -124,6 +131,7 @@ guards_of (goal r k) = guards_of r
 abbrev pub owes : Residual → Bool
 owes skip = false
 owes (one s) = false
+owes (batch s qs) = false
 owes (seq r ss) = owes r
 owes (owing r g u) = true
 owes (guard r g u) = owes r
@@ -137,6 +145,7 @@ owes (goal r k) = owes r
 abbrev pub OneAtATime : Residual → Type 0
 OneAtATime skip = ⊤
 OneAtATime (one s) = ⊤
+OneAtATime (batch s qs) = ⊤
 OneAtATime (seq r ss) = OneAtATime r
 OneAtATime (owing r g u) = OneAtATime r
 OneAtATime (guard r g u) = OneAtATime r

@@ -80,11 +80,13 @@ pub record Instance : Type 0 where
   pub disabled : Bool
   pub ended : Bool
 
--- the runnable instances and the active ones by their serials, the top of the stack first, and all by serial
+-- the runnable instances and the active ones by their serials, the top of the stack first, and all by serial; and of each, also
+-- of one that has ended, the instance that spawned it, where one did
 pub record Processes : Type 0 where
   pub runnable : List ℕ
   pub stack : List ℕ
   pub instances : List Instance
+  pub parents : List (Option ℕ)
 
 -- the channels of each kind, by their numbers; of signals and resolved signals also whether the last update changed them,
 -- and of resolved signals whether they asked for an update
@@ -220,7 +222,7 @@ abbrev pub start : Design → List Command → Config
 start d script = record {
   design = d;
   cycle = record { phase = phase.Idle; begun = false; now = 0; end = None; stop_asked = false; stopped = false };
-  processes = record { runnable = []; stack = []; instances = map (first_instance d) d.processes };
+  processes = record { runnable = []; stack = []; instances = map (first_instance d) d.processes; parents = map (λ (p : ProcessPart). None) d.processes };
   events = replicate d.events pending.Nothing;
   channels = first_channels d;
   store = record { variables = map (λ (p : VariablePart). p.initial) d.variables; memories = map (λ (p : MemoryPart). replicate p.size 0) d.memories };

@@ -1,5 +1,5 @@
 -- Process control (IEEE 1666-2011, 5.6.6): what a control call does, by its target, and what an unwinding ends in.
-use Rattle.std.specs.Prelude.{ℕ, Bool, true, false, not, ◌&&◌, ◌||◌, List, [], ◌∷◌, ◌++◌, drop, Option, Some, None, Result, Ok, Err, if◌then◌else◌}
+use Rattle.std.specs.Prelude.{ℕ, suc, Bool, true, false, not, ◌&&◌, ◌||◌, List, [], ◌∷◌, ◌++◌, drop, filter, Option, Some, None, Result, Ok, Err, if◌then◌else◌}
 use Rattle.flat_design.specs.ModelTree.declared.items.ProcessKind.{ProcessKind}
 use Rattle.flat_design.specs.ModelTree.declared.items.ProcessKind.TheVariants as process
 use Rattle.flat_design.specs.ModelTree.declared.statements.Control.{Control}
@@ -10,13 +10,13 @@ use Rattle.flat_design.specs.declared.code.Controlled.TheVariants as controlled
 use Rattle.flat_design.specs.declared.faults.RunFault.{RunFault}
 use Rattle.flat_design.specs.declared.faults.RunFault.TheVariants as fault
 use Rattle.sim_model.specs.Values.{on_ok}
-use Rattle.sim_model.specs.Residual.{Residual, skip, goal, in_nb, has_goal, begun}
+use Rattle.sim_model.specs.Residual.{Residual, skip, batch, goal, put, in_nb, has_goal, begun}
 use Rattle.sim_model.specs.Unwinding.{unw, catches, raise, left_by_unw, left_by_raise}
 use Rattle.sim_model.specs.Configuration.{Config, Instance, Trigger, waits_statically, no_deadline, instance_at, change_instance, with_residual, with_runnable, arena}
 use Rattle.sim_model.specs.Waits.{holds, without, freed, fire, leaves_stack}
 use Rattle.sim_model.specs.Reading.{Here, process_of, not_empty}
 use Rattle.sim_model.specs.Storing.{passes}
-use Rattle.sim_model.specs.Calls.{with_left, thrown}
+use Rattle.sim_model.specs.Calls.{with_left, thrown, is_alive}
 use Rattle.sim_model.specs.declared.plain.Goal.{Goal}
 use Rattle.sim_model.specs.declared.plain.Goal.TheVariants as goal_of
 
@@ -114,11 +114,44 @@ abbrev pub target_of : Here → ℕ → Controlled → Result ℕ RunFault
 target_of h p (controlled.Named n) = not_empty (process_of h n)
 target_of h p controlled.Myself = Ok p
 
-abbrev pub do_control : Config → ℕ → Residual → Here → Control → Controlled → Result Config RunFault
-do_control c p r h k who = on_ok (target_of h p who) (λ q. control_call (passes c p r) q k)
+-- Whom a call of p reaches that is for q and its descendants (IEEE 1666-2011, 5.6.6, SC_INCLUDE_DESCENDANTS): none where q has
+-- ended. Else q, and before it all that have not ended and lead to it over parents, also over those that have ended, the greatest
+-- serial first; p itself comes last.
 
-abbrev pub do_throw_it : Config → ℕ → Residual → Here → Controlled → ℕ → Result Config RunFault
-do_throw_it c p r h who e = on_ok (target_of h p who) (λ q. throw_call (passes c p r) q e)
+abbrev pub is_live : Option Instance → Bool
+is_live None = false
+is_live (Some i) = is_alive i
+
+-- n is found where its parent is
+abbrev pub found_with : ℕ → Option ℕ → List ℕ → List ℕ
+found_with n None found = found
+found_with n (Some q) found = if holds found q then n ∷ found else found
+
+-- a parent is a smaller serial, so that one pass over the parents of n and those behind it finds all
+abbrev pub descended : ℕ → List (Option ℕ) → List ℕ → List ℕ
+descended n [] found = found
+descended n (parent ∷ parents) found = descended (suc n) parents (found_with n parent found)
+
+abbrev pub with_descendants : List (Option ℕ) → ℕ → List ℕ
+with_descendants parents q = descended (suc q) (drop (suc q) parents) (q ∷ [])
+
+abbrev pub last_if : List ℕ → ℕ → List ℕ
+last_if qs p = if holds qs p then without qs p ++ p ∷ [] else qs
+
+abbrev pub targets : Config → ℕ → ℕ → List ℕ
+targets c q p = if is_live (instance_at c q) then last_if (filter (λ n. is_live (instance_at c n)) (with_descendants c.processes.parents q)) p else []
+
+-- the statement s owes its call to these
+abbrev pub with_owed : Config → ℕ → Residual → ℕ → List ℕ → Config
+with_owed c p r s qs = with_residual c p (put r (batch s qs))
+
+abbrev pub do_control : Config → ℕ → Residual → Here → ℕ → Control → Controlled → Bool → Result Config RunFault
+do_control c p r h s k who false = on_ok (target_of h p who) (λ q. control_call (passes c p r) q k)
+do_control c p r h s k who true = on_ok (target_of h p who) (λ q. Ok (with_owed c p r s (targets c q p)))
+
+abbrev pub do_throw_it : Config → ℕ → Residual → Here → ℕ → Controlled → ℕ → Bool → Result Config RunFault
+do_throw_it c p r h s who e false = on_ok (target_of h p who) (λ q. throw_call (passes c p r) q e)
+do_throw_it c p r h s who e true = on_ok (target_of h p who) (λ q. Ok (with_owed c p r s (targets c q p)))
 
 -- the ends of unwindings, and of bodies
 

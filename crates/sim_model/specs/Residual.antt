@@ -18,12 +18,14 @@ pub record Frame : Type 0 where
   pub call : Option ℕ
   pub via : Option Via
 
--- Nothing is left; one statement; what is left, and then these statements; what is left, and then the unwind block of a
--- guard that is owed; what is left inside a guard, with its number and its unwind block; inside a try; inside a call or the
--- body; inside one that is being unwound; inside the unwind block of a guard; and what is to be unwound before a goal.
+-- Nothing is left; one statement; a control call that is still owed to these instances; what is left, and then these
+-- statements; what is left, and then the unwind block of a guard that is owed; what is left inside a guard, with its number and
+-- its unwind block; inside a try; inside a call or the body; inside one that is being unwound; inside the unwind block of a guard;
+-- and what is to be unwound before a goal.
 pub data Residual : Type 0 where
   skip : Residual
   one : ℕ → Residual
+  batch : ℕ → List ℕ → Residual
   seq : Residual → List ℕ → Residual
   owing : Residual → ℕ → ℕ → Residual
   guard : Residual → ℕ → ℕ → Residual
@@ -76,6 +78,8 @@ in_shell r x = shell r x
 abbrev pub settle : Arena → Residual → Residual
 settle a skip = skip
 settle a (one s) = one s
+settle a (batch s []) = skip
+settle a (batch s (q ∷ qs)) = batch s (q ∷ qs)
 settle a (seq r ss) = then_on (settle a r) ss
 settle a (owing r g u) = then_owed a (settle a r) g u
 settle a (guard r g u) = in_guard (settle a r) g u
@@ -109,6 +113,7 @@ left_if p r g = []
 abbrev pub fall : ℕ → Arena → Residual → List Mark
 fall p a skip = []
 fall p a (one s) = []
+fall p a (batch s qs) = []
 fall p a (seq r ss) = fall p a r
 fall p a (owing r g u) = fall p a r ++ begun_if p a (settle a r) g u
 fall p a (guard r g u) = fall p a r ++ left_if p (settle a r) g
@@ -118,9 +123,11 @@ fall p a (shell r x) = fall p a r
 fall p a (run g r) = fall p a r ++ finished_if p g (settle a r)
 fall p a (goal r k) = fall p a r
 
--- what comes next: a statement; the end of a call; the end of the body; the end of an unwinding; or nothing
+-- what comes next: a statement; the call that one owes to an instance; the end of a call; the end of the body; the end of an
+-- unwinding; or nothing
 pub data Next : Type 0 where
   statement : ℕ → Next
+  owes : ℕ → ℕ → Next
   leaves : Frame → Next
   done : Next
   reaches : Goal → Next
@@ -141,6 +148,8 @@ before_goal next k = next
 abbrev pub next_of : Residual → Next
 next_of skip = nothing
 next_of (one s) = statement s
+next_of (batch s []) = nothing
+next_of (batch s (q ∷ qs)) = owes s q
 next_of (seq r ss) = next_of r
 next_of (owing r g u) = next_of r
 next_of (guard r g u) = next_of r
@@ -162,6 +171,7 @@ goal_or r k n inside = goal inside k
 abbrev pub put : Residual → Residual → Residual
 put skip n = skip
 put (one s) n = n
+put (batch s qs) n = n
 put (seq r ss) n = followed (put r n) ss
 put (owing r g u) n = owing (put r n) g u
 put (guard r g u) n = guard (put r n) g u
@@ -170,6 +180,20 @@ put (frame r x) n = frame_or r x n (put r n)
 put (shell r x) n = shell (put r n) x
 put (run g r) n = run g (put r n)
 put (goal r k) n = goal_or r k n (put r n)
+
+-- the call that comes next is owed to one instance less
+abbrev pub taken_off : Residual → Residual
+taken_off skip = skip
+taken_off (one s) = one s
+taken_off (batch s qs) = batch s (drop 1 qs)
+taken_off (seq r ss) = seq (taken_off r) ss
+taken_off (owing r g u) = owing (taken_off r) g u
+taken_off (guard r g u) = guard (taken_off r) g u
+taken_off (try_ r handlers) = try_ (taken_off r) handlers
+taken_off (frame r x) = frame (taken_off r) x
+taken_off (shell r x) = shell (taken_off r) x
+taken_off (run g r) = run g (taken_off r)
+taken_off (goal r k) = goal (taken_off r) k
 
 -- the innermost call, the body among them, also one that is being unwound
 
@@ -180,6 +204,7 @@ or_frame (Some inner) x = Some inner
 abbrev pub innermost : Residual → Option Frame
 innermost skip = None
 innermost (one s) = None
+innermost (batch s qs) = None
 innermost (seq r ss) = innermost r
 innermost (owing r g u) = innermost r
 innermost (guard r g u) = innermost r
@@ -197,6 +222,7 @@ changed_if (Some inner) f x = x
 abbrev pub in_innermost : (Frame → Frame) → Residual → Residual
 in_innermost f skip = skip
 in_innermost f (one s) = one s
+in_innermost f (batch s qs) = batch s qs
 in_innermost f (seq r ss) = seq (in_innermost f r) ss
 in_innermost f (owing r g u) = owing (in_innermost f r) g u
 in_innermost f (guard r g u) = guard (in_innermost f r) g u
@@ -214,6 +240,7 @@ or_via (Some inner) via = Some inner
 abbrev pub within : Residual → Option Via
 within skip = None
 within (one s) = None
+within (batch s qs) = None
 within (seq r ss) = within r
 within (owing r g u) = within r
 within (guard r g u) = within r
@@ -231,6 +258,7 @@ counted_call (Some call) = 1
 abbrev pub open_frames : Residual → ℕ
 open_frames skip = 0
 open_frames (one s) = 0
+open_frames (batch s qs) = 0
 open_frames (seq r ss) = open_frames r
 open_frames (owing r g u) = open_frames r
 open_frames (guard r g u) = open_frames r
@@ -248,6 +276,7 @@ is_nonblocking (Some via) = not via.blocking
 abbrev pub in_nb : Residual → Bool
 in_nb skip = false
 in_nb (one s) = false
+in_nb (batch s qs) = false
 in_nb (seq r ss) = in_nb r
 in_nb (owing r g u) = in_nb r
 in_nb (guard r g u) = in_nb r
@@ -260,6 +289,7 @@ in_nb (goal r k) = in_nb r
 abbrev pub has_goal : Residual → Bool
 has_goal skip = false
 has_goal (one s) = false
+has_goal (batch s qs) = false
 has_goal (seq r ss) = has_goal r
 has_goal (owing r g u) = has_goal r
 has_goal (guard r g u) = has_goal r

@@ -4,7 +4,7 @@ use Rattle.flat_design.specs.Code as code
 use Rattle.flat_design.specs.Code.{Statement, statement_at}
 use Rattle.flat_design.specs.declared.faults.RunFault.{RunFault}
 use Rattle.sim_model.specs.Residual as residual
-use Rattle.sim_model.specs.Residual.{Residual, Frame, Next, skip, settle, fall, next_of, put}
+use Rattle.sim_model.specs.Residual.{Residual, Frame, Next, skip, settle, fall, next_of, put, taken_off}
 use Rattle.sim_model.specs.Configuration.{Config, Instance, arena, instance_at, with_residual, with_marks}
 use Rattle.sim_model.specs.Reading.{Here, here}
 use Rattle.sim_model.specs.Storing.{passes, do_var, do_assign, do_print, do_if, do_while}
@@ -12,7 +12,7 @@ use Rattle.sim_model.specs.Waiting.{do_wait, do_next_trigger, do_notify, do_noti
 use Rattle.sim_model.specs.Channels.{do_write, do_read, do_nb_read, do_nb_write, do_lock, do_trylock, do_unlock, do_sem_wait, do_sem_trywait, do_post}
 use Rattle.sim_model.specs.Calls.{do_call, do_return, call_ends, do_guard, do_try, thrown, do_spawn}
 use Rattle.sim_model.specs.Transport.{do_make, do_acquire, do_release, do_carry, do_b_transport, do_nb_transport, b_transport_ends, nb_transport_ends, do_qk_global, do_qk_inc, do_qk_set, do_qk_reset}
-use Rattle.sim_model.specs.Control.{do_control, do_throw_it, reaches_goal, done_by}
+use Rattle.sim_model.specs.Control.{control_call, throw_call, do_control, do_throw_it, reaches_goal, done_by}
 use Rattle.sim_model.specs.declared.plain.Via.{Via}
 
 -- a statement of instance p, which is i and of which r is left with statement number s showing; h tells where it stands
@@ -48,8 +48,8 @@ do_statement c p i r h s (code.qk_inc n e) = do_qk_inc c p r h n e
 do_statement c p i r h s (code.qk_set n e) = do_qk_set c p r h n e
 do_statement c p i r h s (code.qk_reset n) = do_qk_reset c p r h n
 do_statement c p i r h s (code.spawn x) = do_spawn c p r h x
-do_statement c p i r h s (code.control k who) = do_control c p r h k who
-do_statement c p i r h s (code.throw_it who e) = do_throw_it c p r h who e
+do_statement c p i r h s (code.control k who all) = do_control c p r h s k who all
+do_statement c p i r h s (code.throw_it who e all) = do_throw_it c p r h s who e all
 do_statement c p i r h s (code.throw e) = thrown c p r e
 do_statement c p i r h s (code.return_ e) = do_return c p r h e
 do_statement c p i r h s code.stop = do_stop c p r
@@ -96,8 +96,8 @@ hands_back c p h x (code.qk_inc n e) = Ok c
 hands_back c p h x (code.qk_set n e) = Ok c
 hands_back c p h x (code.qk_reset n) = Ok c
 hands_back c p h x (code.spawn s) = Ok c
-hands_back c p h x (code.control k who) = Ok c
-hands_back c p h x (code.throw_it who e) = Ok c
+hands_back c p h x (code.control k who all) = Ok c
+hands_back c p h x (code.throw_it who e all) = Ok c
 hands_back c p h x (code.throw e) = Ok c
 hands_back c p h x (code.return_ e) = Ok c
 hands_back c p h x code.stop = Ok c
@@ -118,12 +118,60 @@ calling_statement c (Some s) = statement_at (arena c) s
 abbrev pub leaves_call : Config → ℕ → Instance → Residual → Frame → Result Config RunFault
 leaves_call c p i r x = handed_back (passes c p r) p (here (passes c p r) p i (put r skip)) x (calling_statement c x.call)
 
+-- the call that a statement owes to the instance q, to whom it is owed no more; a statement that is no control call owes none
+abbrev pub owed_call : Config → ℕ → Statement → Result Config RunFault
+owed_call c q (code.var n t e) = Ok c
+owed_call c q (code.assign d e) = Ok c
+owed_call c q (code.call target f arguments) = Ok c
+owed_call c q (code.read target ch) = Ok c
+owed_call c q (code.nb_read target ch y) = Ok c
+owed_call c q (code.nb_write target ch t e) = Ok c
+owed_call c q (code.trylock target ch) = Ok c
+owed_call c q (code.unlock target ch) = Ok c
+owed_call c q (code.sem_trywait target ch) = Ok c
+owed_call c q (code.nb_transport target socket n phase d) = Ok c
+owed_call c q (code.write ch t e) = Ok c
+owed_call c q (code.print text e) = Ok c
+owed_call c q (code.notify n) = Ok c
+owed_call c q (code.notify_delta n) = Ok c
+owed_call c q (code.notify_after n e) = Ok c
+owed_call c q (code.cancel n) = Ok c
+owed_call c q (code.wait w) = Ok c
+owed_call c q (code.next_trigger w) = Ok c
+owed_call c q (code.lock ch) = Ok c
+owed_call c q (code.sem_wait ch) = Ok c
+owed_call c q (code.post ch) = Ok c
+owed_call c q (code.make n e m) = Ok c
+owed_call c q (code.acquire n) = Ok c
+owed_call c q (code.release n) = Ok c
+owed_call c q (code.carry n m) = Ok c
+owed_call c q (code.b_transport socket n d) = Ok c
+owed_call c q (code.qk_global e) = Ok c
+owed_call c q (code.qk_inc n e) = Ok c
+owed_call c q (code.qk_set n e) = Ok c
+owed_call c q (code.qk_reset n) = Ok c
+owed_call c q (code.spawn s) = Ok c
+owed_call c q (code.control k who all) = control_call c q k
+owed_call c q (code.throw_it who e all) = throw_call c q e
+owed_call c q (code.throw e) = Ok c
+owed_call c q (code.return_ e) = Ok c
+owed_call c q code.stop = Ok c
+owed_call c q (code.if_ e b other) = Ok c
+owed_call c q (code.while_ e b) = Ok c
+owed_call c q (code.guard b u) = Ok c
+owed_call c q (code.try_ b handlers) = Ok c
+
+abbrev pub owed_by : Config → ℕ → Option Statement → Result Config RunFault
+owed_by c q None = Ok c
+owed_by c q (Some s) = owed_call c q s
+
 abbrev pub on_statement : Config → ℕ → Instance → Residual → ℕ → Option Statement → Result Config RunFault
 on_statement c p i r s None = Ok (passes c p r)
 on_statement c p i r s (Some x) = do_statement c p i r (here c p i r) s x
 
 abbrev pub do_next : Config → ℕ → Instance → Residual → Next → Result Config RunFault
 do_next c p i r (residual.statement s) = on_statement c p i r s (statement_at (arena c) s)
+do_next c p i r (residual.owes s q) = owed_by (with_residual c p (taken_off r)) q (statement_at (arena c) s)
 do_next c p i r (residual.leaves x) = leaves_call c p i r x
 do_next c p i r residual.done = Ok (done_by c p i i.kind)
 do_next c p i r (residual.reaches k) = Ok (reaches_goal c p i r k)

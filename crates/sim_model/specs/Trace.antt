@@ -1,5 +1,5 @@
 -- The trace: a text in the form of a value change dump (IEEE 1364-2005, 18) of what was seen of a run.
-use Rattle.std.specs.Prelude.{ℕ, zero, suc, ◌+◌, ◌-◌, ◌/◌, ◌%◌, ◌^◌, ◌==◌, Bool, true, false, not, ◌&&◌, nat_lt, List, [], ◌∷◌, ◌++◌, map, reverse, length, slice_get, codes, Option, Some, None, if◌then◌else◌}
+use Rattle.std.specs.Prelude.{ℕ, zero, suc, ◌+◌, ◌-◌, ◌/◌, ◌%◌, ◌^◌, ◌==◌, Bool, true, false, not, ◌&&◌, nat_lt, List, [], ◌∷◌, ◌++◌, map, reverse, length, slice_get, unwrap_or, codes, Option, Some, None, if◌then◌else◌}
 use Rattle.std.specs.List.{flat_map}
 use Rattle.std.specs.Fmt.{decimal}
 use Rattle.signal_channel.specs.LogicValues.declared.kinds.Digit.{Digit}
@@ -8,6 +8,7 @@ use Rattle.signal_channel.specs.LogicValues.declared.kinds.Value.{Value}
 use Rattle.signal_channel.specs.LogicValues.declared.kinds.Value.TheVariants as value
 use Rattle.signal_channel.specs.LogicValues.Digits.{digits}
 use Rattle.signal_channel.specs.LogicValues.SameValue.{is_same}
+use Rattle.flat_design.specs.SimTime.declared.moments.Resolution.{Resolution}
 use Rattle.flat_design.specs.declared.design.Design.{Design}
 use Rattle.flat_design.specs.declared.design.SignalPart.{SignalPart}
 use Rattle.flat_design.specs.declared.design.Visible.{Visible}
@@ -134,8 +135,18 @@ abbrev pub walk_from : ℕ → Design → ℕ → List ℕ
 walk_from zero d i = []
 walk_from (suc more) d i = object_walk d i (walk_from more d) (slice_get d.objects.list i)
 
+-- the resolution: 1, 10 or 100 of a unit
+abbrev pub units : List (List ℕ)
+units = codes "fs" ∷ codes "ps" ∷ codes "ns" ∷ codes "us" ∷ codes "ms" ∷ codes "s" ∷ []
+
+abbrev pub resolution_text : Resolution → List ℕ
+resolution_text r = decimal (10 ^ (r.power % 3)) ++ codes " " ++ unwrap_or (slice_get units (r.power / 3)) []
+
+abbrev pub scale_line : Resolution → List ℕ
+scale_line r = codes "$timescale " ++ resolution_text r ++ codes " $end" ++ 10 ∷ []
+
 abbrev pub header : Design → List ℕ
-header d = codes "$timescale 1 ps $end" ++ 10 ∷ walk_from (length d.objects.list) d 0 ++ codes "$enddefinitions $end" ++ 10 ∷ []
+header d = scale_line d.resolution ++ walk_from (length d.objects.list) d 0 ++ codes "$enddefinitions $end" ++ 10 ∷ []
 
 -- the first snapshot has all values, and a later one those that differ from the one before; n is the number of the first
 

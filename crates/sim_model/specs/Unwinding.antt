@@ -4,7 +4,7 @@ use Rattle.signal_channel.specs.LogicValues.declared.kinds.Value.{Value}
 use Rattle.flat_design.specs.Code.{Arena, block_at}
 use Rattle.flat_design.specs.declared.code.Handler.{Handler}
 use Rattle.sim_model.specs.Residual as residual
-use Rattle.sim_model.specs.Residual.{Residual, Mark, skip, one, seq, owing, guard, try_, frame, shell, run, goal, followed}
+use Rattle.sim_model.specs.Residual.{Residual, Mark, skip, one, batch, seq, owing, guard, try_, frame, shell, run, goal, followed}
 use Rattle.sim_model.specs.declared.plain.Goal.{Goal}
 use Rattle.sim_model.specs.declared.plain.Via.{Via}
 
@@ -13,6 +13,7 @@ use Rattle.sim_model.specs.declared.plain.Via.{Via}
 abbrev pub unw : Residual → Residual
 unw skip = skip
 unw (one s) = skip
+unw (batch s qs) = skip
 unw (seq r ss) = unw r
 unw (owing r g u) = owing (unw r) g u
 unw (guard r g u) = owing (unw r) g u
@@ -33,6 +34,7 @@ handles handlers e = is_some (handler_of handlers e)
 abbrev pub catches : Residual → ℕ → Bool
 catches skip e = false
 catches (one s) e = false
+catches (batch s qs) e = false
 catches (seq r ss) e = catches r e
 catches (owing r g u) e = catches r e
 catches (guard r g u) e = catches r e
@@ -54,6 +56,7 @@ handled a r handlers e k = followed (goal (unw r) k) (handler_block a (handler_o
 abbrev pub raise : Arena → Residual → ℕ → Goal → Residual
 raise a skip e k = skip
 raise a (one s) e k = one s
+raise a (batch s qs) e k = batch s qs
 raise a (seq r ss) e k = seq (raise a r e k) ss
 raise a (owing r g u) e k = owing (raise a r e k) g u
 raise a (guard r g u) e k = guard (raise a r e k) g u
@@ -72,6 +75,7 @@ left_via (Some via) = via ∷ []
 abbrev pub left_by_unw : Residual → List Via
 left_by_unw skip = []
 left_by_unw (one s) = []
+left_by_unw (batch s qs) = []
 left_by_unw (seq r ss) = left_by_unw r
 left_by_unw (owing r g u) = left_by_unw r
 left_by_unw (guard r g u) = left_by_unw r
@@ -84,6 +88,7 @@ left_by_unw (goal r k) = left_by_unw r
 abbrev pub left_by_raise : Residual → ℕ → List Via
 left_by_raise skip e = []
 left_by_raise (one s) e = []
+left_by_raise (batch s qs) e = []
 left_by_raise (seq r ss) e = left_by_raise r e
 left_by_raise (owing r g u) e = left_by_raise r e
 left_by_raise (guard r g u) e = left_by_raise r e
@@ -99,6 +104,7 @@ left_by_raise (goal r k) e = left_by_raise r e
 abbrev pub has_exit : Residual → Bool
 has_exit skip = false
 has_exit (one s) = false
+has_exit (batch s qs) = false
 has_exit (seq r ss) = has_exit r
 has_exit (owing r g u) = has_exit r
 has_exit (guard r g u) = has_exit r
@@ -111,6 +117,7 @@ has_exit (goal r k) = has_exit r
 abbrev pub returned : Option Value → Residual → Residual
 returned v skip = skip
 returned v (one s) = one s
+returned v (batch s qs) = batch s qs
 returned v (seq r ss) = seq (returned v r) ss
 returned v (owing r g u) = owing (returned v r) g u
 returned v (guard r g u) = guard (returned v r) g u
@@ -124,6 +131,7 @@ returned v (goal r k) = goal (returned v r) k
 abbrev pub guards_left : ℕ → Residual → List Mark
 guards_left p skip = []
 guards_left p (one s) = []
+guards_left p (batch s qs) = []
 guards_left p (seq r ss) = guards_left p r
 guards_left p (owing r g u) = guards_left p r
 guards_left p (guard r g u) = guards_left p r ++ residual.leave p g ∷ []
@@ -136,6 +144,7 @@ guards_left p (goal r k) = guards_left p r
 abbrev pub return_marks : ℕ → Residual → List Mark
 return_marks p skip = []
 return_marks p (one s) = []
+return_marks p (batch s qs) = []
 return_marks p (seq r ss) = return_marks p r
 return_marks p (owing r g u) = return_marks p r
 return_marks p (guard r g u) = return_marks p r

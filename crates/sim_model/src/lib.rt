@@ -63,7 +63,7 @@ pub mod signal_channel_api {
 
 /// What is passed on of sim_time.
 pub mod sim_time_api {
-    pub use quantum_keeper::sim_time_api::{Time, Unit, add, of_unit, sub, times};
+    pub use quantum_keeper::sim_time_api::{Time, Unit, add, picoseconds_of, sub, times};
 }
 
 /// What is passed on of transport_phases.

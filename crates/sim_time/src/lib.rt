@@ -1,4 +1,4 @@
-//! Simulated time: a whole number of picoseconds below 2^64, and its units.
+//! Simulated time: a whole number of resolutions below 2^64, its units, and the resolution.
 //!
 //! No call wraps or saturates: what passes the range is `None`.
 #![tactic(auto)]
@@ -6,5 +6,5 @@
 mod moments;
 mod sums;
 
-pub use moments::{Time, Unit};
-pub use sums::{add, of_unit, sub, times};
+pub use moments::{Resolution, Time, Unit, UnitStop};
+pub use sums::{add, of_unit, picoseconds_of, sub, times};

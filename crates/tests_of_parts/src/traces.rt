@@ -1,5 +1,6 @@
 //! The header of the trace of a design in which very many instances stand in one another.
 
+use flat_design::sim_time_api::Resolution;
 use flat_design::{Code, Design, Object, ObjectForm, Objects};
 use logic_values::Text;
 use plain_lists::Items;
@@ -24,6 +25,7 @@ fn instances(alloc: Global, count: u32) -> Result<Items<Object>, AllocError> {
 // A design of these objects, with no parts and no code.
 fn design(alloc: Global, list: Items<Object>) -> Design {
     Design {
+        resolution: Resolution::picosecond(),
         objects: Objects {
             list,
             binds: Items::new(alloc),

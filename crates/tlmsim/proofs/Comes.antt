@@ -37,14 +37,14 @@ pub record Comes (c : Call) (status : ℕ) : Type 0 where
   pub long : (old new : Files) (model : List ℕ) → ModelGiven c old new model → model_limit < length model → Gives c status 10
   pub model : (old new : Files) (model script : List ℕ) (replay : Option (List ℕ)) → Given c old new model script replay → Within model script replay → IsBrokenModel model → Gives c status 3
   pub script : (old new : Files) (model script : List ℕ) (replay : Option (List ℕ)) → Given c old new model script replay → Within model script replay
-      → (m : tree.Model) → AcceptsModel model m → IsBrokenScript m script → Gives c status 4
+      → (m : tree.Source) → AcceptsModel model m → IsBrokenScript m script → Gives c status 4
   pub replay : (old new : Files) (model script : List ℕ) (replay : Option (List ℕ)) → Given c old new model script replay → Within model script replay
-      → (m : tree.Model) (d : Design) (commands : List Command) → Accepts model script m d commands → IsBrokenReplay replay → Gives c status 4
+      → (m : tree.Source) (d : Design) (commands : List Command) → Accepts model script m d commands → IsBrokenReplay replay → Gives c status 4
   pub page_refused : (old new : Files) (text : List ℕ) (g : PageGiven c old new text) → length text ≤ model_limit → IsUnfitFor g.kind text → Gives c status 3
   pub complete : (old new : Files) (model script : List ℕ) (replay : Option (List ℕ)) → Given c old new model script replay → Within model script replay
-      → (m : tree.Model) (d : Design) (commands : List Command) (listed : Option (List ℕ)) → Accepts model script m d commands → ReadsReplay replay listed
+      → (m : tree.Source) (d : Design) (commands : List Command) (listed : Option (List ℕ)) → Accepts model script m d commands → ReadsReplay replay listed
       → (OneRose c → ⊥) → IsRunStatus status ⊎ (status ≡ 8)
-  pub generates : (g : Generated) → line_of c.words ≡ Some (Generate g) → (m : tree.Model) (d : Design) (commands : List Command)
+  pub generates : (g : Generated) → line_of c.words ≡ Some (Generate g) → (m : tree.Source) (d : Design) (commands : List Command)
       → Accepts (generated g.size) (codes "run") m d commands → (OneRose c → ⊥) → IsRunStatus status ⊎ (status ≡ 8)
   pub tells : (old new : Files) (text : List ℕ) (g : PageGiven c old new text) → length text ≤ model_limit → IsFitFor g.kind text
       → (Rose c.before.out_faults c.after.out_faults → ⊥) → (status ≡ 0) ⊎ (status ≡ 8)

@@ -232,7 +232,7 @@ not_begun c a named spared e rose = by e rose
         differ is = cc
 
 -- a simulation that was run
-pub simulated : (c : Call) (s : Simulation) → line_of c.words ≡ Some (Simulate s) → (model script : List ℕ) (replay : Option (List ℕ)) → HasTexts c (Simulate s) model script replay → (m : tree.Model) (design : Design) (commands : List Command)
+pub simulated : (c : Call) (s : Simulation) → line_of c.words ≡ Some (Simulate s) → (model script : List ℕ) (replay : Option (List ℕ)) → HasTexts c (Simulate s) model script replay → (m : tree.Source) (design : Design) (commands : List Command)
     → Accepts model script m design commands → (listed : Option (List ℕ)) → ReadsReplay replay listed → SoundDesign design → Orderly design commands → (plan : Plan) → PlansRun s listed plan
     → (choices : List ℕ) (steps : ℕ) (st : Stop) → Ran (start design commands) plan choices steps st (Holds c (names_in (Simulate s))) → HadNoEnd (start design commands) plan choices steps
     → (st ≡ stop.WriteFault → Rose c.before.out_faults c.after.out_faults ⊎ Rose c.before.writes c.after.writes) → (plan.vcd ≡ None → plan.choices ≡ None → st ≡ stop.WriteFault → Rose c.before.out_faults c.after.out_faults)
@@ -277,7 +277,7 @@ page_cut c page part has front short out e rose = by e rose
         differ is = cc
 
 -- a generated model that was run, behind whose report its steps were told
-pub generated_so : (c : Call) (g : Generated) → line_of c.words ≡ Some (Generate g) → (model : List ℕ) → model ≡ generated g.size → (m : tree.Model) (design : Design) (commands : List Command)
+pub generated_so : (c : Call) (g : Generated) → line_of c.words ≡ Some (Generate g) → (model : List ℕ) → model ≡ generated g.size → (m : tree.Source) (design : Design) (commands : List Command)
     → Accepts model (codes "run") m design commands → SoundDesign design → Orderly design commands → (plan : Plan) → IsPlan (Generate g) None plan
     → (run told : Outcome) (mid : Option (List ℕ)) → TellsSteps mid c.after.out run told → Ran (start design commands) plan run.choices run.steps run.stop (λ t. Grew c.before.out mid t.report)
     → HadNoEnd (start design commands) plan run.choices run.steps → AfterTold c.before.files c.after.files Same → (told.stop ≡ stop.WriteFault → Rose c.before.out_faults c.after.out_faults)

@@ -79,10 +79,10 @@ pub record ScriptRefused (c : Call) (f : ScriptFault) : Type 0 where
   pub script : List ℕ
   pub replay : Option (List ℕ)
   pub texts : HasTexts c mode model script replay
-  pub m : tree.Model
+  pub m : tree.Source
   pub accepted : AcceptsModel model m
   pub design : Design
-  pub is_design : IsDesignOf m design
+  pub is_design : IsDesignOf m.model design
   pub fault : HasScriptFault design script f
 
 -- all files were read, model and script are accepted, and this line says that the replay text is no list of serials
@@ -93,7 +93,7 @@ pub record ReplayRefused (c : Call) (at : ℕ) : Type 0 where
   pub script : List ℕ
   pub replay : Option (List ℕ)
   pub texts : HasTexts c mode model script replay
-  pub m : tree.Model
+  pub m : tree.Source
   pub design : Design
   pub commands : List Command
   pub accepts : Accepts model script m design commands
@@ -127,7 +127,7 @@ pub record Accepted (c : Call) : Type 0 where
   pub script : List ℕ
   pub replay : Option (List ℕ)
   pub texts : HasTexts c mode model script replay
-  pub m : tree.Model
+  pub m : tree.Source
   pub design : Design
   pub commands : List Command
   pub accepts : Accepts model script m design commands
@@ -359,14 +359,14 @@ pub record Answers (c : Call) (status : ℕ) (choices : List ℕ) (steps : ℕ) 
   pub large_model_comes : (old new : Files) (model : List ℕ) → ModelGiven c old new model → model_limit < length model → Gives c status 10
   pub model_comes : (old new : Files) (model script : List ℕ) (replay : Option (List ℕ)) → Given c old new model script replay → Within model script replay → IsBrokenModel model → Gives c status 3
   pub script_comes : (old new : Files) (model script : List ℕ) (replay : Option (List ℕ)) → Given c old new model script replay → Within model script replay
-      → (m : tree.Model) → AcceptsModel model m → IsBrokenScript m script → Gives c status 4
+      → (m : tree.Source) → AcceptsModel model m → IsBrokenScript m script → Gives c status 4
   pub replay_comes : (old new : Files) (model script : List ℕ) (replay : Option (List ℕ)) → Given c old new model script replay → Within model script replay
-      → (m : tree.Model) (d : Design) (commands : List Command) → Accepts model script m d commands → IsBrokenReplay replay → Gives c status 4
+      → (m : tree.Source) (d : Design) (commands : List Command) → Accepts model script m d commands → IsBrokenReplay replay → Gives c status 4
   pub page_refused_comes : (old new : Files) (text : List ℕ) (g : PageGiven c old new text) → length text ≤ model_limit → IsUnfitFor g.kind text → Gives c status 3
   pub complete : (old new : Files) (model script : List ℕ) (replay : Option (List ℕ)) → Given c old new model script replay → Within model script replay
-      → (m : tree.Model) (d : Design) (commands : List Command) (listed : Option (List ℕ)) → Accepts model script m d commands → ReadsReplay replay listed
+      → (m : tree.Source) (d : Design) (commands : List Command) (listed : Option (List ℕ)) → Accepts model script m d commands → ReadsReplay replay listed
       → (OneRose c → ⊥) → IsRunStatus status ⊎ (status ≡ 8)
-  pub generates : (g : Generated) → line_of c.words ≡ Some (Generate g) → (m : tree.Model) (d : Design) (commands : List Command)
+  pub generates : (g : Generated) → line_of c.words ≡ Some (Generate g) → (m : tree.Source) (d : Design) (commands : List Command)
       → Accepts (generated g.size) (codes "run") m d commands → (OneRose c → ⊥) → IsRunStatus status ⊎ (status ≡ 8)
   pub page_comes : (old new : Files) (text : List ℕ) (g : PageGiven c old new text) → length text ≤ model_limit → IsFitFor g.kind text
       → (Rose c.before.out_faults c.after.out_faults → ⊥) → (status ≡ 0) ⊎ (status ≡ 8)

@@ -22,10 +22,10 @@ verdict_line (verdict.No rule) = codes "order free no " ++ decimal rule ++ codes
 
 -- the model is accepted, and this line is what the rule on the order of processes says of a design of it
 pub record IsVerdictOf (model page : List ℕ) : Type 0 where
-  pub m : tree.Model
+  pub m : tree.Source
   pub accepted : AcceptsModel model m
   pub design : Design
-  pub is_design : IsDesignOf m design
+  pub is_design : IsDesignOf m.model design
   pub verdict : Verdict
   pub says : Says design verdict
   pub page_is : page ≡ verdict_line verdict
@@ -44,8 +44,8 @@ ReadsModel page_kind.Traffic = ⊥
 
 -- a text that has such a page: a model that is accepted, or a traffic file that has a bus
 abbrev pub IsFitFor : PageKind → List ℕ → Type 0
-IsFitFor page_kind.Layout text = (m : tree.Model) × AcceptsModel text m
-IsFitFor page_kind.Verdict text = (m : tree.Model) × AcceptsModel text m
+IsFitFor page_kind.Layout text = (m : tree.Source) × AcceptsModel text m
+IsFitFor page_kind.Verdict text = (m : tree.Source) × AcceptsModel text m
 IsFitFor page_kind.Traffic text = (bus : Bus) × (bus_of text ≡ Ok bus)
 
 -- and one that is refused

@@ -10,7 +10,7 @@ use Rattle.flat_design.specs.declared.objects.Object.{Object}
 use Rattle.flat_design.specs.declared.objects.ObjectForm.{ObjectForm}
 use Rattle.flat_design.specs.declared.objects.ObjectForm.TheVariants as form
 use Rattle.laws_runs.specs.SimModel.Configuration.{Config}
-use Rattle.laws_runs.specs.SimModel.Trace.{visible_width, scope_line, upscope_line, var_line, var_of, items_of, form_walk, object_walk, walk_from, header}
+use Rattle.laws_runs.specs.SimModel.Trace.{visible_width, scope_line, upscope_line, var_line, var_of, items_of, form_walk, object_walk, walk_from, scale_line, header}
 use Rattle.kernel_state.specs.Kernel.{StandsFor, whole_design}
 use Rattle.kernel_state.specs.declared.kernel.Kernel.{Kernel}
 
@@ -57,5 +57,5 @@ module _ (k : Kernel) where
 
   pub header-is : (c : Config) → StandsFor k c → header k.design ≡ header c.design
   header-is c h =
-      ap (λ t. codes "$timescale 1 ps $end" ++ 10 ∷ t ++ codes "$enddefinitions $end" ++ 10 ∷ []) (sym (walk_is (length k.design.objects.list) 0))
+      ap (λ t. scale_line k.design.resolution ++ t ++ codes "$enddefinitions $end" ++ 10 ∷ []) (sym (walk_is (length k.design.objects.list) 0))
       ∙ sym (ap (λ (d : Design). header d) h.design)

@@ -7,7 +7,7 @@ use Rattle.std.proofs.lemmas.List.Sums.{sum_by-cons}
 use Rattle.flat_design.specs.declared.design.Design.{Design}
 use Rattle.flat_design.specs.declared.design.Visible.{Visible}
 use Rattle.flat_design.specs.declared.objects.Object.{Object}
-use Rattle.laws_runs.specs.SimModel.Trace.{header, walk_from, object_walk, items_of, var_of, var_line, visible_width, upscope_line}
+use Rattle.laws_runs.specs.SimModel.Trace.{header, scale_line, walk_from, object_walk, items_of, var_of, var_line, visible_width, upscope_line}
 use Rattle.vcd_trace.specs.declared.walks.Task.{Task}
 use Rattle.vcd_trace.specs.declared.walks.Task.TheVariants as task
 use Rattle.vcd_trace.specs.Tables.{variable_of}
@@ -134,14 +134,14 @@ cost_step d (suc levels) number some =
 -- the whole header
 
 pub whole_header : (d : Design) (made behind walked start : List ℕ) (tasks : List Task) (list : List Object) → made ≡ behind
-    → behind ≡ walked ++ (codes "$enddefinitions $end" ++ 10 ∷ []) → walked ≡ start ++ tasks_text d tasks → start ≡ codes "$timescale 1 ps $end" ++ 10 ∷ []
+    → behind ≡ walked ++ (codes "$enddefinitions $end" ++ 10 ∷ []) → walked ≡ start ++ tasks_text d tasks → start ≡ scale_line d.resolution
     → tasks ≡ task.Visit 0 (length list) ∷ [] → list ≡ d.objects.list → made ≡ header d
 whole_header d made behind walked start tasks list e1 e2 e3 e4 e5 e6 =
-    let scale = codes "$timescale 1 ps $end" ++ 10 ∷ [] in
+    let scale = scale_line d.resolution in
     let end = codes "$enddefinitions $end" ++ 10 ∷ [] in
     e1 ∙ e2
     ∙ ap (λ (t : List ℕ). t ++ end) e3
     ∙ ap (λ (t : List ℕ). (t ++ tasks_text d tasks) ++ end) e4
     ∙ ap (λ (ts : List Task). (scale ++ tasks_text d ts) ++ end) e5
     ∙ ap (λ (os : List Object). (scale ++ walk_from (length os) d 0) ++ end) e6
-    ∙ ap (λ (t : List ℕ). scale ++ t) (sym (append_assoc (walk_from (length d.objects.list) d 0) (codes "$enddefinitions $end") (10 ∷ [])))
+    ∙ sym (append_assoc (scale ++ walk_from (length d.objects.list) d 0) (codes "$enddefinitions $end") (10 ∷ []))

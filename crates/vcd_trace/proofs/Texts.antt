@@ -1,6 +1,8 @@
 -- Ids, bits, digits and lines, one at a time.
 use Rattle.std.proofs.Common.{◌≡◌, ◌<◌, ◌≤◌, ◌+◌, ◌-◌, ◌/◌, ◌%◌, ◌^◌, ◌++◌, ℕ, zero, suc, Bool, true, false, List, [], ◌∷◌, Option, Some, map, reverse, drop, length, get_or, drop-cons, add-one, append_assoc, refl, sym, ap, ◌∙◌, arith, lit<}
 use Rattle.std.specs.Prelude.{codes, nat_lt, slice_get, if◌then◌else◌}
+use Rattle.std.specs.Fmt.{decimal}
+use Rattle.std.proofs.lemmas.Fmt.{decimal_digit, decimal_step}
 use Rattle.std.proofs.Math.Nat.{div-eq_of_lt, pow-le-pow_right}
 use Rattle.std.proofs.lemmas.List.{drop-drop, drop_all, map-append, reverse-append}
 use Rattle.std.proofs.lemmas.Bool.Decides.{nat_tests}
@@ -99,6 +101,28 @@ changed_next n us vs v within is =
     ∙ ap (λ (o : Option Value). change_line n o v ++ changed_lines (suc n) (drop 1 (drop n us)) (drop (n + 1) vs)) (get_drop n us)
     ∙ ap (λ (os : List Value). change_line n (slice_get us n) v ++ changed_lines (suc n) os (drop (n + 1) vs)) (drop-drop 1 n us)
     ∙ ap (λ (k : ℕ). change_line n (slice_get us n) v ++ changed_lines k (drop (n + 1) us) (drop (n + 1) vs)) up
+
+-- how many of its unit a resolution is
+
+pub decimal_1 : decimal 1 ≡ codes "1"
+decimal_1 = decimal_digit 1 (lit< tt)
+
+pub decimal_10 : decimal 10 ≡ codes "10"
+decimal_10 = decimal_step 10 (omega arith) (omega arith) ∙ ap (λ ds. ds ++ codes "0") decimal_1
+
+pub decimal_100 : decimal 100 ≡ codes "100"
+decimal_100 = decimal_step 100 (omega arith) (omega arith) ∙ ap (λ ds. ds ++ codes "0") decimal_10
+
+-- the line of the time scale, piece by piece
+pub scale_pieces : (old first second third new number unit : List ℕ) → first ≡ old ++ codes "$timescale " → second ≡ first ++ number → third ≡ second ++ unit → new ≡ third ++ (codes " $end" ++ 10 ∷ [])
+    → new ≡ old ++ (codes "$timescale " ++ (number ++ unit) ++ codes " $end" ++ 10 ∷ [])
+scale_pieces old first second third new number unit e1 e2 e3 e4 =
+    let scale = codes "$timescale " in
+    let end = codes " $end" ++ 10 ∷ [] in
+    e4
+    ∙ ap (λ xs. xs ++ end) (e3 ∙ ap (λ xs. xs ++ unit) (e2 ∙ ap (λ xs. xs ++ number) e1) ∙ append_assoc (old ++ scale) number unit ∙ append_assoc old scale (number ++ unit))
+    ∙ append_assoc old (scale ++ (number ++ unit)) end
+    ∙ ap (λ xs. old ++ xs) (sym (append_assoc (scale ++ (number ++ unit)) (codes " $end") (10 ∷ [])))
 
 -- the line that opens a scope, in three pieces
 pub scope_pieces : (text name one two three : List ℕ) → one ≡ text ++ codes "$scope module " → two ≡ one ++ name → three ≡ two ++ (codes " $end" ++ 10 ∷ []) → three ≡ text ++ scope_line name

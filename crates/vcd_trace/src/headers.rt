@@ -2,13 +2,14 @@
 ghost use Rattle.std.specs.Prelude.{◌≡◌, IfOk};
 ghost use Rattle.laws_runs.specs.SimModel.Trace as spec;
 
+use crate::lines::push_scale;
 use crate::walks::{Task, Walk, tables_of, write_all};
 use flat_design::Design;
 use laws_runs::logic_values_api::Text;
 use std::alloc::{AllocError, Global};
 
-/// The header of the trace of a design: the time scale, which is one picosecond, and the scopes of its instances in text order,
-/// each with its variables, which are the objects that have values to be seen (IEEE 1364-2005, 18.2; IEEE 1666-2011, 8.1).
+/// The header of the trace of a design: the time scale, which is its resolution, and the scopes of its instances in text order, each
+/// with its variables, which are the objects that have values to be seen (IEEE 1364-2005, 18.2; IEEE 1666-2011, 8.1).
 ///
 /// Where no instance stands in itself, the time that it takes grows with the objects and with the bytes of the text. Its stack does
 /// not grow with how many instances stand in one another.
@@ -23,7 +24,7 @@ pub fn header(alloc: Global, design: &Design) -> Result<Text, AllocError>
         text: Vec::new(alloc),
         tasks: Vec::new(alloc),
     };
-    walk.text.extend_from_slice(b"$timescale 1 ps $end\n")?;
+    push_scale(&mut walk.text, design.resolution)?;
     walk.tasks.push(Task::Visit {
         object: 0,
         levels: design.objects.list.as_slice().len(),

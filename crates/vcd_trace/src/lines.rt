@@ -1,9 +1,11 @@
 //! The lines of a header.
-ghost use Rattle.std.specs.Prelude.{◌≡◌, ◌++◌, OnOk};
+ghost use Rattle.std.specs.Prelude.{◌≡◌, ◌≤◌, ◌++◌, ◌/◌, ◌%◌, ◌^◌, [], OnOk, codes, slice_get, unwrap_or};
+ghost use Rattle.std.specs.Fmt.{decimal};
 ghost use Rattle.laws_runs.specs.SimModel.Trace as spec;
 ghost use Rattle.vcd_trace.specs.Walks.{var_at};
 
 use crate::ids::push_id;
+use flat_design::sim_time_api::Resolution;
 use flat_design::{Design, ValueType, VisibleId};
 use std::alloc::{AllocError, Global};
 
@@ -30,6 +32,43 @@ fn visible_width(design: &Design, id: VisibleId) -> u8
         },
         VisibleId::Resolved(_) => 1,
     }
+}
+
+/// How many of its unit a resolution is, and a space.
+fn scale_number(power: u8) -> &'static [u8]
+    ensures { result.now ≡ decimal (10 ^ (power % 3)) ++ codes " " }
+{
+    match power % 3 {
+        0 => b"1 ",
+        1 => b"10 ",
+        _ => b"100 ",
+    }
+}
+
+/// The unit of a resolution.
+fn scale_unit(power: u8) -> &'static [u8]
+    requires { power ≤ 15 }
+    ensures { result.now ≡ unwrap_or (slice_get spec.units (power / 3)) [] }
+{
+    match power / 3 {
+        0 => b"fs",
+        1 => b"ps",
+        2 => b"ns",
+        3 => b"us",
+        4 => b"ms",
+        _ => b"s",
+    }
+}
+
+/// Adds the line of the time scale.
+pub(crate) fn push_scale(text: &mut Vec<u8>, resolution: Resolution) -> Result<(), AllocError>
+    ensures { OnOk result (text.new.items ≡ text.old.items ++ spec.scale_line resolution) }
+{
+    text.extend_from_slice(b"$timescale ")?;
+    text.extend_from_slice(scale_number(resolution.power))?;
+    text.extend_from_slice(scale_unit(resolution.power))?;
+    text.extend_from_slice(b" $end\n")?;
+    Ok(())
 }
 
 /// Adds the line that opens the scope of an instance.

@@ -113,7 +113,7 @@ reset_method =
       sensitive = event 4 (codes "r") None ∷ [];
       dont_initialize = true;
       body = tree.then
-          (tree.if_ 4 (tree.binary op.Equal (named 4 (codes "r")) (tree.truth 4 true)) (tree.then (tree.act 4 (tree.control control.Reset (who.Named 4 (codes "t")))) tree.over) tree.no_else)
+          (tree.if_ 4 (tree.binary op.Equal (named 4 (codes "r")) (tree.truth 4 true)) (tree.then (tree.act 4 (tree.control control.Reset (who.Named 4 (codes "t")) false)) tree.over) tree.no_else)
           tree.over;
     })
 

@@ -2,6 +2,7 @@
 use Rattle.std.specs.Prelude.{◌≡◌, ℕ, List, [], ◌∷◌, Some, codes, refl}
 use Rattle.std.proofs.Math.Dec.{lit≤}
 use Rattle.model_lexer.specs.ModelTree.Vocabulary.{word_of}
+use Rattle.model_lexer.specs.ModelTree.declared.items.Head.TheVariants as head
 use Rattle.model_lexer.specs.ModelTree.declared.vocabulary.Word.TheVariants as w
 use Rattle.model_lexer.specs.ModelTree.declared.vocabulary.Symbol.TheVariants as s
 use Rattle.model_lexer.specs.ModelGrammar.Tokens.{Token, name, quoted, word, symbol, symbol_of}
@@ -72,5 +73,5 @@ cut = refl
 derives : DerivesModel model (with_lines tokens) []
 derives = (_, (_, (_, refl, (_, (_, refl), (_, (_, refl), (_, (_, (_, refl, (_, refl, (_, refl, (_, (_, refl), (_, refl, (_, refl)))))), (_, (_, refl, (_, refl, (_, refl, (_, (_, refl), (_, refl, (_, refl)))))), (_, (_, refl, (_, (_, refl), (_, (_, (_, refl), (_, (_, (_, refl, refl), refl), refl)), (_, refl, (_, (_, refl), (_, (_, (_, refl, (_, (refl, lit≤ tt), (_, (_, (_, refl), (_, (_, (_, (_, refl, (_, (_, refl, refl), ((lit≤ tt, refl), lit≤ tt))), (_, refl)), refl), (_, refl))), refl))), (_, (_, (_, refl, (_, (_, refl), (refl, lit≤ tt))), (_, refl)), refl)), (_, refl))))))), (_, (_, refl, (_, (_, refl), (_, (_, (_, refl), (_, (_, (_, refl, refl), refl), refl)), (_, (_, refl), (_, (_, refl), (_, (_, (_, (_, refl, (_, (_, refl), (refl, lit≤ tt))), (_, refl)), refl), (_, refl))))))), refl)))), (_, refl))))), refl), (_, refl, (_, (_, refl), (_, (_, refl), (_, refl)))))
 
-pub reads : Reads text model
-reads = (tokens, cut_ok 100 text 0 tokens cut, derives, lit≤ tt)
+pub reads : Reads text (record { head = head.First; model = model })
+reads = (tokens, cut_ok 100 text 0 tokens cut, (with_lines tokens, refl, derives), lit≤ tt)

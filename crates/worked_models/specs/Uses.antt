@@ -63,7 +63,7 @@ abbrev pub spawning : List ℕ → tree.Model
 spawning handle = acting (tree.spawn (record { handle = Some handle; method = false; function = codes "g"; arguments = []; sensitive = []; dont_initialize = false }))
 
 abbrev pub killing : List ℕ → tree.Model
-killing name = acting (tree.control control.Kill (who.Named 21 name))
+killing name = acting (tree.control control.Kill (who.Named 21 name) false)
 
 abbrev pub syncing_in_unwind : tree.Model
 syncing_in_unwind = doing (tree.guard 20 tree.over (block_of (tree.act 21 (tree.qk_sync (codes "k")) ∷ [])))

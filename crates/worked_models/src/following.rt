@@ -1,6 +1,7 @@
 //! A method follows a signal, and another one follows that one.
 ghost use Rattle.std.specs.Prelude.{◌≡◌, [], ◌∷◌, codes, Some, true};
 ghost use Rattle.model_lexer.specs.LogicValues.declared.kinds.Value.TheVariants as value;
+ghost use Rattle.model_lexer.specs.ModelTree.declared.items.Head.TheVariants as head;
 ghost use Rattle.model_lexer.specs.Reads.{Reads};
 ghost use Rattle.design_rules.specs.Designs.{IsDesignOf};
 ghost use Rattle.worked_models.specs.Following.{text, model, follows};
@@ -9,7 +10,7 @@ ghost use Rattle.worked_runs.specs.Run.{told, run, set};
 /// The text reads as the tree, the design is the flat design of the tree, and its code reads back as the bodies of the tree.
 #[tactic(auto, using(crate::proofs::SameDesign::same, crate::proofs::ReadingDesigns::reads))]
 pub fn the_design_is_that_of_its_text()
-    ensures reads { Reads text model }
+    ensures reads { Reads text (record { head = head.First; model = model }) }
     ensures design { IsDesignOf model follows }
 {}
 

@@ -1,5 +1,5 @@
 -- Bodies written by hand: statements one inside another, which are laid out as numbered blocks of numbered statements.
-use Rattle.std.specs.Prelude.{ℕ, List, [], ◌∷◌, ◌++◌, ◌^◌, ltb, length, refl, T, Some, None}
+use Rattle.std.specs.Prelude.{ℕ, false, List, [], ◌∷◌, ◌++◌, ◌^◌, ltb, length, refl, T, Some, None}
 use Rattle.std.specs.Global.{Vec, Box}
 use Rattle.std.proofs.Common.{le_refl, lit<}
 use denote.RawPtr.{null_ptr}
@@ -86,17 +86,17 @@ abbrev pub wait_on : ℕ → Statement
 wait_on e = kept.Wait (await.Any (vec_of (own_event e ∷ []) tt) None)
 
 abbrev pub control : Control → ℕ → Statement
-control c p = kept.Control c (controlled.Named (item p))
+control c p = kept.Control c (controlled.Named (item p)) false
 
 abbrev pub throw_at : ℕ → ℕ → Statement
-throw_at p e = kept.ThrowIt (controlled.Named (item p)) e
+throw_at p e = kept.ThrowIt (controlled.Named (item p)) e false
 
 -- control of the instance itself
 abbrev pub control_self : Control → Statement
-control_self c = kept.Control c controlled.Myself
+control_self c = kept.Control c controlled.Myself false
 
 abbrev pub throw_at_self : ℕ → Statement
-throw_at_self e = kept.ThrowIt controlled.Myself e
+throw_at_self e = kept.ThrowIt controlled.Myself e false
 
 abbrev pub call : ℕ → Statement
 call f = kept.Call None f (vec_of [] tt)

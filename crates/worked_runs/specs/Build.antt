@@ -1,5 +1,6 @@
 -- Designs written by hand: the items of instances of modules in text order. An item stands in the instance that was begun last.
 use Rattle.std.specs.Prelude.{ℕ, ◌+◌, ◌-◌, Bool, true, false, List, [], ◌∷◌, ◌++◌, codes, length, slice_get, Option, Some, None}
+use Rattle.std.proofs.Common.{lit≤}
 use Rattle.sim_model.specs.ModelTree.declared.items.ProcessKind.{ProcessKind}
 use Rattle.sim_model.specs.ModelTree.declared.items.ProcessKind.TheVariants as process
 use Rattle.sim_model.specs.ModelTree.declared.items.SignalKind.TheVariants as signal_kind
@@ -29,6 +30,7 @@ use Rattle.worked_runs.specs.Body.{Body, Laid, lay, with_block, block_of}
 -- the instance `m`, with no items
 abbrev pub empty : Design
 empty = record {
+  resolution = record { power = 3; small = lit≤ tt };
   objects = record { list = (record { name = codes "m"; line = 1; parent = 0; form = form.Instance 0 }) ∷ []; binds = [] };
   instances = (record { object = 0; module_place = 0; names = [] }) ∷ [];
   signals = [];

@@ -14,3 +14,4 @@ pub mod Stopping
 pub mod Links
 pub mod Words
 pub mod Leaving
+pub mod Descending

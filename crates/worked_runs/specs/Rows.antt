@@ -162,7 +162,7 @@ kill_below = design_of (event (codes "e")
 
 -- a handle that holds no process
 abbrev pub empty_handle : Design
-empty_handle = design_of (thread_with (codes "t") (local_of (codes "h") type.Process ∷ []) (then (kept.Var 0 type.Process None) (then (kept.Control control_of.Kill (controlled.Named (local 0))) end)) ∷ [])
+empty_handle = design_of (thread_with (codes "t") (local_of (codes "h") type.Process ∷ []) (then (kept.Var 0 type.Process None) (then (kept.Control control_of.Kill (controlled.Named (local 0)) false) end)) ∷ [])
 
 -- stored values are cut to their types, and a remainder has the sign of what is divided
 abbrev pub numbers : Design

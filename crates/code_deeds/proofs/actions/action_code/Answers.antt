@@ -11,3 +11,9 @@ returns-in_ok-print_code-in-Print c =
     c.single-in-Print.ensures
     ∙ ap single c.in_ok-print_code-in-Print.ensures
     ∙ sym (ap (λ (a : Action). code_in (home_of c.args.home) (scope_of c.args.place.now) (action_of a)) c.in-Print.is)
+
+pub returns-in_ok-throw_it_code-in-ThrowIt : goal.returns-in_ok-throw_it_code-in-ThrowIt
+returns-in_ok-throw_it_code-in-ThrowIt c =
+    c.single-in-ThrowIt.ensures
+    ∙ ap single c.in_ok-throw_it_code-in-ThrowIt.ensures
+    ∙ sym (ap (λ (a : Action). code_in (home_of c.args.home) (scope_of c.args.place.now) (action_of a)) c.in-ThrowIt.is)

@@ -1,7 +1,7 @@
 use Rattle.std.proofs.Common.{◌≡◌, ◌+◌, suc, sym, ap, ◌∙◌, subst, arith}
 use Rattle.std.specs.Prelude.{slice_get, Some, length}
 use Rattle.std.proofs.lemmas.Option.{slice_get-get_or}
-use Rattle.kernel_phases.proofs.Initialized.{Initializes, left_out, one_initialized}
+use Rattle.kernel_phases.proofs.Initialized.{Initializes, none_initialized, left_out, one_initialized}
 use Rattle.kernel_phases.proofs.initial.make_all_runnable.Goals.{then-not-as_slice-p, else-not-as_slice-p}
 use Rattle.kernel_phases.proofs.initial.make_all_runnable.Goals as goal
 
@@ -25,3 +25,6 @@ loop-p-preserved c =
           subst (λ k. Initializes (p + 1) old k) (sym w.k-is)
           (subst (λ n. Initializes n old c.loop-p.k) next (left_out p old c.loop-p.k c.loop-p.invariant x there (ap (λ z. z.dont_initialize) c.index-as_slice-p.is ∙ w.if-not-as_slice-p.false)))
     ]
+
+pub loop-p-init : goal.loop-p-init
+loop-p-init c = none_initialized c.args.k.now c.requires.sound c.requires.fresh

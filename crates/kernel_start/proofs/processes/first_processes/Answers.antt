@@ -6,7 +6,7 @@ use Rattle.kernel_start.proofs.processes.first_processes.Goals as goal
 
 pub loop-part-init : goal.loop-part-init
 loop-part-init c = (
-  λ d same. nobody_stands c.args.program.now c.empty-s.result c.empty-s.ensures.nobody c.empty-s.ensures.sound d c.empty-s.ensures.stack c.empty-s.ensures.first,
+  λ d parents same. nobody_stands c.args.program.now c.empty-s.result c.empty-s.ensures.nobody c.empty-s.ensures.sound d parents c.empty-s.ensures.stack c.empty-s.ensures.first,
   (nobody_made c.args.program.now c.empty-s.result c.empty-s.ensures.nobody c.empty-s.ensures.sound c.empty-s.ensures.due, c.empty-s.ensures.first),
 )
 

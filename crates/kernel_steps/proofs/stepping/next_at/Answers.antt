@@ -11,6 +11,9 @@ pub returns-in-Some-clause-statement : goal.returns-in-Some-clause-statement
 returns-in-Some-clause-statement c = λ s is.
     kept_is c.args.k.now c.args.p c.in-Some.x.now (sym c.get.ensures.value ∙ ap option_copied c.in-Some.is) (λ kept. next_of (settled_in c.args.k.now.program kept.body) ≡ residual.statement s) (c.next.ensures.statement s is)
 
+pub returns-in-Some-clause-alone : goal.returns-in-Some-clause-alone
+returns-in-Some-clause-alone c = c.next.ensures.alone
+
 pub returns-in-Some-clause-goal : goal.returns-in-Some-clause-goal
 returns-in-Some-clause-goal c = λ g is.
     kept_is c.args.k.now c.args.p c.in-Some.x.now (sym c.get.ensures.value ∙ ap option_copied c.in-Some.is) (λ kept. next_of (settled_in c.args.k.now.program kept.body) ≡ residual.reaches g) (c.next.ensures.goal g is)

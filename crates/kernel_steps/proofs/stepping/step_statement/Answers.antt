@@ -15,6 +15,12 @@ on_statement-requires-clause-next c = c.next_at.ensures.statement c.in-Statement
 pub on_statement-requires-clause-free : goal.on_statement-requires-clause-free
 on_statement-requires-clause-free c = c.requires.free c.in-Statement.s (c.next_at.ensures.statement c.in-Statement.s c.in-Statement.is)
 
+pub on_statement-requires-clause-alone : goal.on_statement-requires-clause-alone
+on_statement-requires-clause-alone c = c.requires.alone c.in-Statement.s (c.next_at.ensures.statement c.in-Statement.s c.in-Statement.is)
+
+pub returns-in-Batch-clause-makes : goal.returns-in-Batch-clause-makes
+returns-in-Batch-clause-makes c = absurd (c.next_at.ensures.alone c.in-Batch.field-0 c.in-Batch.field-1 c.in-Batch.is)
+
 pub leave-requires-clause-leaves : goal.leave-requires-clause-leaves
 leave-requires-clause-leaves c = c.next_at.ensures.leaves c.in-Leave.is
 

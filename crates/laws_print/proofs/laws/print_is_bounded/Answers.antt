@@ -2,4 +2,4 @@ use Rattle.laws_print.proofs.Bounds.{bounded}
 use Rattle.laws_print.proofs.laws.print_is_bounded.Goals as goal
 
 pub returns : goal.returns
-returns c = λ text m h. bounded text m h
+returns c = λ text x h. bounded text x h

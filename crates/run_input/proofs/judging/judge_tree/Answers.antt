@@ -1,5 +1,5 @@
-use Rattle.std.proofs.Common.{◌≡◌, Some, None, inl, inr, subst}
-use Rattle.model_tree.specs.Seen.{model_of}
+use Rattle.std.proofs.Common.{◌≡◌, ◌∙◌, Some, None, ap, inl, inr, subst}
+use Rattle.model_tree.specs.Seen.{model_of, source_of}
 use Rattle.model_tree.specs.declared.whole.Tree.{Tree}
 use Rattle.elaborate.specs.ModelRules.Passes.{first_fault}
 use Rattle.elaborate.specs.Elaborated.{elaboration_fault}
@@ -10,6 +10,9 @@ use Rattle.run_input.proofs.judging.judge_tree.Goals as goal
 
 pub sound_design-requires-clause-limits : goal.sound_design-requires-clause-limits
 sound_design-requires-clause-limits c = c.in-Ok.checked.tree.sound
+
+pub sound_design-requires-clause-first : goal.sound_design-requires-clause-first
+sound_design-requires-clause-first c = ap (λ (t : Tree). t.head) c.in-Ok.ensures.tree ∙ c.requires
 
 pub returns-in-Ok-sound_design-clause-accepted : goal.returns-in-Ok-sound_design-clause-accepted
 returns-in-Ok-sound_design-clause-accepted c = λ text reads.
@@ -32,7 +35,7 @@ pub returns-in-Err-Refused-clause-fault : goal.returns-in-Err-Refused-clause-fau
 returns-in-Err-Refused-clause-fault c = λ text reads.
     let refused = c.in-Err-Refused in
     let found : first_fault (model_of c.args.tree) ≡ Some refused.fault = refused_fault refused.field-0 refused.fault (first_fault (model_of c.args.tree)) refused.field-0-is refused.ensures.refused in
-    (model_of c.args.tree, reads, rw refused.field-0-is (inl found))
+    (source_of c.args.tree, reads, rw refused.field-0-is (inl found))
 
 pub returns-in-Err-Refused-sound_design-clause-fault : goal.returns-in-Err-Refused-sound_design-clause-fault
 returns-in-Err-Refused-sound_design-clause-fault c = λ text reads.
@@ -40,4 +43,4 @@ returns-in-Err-Refused-sound_design-clause-fault c = λ text reads.
     let found : elaboration_fault (model_of c.in-Ok.checked.tree) ≡ Some refused.fault = refused_fault refused.field-0 refused.fault (elaboration_fault (model_of c.in-Ok.checked.tree)) refused.field-0-is refused.ensures.refused in
     let none : first_fault (model_of c.args.tree) ≡ None = subst (λ (t : Tree). first_fault (model_of t) ≡ None) c.in-Ok.ensures.tree c.in-Ok.checked.accepted in
     let whole : elaboration_fault (model_of c.args.tree) ≡ Some refused.fault = subst (λ (t : Tree). elaboration_fault (model_of t) ≡ Some refused.fault) c.in-Ok.ensures.tree found in
-    (model_of c.args.tree, reads, inr (none, whole))
+    (source_of c.args.tree, reads, inr (none, whole))

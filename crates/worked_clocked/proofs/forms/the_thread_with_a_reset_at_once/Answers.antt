@@ -18,7 +18,7 @@ unfolding word_of symbol_of
 same = refl
 
 derives : DerivesModel at_once_model tokens []
-derives = (_, (_, (_, refl, (_, (_, refl), (_, (_, refl), (_, (_, (_, refl, (_, (_, refl), (_, (_, refl), (_, (_, (_, refl), (_, refl)), (_, (_, refl), (_, (_, (_, refl), (_, refl)), (_, refl, (_, refl)))))))), (_, (_, refl, (_, refl, (_, refl, (_, (_, refl), (_, refl, (_, refl)))))), (_, (_, refl, (_, (_, refl), (_, (_, (_, refl), (_, (_, (_, refl, refl), (_, (_, refl), (_, refl))), refl)), (_, (_, refl), (_, (_, refl), (_, (_, (_, refl, (_, (_, (refl, refl)), (_, (_, refl), (_, (_, (_, refl), ((lit≤ tt, refl), lit≤ tt)), (_, refl))))), (_, (_, refl, (_, (refl, lit≤ tt), (_, (_, refl), (_, (_, (_, refl, (_, (_, (_, refl), (_, (_, (_, refl, (_, (_, (_, refl), (_, (_, (_, (_, refl, (_, (_, refl), refl)), (_, refl)), (_, (_, refl, (_, ((lit≤ tt, refl), lit≤ tt), (_, (_, (_, refl), (_, (_, (_, refl, (_, (_, (refl, (_, refl, (_, (_, refl), (_, (_, refl), (_, refl)))))), (_, (_, refl), (_, (_, (_, refl), ((lit≤ tt, refl), lit≤ tt)), (_, refl))))), (_, (_, refl, (_, ((lit≤ tt, (_, refl, (_, (_, refl), (lit≤ tt, refl)))), lit≤ tt), (_, (_, refl), (_, (_, (_, (_, refl, refl), (_, refl)), (_, (_, refl, (_, ((lit≤ tt, (_, refl, (_, (_, refl), (lit≤ tt, refl)))), lit≤ tt), (_, (_, (_, refl), (_, (_, (_, (_, refl, (_, refl)), (_, refl)), refl), (_, refl))), refl))), (_, (_, (_, refl, (_, refl, refl)), (_, (_, refl), (_, ((lit≤ tt, (_, refl, (_, (_, refl), (lit≤ tt, refl)))), lit≤ tt), (_, refl)))), refl))), (_, refl))))), refl)), (_, refl))), refl))), (_, (_, (_, refl, (_, (_, refl), refl)), (_, refl)), refl))), (_, refl))), (_, (_, refl), (_, (_, refl), (_, (_, (_, (_, refl, (_, (_, refl), refl)), (_, refl)), refl), (_, refl)))))), (_, (_, (_, refl, (_, refl, refl)), (_, (_, refl), (_, ((lit≤ tt, refl), lit≤ tt), (_, refl)))), refl)), (_, refl))), (_, (_, refl), (_, (_, refl), (_, (_, (_, refl), (_, refl, (_, refl))), refl))))), refl), (_, refl))))), refl)), (_, refl))))))), (_, (_, refl, (_, (_, refl), (_, (_, (_, refl), (_, (_, (_, refl, refl), refl), refl)), (_, (_, refl), (_, (_, refl), (_, (_, (_, refl, (_, ((lit≤ tt, (_, refl, (_, (_, refl), (lit≤ tt, refl)))), lit≤ tt), (_, (_, (_, refl), (_, (_, (_, (_, refl, refl), (_, refl)), refl), (_, refl))), refl))), refl), (_, refl))))))), (_, (_, refl, (_, (_, refl), (_, refl, (_, refl, (_, (_, refl), (_, (_, (_, (_, refl, (_, (_, refl), ((lit≤ tt, (_, refl, (_, refl))), lit≤ tt))), (_, refl)), (_, (_, (_, refl, (_, (_, refl, refl), ((lit≤ tt, refl), lit≤ tt))), (_, refl)), (_, (_, (_, refl, (_, (_, refl), ((lit≤ tt, (_, refl, (_, refl))), lit≤ tt))), (_, refl)), (_, (_, (_, refl, (_, (_, refl, refl), ((lit≤ tt, refl), lit≤ tt))), (_, refl)), refl)))), (_, refl))))))), refl))))), (_, refl))))), refl), (_, refl, (_, (_, refl), (_, (_, refl), (_, refl)))))
+derives = (_, (_, (_, refl, (_, (_, refl), (_, (_, refl), (_, (_, (_, refl, (_, (_, refl), (_, (_, refl), (_, (_, (_, refl), (_, refl)), (_, (_, refl), (_, (_, (_, refl), (_, refl)), (_, refl, (_, refl)))))))), (_, (_, refl, (_, refl, (_, refl, (_, (_, refl), (_, refl, (_, refl)))))), (_, (_, refl, (_, (_, refl), (_, (_, (_, refl), (_, (_, (_, refl, refl), (_, (_, refl), (_, refl))), refl)), (_, (_, refl), (_, (_, refl), (_, (_, (_, refl, (_, (_, (refl, refl)), (_, (_, refl), (_, (_, (_, refl), ((lit≤ tt, refl), lit≤ tt)), (_, refl))))), (_, (_, refl, (_, (refl, lit≤ tt), (_, (_, refl), (_, (_, (_, refl, (_, (_, (_, refl), (_, (_, (_, refl, (_, (_, (_, refl), (_, (_, (_, (_, refl, (_, (_, refl), refl)), (_, refl)), (_, (_, refl, (_, ((lit≤ tt, refl), lit≤ tt), (_, (_, (_, refl), (_, (_, (_, refl, (_, (_, (refl, (_, refl, (_, (_, refl), (_, (_, refl), (_, refl)))))), (_, (_, refl), (_, (_, (_, refl), ((lit≤ tt, refl), lit≤ tt)), (_, refl))))), (_, (_, refl, (_, ((lit≤ tt, (_, refl, (_, (_, refl), (lit≤ tt, refl)))), lit≤ tt), (_, (_, refl), (_, (_, (_, (_, refl, refl), (_, refl)), (_, (_, refl, (_, ((lit≤ tt, (_, refl, (_, (_, refl), (lit≤ tt, refl)))), lit≤ tt), (_, (_, (_, refl), (_, (_, (_, (_, refl, (_, refl)), (_, refl)), refl), (_, refl))), refl))), (_, (_, (_, refl, (_, refl, refl)), (_, (_, refl), (_, ((lit≤ tt, (_, refl, (_, (_, refl), (lit≤ tt, refl)))), lit≤ tt), (_, refl)))), refl))), (_, refl))))), refl)), (_, refl))), refl))), (_, (_, (_, refl, (_, (_, refl), refl)), (_, refl)), refl))), (_, refl))), (_, (_, refl), (_, (_, refl), (_, (_, (_, (_, refl, (_, (_, refl), refl)), (_, refl)), refl), (_, refl)))))), (_, (_, (_, refl, (_, refl, refl)), (_, (_, refl), (_, ((lit≤ tt, refl), lit≤ tt), (_, refl)))), refl)), (_, refl))), (_, (_, refl), (_, (_, refl), (_, (_, (_, refl), (_, refl, (_, refl))), refl))))), refl), (_, refl))))), refl)), (_, refl))))))), (_, (_, refl, (_, (_, refl), (_, (_, (_, refl), (_, (_, (_, refl, refl), refl), refl)), (_, (_, refl), (_, (_, refl), (_, (_, (_, refl, (_, ((lit≤ tt, (_, refl, (_, (_, refl), (lit≤ tt, refl)))), lit≤ tt), (_, (_, (_, refl), (_, (_, (_, (_, refl, (_, refl, refl)), (_, refl)), refl), (_, refl))), refl))), refl), (_, refl))))))), (_, (_, refl, (_, (_, refl), (_, refl, (_, refl, (_, (_, refl), (_, (_, (_, (_, refl, (_, (_, refl), ((lit≤ tt, (_, refl, (_, refl))), lit≤ tt))), (_, refl)), (_, (_, (_, refl, (_, (_, refl, refl), ((lit≤ tt, refl), lit≤ tt))), (_, refl)), (_, (_, (_, refl, (_, (_, refl), ((lit≤ tt, (_, refl, (_, refl))), lit≤ tt))), (_, refl)), (_, (_, (_, refl, (_, (_, refl, refl), ((lit≤ tt, refl), lit≤ tt))), (_, refl)), refl)))), (_, refl))))))), refl))))), (_, refl))))), refl), (_, refl, (_, (_, refl), (_, (_, refl), (_, refl)))))
 
 pub returns-clause-derives : goal.returns-clause-derives
 returns-clause-derives c = subst (λ (x : Tokens). DerivesModel at_once_model x []) (sym same) derives

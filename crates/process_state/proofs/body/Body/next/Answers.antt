@@ -8,7 +8,7 @@ use Rattle.kernel_bodies.specs.Landings.{Lands}
 use Rattle.kernel_bodies.specs.Layers.{held, inside_frames, standing, shown_by}
 use Rattle.process_state.specs.Bodies.{settled_in, next_in}
 use Rattle.process_state.proofs.Settled.{land_shows, falls_shows}
-use Rattle.process_state.proofs.Stepping.{shown_statement, shown_goal, shown_done, shown_nothing}
+use Rattle.process_state.proofs.Stepping.{shown_statement, shown_goal, shown_done, shown_nothing, never_owed}
 use Rattle.process_state.proofs.body.Body.next.Goals as goal
 
 pub returns-in-Some-clause-value : goal.returns-in-Some-clause-value
@@ -110,3 +110,9 @@ returns-in-None-clause-nothing c = λ e.
     let from : next_in c.args.program.now b ≡ c.next_shown-in-None.result =
     falls_shows a b.goal b.frames.items (standing (held b.frames.items b.statement)) (subst P c.as_slice.ensures.value c.in-None.ensures.falls) ∙ ap shown_by (sym c.under_goal.ensures) ∙ sym c.next_shown-in-None.ensures in
     shown_nothing (next_of (settled_in c.args.program.now b)) (from ∙ e)
+
+pub returns-in-Some-clause-alone : goal.returns-in-Some-clause-alone
+returns-in-Some-clause-alone c = λ s q e. never_owed c.in-Some.landing.comes s q (sym c.next_shown.ensures ∙ e)
+
+pub returns-in-None-clause-alone : goal.returns-in-None-clause-alone
+returns-in-None-clause-alone c = λ s q e. never_owed c.under_goal.result s q (sym c.next_shown-in-None.ensures ∙ e)

@@ -1,0 +1,4 @@
+pub mod Firsts
+mod Powers
+mod Blocks
+mod Past

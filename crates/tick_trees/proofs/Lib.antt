@@ -1,0 +1,5 @@
+pub mod Limits
+pub mod Languages
+pub mod Times
+pub mod Spans
+pub mod Each

@@ -1,0 +1,4 @@
+pub mod Retimed
+pub mod Ticks
+pub mod Times
+pub mod Laws
