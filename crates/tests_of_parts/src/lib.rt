@@ -1,9 +1,13 @@
-//! Tests of parts that hold values of any type, each at one type, of wait lists against plain lists, and of what no clause says: a
-//! deep design's trace takes no deep stack.
+//! Tests of parts that hold values of any type, each at one type, of wait lists, a queue by time and a map against plain lists, and of
+//! what no clause says: a deep design's trace takes no deep stack.
 #![tactic(auto)]
 
 #[cfg(test)]
+mod draws;
+#[cfg(test)]
 mod maps;
+#[cfg(test)]
+mod queues;
 #[cfg(test)]
 mod slots;
 #[cfg(test)]

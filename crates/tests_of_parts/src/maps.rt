@@ -1,5 +1,6 @@
 //! A map with room, at numbers.
 
+use crate::draws::Draws;
 use room_map::RoomMap;
 use std::alloc::AllocError;
 use std::test::Fail;
@@ -43,5 +44,65 @@ fn entries_come_in_the_order_of_their_keys(rt: HostRuntime) -> Result<(), Fail> 
     assert_eq!(rt; map.remove(20), None);
     assert_eq!(rt; map.len(), 2);
     assert_eq!(rt; map.spare(), 3);
+    Ok(())
+}
+
+// All entries, by their places.
+fn entries(map: &RoomMap<u32, u64>, out: &mut Vec<(u32, u64)>) -> Result<(), AllocError> {
+    out.clear();
+    for k in 0..map.len() {
+        if let Some(entry) = map.kth(k) {
+            out.push(entry)?;
+        }
+    }
+    Ok(())
+}
+
+// What `entries` gives from this key on, of a plain list of the value of each key.
+fn plain_entries(
+    plain: &[Option<u64>],
+    from: u32,
+    out: &mut Vec<(u32, u64)>,
+) -> Result<(), AllocError> {
+    out.clear();
+    let mut key = 0u32;
+    for held in plain {
+        match *held {
+            Some(value) if key >= from => out.push((key, value))?,
+            _ => {}
+        }
+        key = key.saturating_add(1);
+    }
+    Ok(())
+}
+
+// Two thousand calls as a generator draws them, on the map and on a plain list of the value of each key.
+#[test]
+fn entries_are_those_of_a_plain_list(rt: HostRuntime) -> Result<(), Fail> {
+    let mut map = RoomMap::new(rt.alloc());
+    let mut plain = Vec::new(rt.alloc());
+    plain.resize(64, None)?;
+    let mut out = Vec::new(rt.alloc());
+    let mut wanted = Vec::new(rt.alloc());
+    let mut draws = Draws::new();
+    for value in 0..2000u64 {
+        let key = draws.below(64);
+        if let Some(held) = plain.get_mut(key as usize) {
+            assert_eq!(rt; map.get(key), *held);
+            if draws.below(2) == 0 {
+                put(&mut map, key, value)?;
+                *held = Some(value);
+            } else {
+                assert_eq!(rt; map.remove(key), *held);
+                *held = None;
+            }
+        }
+        let from = draws.below(65);
+        plain_entries(plain.as_slice(), from, &mut wanted)?;
+        assert_eq!(rt; map.first_not_below(from), wanted.first().copied());
+        plain_entries(plain.as_slice(), 0, &mut wanted)?;
+        entries(&map, &mut out)?;
+        assert_eq!(rt; out.as_slice(), wanted.as_slice());
+    }
     Ok(())
 }

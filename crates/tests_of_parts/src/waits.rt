@@ -1,7 +1,6 @@
 //! Waits of instances, against plain lists.
 
-use rand_core::utils::NextWord;
-use rand_pcg::Pcg32;
+use crate::draws::Draws;
 use std::alloc::AllocError;
 use std::test::Fail;
 use wait_lists::{Ev, WaitLists, as_many_as_have_room, who_waits_has_room};
@@ -22,35 +21,19 @@ struct Plain {
     is_muted: bool,
 }
 
-// The numbers that a generator draws.
-#[derive(Drop)]
-struct Draws {
-    words: Pcg32,
-}
-
-impl Draws {
-    // A number below this one.
-    fn below(&mut self, n: u32) -> u32 {
-        match self.words.next_word().checked_rem(n) {
-            Some(rest) => rest,
-            None => 0,
-        }
-    }
-
-    fn event(&mut self) -> Ev {
-        match self.below(10) {
-            0 => Ev::Fixed(0),
-            1 => Ev::Fixed(u32::MAX),
-            2 => Ev::Terminated(0),
-            3 => Ev::Terminated(u32::MAX),
-            4 => Ev::Restarted(0),
-            5 => Ev::Restarted(u32::MAX),
-            // Codes for which there is a place from a few nodes on.
-            6 => Ev::Fixed(12),
-            7 => Ev::Fixed(60),
-            8 => Ev::Terminated(150),
-            _ => Ev::Fixed(1),
-        }
+fn draw_event(draws: &mut Draws) -> Ev {
+    match draws.below(10) {
+        0 => Ev::Fixed(0),
+        1 => Ev::Fixed(u32::MAX),
+        2 => Ev::Terminated(0),
+        3 => Ev::Terminated(u32::MAX),
+        4 => Ev::Restarted(0),
+        5 => Ev::Restarted(u32::MAX),
+        // Codes for which there is a place from a few nodes on.
+        6 => Ev::Fixed(12),
+        7 => Ev::Fixed(60),
+        8 => Ev::Terminated(150),
+        _ => Ev::Fixed(1),
     }
 }
 
@@ -146,7 +129,7 @@ fn change(
 fn draw_list(draws: &mut Draws, list: &mut Vec<Ev>) -> Result<(), AllocError> {
     list.clear();
     for _ in 0..=draws.below(6) {
-        list.push(draws.event())?;
+        list.push(draw_event(draws))?;
     }
     Ok(())
 }
@@ -166,16 +149,14 @@ fn events_give_what_plain_lists_give(rt: HostRuntime) -> Result<(), Fail> {
     let mut out = Vec::new(rt.alloc());
     let mut wanted = Vec::new(rt.alloc());
     let mut list = Vec::new(rt.alloc());
-    let mut draws = Draws {
-        words: Pcg32::new(2011, 1666),
-    };
+    let mut draws = Draws::new();
     for _ in 0..2000u32 {
         let at = draws.below(12);
         draw_list(&mut draws, &mut list)?;
         if let Some(waiter) = plain.get_mut(at as usize) {
             change(&mut lists, waiter, serial(at), &mut draws, list.as_slice())?;
         }
-        let e = draws.event();
+        let e = draw_event(&mut draws);
         if draws.below(2) == 0 {
             fire(&mut lists, e, &mut out)?;
             plain_fire(plain.as_mut_slice(), e, &mut wanted)?;
