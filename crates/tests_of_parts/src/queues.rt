@@ -6,15 +6,10 @@ use std::test::Fail;
 use timed_queue::sim_time_api::Time;
 use timed_queue::{TimedQueue, due_names_are_held};
 
-// A time behind this one, or any: some units of one or another length, up to the last time that there is.
+// A time behind this one, or any: of each number of bits, and some of them again and again.
 fn draw_time(draws: &mut Draws, earliest: Option<Time>) -> Time {
-    let unit = match draws.below(4) {
-        0 => 1,
-        1 => 64,
-        2 => 4096,
-        _ => 1_229_782_938_247_303_441,
-    };
-    let time = u64::from(draws.below(16)).saturating_mul(unit);
+    let unit = 1u64.checked_shl(draws.below(64)).unwrap_or(1);
+    let time = u64::from(draws.below(3)).saturating_mul(unit);
     match earliest {
         Some(t) if draws.below(4) > 0 => Time(time.saturating_add(t.0)),
         _ => Time(time),
