@@ -9,9 +9,9 @@ use Rattle.kernel_processes.specs.SimModel.Residual.{skip}
 use Rattle.kernel_processes.specs.SimModel.Configuration.{Config, Instance, Processes}
 use Rattle.kernel_processes.specs.SimModel.Waits.{holds}
 use Rattle.kernel_processes.specs.SimModel.Calls.{added, runnable_unless}
-use Rattle.process_bodies.specs.Bodies as bodies
-use Rattle.process_bodies.specs.Bodies.{left_in}
-use Rattle.process_bodies.specs.declared.body.Body.{Body}
+use Rattle.process_state.specs.Bodies as bodies
+use Rattle.process_state.specs.Bodies.{left_in}
+use Rattle.process_state.specs.declared.body.Body.{Body}
 use Rattle.kernel_processes.specs.Seen.{seen, is_on, shown_at, as_instance}
 use Rattle.kernel_processes.specs.Seen.{body_at as kept_at}
 use Rattle.kernel_processes.specs.Sound as schedules
@@ -40,7 +40,6 @@ made_moves k n c h = record {
   design = h.design;
   cycle = h.cycle;
   processes = h.processes;
-  parents = h.parents;
   events = h.events;
   channels = h.channels;
   transactions = h.transactions;
@@ -59,7 +58,7 @@ with_runs_of n true rs = rs
 with_runs_of n false rs = rs ++ n ∷ []
 
 module _ (k : Kernel) (sound : IsSound k) (o : Offspring) (n : ℕ) (b : Body) (s : Schedule Kept) (fine : schedules.IsSound s)
-    (same_code : b.calls.code ≡ o.code) (same_arguments : b.calls.arguments.items ≡ o.arguments.items) (nothing_left : left_in k.program b ≡ skip) (body_fine : bodies.IsSound k.program b)
+    (same_code : b.code ≡ o.code) (same_arguments : b.arguments.items ≡ o.arguments.items) (nothing_left : left_in k.program b ≡ skip) (body_fine : bodies.IsSound k.program b)
     (spawns : Spawns n (spawned_as o.kind o.sensitive o.waits) (record { home = o.home; path = path_by.Spawned n; body = b; trigger = None }) (not o.waits) k.schedule s) where
   nobody_ready : set.contains k.schedule.ready.members n ≡ false
   nobody_ready = by (map.get k.schedule.table.live n) refl
