@@ -3,3 +3,4 @@ pub mod BodyLemmas
 pub mod LaidLemmas
 pub mod Standing
 mod Raised
+pub mod Ticked
