@@ -21,10 +21,5 @@ pub mod laws_design_api {
 
 /// What is passed on of model_check.
 pub mod model_check_api {
-    pub use model_check::{check, judge_source};
-}
-
-/// What is passed on of tick_rules.
-pub mod tick_rules_api {
-    pub use model_check::tick_rules_api::first_trees_act_alone;
+    pub use model_check::{check, judge_rules};
 }

@@ -3,4 +3,3 @@ pub mod BodyLemmas
 pub mod LaidLemmas
 pub mod Standing
 mod Raised
-pub mod Ticked

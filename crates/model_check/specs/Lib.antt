@@ -2,4 +2,3 @@ pub mod Parts
 pub mod ModelRules
 pub mod CodeRules
 pub mod CodeRooms
-pub mod TickRules

@@ -1,6 +1,6 @@
 -- That the tokens of a text are those of the version that it says.
-use Rattle.std.proofs.Common.{◌≡◌, ℕ, ◌≤◌, Bool, true, false, not, ◌||◌, List, [], ◌∷◌, Option, Some, None, refl, sym, subst, ap, ◌∙◌}
-use Rattle.std.specs.Prelude.{codes, if◌then◌else◌}
+use Rattle.std.proofs.Common.{◌≡◌, ℕ, Bool, true, false, not, ◌||◌, ◌&&◌, List, [], ◌∷◌, Option, Some, None, refl, sym, subst, ap, ◌∙◌}
+use Rattle.std.specs.Prelude.{is_some, codes, if◌then◌else◌}
 use Rattle.std.specs.Str.{bytes_eq}
 use Rattle.std.proofs.lemmas.Bool.{and_from, and_parts}
 use Rattle.std.proofs.lemmas.Slice.Eq.{bytes_eq-Decides}
@@ -15,15 +15,11 @@ use Rattle.model_tree.specs.declared.items.Top.{Top}
 use Rattle.model_tree.specs.Vocabulary.{later_word_of}
 use Rattle.model_tree.specs.Languages.{keeps_language}
 use Rattle.model_tree.specs.Tree as tree
-use Rattle.model_tree.specs.Leaves.{is_name}
-use Rattle.model_tree.specs.Limits.{is_sound, bracket_limit, fits_resolution, fits_head}
-use Rattle.model_grammar.specs.Brackets.{brackets}
-use Rattle.model_grammar.specs.Tokens.{Token, Tokens, name, number, logic, quoted, word, symbol, each_is, is_limited, are_limited}
-use Rattle.model_grammar.proofs.SoundItems.{model_sound}
+use Rattle.model_grammar.specs.Tokens.{Token, Tokens, name, number, logic, quoted, word, symbol, each_is}
 use Rattle.model_grammar.specs.Languages.{Front, behind_number, behind_at, behind_other, behind, later_token, later_name, word_or_same, unit_or_name, in_second, in_language, says_language}
-use Rattle.model_grammar.specs.Versions.{is_plain, may_word, may_token}
-use Rattle.model_grammar.specs.Rules.{Maybe}
-use Rattle.model_grammar.specs.Items.{DerivesHead, DerivesResolution, DerivesSource, DerivesModel}
+use Rattle.model_grammar.specs.Versions.{is_plain, is_later_word, may_word, may_token}
+use Rattle.model_grammar.specs.Rules.{◌⨾◌, At, Takes, Nothing, Maybe, Each}
+use Rattle.model_grammar.specs.Items.{DerivesHead, DerivesResolution, DerivesSource, DerivesModel, DerivesModule, DerivesTop}
 use Rattle.model_grammar.proofs.Keeps.{KeepsBy, at, takes, nothing, ◌>>=◌, so, ends}
 use Rattle.model_grammar.proofs.Versions.{keeps}
 
@@ -89,16 +85,16 @@ tokens_in_first (t ∷ ts) h =
 
 -- what stands before the modules
 
-resolution_passed : {test : Token → Bool} (o : Option ResolutionLine) → KeepsBy test (Maybe DerivesResolution o) (Unit {0})
-resolution_passed None = nothing
-resolution_passed (Some r) = at >>= λ a. (takes >>= λ b. takes) >>= λ c. ends tt
+resolution_passed : (h : Head) (o : Option ResolutionLine) → KeepsBy (may_token h) (Maybe DerivesResolution o) (Unit {0})
+resolution_passed h None = nothing
+resolution_passed h (Some r) = at >>= λ a. (takes >>= λ b. takes) >>= λ c. ends tt
 
-pub head_passed : {test : Token → Bool} (x : Head) → KeepsBy test (DerivesHead x) (Unit {0})
-head_passed head.First = nothing
-head_passed (head.Second r) = takes >>= λ a. takes >>= λ b. takes >>= λ c. resolution_passed r
+head_passed : (h x : Head) → KeepsBy (may_token h) (DerivesHead x) (Unit {0})
+head_passed h head.First = nothing
+head_passed h (head.Second r) = takes >>= λ a. takes >>= λ b. takes >>= λ c. resolution_passed h r
 
 derived_keeps : (x : tree.Source) (ts : Tokens) → DerivesSource x ts [] → each_is (may_token x.head) ts ≡ true → keeps_language x.head x.model ≡ true
-derived_keeps x ts (mid, first, rest) all = keeps x.head x.model mid [] rest ((head_passed x.head).kept ts mid first all).1
+derived_keeps x ts (mid, first, rest) all = keeps x.head x.model mid [] rest ((head_passed x.head x.head).kept ts mid first all).1
 
 -- no module and no top begins with the word of language 2
 
@@ -113,6 +109,10 @@ is_language (symbol u) = false
 abbrev begins_second : Tokens → Bool
 begins_second [] = false
 begins_second (t ∷ ts) = is_language t.0
+
+abbrev begins_anything : Tokens → Bool
+begins_anything [] = false
+begins_anything (t ∷ ts) = true
 
 abbrev begins_plain : Tokens → Bool
 begins_plain [] = true
@@ -156,55 +156,16 @@ pub keeps_to : (x : tree.Source) (ts : Tokens) → DerivesSource x (in_language 
 keeps_to x [] derived plain = derived_keeps x [] derived refl
 keeps_to x (t ∷ ts) derived plain = by_first x t ts (says_language t.0) refl plain derived
 
--- no word of a language is past a limit
+-- tokens as every text is cut into
 
-name_limited : (o : Option Word) (x : List ℕ) → is_name x ≡ true → is_limited (word_or_same o x) ≡ true
-name_limited None x h = h
-name_limited (Some u) x h = refl
+-- what they derive is of language 1
+pub plain_first : (h : Head) (m : tree.Model) (ts : Tokens) → DerivesSource (record { head = h; model = m }) ts [] → each_is is_plain ts ≡ true → h ≡ head.First
+plain_first head.First m ts derived plain = refl
+plain_first (head.Second r) m [] (mid, (a, (at_line, is), more), derived) plain = let no : false ≡ true = ap begins_anything is in cc
+plain_first (head.Second r) m (t ∷ ts) derived plain = first_only (head.Second r) m t.0 t.1 ts (and_parts (is_plain t.0) (each_is is_plain ts) plain).0 derived
 
-unit_limited : (b : Bool) (x : List ℕ) → is_name x ≡ true → is_limited (if b then word w.Fs else later_name x) ≡ true
-unit_limited true x h = refl
-unit_limited false x h = name_limited (later_word_of x) x h
-
-named_limited : (f : Front) (x : List ℕ) → is_name x ≡ true → is_limited (unit_or_name f x) ≡ true
-named_limited behind_number x h = unit_limited (bytes_eq x (codes "fs")) x h
-named_limited behind_at x h = name_limited (later_word_of x) x h
-named_limited behind_other x h = name_limited (later_word_of x) x h
-
-token_limited : (f : Front) (t : Token) → is_limited t ≡ true → is_limited (later_token f t) ≡ true
-token_limited f (name x) h = named_limited f x h
-token_limited f (number n) h = h
-token_limited f (logic ds) h = h
-token_limited f (quoted x) h = h
-token_limited f (word u) h = h
-token_limited f (symbol u) h = h
-
-second_limited : (f : Front) (ts : Tokens) → are_limited ts ≡ true → are_limited (in_second f ts) ≡ true
-second_limited f [] h = refl
-second_limited f (t ∷ ts) h =
-    let both = and_parts (is_limited t.0) (are_limited ts) h in
-    and_from (is_limited (later_token f t.0)) (are_limited (in_second (behind f t.0) ts)) (token_limited f t.0 both.0) (second_limited (behind f t.0) ts both.1)
-
-limited_by : (b : Bool) (ts : Tokens) → are_limited ts ≡ true → are_limited (if b then in_second behind_other ts else ts) ≡ true
-limited_by true ts h = second_limited behind_other ts h
-limited_by false ts h = h
-
--- the tokens of a text, in its language, keep the limits of their form
-pub language_limited : (ts : Tokens) → are_limited ts ≡ true → are_limited (in_language ts) ≡ true
-language_limited [] h = refl
-language_limited (t ∷ ts) h = limited_by (says_language t.0) (t ∷ ts) h
-
--- and so does the tree that they derive
-pub source_sound : (x : tree.Source) (ts : Tokens) → DerivesSource x ts [] → are_limited ts ≡ true → brackets x.model ≤ bracket_limit → is_sound x.model ≡ true
-source_sound x ts (mid, first, derived) limited few = model_sound x.model mid derived ((head_passed x.head).kept ts mid first limited).1 few
-
-resolution_fits : (o : Option ResolutionLine) → KeepsBy is_limited (Maybe DerivesResolution o) (fits_resolution o ≡ true)
-resolution_fits None = so nothing (λ e. refl)
-resolution_fits (Some r) = at >>= λ a. (takes >>= λ f. so takes (λ b. f)) >>= λ f. ends f
-
-head_fits : (x : Head) → KeepsBy is_limited (DerivesHead x) (fits_head x ≡ true)
-head_fits head.First = so nothing (λ e. refl)
-head_fits (head.Second r) = takes >>= λ a. takes >>= λ b. takes >>= λ c. resolution_fits r
-
-pub source_fits : (x : tree.Source) (ts : Tokens) → DerivesSource x ts [] → are_limited ts ≡ true → fits_head x.head ≡ true
-source_fits x ts (mid, first, derived) limited = ((head_fits x.head).kept ts mid first limited).0
+-- and keeps to it
+pub plain_keeps : (x : tree.Source) (ts : Tokens) → DerivesSource x ts [] → each_is is_plain ts ≡ true → keeps_language x.head x.model ≡ true
+plain_keeps x ts derived plain =
+    let is = plain_first x.head x.model ts derived plain in
+    derived_keeps x ts derived (subst (λ (h : Head). each_is (may_token h) ts ≡ true) (sym is) (tokens_in_first ts plain))

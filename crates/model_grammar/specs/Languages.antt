@@ -99,10 +99,6 @@ says_language (quoted x) = false
 says_language (word u) = false
 says_language (symbol u) = false
 
--- whether the tokens are those of a text of language 2
-abbrev pub says_second : Tokens → Bool
-says_second [] = false
-says_second (t ∷ ts) = says_language t.0
-
 abbrev pub in_language : Tokens → Tokens
-in_language ts = if says_second ts then in_second behind_other ts else ts
+in_language [] = []
+in_language (t ∷ ts) = if says_language t.0 then in_second behind_other (t ∷ ts) else t ∷ ts

@@ -4,7 +4,6 @@ use Rattle.std.specs.Prelude.{◌≢◌}
 use Rattle.model_tree.specs.declared.faults.ParseStop.{ParseStop}
 use Rattle.model_tree.specs.declared.faults.ParseStop.TheVariants as stop
 use Rattle.model_tree.specs.Tree as tree
-use Rattle.parse_statements.specs.ModelGrammar.Languages.{in_language}
 use Rattle.parse_statements.specs.ModelLexer.Laws.{with_lines}
 use Rattle.parse_statements.specs.ModelLexer.Reads.{Reads}
 use Rattle.model_parser.specs.Parse.{from_tokens, IsStopped}
@@ -16,5 +15,5 @@ stopped_memory stop.NoMemory text x reads is = refl
 stopped_memory (stop.Syntax line) text x reads is =
     let differs : stop.Syntax line ≢ stop.NoMemory = λ same. cc in
     let (ts, cut, some) = reads_found text x reads in
-    let none : from_tokens (in_language (with_lines ts)) ≡ None = is differs ts cut in
+    let none : from_tokens (with_lines ts) ≡ None = is differs ts cut in
     cc

@@ -4,7 +4,6 @@
 #![tactic(auto)]
 
 mod bodies;
-mod heads;
 mod module_items;
 mod modules;
 mod parsing;
@@ -19,7 +18,5 @@ pub use parsing::{one_tree, parse};
 
 /// What is passed on of model_lexer.
 pub mod model_lexer_api {
-    pub use parse_statements::model_lexer_api::{
-        Token, TokenKind, reads_a_language, tokens, tokens_in_language,
-    };
+    pub use parse_statements::model_lexer_api::{Token, TokenKind, reads_language_1, tokens};
 }

@@ -1,11 +1,9 @@
 //! What is answered of a text.
-ghost use Rattle.std.specs.Prelude.{IfOk, IfSome, IsTrue};
-ghost use Rattle.model_tree.specs.Seen.{source_of};
-ghost use Rattle.elaborate.specs.TickRules.Sources.{acts_alone};
+ghost use Rattle.std.specs.Prelude.{◌≡◌, IfOk, IfSome};
+ghost use Rattle.model_tree.specs.declared.items.Head.TheVariants as head;
 
 use elaborate::model_check_api::check;
 use elaborate::sound_design;
-use elaborate::tick_rules_api::first_trees_act_alone;
 use flat_design::Design;
 use model_parser::model_lexer_api::reads_language_1;
 use model_parser::parse;
@@ -18,10 +16,9 @@ const TEXT_LIMIT: usize = 1_048_576;
 
 /// The tree of a text, if it reads.
 fn tree_of(alloc: Global, text: &[u8]) -> Result<Option<Tree>, AllocError>
-    ensures { IfOk result (λ found. IfSome found (λ tree. IsTrue (acts_alone (source_of tree)))) }
+    ensures { IfOk result (λ found. IfSome found (λ tree. tree.head ≡ head.First)) }
 {
     reads_language_1();
-    first_trees_act_alone();
     if text.len() > TEXT_LIMIT {
         return Ok(None);
     }
@@ -32,9 +29,9 @@ fn tree_of(alloc: Global, text: &[u8]) -> Result<Option<Tree>, AllocError>
     }
 }
 
-/// The design of a tree whose control reaches no descendants, if it breaks no rule.
+/// The design of a tree of language 1, if it breaks no rule.
 fn design_of(alloc: Global, tree: Tree) -> Result<Option<Design>, AllocError>
-    requires { IsTrue (acts_alone (source_of tree)) }
+    requires { tree.head ≡ head.First }
 {
     let checked = match check(alloc, tree) {
         Ok(checked) => checked,

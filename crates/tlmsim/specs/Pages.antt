@@ -12,7 +12,8 @@ use Rattle.order_free.specs.declared.verdicts.Verdict.{Verdict}
 use Rattle.order_free.specs.declared.verdicts.Verdict.TheVariants as verdict
 use Rattle.command_line.specs.declared.modes.PageKind.{PageKind}
 use Rattle.command_line.specs.declared.modes.PageKind.TheVariants as page_kind
-use Rattle.run_input.specs.Judged.{AcceptsModel, IsBrokenModel, IsLayoutOf, IsDesignOfSource}
+use Rattle.run_input.specs.DesignRules.Designs.{IsDesignOf}
+use Rattle.run_input.specs.Judged.{AcceptsModel, IsBrokenModel, IsLayoutOf}
 
 -- the line of a verdict
 abbrev pub verdict_line : Verdict → List ℕ
@@ -24,7 +25,7 @@ pub record IsVerdictOf (model page : List ℕ) : Type 0 where
   pub m : tree.Source
   pub accepted : AcceptsModel model m
   pub design : Design
-  pub is_design : IsDesignOfSource m design
+  pub is_design : IsDesignOf m.model design
   pub verdict : Verdict
   pub says : Says design verdict
   pub page_is : page ≡ verdict_line verdict

@@ -2,9 +2,7 @@ use Rattle.model_tree.specs.Seen.{source_of}
 use Rattle.run_input.proofs.laying.laid_out.Goals as goal
 
 pub judge_tree-requires : goal.judge_tree-requires
-judge_tree-requires c =
-    let first = c.reads_language_1.ensures.first c.args.model.now (source_of c.in-Ok.tree) c.in-Ok.ensures.reads in
-    c.first_trees_act_alone.ensures (source_of c.in-Ok.tree) first (c.reads_language_1.ensures.keeps c.args.model.now (source_of c.in-Ok.tree) c.in-Ok.ensures.reads)
+judge_tree-requires c = c.reads_language_1.ensures.first c.args.model.now (source_of c.in-Ok.tree) c.in-Ok.ensures.reads
 
 pub returns-in-Ok-page-clause-page : goal.returns-in-Ok-page-clause-page
 returns-in-Ok-page-clause-page c =

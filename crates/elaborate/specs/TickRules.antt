@@ -1,1 +1,0 @@
-pub use Rattle.model_check.specs.TickRules.Sources as Sources

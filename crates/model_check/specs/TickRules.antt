@@ -1,1 +1,0 @@
-pub use Rattle.tick_rules.specs.Sources as Sources

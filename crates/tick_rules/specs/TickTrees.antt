@@ -1,1 +1,0 @@
-pub use Rattle.tick_trees.specs.Ticks as Ticks
