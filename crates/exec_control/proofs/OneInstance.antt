@@ -12,9 +12,9 @@ use Rattle.exec_data.specs.SimModel.Residual.{Residual, skip, settle, begun}
 use Rattle.exec_data.specs.SimModel.Configuration.{Config, Instance, changed_at, change, change_instance, instance_at, with_residual, arena}
 use Rattle.exec_data.specs.SimModel.Waits.{leaves_stack}
 use Rattle.exec_data.specs.SimModel.Statements.{settled_in}
-use Rattle.exec_data.specs.ProcessBodies.Bodies as bodies
-use Rattle.exec_data.specs.ProcessBodies.Bodies.{left_in}
-use Rattle.exec_data.specs.ProcessBodies.declared.body.Body.{Body}
+use Rattle.exec_data.specs.ProcessState.Bodies as bodies
+use Rattle.exec_data.specs.ProcessState.Bodies.{left_in}
+use Rattle.exec_data.specs.ProcessState.declared.body.Body.{Body}
 use Rattle.exec_data.specs.KernelProcesses.Seen.{seen, shown_at, is_on, bare, as_instance}
 use Rattle.exec_data.specs.KernelProcesses.Seen.{body_at as kept_at}
 use Rattle.exec_data.specs.KernelProcesses.Sound as schedules

@@ -12,9 +12,9 @@ use Rattle.kernel_state.specs.SimModel.Control.{begins}
 use Rattle.kernel_state.specs.SimModel.Steps.{turn_line, instance_taken}
 use Rattle.kernel_state.proofs.KernelBodies.Strips.{strip-entered}
 use Rattle.kernel_state.proofs.KernelProcesses.Wakes.{change-here}
-use Rattle.kernel_state.specs.ProcessBodies.Bodies as bodies
-use Rattle.kernel_state.specs.ProcessBodies.Bodies.{left_in}
-use Rattle.kernel_state.specs.ProcessBodies.declared.body.Body.{Body}
+use Rattle.kernel_state.specs.ProcessState.Bodies as bodies
+use Rattle.kernel_state.specs.ProcessState.Bodies.{left_in}
+use Rattle.kernel_state.specs.ProcessState.declared.body.Body.{Body}
 use Rattle.kernel_state.specs.KernelProcesses.Seen.{seen, shown_at, as_instance}
 use Rattle.kernel_state.specs.KernelProcesses.Seen.{body_at as kept_at}
 use Rattle.kernel_state.specs.KernelProcesses.Sound as schedules

@@ -36,7 +36,7 @@ use Rattle.flat_design.specs.declared.design.Denoted.TheVariants as denoted
 use Rattle.flat_design.specs.declared.design.ChannelId.{ChannelId}
 use Rattle.flat_design.specs.declared.design.ChannelId.TheVariants as channel
 use Rattle.exec_channels.specs.SimModel.Values.{on_ok, bits, cut_to, index_within, moment, signed, truth}
-use Rattle.exec_channels.specs.SimModel.Residual.{Residual, put, skip, innermost, goal, has_goal, taken_off}
+use Rattle.exec_channels.specs.SimModel.Residual.{Residual, put, skip, innermost, goal, has_goal}
 use Rattle.exec_channels.specs.SimModel.Unwinding.{returned, return_marks, unw, catches, left_by_unw, left_by_raise, raise}
 use Rattle.exec_channels.specs.SimModel.Configuration.{Config, Instance, Wait, waits_for_nothing, waits_statically, waits_for_any, waits_for_all, line, change_instance, with_residual, with_runnable, with_marks, with_told, instance_at, arena}
 use Rattle.exec_channels.specs.SimModel.Reading.{Here, denotes, val, val_if, place_in, payload_number, live_payload, memory_here, memory_number, keeper_at}
@@ -355,17 +355,6 @@ module _ (c : Config) where
     throw_it_quiet s who e true = ok c (target_of h p who) (λ q. Ok (with_owed c p r s (targets c q p))) (λ q. refl)
     throw_it_quiet s who e false = ok c (target_of h p who) (λ q. throw_call (passes c p r) q e) (λ q.
         unless_ended_quiet (passes c p r) (instance_at (passes c p r) q) (λ i. throws_at (passes c p r) q i e) refl (λ i. throws_at_quiet (passes c p r) q i e refl))
-
-  -- of a call that is owed
-  pub owed_control_quiet : (p : ℕ) (r : Residual) (q : ℕ) (o : Control) → QuietIfOk c (control_call (with_residual c p (taken_off r)) q o)
-  owed_control_quiet p r q o =
-      let d = with_residual c p (taken_off r) in
-      unless_ended_quiet d (instance_at d q) (λ i. controlled_by d q i o) refl (λ i. controlled_quiet d q i o refl)
-
-  pub owed_throw_quiet : (p : ℕ) (r : Residual) (q e : ℕ) → QuietIfOk c (throw_call (with_residual c p (taken_off r)) q e)
-  owed_throw_quiet p r q e =
-      let d = with_residual c p (taken_off r) in
-      unless_ended_quiet d (instance_at d q) (λ i. throws_at d q i e) refl (λ i. throws_at_quiet d q i e refl)
 
     -- ---- payloads and keepers
 

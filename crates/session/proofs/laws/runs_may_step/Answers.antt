@@ -11,6 +11,7 @@ returns c k program d h reached few same = record {
     same = same ∙ ap (λ (x : Design). arena_of x.code) h.design;
   };
   throws = λ p top. c.throws_are_free.ensures.next k d h reached p;
+  alone = λ p top. c.reached_designs_are_sound.ensures.alone k d h reached p top;
   others = c.others_have_no_goal.ensures k d h reached;
   fresh = λ starts. c.fresh_at_start.ensures.kernel k d h reached starts;
 }
