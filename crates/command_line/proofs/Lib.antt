@@ -3,3 +3,4 @@ pub mod ClapLemmas
 pub mod LineLemmas
 pub mod PlainLemmas
 pub mod Excluded
+pub mod Budgets

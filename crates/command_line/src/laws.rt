@@ -1,6 +1,8 @@
-ghost use Rattle.std.specs.Prelude.{◌≡◌, ◌∷◌, [], List, ℕ, Some, None, true};
+ghost use Rattle.std.specs.Prelude.{◌≡◌, ◌≤◌, ◌∷◌, [], List, ℕ, Some, None, true};
+ghost use Rattle.command_line.specs.declared.modes.Generated.{Generated};
 ghost use Rattle.command_line.specs.Given.{Given, given_by};
-ghost use Rattle.command_line.specs.Line.{Simulate, Simulation, are_apart, line_of};
+ghost use Rattle.command_line.specs.Line.{Generate, Simulate, Simulation, are_apart, line_of};
+ghost use Rattle.command_line.specs.Numbers.{budget_limit};
 ghost use Rattle.command_line.specs.Plain.{has_no_hyphen, plain_simulation};
 
 /// Two names that begin with no hyphen ask for a simulation of these files, with all that is left out as by default.
@@ -23,4 +25,10 @@ pub fn what_excludes_what()
 /// A simulation writes its trace and its choices to different files.
 pub fn simulations_write_apart()
     ensures { (words : List (List ℕ)) (s : Simulation) → line_of words ≡ Some (Simulate s) → are_apart s.vcd s.choices ≡ true }
+{}
+
+/// No run is asked for with more steps than the greatest budget.
+pub fn budgets_are_limited()
+    ensures simulated { (words : List (List ℕ)) (s : Simulation) → line_of words ≡ Some (Simulate s) → s.budget ≤ budget_limit }
+    ensures generated { (words : List (List ℕ)) (g : Generated) → line_of words ≡ Some (Generate g) → g.budget ≤ budget_limit }
 {}

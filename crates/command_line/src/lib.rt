@@ -9,7 +9,9 @@ mod numbers;
 mod reading;
 mod words;
 
-pub use laws::{simulations_write_apart, two_names_are_a_simulation, what_excludes_what};
+pub use laws::{
+    budgets_are_limited, simulations_write_apart, two_names_are_a_simulation, what_excludes_what,
+};
 pub use modes::{ChoiceRule, Generated, Mode, Order, PageKind, Simulation, WordsStop};
 pub use numbers::{BUDGET_LIMIT, DEFAULT_BUDGET, GENERATED_LIMIT};
 pub use reading::read_line;

@@ -16,7 +16,7 @@ pub use making::sound_design;
 
 /// What is passed on of laws_design.
 pub mod laws_design_api {
-    pub use laws_design::designs_are_few;
+    pub use laws_design::{designs_are_few, semaphores_start_low};
 }
 
 /// What is passed on of model_check.

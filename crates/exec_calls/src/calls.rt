@@ -33,6 +33,7 @@ pub fn call(
     requires next { Shows k.old p s }
     ensures does { DoesOrStops k.old k.new result p (λ c q i r. do_call c q r (here c q i r) s f (map argument_term arguments.now)) }
     ensures sound { IsSound k.new }
+    ensures made { k.new.made ≡ k.old.made }
 {
     let _ = s;
     match judge_arguments(k, p, arguments) {

@@ -35,6 +35,7 @@ pub fn enter_call(
     ensures others { ChangesBody p k.old k.new }
     ensures lives { Lives k.new p }
     ensures sound { IsSound k.new }
+    ensures made { k.new.made ≡ k.old.made }
 {
     match k.schedule.table.get_mut(p) {
         Some(x) => x.body.body.body.enter(&k.program, f, arguments, via),
@@ -53,6 +54,7 @@ pub fn enter_ready_call(k: &mut Kernel, p: u32, f: CodeId, arguments: Vec<Value>
     ensures others { ChangesBody p k.old k.new }
     ensures lives { Lives k.new p }
     ensures sound { IsSound k.new }
+    ensures made { k.new.made ≡ k.old.made }
 {
     match enter_call(k, p, f, arguments, via) {
         Ok(()) => {}

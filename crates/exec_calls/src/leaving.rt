@@ -1,5 +1,5 @@
 //! Calls that end.
-ghost use Rattle.std.specs.Prelude.{IsSomeAnd};
+ghost use Rattle.std.specs.Prelude.{◌≡◌, IsSomeAnd};
 ghost use Rattle.exec_data.specs.SimModel.Residual as residual;
 ghost use Rattle.exec_data.specs.SimModel.Storing.{passes};
 ghost use Rattle.exec_data.specs.KernelBodies.Layers.{call_of};
@@ -32,6 +32,7 @@ pub fn leave_call(k: &mut Kernel, p: u32) -> Frame
     ensures others { ChangesBody p k.old k.new }
     ensures lives { Lives k.new p }
     ensures sound { IsSound k.new }
+    ensures made { k.new.made ≡ k.old.made }
 {
     match k.schedule.table.get_mut(p) {
         Some(x) => x.body.body.body.leave(&k.program),

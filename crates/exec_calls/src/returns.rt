@@ -23,6 +23,7 @@ fn give_one(k: &mut Kernel, p: u32, home: u32, frame: &Frame, i: usize, argument
     ensures design { whole_design k.new ≡ whole_design k.old }
     ensures lives { Lives k.new p }
     ensures sound { IsSound k.new }
+    ensures made { k.new.made ≡ k.old.made }
 {
     match argument {
         Argument::Value(_) => {}
@@ -38,6 +39,7 @@ fn give_back(k: &mut Kernel, p: u32, home: u32, frame: &Frame, arguments: &[Argu
     ensures design { whole_design k.new ≡ whole_design k.old }
     ensures lives { Lives k.new p }
     ensures sound { IsSound k.new }
+    ensures made { k.new.made ≡ k.old.made }
 {
     for (i, argument) in arguments.iter().enumerate() {
         give_one(k, p, home, frame, i, argument);
@@ -52,6 +54,7 @@ fn hand_back(k: &mut Kernel, p: u32, frame: &Frame, target: Option<Store>, argum
     ensures moves { MovesAt k.old k.new p (λ c i. call_ends c p (here c p i i.residual) (call_of frame.now) target (map argument_term arguments.now)) }
     ensures lives { Lives k.new p }
     ensures sound { IsSound k.new }
+    ensures made { k.new.made ≡ k.old.made }
 {
     let home = home_at(k, p);
     let answer = answer_of(&k.program, frame);
@@ -77,6 +80,7 @@ fn hand_back_to(k: &mut Kernel, p: u32, frame: &Frame, statement: &Statement)
     ensures hands { HandsBack k.old k.new (Ok tt) p (call_of frame.now) (Some (statement_of statement.now)) }
     ensures lives { Lives k.new p }
     ensures sound { IsSound k.new }
+    ensures made { k.new.made ≡ k.old.made }
 {
     match statement {
         Statement::Call(target, _, arguments) => {
@@ -135,6 +139,7 @@ pub fn leave_plain_call(k: &mut Kernel, program: &Program, p: u32)
     ensures does { LeavesBy k.old k.new (Ok tt) p }
     ensures lives { Lives k.new p }
     ensures sound { IsSound k.new }
+    ensures made { k.new.made ≡ k.old.made }
 {
     let frame = leave_call(k, p);
     match calling_statement(program, frame.call) {

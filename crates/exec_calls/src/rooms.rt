@@ -29,6 +29,7 @@ pub fn reserve_call(k: &mut Kernel, p: u32, f: CodeId) -> Result<(), EnterStop>
     ensures others { ChangesBody p k.old k.new }
     ensures lives { Lives k.new p }
     ensures sound { IsSound k.new }
+    ensures made { k.new.made ≡ k.old.made }
 {
     match k.schedule.table.get_mut(p) {
         Some(x) => x.body.body.body.reserve(&k.program, f),

@@ -1,5 +1,5 @@
 //! The statement `spawn`.
-ghost use Rattle.std.specs.Prelude.{◌≡◌, ◌<◌, ◌+◌, ◌^◌, OnOk, OnErr};
+ghost use Rattle.std.specs.Prelude.{◌≤◌, ◌≡◌, ◌<◌, ◌+◌, ◌^◌, OnOk, OnErr};
 ghost use Rattle.flat_design.specs.Code.{spawn_term};
 ghost use Rattle.exec_data.specs.SimModel.Configuration.{Config};
 ghost use Rattle.exec_data.specs.SimModel.Calls.{do_spawn, handle_stored, may_spawn, spawns};
@@ -33,6 +33,7 @@ fn keep_handle(k: &mut Kernel, p: u32, handle: Option<NameUse>, serial: u32)
     requires statement { HasStatement k.old p }
     ensures steps { Steps k.old k.new p (λ c q i r. handle_stored (passes c q r) q (here c q i r) handle serial) }
     ensures sound { IsSound k.new }
+    ensures made { k.new.made ≡ k.old.made }
 {
     top_lives(k, p);
     match handle {
@@ -65,6 +66,8 @@ fn spawn_offspring(
     ensures steps { OnOk result (Steps k.old k.new p (λ c q i r. brought_forth (passes c q r) q (here c q i r) handle o)) }
     ensures stays { OnErr result (Moves k.old k.new (λ c. c)) }
     ensures sound { IsSound k.new }
+    ensures made { k.new.made ≤ k.old.made + 1 }
+    ensures refused { OnErr result (k.new.made ≡ k.old.made) }
 {
     top_lives(k, p);
     match bring_forth(k, alloc, o) {
@@ -106,6 +109,8 @@ fn spawn_with(
     ensures steps { OnOk result (Steps k.old k.new p (λ c q i r. spawns (passes c q r) q (here c q i r) (spawn_term form.now) arguments)) }
     ensures stays { OnErr result (Moves k.old k.new (λ c. c)) }
     ensures sound { IsSound k.new }
+    ensures made { k.new.made ≤ k.old.made + 1 }
+    ensures refused { OnErr result (k.new.made ≡ k.old.made) }
 {
     top_lives(k, p);
     let home = home_at(k, p);
@@ -159,6 +164,8 @@ pub fn spawn(k: &mut Kernel, alloc: Global, p: u32, form: &SpawnForm) -> Result<
     requires room { k.old.made < 2 ^ 31 + 2 }
     ensures does { DoesOrStops k.old k.new result p (λ c q i r. do_spawn c q r (here c q i r) (spawn_term form.now)) }
     ensures sound { IsSound k.new }
+    ensures made { k.new.made ≤ k.old.made + 1 }
+    ensures refused { OnErr result (k.new.made ≡ k.old.made) }
 {
     top_lives(k, p);
     match judge_first_arguments(k, p, form.arguments.as_slice()) {

@@ -21,6 +21,7 @@ fn store_local(k: &mut Kernel, p: u32, n: u32, v: Value)
     ensures design { whole_design k.new ≡ whole_design k.old }
     ensures lives { Lives k.new p }
     ensures sound { IsSound k.new }
+    ensures made { k.new.made ≡ k.old.made }
 {
     match k.schedule.table.get_mut(p) {
         Some(x) => x.body.body.body.set_local(n as usize, v),
@@ -36,6 +37,7 @@ fn store_denoted(k: &mut Kernel, p: u32, d: Denoted, v: Value)
     ensures design { whole_design k.new ≡ whole_design k.old }
     ensures lives { Lives k.new p }
     ensures sound { IsSound k.new }
+    ensures made { k.new.made ≡ k.old.made }
 {
     match variable_number(d) {
         Some(n) => set_variable(k, n, v),
@@ -52,6 +54,7 @@ pub fn store_in(k: &mut Kernel, p: u32, home: u32, n: NameUse, v: Value)
     ensures design { whole_design k.new ≡ whole_design k.old }
     ensures lives { Lives k.new p }
     ensures sound { IsSound k.new }
+    ensures made { k.new.made ≡ k.old.made }
 {
     match n {
         NameUse::Local(i) => store_local(k, p, i, v),
@@ -70,6 +73,7 @@ pub fn store_if_in(k: &mut Kernel, p: u32, home: u32, target: Option<Store>, v: 
     ensures design { whole_design k.new ≡ whole_design k.old }
     ensures lives { Lives k.new p }
     ensures sound { IsSound k.new }
+    ensures made { k.new.made ≡ k.old.made }
 {
     match target {
         Some(target) => store_in(k, p, home, target.name, cut_to(target.value_type, v)),

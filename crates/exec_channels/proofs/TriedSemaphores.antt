@@ -1,12 +1,11 @@
 -- A semaphore that is tried.
-use Rattle.std.proofs.Common.{◌≡◌, ◌+◌, ◌-◌, ◌^◌, ℕ, not, Bool, true, false, List, slice_get, Option, Some, None, option_map, Result, Ok, Err, refl, sym, ap, ◌∙◌, subst, true≢false, arith}
-use Rattle.std.specs.Prelude.{◌↔◌, is_some, unwrap_or, if◌then◌else◌}
-use Rattle.std.specs.Result.{is_err}
+use Rattle.std.proofs.Common.{◌≡◌, ◌<◌, ◌+◌, ⊎_elim, ℕ, not, Bool, true, false, List, All, slice_get, Option, Some, None, option_map, refl, sym, ap, ◌∙◌, subst, true≢false, arith}
+use Rattle.std.specs.Prelude.{is_some, unwrap_or, if◌then◌else◌}
 use Rattle.std.proofs.lemmas.Bool.Decides.{nat_tests}
+use Rattle.std.proofs.lemmas.List.Elements.{All-get_or}
+use Rattle.std.proofs.lemmas.Option.{slice_get_cases}
 use Rattle.kernel_view.specs.EventCore.declared.event.Ev.{Ev}
 use Rattle.kernel_view.specs.FifoSync.Locks.{is_used_up}
-use Rattle.flat_design.specs.Code.{ChannelTerm}
-use Rattle.flat_design.specs.declared.faults.RunFault.{RunFault}
 use Rattle.flat_design.specs.declared.code.Store.{Store as Target}
 use Rattle.flat_design.specs.declared.names.EventMember.TheVariants as event
 use Rattle.flat_design.specs.declared.design.ChannelId.{ChannelId}
@@ -20,11 +19,8 @@ use Rattle.kernel_view.specs.SimModel.Channels.{with_channels, blocks, element, 
 use Rattle.kernel_view.specs.KernelState.Kernel.{StandsFor}
 use Rattle.kernel_view.specs.KernelState.Moves.{Moves, Steps}
 use Rattle.kernel_view.specs.KernelState.declared.kernel.Kernel.{Kernel}
-use Rattle.kernel_view.specs.KernelState.declared.stops.StatementStop.{StatementStop}
-use Rattle.kernel_view.specs.KernelState.declared.stops.StatementStop.TheVariants as stop
 use Rattle.kernel_view.proofs.KernelState.Fifos.{negated}
-use Rattle.kernel_view.specs.Standings.{next_here, Everywhere}
-use Rattle.exec_channels.specs.Tried.{used_here, changed_in, value_posted, posted_value}
+use Rattle.exec_channels.specs.Tried.{changed_in}
 use Rattle.exec_channels.proofs.Trying.{found, not_found, changed-here, stays-here, none-here, tried, untried, goes_on, stays_on, same_steps}
 
 abbrev taken : Option ℕ → Channels → Channels
@@ -39,13 +35,12 @@ risen o y = record y { semaphores = changed_in y.semaphores o (λ v. v + 1) }
 not_taken : (v : ℕ) → is_used_up v ≡ true → taken_from v ≡ v
 not_taken v is = grind (arith, nat_tests)
 
--- the greatest value, or one that is not there
-pub is_greatest : (xs : List ℕ) (n v : ℕ) → v ≡ unwrap_or (slice_get xs n) 0 → v ≡ 2 ^ 64 - 1 → slice_get xs n ≡ Some (2 ^ 64 - 1)
-is_greatest xs n v read is = by (slice_get xs n) (sym read ∙ is)
-  where
-    by : (o : Option ℕ) → unwrap_or o 0 ≡ 2 ^ 64 - 1 → o ≡ Some (2 ^ 64 - 1)
-    by None same = absurd (let no : ⊥ = omega (arith, same) in no)
-    by (Some x) same = ap Some same
+-- the value that is read, where each is below the greatest
+pub below_greatest : (xs : List ℕ) (n m : ℕ) → 0 < m → All (λ v. v < m) xs → unwrap_or (slice_get xs n) 0 < m
+below_greatest xs n m some all =
+    let P : Option ℕ → Type 0 = λ o. unwrap_or o 0 < m in
+    let Q : ℕ → Type 0 = λ v. v < m in
+    ⊎_elim (λ t. subst P (sym t.2) (subst Q t.3 (All-get_or Q xs n t.0 t.1 all))) (λ none. subst P (sym none.1) some) (slice_get_cases xs n).1
 
 -- what is there, where something is
 pub there : {A : Type 0} (o : Option A) → true ≡ is_some o → (x : A) × (o ≡ Some x)
@@ -173,23 +168,3 @@ module _ (k : Kernel) (x : Channels) (p : ℕ) (ch : ChannelId) where
         same_steps k l p (λ c q i r. passes c q r) (λ c q i r. post_at (passes c q r) ch (semaphore_of ch))
         (λ c i r same. sym (post_none (passes c p r) ch (semaphore_of ch) (there_too c None same none)))
         (stays_on k x (risen (semaphore_of ch)) left p l (ap (λ vs. record k.channels { semaphores = vs }) (none-here k.channels.semaphores (semaphore_of ch) (λ v. v + 1) none)) (λ c q i r. passes c q r) next)
-
--- ---- the greatest value that the kernel can hold
-
-module _ (k : Kernel) (p : ℕ) (at : ChannelTerm) (answer : Result ChannelId RunFault) (gives : Everywhere k p (λ h. answer ≡ used_here h at)) where
-  -- of a semaphore that was found
-  pub full_for : (P : Type 0) (ch : ChannelId) → answer ≡ Ok ch → (P ↔ (element k.channels.semaphores (semaphore_of ch) ≡ Some (2 ^ 64 - 1))) → Everywhere k p (λ h. P ↔ (posted_value h at ≡ Some (2 ^ 64 - 1)))
-  full_for P ch is full c i h there = subst (λ o. P ↔ (o ≡ Some (2 ^ 64 - 1)))
-      (sym (ap (λ y. element y.semaphores (semaphore_of ch)) h.channels) ∙ ap (value_posted (next_here c p i).config) (sym is ∙ gives c i h there)) full
-
-  -- there is none
-  pub never_full : (P : Type 0) → (P → ⊥) → (f : RunFault) → answer ≡ Err f → Everywhere k p (λ h. P ↔ (posted_value h at ≡ Some (2 ^ 64 - 1)))
-  never_full P not_so f is c i h there =
-      ((λ full. absurd (not_so full)), (λ full. absurd (true≢false (ap is_some (sym full ∙ ap (value_posted (next_here c p i).config) (sym (gives c i h there) ∙ is))))))
-
--- that there is no room is told as want of memory
-pub full_told : (P : Type 0) → (true ≡ true) ↔ P → (let told : Result Unit StatementStop = Err stop.NoMemory in told ≡ Err stop.NoMemory) ↔ P
-full_told P full = ((λ same. full.0 refl), (λ so. refl))
-
-pub room_told : (P : Type 0) → (false ≡ true) ↔ P → (let told : Result Unit StatementStop = Ok tt in told ≡ Err stop.NoMemory) ↔ P
-room_told P full = ((λ same. full.0 (ap is_err same)), (λ so. absurd (true≢false (sym (full.1 so)))))

@@ -50,6 +50,7 @@ fn nb_write_channel(k: &mut Kernel, p: u32, target: Option<Store>, channel: Chan
     requires statement { HasStatement k.old p }
     ensures steps { Steps k.old k.new p (λ c q i r. channels.nb_write_fifo c q r (here c q i r) target channel v (fifo_here c channel)) }
     ensures sound { IsSound k.new }
+    ensures made { k.new.made ≡ k.old.made }
 {
     top_lives(k, p);
     let slot = slot_at(k, p, target);
@@ -78,6 +79,7 @@ pub fn nb_write(
     requires statement { HasStatement k.old p }
     ensures does { Does k.old k.new result p (λ c q i r. do_nb_write c q r (here c q i r) target (channel_term at.now) t (term_of e.now)) }
     ensures sound { IsSound k.new }
+    ensures made { k.new.made ≡ k.old.made }
 {
     top_lives(k, p);
     let place = eval_place_at(k, p, &at.place)?;
@@ -98,6 +100,7 @@ fn nb_read_channel(k: &mut Kernel, p: u32, target: Option<Store>, channel: Chann
     requires statement { HasStatement k.old p }
     ensures steps { Steps k.old k.new p (λ c q i r. channels.nb_read_fifo c q r (here c q i r) target to channel (fifo_here c channel)) }
     ensures sound { IsSound k.new }
+    ensures made { k.new.made ≡ k.old.made }
 {
     top_lives(k, p);
     let slot = slot_at(k, p, target);
@@ -130,6 +133,7 @@ pub fn nb_read(
     requires statement { HasStatement k.old p }
     ensures does { Does k.old k.new result p (λ c q i r. do_nb_read c q r (here c q i r) target (channel_term at.now) to) }
     ensures sound { IsSound k.new }
+    ensures made { k.new.made ≡ k.old.made }
 {
     top_lives(k, p);
     match used_at(k, p, at) {
@@ -155,6 +159,7 @@ fn read_channel(
     ensures steps { OnOk result (Steps k.old k.new p (λ c q i r. channels.read_fifo c q r (here c q i r) target channel (fifo_here c channel))) }
     ensures stays { OnErr result (Moves k.old k.new (λ c. c)) }
     ensures sound { IsSound k.new }
+    ensures made { k.new.made ≡ k.old.made }
 {
     top_lives(k, p);
     let slot = slot_at(k, p, target);
@@ -193,6 +198,7 @@ pub fn read(
     requires statement { HasStatement k.old p }
     ensures does { DoesOrStops k.old k.new result p (λ c q i r. do_read c q r (here c q i r) target (channel_term at.now)) }
     ensures sound { IsSound k.new }
+    ensures made { k.new.made ≡ k.old.made }
 {
     top_lives(k, p);
     match used_at(k, p, at) {

@@ -47,6 +47,7 @@ fn unlock_channel(k: &mut Kernel, p: u32, target: Option<Store>, channel: Channe
     requires statement { HasStatement k.old p }
     ensures steps { Steps k.old k.new p (λ c q i r. channels.unlock_at (passes c q r) q (here c q i r) target channel (mutex_of channel)) }
     ensures sound { IsSound k.new }
+    ensures made { k.new.made ≡ k.old.made }
 {
     top_lives(k, p);
     let slot = slot_at(k, p, target);
@@ -78,6 +79,7 @@ pub fn unlock(
     requires statement { HasStatement k.old p }
     ensures does { Does k.old k.new result p (λ c q i r. do_unlock c q r (here c q i r) target (channel_term at.now)) }
     ensures sound { IsSound k.new }
+    ensures made { k.new.made ≡ k.old.made }
 {
     top_lives(k, p);
     match used_at(k, p, at) {
@@ -96,6 +98,7 @@ fn trylock_channel(k: &mut Kernel, p: u32, target: Option<Store>, channel: Chann
     requires statement { HasStatement k.old p }
     ensures steps { Steps k.old k.new p (λ c q i r. channels.trylock_at (passes c q r) q (here c q i r) target (mutex_of channel)) }
     ensures sound { IsSound k.new }
+    ensures made { k.new.made ≡ k.old.made }
 {
     top_lives(k, p);
     let slot = slot_at(k, p, target);
@@ -122,6 +125,7 @@ pub fn trylock(
     requires statement { HasStatement k.old p }
     ensures does { Does k.old k.new result p (λ c q i r. do_trylock c q r (here c q i r) target (channel_term at.now)) }
     ensures sound { IsSound k.new }
+    ensures made { k.new.made ≡ k.old.made }
 {
     top_lives(k, p);
     match used_at(k, p, at) {
@@ -141,6 +145,7 @@ fn lock_channel(k: &mut Kernel, alloc: Global, p: u32, channel: ChannelId) -> Re
     ensures steps { OnOk result (Steps k.old k.new p (λ c q i r. channels.lock_at c q r channel (mutex_of channel))) }
     ensures stays { OnErr result (Moves k.old k.new (λ c. c)) }
     ensures sound { IsSound k.new }
+    ensures made { k.new.made ≡ k.old.made }
 {
     top_lives(k, p);
     match try_lock(&mut k.channels, channel, p) {
@@ -171,6 +176,7 @@ pub fn lock(k: &mut Kernel, alloc: Global, p: u32, at: &ChannelUse) -> Result<()
     requires statement { HasStatement k.old p }
     ensures does { DoesOrStops k.old k.new result p (λ c q i r. do_lock c q r (here c q i r) (channel_term at.now)) }
     ensures sound { IsSound k.new }
+    ensures made { k.new.made ≡ k.old.made }
 {
     top_lives(k, p);
     match used_at(k, p, at) {

@@ -1,5 +1,5 @@
 //! Statements on semaphores (IEEE 1666-2011, 6.29).
-ghost use Rattle.std.specs.Prelude.{◌≡◌, ◌↔◌, ◌+◌, ◌-◌, ◌^◌, Some, Err, IsErr, IfOk, OnOk, OnErr, is_some, not, option_map};
+ghost use Rattle.std.specs.Prelude.{◌≡◌, ◌<◌, ◌+◌, ◌-◌, ◌^◌, All, OnOk, OnErr, is_some, not, option_map};
 ghost use Rattle.kernel_view.specs.FifoSync.Locks.{is_used_up};
 ghost use Rattle.flat_design.specs.Code.{channel_term};
 ghost use Rattle.kernel_view.specs.SimModel.Channels as channels;
@@ -9,8 +9,7 @@ ghost use Rattle.kernel_view.specs.SimModel.Storing.{passes};
 ghost use Rattle.kernel_view.specs.KernelState.Kernel.{IsSound};
 ghost use Rattle.kernel_view.specs.KernelState.Moves.{Moves, Steps, Does, HasStatement, IsOnTop};
 ghost use Rattle.kernel_view.specs.KernelState.Stopping.{DoesOrStops};
-ghost use Rattle.kernel_view.specs.Standings.{Everywhere};
-ghost use Rattle.exec_channels.specs.Tried.{changed_in, posted_value};
+ghost use Rattle.exec_channels.specs.Tried.{changed_in};
 
 use crate::slots::{past, slot_at, tell};
 use crate::uses::{first_event, semaphore_number, used_at};
@@ -30,76 +29,58 @@ fn try_take(board: &mut ChannelBoard, channel: ChannelId) -> Option<bool>
     }
 }
 
-/// Adds one to the value of a semaphore: says whether there is such a semaphore.
-///
-/// # Errors
-/// Its value is 2^64 - 1, and then nothing changes.
-fn give(board: &mut ChannelBoard, channel: ChannelId) -> Result<bool, AllocError>
-    ensures there { IfOk result (λ there. there ≡ is_some (element board.old.semaphores (semaphore_of channel))) }
-    ensures left { OnOk result (board.new ≡ record board.old { semaphores = changed_in board.old.semaphores (semaphore_of channel) (λ v. v + 1) }) }
-    ensures full { IsErr result ↔ (element board.old.semaphores (semaphore_of channel) ≡ Some (2 ^ 64 - 1)) }
-    ensures stays { OnErr result (board.new ≡ board.old) }
+/// Adds one to the value of a semaphore: says whether there is such a semaphore. None has the greatest value that there may be.
+fn give(board: &mut ChannelBoard, channel: ChannelId) -> bool
+    requires room { All (λ v. v < 2 ^ 64 - 1) board.old.semaphores }
+    ensures there { result ≡ is_some (element board.old.semaphores (semaphore_of channel)) }
+    ensures left { board.new ≡ record board.old { semaphores = changed_in board.old.semaphores (semaphore_of channel) (λ v. v + 1) } }
 {
     match semaphore_number(channel) {
-        Some(n) => {
-            if board.semaphore(n) == u64::MAX {
-                return Err(AllocError);
-            }
-            Ok(board.post_semaphore(n))
-        }
-        None => Ok(false),
+        Some(n) => board.post_semaphore(n),
+        None => false,
     }
 }
 
 /// A post to a channel that is known.
-///
-/// # Errors
-/// The value of the semaphore is 2^64 - 1, and then nothing changes.
-fn post_channel(k: &mut Kernel, p: u32, channel: ChannelId) -> Result<(), AllocError>
+fn post_channel(k: &mut Kernel, p: u32, channel: ChannelId)
     requires sound { IsSound k.old }
     requires top { IsOnTop k.old p }
     requires statement { HasStatement k.old p }
-    ensures steps { OnOk result (Steps k.old k.new p (λ c q i r. channels.post_at (passes c q r) channel (semaphore_of channel))) }
-    ensures full { IsErr result ↔ (element k.old.channels.semaphores (semaphore_of channel) ≡ Some (2 ^ 64 - 1)) }
-    ensures stays { OnErr result (Moves k.old k.new (λ c. c)) }
+    requires posts { All (λ v. v < 2 ^ 64 - 1) k.old.channels.semaphores }
+    ensures steps { Steps k.old k.new p (λ c q i r. channels.post_at (passes c q r) channel (semaphore_of channel)) }
     ensures sound { IsSound k.new }
+    ensures made { k.new.made ≡ k.old.made }
 {
     top_lives(k, p);
-    match give(&mut k.channels, channel) {
-        Ok(true) => {
-            pass(k, p);
-            fire(k, first_event(channel));
-            Ok(())
-        }
-        Ok(false) => {
-            pass(k, p);
-            Ok(())
-        }
-        Err(_) => Err(AllocError),
+    if give(&mut k.channels, channel) {
+        pass(k, p);
+        fire(k, first_event(channel));
+    } else {
+        pass(k, p);
     }
 }
 
 /// `post`: the value of a semaphore rises by one, which wakes all who wait for it (IEEE 1666-2011, 6.29.3.5). The channel is
-/// named, or is that of a port at a place. It takes no memory of the allocator.
+/// named, or is that of a port at a place. It takes no memory: no semaphore has the greatest value that there may be.
 ///
 /// # Errors
-/// The fault of its place; a place past the last channel of a port; no memory, where the value of the semaphore is 2^64 - 1, the
-/// greatest that the kernel can hold: there is no room for a greater one. Then nothing changes.
-pub fn post(k: &mut Kernel, p: u32, at: &ChannelUse) -> Result<(), StatementStop>
+/// The fault of its place; a place past the last channel of a port. Then nothing changes.
+pub fn post(k: &mut Kernel, p: u32, at: &ChannelUse) -> Result<(), RunFault>
     requires sound { IsSound k.old }
     requires top { IsOnTop k.old p }
     requires statement { HasStatement k.old p }
-    ensures does { DoesOrStops k.old k.new result p (λ c q i r. do_post c q r (here c q i r) (channel_term at.now)) }
-    ensures full { Everywhere k.old p (λ h. (result ≡ Err StatementStop.NoMemory) ↔ (posted_value h (channel_term at.now) ≡ Some (2 ^ 64 - 1))) }
+    requires posts { All (λ v. v < 2 ^ 64 - 1) k.old.channels.semaphores }
+    ensures does { Does k.old k.new result p (λ c q i r. do_post c q r (here c q i r) (channel_term at.now)) }
     ensures sound { IsSound k.new }
+    ensures made { k.new.made ≡ k.old.made }
 {
     top_lives(k, p);
     match used_at(k, p, at) {
-        Ok(channel) => match post_channel(k, p, channel) {
-            Ok(()) => Ok(()),
-            Err(_) => Err(StatementStop::NoMemory),
-        },
-        Err(fault) => Err(StatementStop::Fault(fault)),
+        Ok(channel) => {
+            post_channel(k, p, channel);
+            Ok(())
+        }
+        Err(fault) => Err(fault),
     }
 }
 
@@ -110,6 +91,7 @@ fn trywait_channel(k: &mut Kernel, p: u32, target: Option<Store>, channel: Chann
     requires statement { HasStatement k.old p }
     ensures steps { Steps k.old k.new p (λ c q i r. channels.sem_trywait_at (passes c q r) q (here c q i r) target (semaphore_of channel)) }
     ensures sound { IsSound k.new }
+    ensures made { k.new.made ≡ k.old.made }
 {
     top_lives(k, p);
     let slot = slot_at(k, p, target);
@@ -136,6 +118,7 @@ pub fn sem_trywait(
     requires statement { HasStatement k.old p }
     ensures does { Does k.old k.new result p (λ c q i r. do_sem_trywait c q r (here c q i r) target (channel_term at.now)) }
     ensures sound { IsSound k.new }
+    ensures made { k.new.made ≡ k.old.made }
 {
     top_lives(k, p);
     match used_at(k, p, at) {
@@ -155,6 +138,7 @@ fn wait_channel(k: &mut Kernel, alloc: Global, p: u32, channel: ChannelId) -> Re
     ensures steps { OnOk result (Steps k.old k.new p (λ c q i r. channels.sem_wait_at c q r channel (semaphore_of channel))) }
     ensures stays { OnErr result (Moves k.old k.new (λ c. c)) }
     ensures sound { IsSound k.new }
+    ensures made { k.new.made ≡ k.old.made }
 {
     top_lives(k, p);
     match try_take(&mut k.channels, channel) {
@@ -185,6 +169,7 @@ pub fn sem_wait(k: &mut Kernel, alloc: Global, p: u32, at: &ChannelUse) -> Resul
     requires statement { HasStatement k.old p }
     ensures does { DoesOrStops k.old k.new result p (λ c q i r. do_sem_wait c q r (here c q i r) (channel_term at.now)) }
     ensures sound { IsSound k.new }
+    ensures made { k.new.made ≡ k.old.made }
 {
     top_lives(k, p);
     match used_at(k, p, at) {

@@ -39,6 +39,7 @@ pub(crate) fn past(k: &mut Kernel, p: u32)
     ensures steps { Steps k.old k.new p (λ c q i r. passes c q r) }
     ensures lives { Lives k.new p }
     ensures sound { IsSound k.new }
+    ensures made { k.new.made ≡ k.old.made }
 {
     top_lives(k, p);
     pass(k, p);
@@ -90,6 +91,7 @@ fn set_local(k: &mut Kernel, p: u32, n: u32, v: Value)
     ensures moves { Moves k.old k.new (λ c. storing.set_local c p n v) }
     ensures lives { Lives k.new p }
     ensures sound { IsSound k.new }
+    ensures made { k.new.made ≡ k.old.made }
 {
     match k.schedule.table.get_mut(p) {
         Some(x) => x.body.body.body.set_local(n as usize, v),
@@ -104,6 +106,7 @@ fn keep(k: &mut Kernel, p: u32, slot: Slot, v: Value)
     ensures moves { Moves k.old k.new (λ c. kept_in c p slot v) }
     ensures lives { Lives k.new p }
     ensures sound { IsSound k.new }
+    ensures made { k.new.made ≡ k.old.made }
 {
     match slot {
         Slot::Nowhere => {}
@@ -119,6 +122,7 @@ pub(crate) fn put(k: &mut Kernel, p: u32, slot: Slot, v: Value)
     ensures moves { (h : Here) (x : Option Target) → slot ≡ slot_here h x → Moves k.old k.new (λ c. stored_if c p h x v) }
     ensures lives { Lives k.new p }
     ensures sound { IsSound k.new }
+    ensures made { k.new.made ≡ k.old.made }
 {
     keep(k, p, slot, v);
 }
@@ -129,6 +133,7 @@ pub(crate) fn tell(k: &mut Kernel, p: u32, slot: Slot, done: bool)
     requires lives { Lives k.old p }
     ensures moves { (h : Here) (x : Option Target) → slot ≡ slot_here h x → Moves k.old k.new (λ c. channels.answered c p h x done) }
     ensures sound { IsSound k.new }
+    ensures made { k.new.made ≡ k.old.made }
 {
     put(k, p, slot, answer(done));
 }

@@ -19,13 +19,11 @@ use Rattle.exec_data.specs.KernelProcesses.declared.parts.Process.{Process}
 use Rattle.exec_data.specs.KernelProcesses.declared.parts.Schedule.{Schedule}
 use Rattle.exec_data.specs.KernelProcesses.Moved.{Ends}
 use Rattle.exec_data.specs.KernelState.Kernel.{Shows, StandsFor, IsSound, whole_design}
-use Rattle.exec_data.specs.KernelState.Moves.{Steps, Lives}
+use Rattle.exec_data.specs.KernelState.Moves.{Steps}
 use Rattle.exec_data.specs.KernelState.declared.kernel.Kept.{Kept}
 use Rattle.exec_data.specs.KernelState.declared.kernel.Kernel.{Kernel}
 use Rattle.exec_data.proofs.KernelState.ProcessFrames.{ended_stands}
 use Rattle.exec_data.proofs.KernelState.Frames.{change-twice, processes_move, trace_moves, lives_by_kept}
-use Rattle.exec_data.proofs.KernelState.Ending.{alive_in}
-use Rattle.exec_control.proofs.OneInstance.{change_same}
 
 -- ---- an instance ends
 
@@ -80,15 +78,6 @@ module _ (l : Kernel) (c : Config) (p : ℕ) (i : Instance) (t : Option model.Tr
       (subst (λ is. StandsFor l (record c { processes = record c.processes { instances = is; stack = drop 1 c.processes.stack }; trace = (settled_in c p i.residual).trace }))
       (all_at_once ∙ sym (change-twice c.processes.instances p (λ j. record j { residual = settle (arena c) i.residual }) (idle_as t)))
       (trace_moves l (with_residual (leaves_stack (change_instance (change_instance c p untriggered) p (next_of_trigger t))) p skip) h (settled_in c p i.residual).trace))
-
--- its next trigger is put back
-pub put_back : (k l : Kernel) (c : Config) (p : ℕ) (h : StandsFor k c) → Lives k p → (t : Option model.Trigger) → ((d : Config) (i : Instance) → StandsFor k d → instance_at d p ≡ Some i → i.trigger ≡ t)
-    → StandsFor l (change_instance (change_instance c p (λ i. record i { trigger = None })) p (λ i. record i { trigger = t })) → StandsFor l c
-put_back k l c p h lives t shown stands =
-    let alive = alive_in k c h p lives in
-    subst (λ is. StandsFor l (record c { processes = record c.processes { instances = is } }))
-    (change-twice c.processes.instances p (λ i. record i { trigger = None }) (λ i. record i { trigger = t })
-    ∙ change_same c.processes.instances p (λ i. record i { trigger = t }) alive.0 alive.1.0 (ap (λ u. record alive.0 { trigger = u }) (sym (shown c alive.0 h alive.1.0)))) stands
 
 -- ---- by the kind of the instance
 

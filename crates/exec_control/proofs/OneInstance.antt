@@ -24,7 +24,7 @@ use Rattle.exec_data.specs.KernelProcesses.declared.parts.Schedule.{Schedule}
 use Rattle.exec_data.specs.KernelProcesses.declared.parts.Trigger.{Trigger}
 use Rattle.exec_data.proofs.KernelProcesses.Sounding.{on_top}
 use Rattle.exec_data.specs.KernelProcesses.Moved.{IsTop, PutsBody, leaves_top, same_stack}
-use Rattle.exec_data.proofs.KernelProcesses.OtherBody.{puts_body, puts_sound}
+use Rattle.exec_data.proofs.KernelProcesses.OtherBody.{puts_body, puts_room, puts_sound}
 use Rattle.exec_data.specs.KernelState.Processes.{beside, TellsBy, Tells}
 use Rattle.exec_data.specs.KernelState.Kernel.{Shows, StandsFor, IsSound, whole_design, trigger_of}
 use Rattle.exec_data.specs.KernelState.Moves.{Moves, MovesAt, KeptAt, Lives}
@@ -33,6 +33,7 @@ use Rattle.exec_data.specs.KernelState.declared.kernel.Kernel.{Kernel}
 use Rattle.exec_data.proofs.KernelState.ProcessFrames.{Agrees, moved_with, stack_same, stack_left, put_stands}
 use Rattle.exec_data.proofs.KernelState.Frames.{change-twice, processes_move, trace_moves, schedule_sound, kept_sound, shown_where_lives, lives_on_top, lives_still, keeps_bodies, residual_moves, with_body, lives_by_kept}
 use Rattle.exec_control.specs.Others.{KeepsOthers}
+use Rattle.exec_control.specs.Resting.{CanRest, rest_of}
 
 -- ---- what is shown of a live instance
 
@@ -104,6 +105,10 @@ module _ (k : Kernel) (p : ℕ) (x : Entry (Process Kept)) (t : Option Trigger) 
 
   pub trigger_sound : IsSound k → IsSound (record k { schedule = with_trigger })
   trigger_sound sound = kept_sound k p (record x.body.body { trigger = t }) with_trigger puts_trigger sound (puts_sound k.schedule p x (record x.body.body { trigger = t }) at sound.schedule) (sound.bodies p x.body.body (was k p x at))
+
+  -- where there was room to rest there still is
+  pub trigger_rests : (u : Option Trigger) → CanRest k p u → CanRest (record k { schedule = with_trigger }) p u
+  trigger_rests u room = puts_room k.schedule p x (record x.body.body { trigger = t }) at (rest_of u).wait room
 
   pub trigger_moves : Moves k (record k { schedule = with_trigger }) (λ c. change_instance c p (λ i. record i { trigger = option_map trigger_of t }))
   trigger_moves c h = processes_move k c h with_trigger (record c.processes { instances = change c.processes.instances p (λ i. record i { trigger = option_map trigger_of t }) })

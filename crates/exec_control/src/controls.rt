@@ -1,5 +1,5 @@
 //! Control calls.
-ghost use Rattle.std.specs.Prelude.{false};
+ghost use Rattle.std.specs.Prelude.{◌≡◌, false};
 ghost use Rattle.exec_data.specs.SimModel.Reading.{here};
 ghost use Rattle.exec_data.specs.SimModel.Storing.{passes};
 ghost use Rattle.exec_data.specs.SimModel.Control.{control_call, do_control};
@@ -20,6 +20,7 @@ fn control_serial(k: &mut Kernel, p: u32, q: u32, order: Control) -> Result<(), 
     requires statement { HasStatement k.old p }
     ensures does { Does k.old k.new result p (λ c s i r. control_call (passes c s r) q order) }
     ensures sound { IsSound k.new }
+    ensures made { k.new.made ≡ k.old.made }
 {
     match order {
         Control::Suspend => {
@@ -54,6 +55,7 @@ pub fn control(k: &mut Kernel, p: u32, order: Control, who: Controlled) -> Resul
     requires statement { HasStatement k.old p }
     ensures does { Does k.old k.new result p (λ c q i r. do_control c q r (here c q i r) 0 order who false) }
     ensures sound { IsSound k.new }
+    ensures made { k.new.made ≡ k.old.made }
 {
     match target_at(k, p, who) {
         Ok(q) => control_serial(k, p, q, order),

@@ -1,18 +1,20 @@
 //! Bodies that have ended.
-ghost use Rattle.std.specs.Prelude.{◌≡◌, None, Some, option_map, OnOk, OnErr, IsOk};
+ghost use Rattle.std.specs.Prelude.{◌≡◌, None, Some, option_map, length, OnOk, OnErr, IsOk, IfSome};
+ghost use Rattle.std.specs.FinMap as map;
 ghost use Rattle.exec_data.specs.ModelTree.declared.items.ProcessKind.TheVariants as process;
 ghost use Rattle.exec_data.specs.SimModel.Configuration.{Config, Instance, instance_at, change_instance};
 ghost use Rattle.exec_data.specs.SimModel.Waits.{leaves_stack};
 ghost use Rattle.exec_data.specs.SimModel.Control.{ended_instance, ends, idles, done_by};
-ghost use Rattle.exec_data.specs.KernelProcesses.Moved.{rests_as};
+ghost use Rattle.exec_data.specs.KernelProcesses.Moves.{events_of, sensitive_of};
+ghost use Rattle.exec_data.specs.KernelProcesses.Moved.{HasRoom, rests_as};
 ghost use Rattle.exec_data.specs.KernelState.Kernel.{StandsFor, IsSound, trigger_of};
 ghost use Rattle.exec_data.specs.KernelState.Moves.{Moves, Steps, Lives, IsOnTop};
-ghost use Rattle.exec_control.specs.Resting.{rests_next};
+ghost use Rattle.exec_control.specs.Resting.{CanRest, next_kept, rest_count, rests_next};
 
 use crate::instances::{clear_body, is_thread};
 use exec_data::event_core_api::Ev;
 use exec_data::instance_table_api::Deadline;
-use exec_data::kernel_processes_api::{Trigger, Wait};
+use exec_data::kernel_processes_api::{Trigger, Wait, count_events, hold, rest_ready};
 use exec_data::kernel_state_api::{Kernel, fire, top_lives};
 use std::alloc::AllocError;
 use std::mem;
@@ -23,6 +25,7 @@ fn leave_for_good(k: &mut Kernel, p: u32)
     requires top { IsOnTop k.old p }
     ensures steps { Steps k.old k.new p (λ c q i r. leaves_stack (change_instance c q ended_instance)) }
     ensures sound { IsSound k.new }
+    ensures made { k.new.made ≡ k.old.made }
 {
     exec_data::kernel_processes_api::end(&mut k.schedule, p);
 }
@@ -33,20 +36,65 @@ pub(crate) fn end(k: &mut Kernel, p: u32)
     requires top { IsOnTop k.old p }
     ensures steps { Steps k.old k.new p (λ c q i r. ends c q) }
     ensures sound { IsSound k.new }
+    ensures made { k.new.made ≡ k.old.made }
 {
     leave_for_good(k, p);
     fire(k, Ev::Terminated(p));
 }
 
-/// The next trigger of an instance is taken from it.
+/// How many events there are in the wait of an instance by this next trigger, or by its static sensitivity, where they are not too
+/// many to be counted.
+fn count_next(k: &Kernel, p: u32, next: &Option<Trigger>) -> Option<u32>
+    ensures { IfSome result (λ n. n ≡ rest_count next.now (map.get k.now.schedule.table.live p)) }
+{
+    match next {
+        Some(t) => count_events(&k.schedule, p, &t.wait),
+        None => count_events(&k.schedule, p, &Wait::Static),
+    }
+}
+
+/// The same of the next trigger that is kept of an instance.
+fn count_rest(k: &Kernel, p: u32) -> Option<u32>
+    ensures { IfSome result (λ n. n ≡ rest_count (next_kept (map.get k.now.schedule.table.live p)) (map.get k.now.schedule.table.live p)) }
+{
+    match k.schedule.table.get(p) {
+        Some(x) => count_next(k, p, &x.body.body.trigger),
+        None => count_next(k, p, &None),
+    }
+}
+
+/// Makes room for the wait by which the method on top rests once it has returned. Nothing else changes.
+fn hold_rest(k: &mut Kernel, p: u32) -> Result<(), AllocError>
+    requires sound { IsSound k.old }
+    requires top { IsOnTop k.old p }
+    ensures room { OnOk result (CanRest k.new p (next_kept (map.get k.new.schedule.table.live p))) }
+    ensures stays { Moves k.old k.new (λ c. c) }
+    ensures top { IsOnTop k.new p }
+    ensures lives { Lives k.new p }
+    ensures sound { IsSound k.new }
+    ensures made { k.new.made ≡ k.old.made }
+{
+    match count_rest(k, p) {
+        Some(n) => match hold(&mut k.schedule, p, n) {
+            Ok(()) => Ok(()),
+            Err(_) => Err(AllocError),
+        },
+        None => Err(AllocError),
+    }
+}
+
+/// The next trigger of an instance is taken from it. Where there was room to rest by it there still is.
 fn take_trigger(k: &mut Kernel, p: u32) -> Option<Trigger>
     requires sound { IsSound k.old }
     requires lives { Lives k.old p }
+    requires room { CanRest k.old p (next_kept (map.get k.old.schedule.table.live p)) }
     ensures shown { (c : Config) (i : Instance) → StandsFor k.old c → instance_at c p ≡ Some i → i.trigger ≡ option_map trigger_of result }
     ensures moves { Moves k.old k.new (λ c. change_instance c p (λ i. record i { trigger = None })) }
+    ensures room { CanRest k.new p result }
     ensures stack { k.new.schedule.stack ≡ k.old.schedule.stack }
     ensures lives { Lives k.new p }
     ensures sound { IsSound k.new }
+    ensures made { k.new.made ≡ k.old.made }
 {
     match k.schedule.table.get_mut(p) {
         Some(x) => mem::replace(&mut x.body.body.trigger, None),
@@ -54,43 +102,28 @@ fn take_trigger(k: &mut Kernel, p: u32) -> Option<Trigger>
     }
 }
 
-/// The next trigger of an instance is put back.
-fn put_trigger(k: &mut Kernel, p: u32, t: Option<Trigger>)
-    requires sound { IsSound k.old }
-    requires lives { Lives k.old p }
-    ensures moves { Moves k.old k.new (λ c. change_instance c p (λ i. record i { trigger = option_map trigger_of t })) }
-    ensures sound { IsSound k.new }
-{
-    match k.schedule.table.get_mut(p) {
-        Some(x) => x.body.body.trigger = t,
-        None => {}
-    }
-}
-
-/// The method on top leaves the stack and waits so, and its body has not begun. Where memory is refused nothing changes.
-fn rest(k: &mut Kernel, p: u32, t: &Trigger) -> Result<(), AllocError>
+/// The method on top leaves the stack and waits so, and its body has not begun. There is room for the wait.
+fn rest(k: &mut Kernel, p: u32, t: &Trigger)
     requires sound { IsSound k.old }
     requires top { IsOnTop k.old p }
-    ensures moves { OnOk result (Moves k.old k.new (λ c. leaves_stack (change_instance c p (rests_as t.now)))) }
-    ensures stays { OnErr result (Moves k.old k.new (λ c. c)) }
+    requires room { HasRoom p (length (events_of t.now.wait (sensitive_of (map.get k.old.schedule.table.live p)))) k.old.schedule }
+    ensures moves { Moves k.old k.new (λ c. leaves_stack (change_instance c p (rests_as t.now))) }
     ensures lives { Lives k.new p }
     ensures sound { IsSound k.new }
+    ensures made { k.new.made ≡ k.old.made }
 {
-    match exec_data::kernel_processes_api::rest(&mut k.schedule, p, t) {
-        Ok(()) => Ok(()),
-        Err(_) => Err(AllocError),
-    }
+    rest_ready(&mut k.schedule, p, t);
 }
 
-/// The method on top waits by a next trigger that it was set, or by its static sensitivity. Where memory is refused nothing
-/// changes.
-fn rest_by(k: &mut Kernel, p: u32, t: &Option<Trigger>) -> Result<(), AllocError>
+/// The method on top waits by a next trigger that it was set, or by its static sensitivity. There is room for the wait.
+fn rest_by(k: &mut Kernel, p: u32, t: &Option<Trigger>)
     requires sound { IsSound k.old }
     requires top { IsOnTop k.old p }
-    ensures moves { OnOk result (Moves k.old k.new (λ c. leaves_stack (change_instance c p (rests_next t.now)))) }
-    ensures stays { OnErr result (Moves k.old k.new (λ c. c)) }
+    requires room { CanRest k.old p t.now }
+    ensures moves { Moves k.old k.new (λ c. leaves_stack (change_instance c p (rests_next t.now))) }
     ensures lives { Lives k.new p }
     ensures sound { IsSound k.new }
+    ensures made { k.new.made ≡ k.old.made }
 {
     match t {
         Some(t) => rest(k, p, t),
@@ -106,26 +139,23 @@ fn rest_by(k: &mut Kernel, p: u32, t: &Option<Trigger>) -> Result<(), AllocError
 }
 
 /// The method on top has returned: it waits by its next trigger, or by its static sensitivity (IEEE 1666-2011, 5.2.10 and
-/// 5.2.17). Where memory is refused nothing changes.
+/// 5.2.17). Room is made before anything changes: where memory is refused nothing does.
 fn idle(k: &mut Kernel, p: u32) -> Result<(), AllocError>
     requires sound { IsSound k.old }
     requires top { IsOnTop k.old p }
     ensures steps { OnOk result (Steps k.old k.new p (λ c q i r. idles c q i)) }
     ensures stays { OnErr result (Moves k.old k.new (λ c. c)) }
     ensures sound { IsSound k.new }
+    ensures made { k.new.made ≡ k.old.made }
 {
-    top_lives(k, p);
-    let t = take_trigger(k, p);
-    match rest_by(k, p, &t) {
-        Ok(()) => {
-            clear_body(k, p);
-            Ok(())
-        }
-        Err(_) => {
-            put_trigger(k, p, t);
-            Err(AllocError)
-        }
+    match hold_rest(k, p) {
+        Ok(()) => {}
+        Err(_) => return Err(AllocError),
     }
+    let t = take_trigger(k, p);
+    rest_by(k, p, &t);
+    clear_body(k, p);
+    Ok(())
 }
 
 /// The body of the instance on top has ended: a thread has ended, and its terminated event fires; a method waits by its next
@@ -137,6 +167,7 @@ pub fn body_ends(k: &mut Kernel, p: u32) -> Result<(), AllocError>
     ensures stays { OnErr result (Moves k.old k.new (λ c. c)) }
     ensures thread { (c : Config) (i : Instance) → StandsFor k.old c → instance_at c p ≡ Some i → i.kind ≡ process.Thread → IsOk result }
     ensures sound { IsSound k.new }
+    ensures made { k.new.made ≡ k.old.made }
 {
     top_lives(k, p);
     if is_thread(k, p) {

@@ -32,6 +32,7 @@ fn pass(k: &mut Kernel, p: u32)
     ensures free { HasNoGoal k.old p → HasNoGoal k.new p }
     ensures others { KeepsOthers p k.old k.new }
     ensures sound { IsSound k.new }
+    ensures made { k.new.made ≡ k.old.made }
 {
     match k.schedule.table.get_mut(p) {
         Some(x) => x.body.body.body.past(&k.program),
@@ -49,6 +50,7 @@ fn throw_at_itself(k: &mut Kernel, p: u32, e: NameId) -> Result<(), RunFault>
     requires statement { HasStatement k.old p }
     ensures does { Does k.old k.new result p (λ c q i r. throw_call (passes c q r) q e) }
     ensures sound { IsSound k.new }
+    ensures made { k.new.made ≡ k.old.made }
 {
     top_lives(k, p);
     if has_goal(k, p) {
@@ -75,6 +77,7 @@ fn inject(k: &mut Kernel, p: u32, q: u32, e: NameId) -> Result<(), RunFault>
     requires free { HasNoGoal k.old q }
     ensures follows { (c : Config) (i j : Instance) → StandsFor k.old c → instance_at c p ≡ Some i → instance_at c q ≡ Some j → Follows k.new result c (injects (past c p i) q j e) }
     ensures sound { IsSound k.new }
+    ensures made { k.new.made ≡ k.old.made }
 {
     left_calls_end();
     if !raise_at(k, q, e, Goal::Injected) {
@@ -98,6 +101,7 @@ fn throw_at_other(k: &mut Kernel, p: u32, q: u32, e: NameId) -> Result<(), RunFa
     requires free { HasNoGoal k.old q }
     ensures does { Does k.old k.new result p (λ c s i r. throw_call (passes c s r) q e) }
     ensures sound { IsSound k.new }
+    ensures made { k.new.made ≡ k.old.made }
 {
     if !lives(k, q) {
         pass(k, p);
@@ -121,6 +125,7 @@ fn throw_at(k: &mut Kernel, p: u32, q: u32, e: NameId) -> Result<(), RunFault>
     requires free { OthersHaveNoGoal k.old }
     ensures does { Does k.old k.new result p (λ c s i r. throw_call (passes c s r) q e) }
     ensures sound { IsSound k.new }
+    ensures made { k.new.made ≡ k.old.made }
 {
     top_lives(k, p);
     if q == p {
@@ -144,6 +149,7 @@ pub fn throw_it(k: &mut Kernel, p: u32, who: Controlled, e: NameId) -> Result<()
     requires free { OthersHaveNoGoal k.old }
     ensures does { Does k.old k.new result p (λ c q i r. do_throw_it c q r (here c q i r) 0 who e false) }
     ensures sound { IsSound k.new }
+    ensures made { k.new.made ≡ k.old.made }
 {
     top_lives(k, p);
     match target_at(k, p, who) {

@@ -1,5 +1,5 @@
 //! Instances that are resumed, disabled and enabled.
-ghost use Rattle.std.specs.Prelude.{Ok};
+ghost use Rattle.std.specs.Prelude.{◌≡◌, Ok};
 ghost use Rattle.exec_data.specs.ModelTree.declared.statements.Control.TheVariants as order;
 ghost use Rattle.exec_data.specs.SimModel.Configuration.{Config, instance_at};
 ghost use Rattle.exec_data.specs.SimModel.Storing.{passes};
@@ -17,6 +17,7 @@ fn disable_live(k: &mut Kernel, q: u32, on: bool)
     requires lives { Lives k.old q }
     ensures moves { Moves k.old k.new (λ c. spec.disables c q on) }
     ensures sound { IsSound k.new }
+    ensures made { k.new.made ≡ k.old.made }
 {
     exec_data::kernel_processes_api::disable(&mut k.schedule, q, on);
 }
@@ -26,6 +27,7 @@ fn set_disabled(k: &mut Kernel, q: u32, on: bool)
     requires sound { IsSound k.old }
     ensures follows { (c : Config) → StandsFor k.old c → Follows k.new (Ok tt) c (unless_ended c (instance_at c q) (λ i. Ok (spec.disables c q on))) }
     ensures sound { IsSound k.new }
+    ensures made { k.new.made ≡ k.old.made }
 {
     if lives(k, q) {
         disable_live(k, q, on);
@@ -39,6 +41,7 @@ pub(crate) fn disable(k: &mut Kernel, p: u32, q: u32)
     requires statement { HasStatement k.old p }
     ensures does { Does k.old k.new (Ok tt) p (λ c s i r. control_call (passes c s r) q order.Disable) }
     ensures sound { IsSound k.new }
+    ensures made { k.new.made ≡ k.old.made }
 {
     pass(k, p);
     set_disabled(k, q, true);
@@ -51,6 +54,7 @@ pub(crate) fn enable(k: &mut Kernel, p: u32, q: u32)
     requires statement { HasStatement k.old p }
     ensures does { Does k.old k.new (Ok tt) p (λ c s i r. control_call (passes c s r) q order.Enable) }
     ensures sound { IsSound k.new }
+    ensures made { k.new.made ≡ k.old.made }
 {
     pass(k, p);
     set_disabled(k, q, false);
@@ -62,6 +66,7 @@ fn resume_live(k: &mut Kernel, q: u32)
     requires lives { Lives k.old q }
     ensures moves { MovesAt k.old k.new q (λ c i. spec.resumes c q i) }
     ensures sound { IsSound k.new }
+    ensures made { k.new.made ≡ k.old.made }
 {
     exec_data::kernel_processes_api::resume(&mut k.schedule, q);
 }
@@ -71,6 +76,7 @@ fn resume_if(k: &mut Kernel, q: u32)
     requires sound { IsSound k.old }
     ensures follows { (c : Config) → StandsFor k.old c → Follows k.new (Ok tt) c (unless_ended c (instance_at c q) (λ i. Ok (spec.resumes c q i))) }
     ensures sound { IsSound k.new }
+    ensures made { k.new.made ≡ k.old.made }
 {
     if lives(k, q) {
         resume_live(k, q);
@@ -84,6 +90,7 @@ pub(crate) fn resume(k: &mut Kernel, p: u32, q: u32)
     requires statement { HasStatement k.old p }
     ensures does { Does k.old k.new (Ok tt) p (λ c s i r. control_call (passes c s r) q order.Resume) }
     ensures sound { IsSound k.new }
+    ensures made { k.new.made ≡ k.old.made }
 {
     pass(k, p);
     resume_if(k, q);

@@ -21,6 +21,7 @@ fn restart(k: &mut Kernel, p: u32)
     requires top { IsOnTop k.old p }
     ensures steps { Steps k.old k.new p (λ c q i r. control.restarts c q i) }
     ensures sound { IsSound k.new }
+    ensures made { k.new.made ≡ k.old.made }
 {
     top_lives(k, p);
     take_back(k, p);
@@ -41,6 +42,7 @@ fn pass_goal(k: &mut Kernel, p: u32, goal: Goal)
     ensures steps { Steps k.old k.new p (λ c q i r. passes c q r) }
     ensures stack { k.new.schedule.stack ≡ k.old.schedule.stack }
     ensures sound { IsSound k.new }
+    ensures made { k.new.made ≡ k.old.made }
 {
     match k.schedule.table.get_mut(p) {
         Some(x) => x.body.body.body.go_on(&k.program),
@@ -56,6 +58,7 @@ fn go_on(k: &mut Kernel, p: u32, goal: Goal)
     requires reaches { Reaches k.old p goal }
     ensures steps { Steps k.old k.new p (λ c q i r. control.goes_on c q i r) }
     ensures sound { IsSound k.new }
+    ensures made { k.new.made ≡ k.old.made }
 {
     top_lives(k, p);
     pass_goal(k, p, goal);
@@ -72,6 +75,7 @@ pub fn reach_goal(k: &mut Kernel, p: u32, goal: Goal)
     requires reaches { Reaches k.old p goal }
     ensures steps { Steps k.old k.new p (λ c q i r. control.reaches_goal c q i r goal) }
     ensures sound { IsSound k.new }
+    ensures made { k.new.made ≡ k.old.made }
 {
     top_lives(k, p);
     match goal {

@@ -21,6 +21,7 @@ pub fn begin_guard(k: &mut Kernel, p: u32, s: StmtId, b: BlockId, u: BlockId)
     requires inner { Contains (blocks_of (arena_of k.old.program.code) s) b }
     ensures does { Does k.old k.new (Ok tt) p (λ c q i r. do_guard c q r b u) }
     ensures sound { IsSound k.new }
+    ensures made { k.new.made ≡ k.old.made }
 {
     match k.schedule.table.get_mut(p) {
         Some(x) => x.body.body.body.begin_block(&k.program, b),
@@ -37,6 +38,7 @@ pub fn begin_try(k: &mut Kernel, p: u32, s: StmtId, b: BlockId)
     requires inner { Contains (blocks_of (arena_of k.old.program.code) s) b }
     ensures does { Does k.old k.new (Ok tt) p (λ c q i r. do_try c q r b (handlers_of (arena_of k.old.program.code) s)) }
     ensures sound { IsSound k.new }
+    ensures made { k.new.made ≡ k.old.made }
 {
     match k.schedule.table.get_mut(p) {
         Some(x) => x.body.body.body.begin_block(&k.program, b),

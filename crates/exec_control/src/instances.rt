@@ -57,6 +57,7 @@ pub(crate) fn clear_body(k: &mut Kernel, p: u32)
     ensures stack { k.new.schedule.stack.items ≡ k.old.schedule.stack.items }
     ensures lives { Lives k.new p }
     ensures sound { IsSound k.new }
+    ensures made { k.new.made ≡ k.old.made }
 {
     match k.schedule.table.get_mut(p) {
         Some(x) => x.body.body.body.idle(),
@@ -71,6 +72,7 @@ fn mark_begun(k: &mut Kernel, p: u32, on: bool)
     ensures moves { Moves k.old k.new (λ c. change_instance c p (moved.started_as on)) }
     ensures stack { k.new.schedule.stack.items ≡ k.old.schedule.stack.items }
     ensures sound { IsSound k.new }
+    ensures made { k.new.made ≡ k.old.made }
 {
     begin(&mut k.schedule, p, on);
 }
@@ -82,6 +84,7 @@ pub(crate) fn take_back(k: &mut Kernel, p: u32)
     ensures steps { Steps k.old k.new p (λ c q i r. change_instance c q (λ j. record j { residual = skip; started = false })) }
     ensures stack { k.new.schedule.stack.items ≡ k.old.schedule.stack.items }
     ensures sound { IsSound k.new }
+    ensures made { k.new.made ≡ k.old.made }
 {
     clear_body(k, p);
     mark_begun(k, p, false);
@@ -94,6 +97,7 @@ fn restart_body(k: &mut Kernel, p: u32)
     ensures moves { MovesAt k.old k.new p (λ c i. with_residual c p (begun (arena c) i.code i.arguments)) }
     ensures lives { Lives k.new p }
     ensures sound { IsSound k.new }
+    ensures made { k.new.made ≡ k.old.made }
 {
     match k.schedule.table.get_mut(p) {
         Some(x) => x.body.body.body.restart(&k.program),
@@ -107,6 +111,7 @@ pub(crate) fn begin_body(k: &mut Kernel, p: u32)
     requires lives { Lives k.old p }
     ensures moves { MovesAt k.old k.new p (λ c i. control.begins c p i) }
     ensures sound { IsSound k.new }
+    ensures made { k.new.made ≡ k.old.made }
 {
     restart_body(k, p);
     mark_begun(k, p, true);
@@ -118,6 +123,7 @@ pub(crate) fn tell_reset(k: &mut Kernel, p: u32)
     ensures moves { Moves k.old k.new (λ c. waits.fire c (ev.Restarted p)) }
     ensures stack { k.new.schedule.stack.items ≡ k.old.schedule.stack.items }
     ensures sound { IsSound k.new }
+    ensures made { k.new.made ≡ k.old.made }
 {
     fire(&mut k.schedule, Ev::Restarted(p));
 }
@@ -129,6 +135,7 @@ pub(crate) fn stay_kept(k: &mut Kernel, p: u32)
     requires held { moved.is_suspended (map.get k.old.schedule.table.live p) ≡ true }
     ensures moves { Moves k.old k.new (λ c. control.stays_kept c p) }
     ensures sound { IsSound k.new }
+    ensures made { k.new.made ≡ k.old.made }
 {
     exec_data::kernel_processes_api::stay_kept(&mut k.schedule, p);
 }

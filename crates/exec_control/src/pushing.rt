@@ -16,6 +16,7 @@ fn clear_trigger(k: &mut Kernel, q: u32)
     ensures stack { k.new.schedule.stack ≡ k.old.schedule.stack }
     ensures lives { Lives k.new q }
     ensures sound { IsSound k.new }
+    ensures made { k.new.made ≡ k.old.made }
 {
     match k.schedule.table.get_mut(q) {
         Some(x) => x.body.body.trigger = None,
@@ -31,6 +32,7 @@ pub(crate) fn push(k: &mut Kernel, q: u32)
     requires rests { is_on k.old.schedule.stack.items q ≡ false }
     ensures moves { Moves k.old k.new (λ c. pushed c q) }
     ensures sound { IsSound k.new }
+    ensures made { k.new.made ≡ k.old.made }
 {
     clear_trigger(k, q);
     exec_data::kernel_processes_api::push(&mut k.schedule, q);

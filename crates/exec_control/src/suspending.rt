@@ -1,5 +1,5 @@
 //! Instances that are suspended.
-ghost use Rattle.std.specs.Prelude.{Ok};
+ghost use Rattle.std.specs.Prelude.{◌≡◌, Ok};
 ghost use Rattle.exec_data.specs.ModelTree.declared.statements.Control.TheVariants as order;
 ghost use Rattle.exec_data.specs.SimModel.Configuration.{Config, instance_at};
 ghost use Rattle.exec_data.specs.SimModel.Storing.{passes};
@@ -18,6 +18,7 @@ fn suspend_live(k: &mut Kernel, q: u32)
     requires lives { Lives k.old q }
     ensures moves { MovesAt k.old k.new q (λ c i. spec.suspends c q i) }
     ensures sound { IsSound k.new }
+    ensures made { k.new.made ≡ k.old.made }
 {
     let yielding = yields(k, q);
     exec_data::kernel_processes_api::suspend(&mut k.schedule, q, yielding);
@@ -28,6 +29,7 @@ fn suspend_if(k: &mut Kernel, q: u32)
     requires sound { IsSound k.old }
     ensures follows { (c : Config) → StandsFor k.old c → Follows k.new (Ok tt) c (unless_ended c (instance_at c q) (λ i. Ok (spec.suspends c q i))) }
     ensures sound { IsSound k.new }
+    ensures made { k.new.made ≡ k.old.made }
 {
     if lives(k, q) {
         suspend_live(k, q);
@@ -41,6 +43,7 @@ pub(crate) fn suspend(k: &mut Kernel, p: u32, q: u32)
     requires statement { HasStatement k.old p }
     ensures does { Does k.old k.new (Ok tt) p (λ c s i r. control_call (passes c s r) q order.Suspend) }
     ensures sound { IsSound k.new }
+    ensures made { k.new.made ≡ k.old.made }
 {
     pass(k, p);
     suspend_if(k, q);

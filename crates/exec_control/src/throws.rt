@@ -41,6 +41,7 @@ fn settle(k: &mut Kernel, p: u32)
     ensures lives { Lives k.new p }
     ensures free { HasNoGoal k.new p }
     ensures sound { IsSound k.new }
+    ensures made { k.new.made ≡ k.old.made }
 {
     match k.schedule.table.get_mut(p) {
         Some(x) => x.body.body.body.settle(&k.program),
@@ -69,6 +70,7 @@ fn leave(k: &mut Kernel, q: u32, e: NameId)
     ensures schedule { k.new.schedule ≡ k.old.schedule }
     ensures program { k.new.program ≡ k.old.program }
     ensures sound { IsSound k.new }
+    ensures made { k.new.made ≡ k.old.made }
 {
     left_calls_end();
     match k.schedule.table.get(q) {
@@ -89,6 +91,7 @@ fn raise(k: &mut Kernel, q: u32, e: NameId, end: Goal) -> bool
     ensures stack { k.new.schedule.stack ≡ k.old.schedule.stack }
     ensures lives { Lives k.new q }
     ensures sound { IsSound k.new }
+    ensures made { k.new.made ≡ k.old.made }
 {
     match k.schedule.table.get_mut(q) {
         Some(x) => x.body.body.body.raise(&k.program, e, end),
@@ -109,6 +112,7 @@ pub fn raise_at(k: &mut Kernel, q: u32, e: NameId, end: Goal) -> bool
     ensures stack { k.new.schedule.stack ≡ k.old.schedule.stack }
     ensures lives { Lives k.new q }
     ensures sound { IsSound k.new }
+    ensures made { k.new.made ≡ k.old.made }
 {
     left_calls_end();
     leave(k, q, e);
@@ -125,6 +129,7 @@ pub fn throw(k: &mut Kernel, p: u32, e: NameId) -> Result<(), RunFault>
     requires free { HasNoGoal k.old p }
     ensures does { Does k.old k.new result p (λ c q i r. thrown c q r e) }
     ensures sound { IsSound k.new }
+    ensures made { k.new.made ≡ k.old.made }
 {
     if !catches(k, p, e) {
         return Err(RunFault::Uncaught { name: e });

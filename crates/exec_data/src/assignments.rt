@@ -31,6 +31,7 @@ pub fn assign_name(
     requires statement { HasStatement k.old p }
     ensures does { (e : Term) → Gives k.old p v e → Does k.old k.new result p (λ c q i r. do_assign c q r (here c q i r) (code.to_name target) e) }
     ensures sound { IsSound k.new }
+    ensures made { k.new.made ≡ k.old.made }
 {
     match v {
         Ok(x) => {
@@ -57,6 +58,7 @@ pub fn assign_field(
     requires statement { HasStatement k.old p }
     ensures does { (e : Term) → Gives k.old p v e → Does k.old k.new result p (λ c q i r. do_assign c q r (here c q i r) (code.to_field n field) e) }
     ensures sound { IsSound k.new }
+    ensures made { k.new.made ≡ k.old.made }
 {
     top_lives(k, p);
     match v {
@@ -86,6 +88,7 @@ pub fn assign_payload_byte(
     requires statement { HasStatement k.old p }
     ensures does { (at e : Term) → Gives k.old p index at → Gives k.old p v e → Does k.old k.new result p (λ c q i r. do_assign c q r (here c q i r) (code.to_payload_byte n part at) e) }
     ensures sound { IsSound k.new }
+    ensures made { k.new.made ≡ k.old.made }
 {
     top_lives(k, p);
     match index {

@@ -27,6 +27,7 @@ fn enter(k: &mut Kernel, p: u32, s: StmtId, b: BlockId)
     requires inner { Contains (blocks_of (arena_of k.old.program.code) s) b }
     ensures steps { Steps k.old k.new p (λ c q i r. with_residual c q (put r (block (arena c) b))) }
     ensures sound { IsSound k.new }
+    ensures made { k.new.made ≡ k.old.made }
 {
     match k.schedule.table.get_mut(p) {
         Some(x) => x.body.body.body.begin_block(&k.program, b),
@@ -43,6 +44,7 @@ fn repeat(k: &mut Kernel, p: u32, s: StmtId, b: BlockId)
     requires inner { Contains (blocks_of (arena_of k.old.program.code) s) b }
     ensures steps { Steps k.old k.new p (λ c q i r. with_residual c q (put r (followed (block (arena c) b) (s ∷ [])))) }
     ensures sound { IsSound k.new }
+    ensures made { k.new.made ≡ k.old.made }
 {
     match k.schedule.table.get_mut(p) {
         Some(x) => x.body.body.body.begin_block(&k.program, b),
@@ -60,6 +62,7 @@ fn go_round(k: &mut Kernel, p: u32, s: StmtId, b: BlockId, yes: bool)
     requires inner { Contains (blocks_of (arena_of k.old.program.code) s) b }
     ensures steps { Steps k.old k.new p (λ c q i r. with_residual c q (put r (looped c yes s b))) }
     ensures sound { IsSound k.new }
+    ensures made { k.new.made ≡ k.old.made }
 {
     if yes {
         repeat(k, p, s, b);
@@ -79,6 +82,7 @@ fn choose(k: &mut Kernel, p: u32, s: StmtId, b: BlockId, other: Option<BlockId>,
     requires other { IfSome other (Contains (blocks_of (arena_of k.old.program.code) s)) }
     ensures steps { Steps k.old k.new p (λ c q i r. with_residual c q (put r (chosen c yes b other))) }
     ensures sound { IsSound k.new }
+    ensures made { k.new.made ≡ k.old.made }
 {
     if yes {
         enter(k, p, s, b);
@@ -111,6 +115,7 @@ pub fn if_then(
     requires other { IfSome other (Contains (blocks_of (arena_of k.old.program.code) s)) }
     ensures does { (e : Term) → Gives k.old p v e → Does k.old k.new result p (λ c q i r. do_if c q r (here c q i r) e b other) }
     ensures sound { IsSound k.new }
+    ensures made { k.new.made ≡ k.old.made }
 {
     top_lives(k, p);
     match v {
@@ -141,6 +146,7 @@ pub fn while_do(
     requires inner { Contains (blocks_of (arena_of k.old.program.code) s) b }
     ensures does { (e : Term) → Gives k.old p v e → Does k.old k.new result p (λ c q i r. do_while c q r (here c q i r) s e b) }
     ensures sound { IsSound k.new }
+    ensures made { k.new.made ≡ k.old.made }
 {
     top_lives(k, p);
     match v {

@@ -94,6 +94,7 @@ fn set_byte(k: &mut Kernel, m: u32, place: usize, byte: u8)
     requires { IsSound k.old }
     ensures moves { Moves k.old k.new (λ c. set_memory c (Some m) (slice_set (memory_at c (Some m)) place byte)) }
     ensures sound { IsSound k.new }
+    ensures made { k.new.made ≡ k.old.made }
 {
     set_in(&mut k.memories, m as usize, place, byte);
 }
@@ -108,6 +109,7 @@ fn store_byte(k: &mut Kernel, p: u32, m: u32, i: u64, byte: u8) -> Result<(), Ru
     requires statement { HasStatement k.old p }
     ensures does { Does k.old k.new result p (λ c q j r. on_ok (values.index_within i (length (memory_at c (Some m)))) (λ n. Ok (set_memory (passes c q r) (Some m) (slice_set (memory_at c (Some m)) n byte)))) }
     ensures sound { IsSound k.new }
+    ensures made { k.new.made ≡ k.old.made }
 {
     let place = index_within(i, size_of(k, m))?;
     pass(k, p);
@@ -125,6 +127,7 @@ fn store_in(k: &mut Kernel, p: u32, memory: Option<u32>, i: u64, byte: u8) -> Re
     requires statement { HasStatement k.old p }
     ensures does { Does k.old k.new result p (λ c q j r. on_ok (values.index_within i (length (memory_at c memory))) (λ n. Ok (set_memory (passes c q r) memory (slice_set (memory_at c memory) n byte)))) }
     ensures sound { IsSound k.new }
+    ensures made { k.new.made ≡ k.old.made }
 {
     match memory {
         Some(m) => store_byte(k, p, m, i, byte),
@@ -148,6 +151,7 @@ pub fn assign_element(
     requires statement { HasStatement k.old p }
     ensures does { Does k.old k.new result p (λ c q i r. do_assign c q r (here c q i r) (code.to_element n (term_of index.now)) (term_of e.now)) }
     ensures sound { IsSound k.new }
+    ensures made { k.new.made ≡ k.old.made }
 {
     let i = eval_at(k, p, index)?;
     let value = eval_at(k, p, e)?;

@@ -53,8 +53,8 @@ pub mod kernel_bodies_api {
 /// What is passed on of kernel_processes.
 pub mod kernel_processes_api {
     pub use kernel_view::kernel_processes_api::{
-        Trigger, Wait, begin, disable, end, fire, is_active, push, rest, resume, stay_kept,
-        suspend, top,
+        Trigger, Wait, begin, count_events, disable, end, fire, hold, is_active, push, rest_ready,
+        resume, stay_kept, suspend, top,
     };
 }
 

@@ -1,5 +1,5 @@
 //! Prints.
-ghost use Rattle.std.specs.Prelude.{ℕ, List, Option};
+ghost use Rattle.std.specs.Prelude.{◌≡◌, ℕ, List, Option};
 ghost use Rattle.flat_design.specs.Code.{Term};
 ghost use Rattle.kernel_view.specs.KernelState.Kernel.{IsSound};
 ghost use Rattle.kernel_view.specs.KernelState.Moves.{HasStatement, IsOnTop};
@@ -24,6 +24,7 @@ pub fn print(
     requires statement { HasStatement k.old p }
     ensures prints { (text : List ℕ) (e : Option Term) → GivesIf k.old p v e → Prints k.old k.new result p text e }
     ensures sound { IsSound k.new }
+    ensures made { k.new.made ≡ k.old.made }
 {
     match v {
         Ok(x) => {

@@ -1,4 +1,5 @@
 //! Assignments.
+ghost use Rattle.std.specs.Prelude.{◌≡◌};
 ghost use Rattle.flat_design.specs.Code as code;
 ghost use Rattle.flat_design.specs.Code.{term_of, destination_term};
 ghost use Rattle.kernel_view.specs.SimModel.Reading.{here};
@@ -19,6 +20,7 @@ fn assign_to_name(k: &mut Kernel, p: u32, target: Store, e: &Expr) -> Result<(),
     requires statement { HasStatement k.old p }
     ensures does { Does k.old k.new result p (λ c q i r. do_assign c q r (here c q i r) (code.to_name target) (term_of e.now)) }
     ensures sound { IsSound k.new }
+    ensures made { k.new.made ≡ k.old.made }
 {
     top_lives(k, p);
     let value = eval_at(k, p, e);
@@ -38,6 +40,7 @@ fn assign_to_field(
     requires statement { HasStatement k.old p }
     ensures does { Does k.old k.new result p (λ c q i r. do_assign c q r (here c q i r) (code.to_field n field) (term_of e.now)) }
     ensures sound { IsSound k.new }
+    ensures made { k.new.made ≡ k.old.made }
 {
     top_lives(k, p);
     let value = eval_at(k, p, e);
@@ -58,6 +61,7 @@ fn assign_to_byte(
     requires statement { HasStatement k.old p }
     ensures does { Does k.old k.new result p (λ c q i r. do_assign c q r (here c q i r) (code.to_payload_byte n part (term_of index.now)) (term_of e.now)) }
     ensures sound { IsSound k.new }
+    ensures made { k.new.made ≡ k.old.made }
 {
     top_lives(k, p);
     let i = eval_at(k, p, index);
@@ -76,6 +80,7 @@ pub fn assign(k: &mut Kernel, p: u32, to: &Destination, e: &Expr) -> Result<(), 
     requires statement { HasStatement k.old p }
     ensures does { Does k.old k.new result p (λ c q i r. do_assign c q r (here c q i r) (destination_term to.now) (term_of e.now)) }
     ensures sound { IsSound k.new }
+    ensures made { k.new.made ≡ k.old.made }
 {
     top_lives(k, p);
     match to {

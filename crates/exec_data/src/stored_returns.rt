@@ -61,6 +61,7 @@ fn answer(k: &mut Kernel, p: u32, v: Option<Value>)
     requires lives { Lives k.old p }
     ensures steps { Steps k.old k.new p (λ c q i r. with_marks (with_residual c q (returned v r)) (return_marks q r)) }
     ensures sound { IsSound k.new }
+    ensures made { k.new.made ≡ k.old.made }
 {
     match k.schedule.table.get_mut(p) {
         Some(x) => x.body.body.body.answer(&k.program, v),
@@ -78,6 +79,7 @@ pub fn return_value(k: &mut Kernel, p: u32, e: &Option<Expr>) -> Result<(), RunF
     requires lives { Lives k.old p }
     ensures does { Does k.old k.new result p (λ c q i r. do_return c q r (here c q i r) (option_map term_of e.now)) }
     ensures sound { IsSound k.new }
+    ensures made { k.new.made ≡ k.old.made }
 {
     let value = eval_if_at(k, p, e)?;
     let kept = cut_answer(answer_type(k, p), value);

@@ -21,6 +21,7 @@ pub(crate) fn store_local(k: &mut Kernel, p: u32, n: u32, v: Value)
     requires statement { HasStatement k.old p }
     ensures steps { Steps k.old k.new p (λ c q i r. storing.set_local (passes c q r) q n v) }
     ensures sound { IsSound k.new }
+    ensures made { k.new.made ≡ k.old.made }
 {
     top_lives(k, p);
     pass(k, p);
@@ -51,6 +52,7 @@ fn store_denoted(k: &mut Kernel, p: u32, d: Denoted, v: Value)
     requires statement { HasStatement k.old p }
     ensures steps { Steps k.old k.new p (λ c q i r. set_denoted (passes c q r) d v) }
     ensures sound { IsSound k.new }
+    ensures made { k.new.made ≡ k.old.made }
 {
     top_lives(k, p);
     match variable_number(d) {
@@ -66,6 +68,7 @@ fn store_declared(k: &mut Kernel, p: u32, n: u32, v: Value)
     requires statement { HasStatement k.old p }
     ensures steps { Steps k.old k.new p (λ c q i r. set_name (passes c q r) q (here c q i r) (name_use.Declared n) v) }
     ensures sound { IsSound k.new }
+    ensures made { k.new.made ≡ k.old.made }
 {
     top_lives(k, p);
     let d = denoted_at(k, p, n);
@@ -79,6 +82,7 @@ fn store_named(k: &mut Kernel, p: u32, n: NameUse, v: Value)
     requires statement { HasStatement k.old p }
     ensures steps { Steps k.old k.new p (λ c q i r. set_name (passes c q r) q (here c q i r) n v) }
     ensures sound { IsSound k.new }
+    ensures made { k.new.made ≡ k.old.made }
 {
     match n {
         NameUse::Local(i) => store_local(k, p, i, v),
@@ -93,6 +97,7 @@ pub fn store(k: &mut Kernel, p: u32, target: Store, v: Value)
     requires statement { HasStatement k.old p }
     ensures steps { Steps k.old k.new p (λ c q i r. stored (passes c q r) q (here c q i r) target v) }
     ensures sound { IsSound k.new }
+    ensures made { k.new.made ≡ k.old.made }
 {
     store_named(k, p, target.name, cut_to(target.value_type, v));
 }

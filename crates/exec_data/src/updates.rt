@@ -22,6 +22,7 @@ pub(crate) fn write_signal(k: &mut Kernel, p: u32, n: u32, v: Value) -> Result<(
     requires statement { HasStatement k.old p }
     ensures does { Does k.old k.new result p (λ c q i r. channels.write_signal (passes c q r) n v q (slice_get c.channels.signals n)) }
     ensures sound { IsSound k.new }
+    ensures made { k.new.made ≡ k.old.made }
 {
     a_write_is_that_of_a_run();
     match k.channels.write_signal(n, v, p) {
@@ -61,6 +62,7 @@ pub(crate) fn drive(k: &mut Kernel, p: u32, n: u32, v: Value) -> Result<(), Allo
     ensures steps { OnOk result (Steps k.old k.new p (λ c q i r. channels.drive (passes c q r) n v q)) }
     ensures stays { OnErr result (Moves k.old k.new (λ c. c)) }
     ensures sound { IsSound k.new }
+    ensures made { k.new.made ≡ k.old.made }
 {
     match k.channels.drive(n, first_digit(v), p) {
         Ok(()) => {

@@ -40,6 +40,7 @@ pub fn var(
     requires statement { HasStatement k.old p }
     ensures does { (e : Option Term) → GivesIf k.old p v e → Does k.old k.new result p (λ c q i r. do_var c q r (here c q i r) n t e) }
     ensures sound { IsSound k.new }
+    ensures made { k.new.made ≡ k.old.made }
 {
     match v {
         Ok(x) => {

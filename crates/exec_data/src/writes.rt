@@ -70,6 +70,7 @@ fn put_in_fifo(
     ensures steps { events + 1 < k.old.design.events → OnOk result (Steps k.old k.new p (λ c q i r. channels.write_fifo c q r n (channel_id.Fifo n events) v (slice_get c.channels.fifos n))) }
     ensures stays { OnErr result (Moves k.old k.new (λ c. c)) }
     ensures sound { IsSound k.new }
+    ensures made { k.new.made ≡ k.old.made }
 {
     if events >= k.design.events.saturating_sub(1) {
         return Ok(());
@@ -93,6 +94,7 @@ fn write_channel(
     requires statement { HasStatement k.old p }
     ensures does { ChannelFits (whole_design k.old) channel → DoesOrStops k.old k.new result p (λ c q i r. channels.write_channel c q r v channel) }
     ensures sound { IsSound k.new }
+    ensures made { k.new.made ≡ k.old.made }
 {
     top_lives(k, p);
     match channel {
@@ -136,6 +138,7 @@ pub fn write(
     requires names { NamesFit (whole_design k.old) }
     ensures does { DoesOrStops k.old k.new result p (λ c q i r. do_write c q r (here c q i r) (channel_term to.now) t (term_of e.now)) }
     ensures sound { IsSound k.new }
+    ensures made { k.new.made ≡ k.old.made }
 {
     top_lives(k, p);
     match what_is_written(k, p, to, t, e) {

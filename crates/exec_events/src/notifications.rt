@@ -38,6 +38,7 @@ pub fn notify_named(k: &mut Kernel, p: u32, n: u32)
     requires statement { HasStatement k.old p }
     ensures does { Does k.old k.new (Ok tt) p (λ c q i r. waiting.do_notify c q r (here c q i r) n) }
     ensures sound { IsSound k.new }
+    ensures made { k.new.made ≡ k.old.made }
 {
     match event_number(denoted_at(k, p, n)) {
         Some(e) => notify_now(k, p, e),
@@ -52,6 +53,7 @@ pub fn notify_delta(k: &mut Kernel, p: u32, n: u32)
     requires statement { HasStatement k.old p }
     ensures does { Does k.old k.new (Ok tt) p (λ c q i r. waiting.do_notify_delta c q r (here c q i r) n) }
     ensures sound { IsSound k.new }
+    ensures made { k.new.made ≡ k.old.made }
 {
     match event_number(denoted_at(k, p, n)) {
         Some(e) => notify(k, p, e, When::Delta),
@@ -66,6 +68,7 @@ pub fn cancel_named(k: &mut Kernel, p: u32, n: u32)
     requires statement { HasStatement k.old p }
     ensures does { Does k.old k.new (Ok tt) p (λ c q i r. waiting.do_cancel c q r (here c q i r) n) }
     ensures sound { IsSound k.new }
+    ensures made { k.new.made ≡ k.old.made }
 {
     match event_number(denoted_at(k, p, n)) {
         Some(e) => cancel(k, p, e),
@@ -99,6 +102,7 @@ pub fn notify_after(k: &mut Kernel, p: u32, n: u32, time: &Expr) -> Result<(), R
     requires statement { HasStatement k.old p }
     ensures does { Does k.old k.new result p (λ c q i r. waiting.do_notify_after c q r (here c q i r) n (term_of time.now)) }
     ensures sound { IsSound k.new }
+    ensures made { k.new.made ≡ k.old.made }
 {
     let value = eval_at(k, p, time)?;
     let when = when_after(k.cycle.now, moment(value))?;

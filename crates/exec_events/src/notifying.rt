@@ -19,6 +19,7 @@ pub fn notify(k: &mut Kernel, p: u32, e: u32, w: When)
     requires statement { HasStatement k.old p }
     ensures steps { Steps k.old k.new p (λ c q i r. waits.notify (passes c q r) e w) }
     ensures sound { IsSound k.new }
+    ensures made { k.new.made ≡ k.old.made }
 {
     pass(k, p);
     note(k, e, w);
@@ -32,6 +33,7 @@ pub fn notify_now(k: &mut Kernel, p: u32, e: u32)
     requires statement { HasStatement k.old p }
     ensures steps { Steps k.old k.new p (λ c q i r. waiting.notified_now (passes c q r) e) }
     ensures sound { IsSound k.new }
+    ensures made { k.new.made ≡ k.old.made }
 {
     pass(k, p);
     note(k, e, When::Immediate);
@@ -43,6 +45,7 @@ fn take_back(k: &mut Kernel, e: u32)
     requires { IsSound k.old }
     ensures moves { Moves k.old k.new (λ c. waiting.cancelled c e) }
     ensures sound { IsSound k.new }
+    ensures made { k.new.made ≡ k.old.made }
 {
     k.events.cancel(e);
 }
@@ -54,6 +57,7 @@ pub fn cancel(k: &mut Kernel, p: u32, e: u32)
     requires statement { HasStatement k.old p }
     ensures steps { Steps k.old k.new p (λ c q i r. waiting.cancelled (passes c q r) e) }
     ensures sound { IsSound k.new }
+    ensures made { k.new.made ≡ k.old.made }
 {
     pass(k, p);
     take_back(k, e);
@@ -64,6 +68,7 @@ fn ask(k: &mut Kernel)
     requires { IsSound k.old }
     ensures moves { Moves k.old k.new asks_to_stop }
     ensures sound { IsSound k.new }
+    ensures made { k.new.made ≡ k.old.made }
 {
     k.cycle.stop_asked = true;
 }
@@ -75,6 +80,7 @@ pub fn stop(k: &mut Kernel, p: u32)
     requires statement { HasStatement k.old p }
     ensures steps { Steps k.old k.new p (λ c q i r. asks_to_stop (passes c q r)) }
     ensures sound { IsSound k.new }
+    ensures made { k.new.made ≡ k.old.made }
 {
     pass(k, p);
     ask(k);
@@ -87,6 +93,7 @@ pub fn next_trigger(k: &mut Kernel, p: u32, t: Trigger)
     requires statement { HasStatement k.old p }
     ensures steps { Steps k.old k.new p (λ c q i r. change_instance (passes c q r) q (λ j. record j { trigger = Some (trigger_of t) })) }
     ensures sound { IsSound k.new }
+    ensures made { k.new.made ≡ k.old.made }
 {
     match k.schedule.table.get_mut(p) {
         Some(x) => {

@@ -1,4 +1,5 @@
 //! The statements `wait` and `next_trigger`.
+ghost use Rattle.std.specs.Prelude.{◌≡◌};
 ghost use Rattle.flat_design.specs.Code.{await_term};
 ghost use Rattle.kernel_view.specs.SimModel.Reading.{here};
 ghost use Rattle.kernel_view.specs.SimModel.Waiting as waiting;
@@ -32,6 +33,7 @@ pub fn wait_statement(
     requires numbers { NumbersEvents (whole_design k.old) }
     ensures does { DoesOrStops k.old k.new result p (λ c q i r. waiting.do_wait c q r (here c q i r) (await_term how.now)) }
     ensures sound { IsSound k.new }
+    ensures made { k.new.made ≡ k.old.made }
 {
     top_lives(k, p);
     let deadline = match end_of(k, p, how) {
@@ -65,6 +67,7 @@ pub fn trigger_statement(
     requires numbers { NumbersEvents (whole_design k.old) }
     ensures does { DoesOrStops k.old k.new result p (λ c q i r. waiting.do_next_trigger c q r (here c q i r) (await_term how.now)) }
     ensures sound { IsSound k.new }
+    ensures made { k.new.made ≡ k.old.made }
 {
     let deadline = match end_of(k, p, how) {
         Ok(deadline) => deadline,

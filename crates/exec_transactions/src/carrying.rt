@@ -142,6 +142,7 @@ fn carry_known(
     requires statement { HasStatement k.old p }
     ensures does { Does k.old k.new result p (λ c q i r. on_ok (live_payload c t) (λ x. Ok (set_payload (set_memory (passes c q r) m (memory_after x (memory_at c m))) t (transfer.carried x (memory_at c m))))) }
     ensures sound { IsSound k.new }
+    ensures made { k.new.made ≡ k.old.made }
 {
     live_payloads_are_used();
     match carry_to(&mut k.transactions, &mut k.memories, alloc, t, m) {
@@ -165,6 +166,7 @@ pub fn carry(k: &mut Kernel, alloc: Global, p: u32, n: NameUse, m: u32) -> Resul
     requires statement { HasStatement k.old p }
     ensures does { Does k.old k.new result p (λ c q i r. do_carry c q r (here c q i r) n m) }
     ensures sound { IsSound k.new }
+    ensures made { k.new.made ≡ k.old.made }
 {
     match payload_at(k, p, n) {
         Ok(t) => {

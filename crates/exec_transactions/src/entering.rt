@@ -69,6 +69,7 @@ fn enter(
     requires next { Shows k.old p s }
     ensures calls { DoesBut IsOfProtocol k.old k.new result p (λ c q i r. on_ok (may_enter r) (λ ok. on_ok (judged c asked.via.hop (entry_of asked.via asked.phase (complete_in c.transactions asked.via.payload) true) asked.via.payload) (λ x. Ok (enters x q r s f values.now (Some asked.via))))) }
     ensures sound { IsSound k.new }
+    ensures made { k.new.made ≡ k.old.made }
 {
     has_statement(k, p, s);
     match reserve_call(k, p, f) {
@@ -98,6 +99,7 @@ fn unhandled(k: &mut Kernel, p: u32, asked: Asked) -> Result<(), StatementStop>
     requires lives { Lives k.old p }
     ensures calls { DoesBut IsOfProtocol k.old k.new result p (λ c q i r. on_ok (judged c asked.via.hop (entry_of asked.via asked.phase (complete_in c.transactions asked.via.payload) false) asked.via.payload) (λ x. Ok x)) }
     ensures sound { IsSound k.new }
+    ensures made { k.new.made ≡ k.old.made }
 {
     match judge(&mut k.transactions, asked, false) {
         Ok(()) => {
@@ -127,6 +129,7 @@ fn call_other_end(
     requires next { Shows k.old p s }
     ensures calls { DoesBut IsOfProtocol k.old k.new result p (λ c q i r. on_ok (may_enter_handler r handler) (λ ok. on_ok (judged c asked.via.hop (entry_of asked.via asked.phase (complete_in c.transactions asked.via.payload) (is_some handler)) asked.via.payload) (λ x. Ok (enters_handler x q r s handler values.now asked.via)))) }
     ensures sound { IsSound k.new }
+    ensures made { k.new.made ≡ k.old.made }
 {
     match handler {
         Some(f) => enter(k, alloc, p, s, f, asked, values),
@@ -153,6 +156,7 @@ pub(crate) fn call(
     requires next { Shows k.old p s }
     ensures calls { DoesBut IsOfProtocol k.old k.new result p (λ c q i r. on_ok (live_payload c asked.via.payload) (λ x. on_ok (may_enter_handler r handler) (λ ok. on_ok (judged c asked.via.hop (entry_of asked.via asked.phase (is_complete x) (is_some handler)) asked.via.payload) (λ y. Ok (enters_handler y q r s handler values.now asked.via))))) }
     ensures sound { IsSound k.new }
+    ensures made { k.new.made ≡ k.old.made }
 {
     live_payloads_are_used();
     if k.transactions.is_live(asked.via.payload) {

@@ -37,6 +37,7 @@ fn set_global(k: &mut Kernel, t: Time)
     requires { IsSound k.old }
     ensures moves { Moves k.old k.new (λ c. with_global c t.0) }
     ensures sound { IsSound k.new }
+    ensures made { k.new.made ≡ k.old.made }
 {
     k.transactions.set_global(t);
 }
@@ -51,6 +52,7 @@ pub fn qk_global(k: &mut Kernel, p: u32, time: &Expr) -> Result<(), RunFault>
     requires statement { HasStatement k.old p }
     ensures does { Does k.old k.new result p (λ c q i r. do_qk_global c q r (here c q i r) (term_of time.now)) }
     ensures sound { IsSound k.new }
+    ensures made { k.new.made ≡ k.old.made }
 {
     let value = eval_at(k, p, time)?;
     pass(k, p);
@@ -68,6 +70,7 @@ fn inc_keeper(k: &mut Kernel, p: u32, n: u32, t: Time) -> Result<(), RunFault>
     requires statement { HasStatement k.old p }
     ensures does { Does k.old k.new result p (λ c q i r. on_keeper (passes c q r) (keeper_at c (Some n)) (λ x. kept (passes c q r) (Some n) (after_inc x t.0))) }
     ensures sound { IsSound k.new }
+    ensures made { k.new.made ≡ k.old.made }
 {
     match k.transactions.inc(n, t) {
         Ok(()) => {
@@ -88,6 +91,7 @@ fn inc_named(k: &mut Kernel, p: u32, keeper: Option<u32>, t: Time) -> Result<(),
     requires statement { HasStatement k.old p }
     ensures does { Does k.old k.new result p (λ c q i r. on_keeper (passes c q r) (keeper_at c keeper) (λ x. kept (passes c q r) keeper (after_inc x t.0))) }
     ensures sound { IsSound k.new }
+    ensures made { k.new.made ≡ k.old.made }
 {
     match keeper {
         Some(n) => inc_keeper(k, p, n, t),
@@ -108,6 +112,7 @@ pub fn qk_inc(k: &mut Kernel, p: u32, n: u32, time: &Expr) -> Result<(), RunFaul
     requires statement { HasStatement k.old p }
     ensures does { Does k.old k.new result p (λ c q i r. do_qk_inc c q r (here c q i r) n (term_of time.now)) }
     ensures sound { IsSound k.new }
+    ensures made { k.new.made ≡ k.old.made }
 {
     let value = eval_at(k, p, time)?;
     let keeper = keeper_number(denoted_at(k, p, n));
@@ -121,6 +126,7 @@ fn set_keeper(k: &mut Kernel, p: u32, n: u32, t: Time)
     requires statement { HasStatement k.old p }
     ensures does { Does k.old k.new (Ok tt) p (λ c q i r. on_keeper (passes c q r) (keeper_at c (Some n)) (λ x. Ok (with_keeper (passes c q r) (Some n) (with_local x t.0)))) }
     ensures sound { IsSound k.new }
+    ensures made { k.new.made ≡ k.old.made }
 {
     k.transactions.set_local(n, t);
     pass(k, p);
@@ -133,6 +139,7 @@ fn set_named(k: &mut Kernel, p: u32, keeper: Option<u32>, t: Time)
     requires statement { HasStatement k.old p }
     ensures does { Does k.old k.new (Ok tt) p (λ c q i r. on_keeper (passes c q r) (keeper_at c keeper) (λ x. Ok (with_keeper (passes c q r) keeper (with_local x t.0)))) }
     ensures sound { IsSound k.new }
+    ensures made { k.new.made ≡ k.old.made }
 {
     match keeper {
         Some(n) => set_keeper(k, p, n, t),
@@ -150,6 +157,7 @@ pub fn qk_set(k: &mut Kernel, p: u32, n: u32, time: &Expr) -> Result<(), RunFaul
     requires statement { HasStatement k.old p }
     ensures does { Does k.old k.new result p (λ c q i r. do_qk_set c q r (here c q i r) n (term_of time.now)) }
     ensures sound { IsSound k.new }
+    ensures made { k.new.made ≡ k.old.made }
 {
     let value = eval_at(k, p, time)?;
     let keeper = keeper_number(denoted_at(k, p, n));
@@ -167,6 +175,7 @@ fn reset_keeper(k: &mut Kernel, p: u32, n: u32) -> Result<(), RunFault>
     requires statement { HasStatement k.old p }
     ensures does { Does k.old k.new result p (λ c q i r. on_keeper (passes c q r) (keeper_at c (Some n)) (λ x. kept (passes c q r) (Some n) (after_reset c.quantum.global c.cycle.now))) }
     ensures sound { IsSound k.new }
+    ensures made { k.new.made ≡ k.old.made }
 {
     match k.transactions.reset(n, k.cycle.now) {
         Ok(()) => {
@@ -187,6 +196,7 @@ fn reset_named(k: &mut Kernel, p: u32, keeper: Option<u32>) -> Result<(), RunFau
     requires statement { HasStatement k.old p }
     ensures does { Does k.old k.new result p (λ c q i r. on_keeper (passes c q r) (keeper_at c keeper) (λ x. kept (passes c q r) keeper (after_reset c.quantum.global c.cycle.now))) }
     ensures sound { IsSound k.new }
+    ensures made { k.new.made ≡ k.old.made }
 {
     match keeper {
         Some(n) => reset_keeper(k, p, n),
@@ -208,6 +218,7 @@ pub fn qk_reset(k: &mut Kernel, p: u32, n: u32) -> Result<(), RunFault>
     requires statement { HasStatement k.old p }
     ensures does { Does k.old k.new result p (λ c q i r. do_qk_reset c q r (here c q i r) n) }
     ensures sound { IsSound k.new }
+    ensures made { k.new.made ≡ k.old.made }
 {
     let keeper = keeper_number(denoted_at(k, p, n));
     reset_named(k, p, keeper)

@@ -1,5 +1,5 @@
 //! Statements on payloads: they are made, held and let go (IEEE 1666-2011, 14.5).
-ghost use Rattle.std.specs.Prelude.{◌≡◌, ◌<◌, ◌+◌, ◌^◌, option_map};
+ghost use Rattle.std.specs.Prelude.{◌≤◌, ◌≡◌, ◌<◌, ◌+◌, ◌^◌, option_map, OnErr};
 ghost use Rattle.flat_design.specs.Code.{term_of};
 ghost use Rattle.exec_calls.specs.SimModel.Reading.{here};
 ghost use Rattle.exec_calls.specs.SimModel.Transport as transport;
@@ -30,6 +30,8 @@ pub fn acquire(k: &mut Kernel, p: u32, n: NameUse) -> Result<(), RunFault>
     requires room { k.old.made < 2 ^ 31 + 2 }
     ensures does { Does k.old k.new result p (λ c q i r. do_acquire c q r (here c q i r) n) }
     ensures sound { IsSound k.new }
+    ensures made { k.new.made ≤ k.old.made + 1 }
+    ensures refused { OnErr result (k.new.made ≡ k.old.made) }
 {
     match payload_at(k, p, n) {
         Ok(t) => acquire_payload(k, p, t),
@@ -48,6 +50,7 @@ pub fn release(k: &mut Kernel, p: u32, n: NameUse) -> Result<(), RunFault>
     requires statement { HasStatement k.old p }
     ensures does { Does k.old k.new result p (λ c q i r. do_release c q r (here c q i r) n) }
     ensures sound { IsSound k.new }
+    ensures made { k.new.made ≡ k.old.made }
 {
     match payload_at(k, p, n) {
         Ok(t) => release_payload(k, p, t),
@@ -93,6 +96,8 @@ fn make_sized(
     requires room { k.old.made < 2 ^ 31 + 2 }
     ensures does { DoesOrStops k.old k.new result p (λ c q i r. makes_sized c q r (here c q i r) n len enables) }
     ensures sound { IsSound k.new }
+    ensures made { k.new.made ≤ k.old.made + 1 }
+    ensures refused { OnErr result (k.new.made ≡ k.old.made) }
 {
     payloads_are_made();
     match k.transactions.make(len, enables) {
@@ -128,6 +133,8 @@ pub fn make(
     requires room { k.old.made < 2 ^ 31 + 2 }
     ensures does { DoesOrStops k.old k.new result p (λ c q i r. do_make c q r (here c q i r) n (term_of len.now) (option_map term_of enables.now)) }
     ensures sound { IsSound k.new }
+    ensures made { k.new.made ≤ k.old.made + 1 }
+    ensures refused { OnErr result (k.new.made ≡ k.old.made) }
 {
     top_lives(k, p);
     match eval_at(k, p, len) {

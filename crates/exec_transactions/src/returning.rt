@@ -29,6 +29,7 @@ fn leave(k: &mut Kernel, p: u32)
     ensures steps { Steps k.old k.new p (λ c q i r. passes c q r) }
     ensures lives { Lives k.new p }
     ensures sound { IsSound k.new }
+    ensures made { k.new.made ≡ k.old.made }
 {
     let _ = leave_call(k, p);
 }
@@ -39,6 +40,7 @@ fn hand_back_delay(k: &mut Kernel, p: u32, d: NameUse, delay: Value)
     requires lives { Lives k.old p }
     ensures moves { (c : Config) (i : Instance) (h : Here) → StandsFor k.old c → instance_at c p ≡ Some i → h.config.design ≡ c.design → h.home ≡ (here c p i i.residual).home → StandsFor k.new (set_name c p h d delay) }
     ensures sound { IsSound k.new }
+    ensures made { k.new.made ≡ k.old.made }
 {
     let home = home_at(k, p);
     store_in(k, p, home, d, delay);
@@ -60,6 +62,7 @@ fn return_blocking(
     requires leaves { Leaves k.old p }
     ensures does { Does k.old k.new result p (λ c q i r. on_ok (judged_return (passes c q r) via.hop (BReturn via.payload (complete_now (passes c q r) via.payload)) via.payload) (λ y. Ok (set_name y q (here (passes c q r) q i (put r skip)) d delay))) }
     ensures sound { IsSound k.new }
+    ensures made { k.new.made ≡ k.old.made }
 {
     match k.transactions.b_returned(via.hop, via.payload) {
         Ok(()) => {
@@ -80,6 +83,7 @@ fn end_blocking(k: &mut Kernel, p: u32, ending: Ending, d: NameUse) -> Result<()
     requires called { CalledBy k.old p (IsBTransport d) }
     ensures does { LeavesBy k.old k.new result p }
     ensures sound { IsSound k.new }
+    ensures made { k.new.made ≡ k.old.made }
 {
     match ending.via {
         Some(via) => {
@@ -105,6 +109,7 @@ pub fn b_transport_returns(k: &mut Kernel, p: u32, d: NameUse) -> Result<(), Run
     requires called { CalledBy k.old p (IsBTransport d) }
     ensures does { LeavesBy k.old k.new result p }
     ensures sound { IsSound k.new }
+    ensures made { k.new.made ≡ k.old.made }
 {
     let ending = ending_at(k, p);
     end_blocking(k, p, ending, d)
@@ -139,6 +144,7 @@ fn hand_back(k: &mut Kernel, p: u32, to: Handed, v: Values)
     ensures moves { (c : Config) (i : Instance) (h : Here) → StandsFor k.old c → instance_at c p ≡ Some i → h.config.design ≡ c.design → h.home ≡ (here c p i i.residual).home
         → StandsFor k.new (stored_if (set_name (set_name c p h to.phase v.phase) p h to.delay v.delay) p h to.target v.answer) }
     ensures sound { IsSound k.new }
+    ensures made { k.new.made ≡ k.old.made }
 {
     let home = home_at(k, p);
     store_in(k, p, home, to.phase, v.phase);
@@ -163,6 +169,7 @@ fn return_nonblocking(
     ensures does { Does k.old k.new result p (λ c q i r. on_ok (judged_return (passes c q r) via.hop (Return via.payload (int_of v.answer) (int_of v.phase) (complete_now (passes c q r) via.payload)) via.payload)
         (λ y. Ok (stored_if (set_name (set_name y q (here (passes c q r) q i (put r skip)) to.phase v.phase) q (here (passes c q r) q i (put r skip)) to.delay v.delay) q (here (passes c q r) q i (put r skip)) to.target v.answer))) }
     ensures sound { IsSound k.new }
+    ensures made { k.new.made ≡ k.old.made }
 {
     match nb_returned(&mut k.transactions, via.hop, via.payload, v.answer, v.phase) {
         Ok(()) => {
@@ -183,6 +190,7 @@ fn end_nonblocking(k: &mut Kernel, p: u32, ending: Ending, to: Handed) -> Result
     requires called { CalledBy k.old p (IsNbTransport to.target to.phase to.delay) }
     ensures does { LeavesBy k.old k.new result p }
     ensures sound { IsSound k.new }
+    ensures made { k.new.made ≡ k.old.made }
 {
     match ending.via {
         Some(via) => {
@@ -222,6 +230,7 @@ pub fn nb_transport_returns(
     requires called { CalledBy k.old p (IsNbTransport target phase d) }
     ensures does { LeavesBy k.old k.new result p }
     ensures sound { IsSound k.new }
+    ensures made { k.new.made ≡ k.old.made }
 {
     let ending = ending_at(k, p);
     let to = Handed {

@@ -35,6 +35,7 @@ fn b_transport_on(
     requires next { Shows k.old p s }
     ensures calls { DoesBut IsOfProtocol k.old k.new result p (λ c q i r. transport.b_transport_on c q r (here c q i r) s n d (Some end)) }
     ensures sound { IsSound k.new }
+    ensures made { k.new.made ≡ k.old.made }
 {
     let payload = match payload_at(k, p, n) {
         Ok(t) => t,
@@ -75,6 +76,7 @@ pub fn b_transport(
     requires next { Shows k.old p s }
     ensures calls { DoesBut IsOfProtocol k.old k.new result p (λ c q i r. do_b_transport c q r (here c q i r) s socket n d) }
     ensures sound { IsSound k.new }
+    ensures made { k.new.made ≡ k.old.made }
 {
     match socket_of(denoted_at(k, p, socket)) {
         Some(end) => b_transport_on(k, alloc, p, s, end, n, d),
@@ -102,6 +104,7 @@ fn nb_transport_on(
     requires next { Shows k.old p s }
     ensures calls { DoesBut IsOfProtocol k.old k.new result p (λ c q i r. transport.nb_transport_on c q r (here c q i r) s n phase d (Some end)) }
     ensures sound { IsSound k.new }
+    ensures made { k.new.made ≡ k.old.made }
 {
     let payload = match payload_at(k, p, n) {
         Ok(t) => t,
@@ -144,6 +147,7 @@ pub fn nb_transport(
     requires next { Shows k.old p s }
     ensures calls { DoesBut IsOfProtocol k.old k.new result p (λ c q i r. do_nb_transport c q r (here c q i r) s socket n phase d) }
     ensures sound { IsSound k.new }
+    ensures made { k.new.made ≡ k.old.made }
 {
     match socket_of(denoted_at(k, p, socket)) {
         Some(end) => nb_transport_on(k, alloc, p, s, end, n, phase, d),

@@ -99,6 +99,7 @@ pub record Initializes (n : ℕ) (old new : Kernel) : Type 0 where
   pub moves : (c : Config) → StandsFor old c → (d : Config) × (StandsFor new d × (initialize_each n (drop n old.design.processes) d ≡ initialize_each 0 old.design.processes c))
   pub kept : KeepsBodies old new
   pub events : new.events ≡ old.events
+  pub made : new.made ≡ old.made
   pub sound : IsSound new
   pub fresh : IsFresh new
 
@@ -107,6 +108,7 @@ none_initialized k sound fresh = record {
   moves = λ c h. (c, (h, refl));
   kept = record { bodies = λ q. refl; program = refl; design = refl };
   events = refl;
+  made = refl;
   sound = sound;
   fresh = fresh;
 }
@@ -125,6 +127,7 @@ module _ (n : ℕ) (old k : Kernel) (so : Initializes n old k) (x : ProcessPart)
         );
     kept = so.kept;
     events = so.events;
+    made = so.made;
     sound = so.sound;
     fresh = so.fresh;
   }
@@ -142,6 +145,7 @@ module _ (n : ℕ) (old k : Kernel) (so : Initializes n old k) (x : ProcessPart)
         );
     kept = record { bodies = λ q. m.bodies q ∙ so.kept.bodies q; program = so.kept.program; design = so.kept.design };
     events = so.events;
+    made = so.made;
     sound = schedule_sound k so.sound s fine m.bodies (ap (λ v. v.items) m.due) m.next;
     fresh = runs_fresh k n s m lives so.fresh;
   }

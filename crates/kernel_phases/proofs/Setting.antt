@@ -66,6 +66,7 @@ pub record Fires (left all : List ℕ) (old new : Kernel) : Type 0 where
   pub due : new.schedule.due ≡ old.schedule.due
   pub kept : KeepsBodies old new
   pub events : new.events ≡ old.events
+  pub made : new.made ≡ old.made
   pub between : IsBetween new
 
 pub none_fired : (all : List ℕ) (k : Kernel) → IsBetween k → Fires all all k k
@@ -74,6 +75,7 @@ none_fired all k between = record {
   due = refl;
   kept = record { bodies = λ q. refl; program = refl; design = refl };
   events = refl;
+  made = refl;
   between = between;
 }
 
@@ -90,6 +92,7 @@ one_fired e left all old k s fired fine r = record {
   due = r.due ∙ fired.due;
   kept = record { bodies = λ q. r.bodies q ∙ fired.kept.bodies q; program = fired.kept.program; design = fired.kept.design };
   events = fired.events;
+  made = fired.made;
   between = between_schedule k fired.between s fine r.bodies r.next;
 }
 

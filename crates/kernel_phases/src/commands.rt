@@ -18,6 +18,7 @@ pub fn set_signal(k: &mut Kernel, i: u32, v: Value)
     ensures moves { Moves k.old k.new (λ c. step.sets_visible c v (slice_get c.design.visible i)) }
     ensures kept { KeepsBodies k.old k.new }
     ensures sound { IsSound k.new }
+    ensures made { k.new.made ≡ k.old.made }
 {
     if let Some(visible) = k.design.visible.as_slice().get(i as usize) {
         match visible.id {
@@ -39,6 +40,7 @@ fn run_to(k: &mut Kernel, end: Option<Time>)
     requires { IsSound k.old }
     ensures left { k.new ≡ record k.old { cycle = record k.old.cycle { phase = step.first_phase k.old.cycle.begun; begun = true; end = end; stop_asked = false } } }
     ensures sound { IsSound k.new }
+    ensures made { k.new.made ≡ k.old.made }
 {
     k.cycle.phase = first_phase(k.cycle.begun);
     k.cycle.begun = true;
@@ -53,6 +55,7 @@ pub fn begin_run(k: &mut Kernel, time: Option<Time>) -> Result<(), RunFault>
     ensures follows { (c : Config) → StandsFor k.old c → Follows k.new result c (step.begin_run c time) }
     ensures kept { KeepsBodies k.old k.new }
     ensures sound { IsSound k.new }
+    ensures made { k.new.made ≡ k.old.made }
 {
     match time {
         None => {

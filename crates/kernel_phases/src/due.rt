@@ -24,6 +24,7 @@ fn fire_events(k: &mut Kernel, events: &[u32])
     ensures kept { KeepsBodies k.old k.new }
     ensures events { k.new.events ≡ k.old.events }
     ensures between { IsBetween k.new }
+    ensures made { k.new.made ≡ k.old.made }
 {
     for event in events {
         fire(&mut k.schedule, Ev::Fixed(*event));
@@ -39,6 +40,7 @@ pub(crate) fn set_off(k: &mut Kernel, events: &mut Vec<u32>)
     ensures none { events.new.items ≡ [] }
     ensures capacity { vec_capacity events.new ≡ vec_capacity events.old }
     ensures sound { IsSound k.new }
+    ensures made { k.new.made ≡ k.old.made }
 {
     fire_events(k, events.as_slice());
     wake_due(&mut k.schedule);
@@ -65,6 +67,7 @@ pub(crate) fn notify_deltas(k: &mut Kernel, events: &mut Vec<u32>)
     ensures kept { KeepsBodies k.old k.new }
     ensures sound { IsSound k.new }
     ensures room { HasRoom k.new events.new }
+    ensures made { k.new.made ≡ k.old.made }
 {
     k.events.take_deltas(events);
     take_zero(&mut k.schedule);
@@ -80,6 +83,7 @@ pub fn delta(k: &mut Kernel, events: &mut Vec<u32>)
     ensures kept { KeepsBodies k.old k.new }
     ensures sound { IsSound k.new }
     ensures room { HasRoom k.new events.new }
+    ensures made { k.new.made ≡ k.old.made }
 {
     notify_deltas(k, events);
     let next = phase_after(k);

@@ -20,6 +20,7 @@ fn make_all_runnable(k: &mut Kernel)
     ensures kept { KeepsBodies k.old k.new }
     ensures events { k.new.events ≡ k.old.events }
     ensures sound { IsSound k.new }
+    ensures made { k.new.made ≡ k.old.made }
 {
     let mut p = 0;
     while (p as usize) < k.design.processes.as_slice().len() {
@@ -40,6 +41,7 @@ pub fn initialize(k: &mut Kernel, events: &mut Vec<u32>)
     ensures kept { KeepsBodies k.old k.new }
     ensures sound { IsSound k.new }
     ensures room { HasRoom k.new events.new }
+    ensures made { k.new.made ≡ k.old.made }
 {
     update_channels(k);
     make_all_runnable(k);

@@ -105,6 +105,7 @@ fn now_becomes(k: &mut Kernel, t: Time)
     ensures kept { KeepsBodies k.old k.new }
     ensures now { k.new.cycle ≡ record k.old.cycle { now = t } }
     ensures sound { IsSound k.new }
+    ensures made { k.new.made ≡ k.old.made }
 {
     if t.0 != k.cycle.now.0 {
         k.cycle.now = t;
@@ -119,6 +120,7 @@ fn run_over(k: &mut Kernel)
     ensures events { k.new.events ≡ k.old.events }
     ensures kept { KeepsBodies k.old k.new }
     ensures sound { IsSound k.new }
+    ensures made { k.new.made ≡ k.old.made }
 {
     match k.cycle.end {
         None => {}
@@ -155,6 +157,7 @@ fn notify_at(k: &mut Kernel, events: &mut Vec<u32>, t: Time)
     ensures kept { KeepsBodies k.old k.new }
     ensures sound { IsSound k.new }
     ensures room { HasRoom k.new events.new }
+    ensures made { k.new.made ≡ k.old.made }
 {
     now_becomes(k, t);
     k.events.take_at(t, events);
@@ -170,6 +173,7 @@ fn go_to(k: &mut Kernel, events: &mut Vec<u32>, t: Time)
     ensures kept { KeepsBodies k.old k.new }
     ensures sound { IsSound k.new }
     ensures room { HasRoom k.new events.new }
+    ensures made { k.new.made ≡ k.old.made }
 {
     let at_end = is_end(t, k.cycle.end);
     notify_at(k, events, t);
@@ -189,6 +193,7 @@ fn go_on(k: &mut Kernel, events: &mut Vec<u32>, next: Option<Time>)
     ensures kept { KeepsBodies k.old k.new }
     ensures sound { IsSound k.new }
     ensures room { HasRoom k.new events.new }
+    ensures made { k.new.made ≡ k.old.made }
 {
     match next {
         None => run_over(k),
@@ -213,6 +218,7 @@ pub fn timed(k: &mut Kernel, events: &mut Vec<u32>) -> bool
     ensures kept { KeepsBodies k.old k.new }
     ensures sound { IsSound k.new }
     ensures room { HasRoom k.new events.new }
+    ensures made { k.new.made ≡ k.old.made }
 {
     let before = k.cycle.now;
     let next = earliest(k);

@@ -30,6 +30,7 @@ fn clear_trigger(k: &mut Kernel, p: u32)
     ensures moves { Moves k.old k.new (λ c. change_instance c p (λ i. record i { trigger = None })) }
     ensures lives { Lives k.new p }
     ensures sound { IsSound k.new }
+    ensures made { k.new.made ≡ k.old.made }
 {
     match k.schedule.table.get_mut(p) {
         Some(x) => x.body.body.trigger = None,
@@ -44,6 +45,7 @@ fn restart_body(k: &mut Kernel, p: u32)
     ensures moves { MovesAt k.old k.new p (λ c i. with_residual c p (begun (arena c) i.code i.arguments)) }
     ensures lives { Lives k.new p }
     ensures sound { IsSound k.new }
+    ensures made { k.new.made ≡ k.old.made }
 {
     match k.schedule.table.get_mut(p) {
         Some(x) => x.body.body.body.restart(&k.program),
@@ -57,6 +59,7 @@ fn begin_body(k: &mut Kernel, p: u32)
     requires lives { Lives k.old p }
     ensures moves { MovesAt k.old k.new p (λ c i. control.begins c p i) }
     ensures sound { IsSound k.new }
+    ensures made { k.new.made ≡ k.old.made }
 {
     restart_body(k, p);
     begin(&mut k.schedule, p, true);
@@ -70,6 +73,7 @@ pub fn turn(k: &mut Kernel, p: u32)
     requires nobody { k.old.schedule.stack.items ≡ [] }
     ensures moves { Moves k.old k.new (λ c. instance_taken c p (instance_at c p)) }
     ensures sound { IsSound k.new }
+    ensures made { k.new.made ≡ k.old.made }
 {
     take(&mut k.schedule, p);
     if !is_begun(k, p) {

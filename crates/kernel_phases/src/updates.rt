@@ -15,6 +15,7 @@ pub(crate) fn set_phase(k: &mut Kernel, x: Phase)
     ensures moves { Moves k.old k.new (λ c. with_phase c x) }
     ensures left { k.new ≡ record k.old { cycle = record k.old.cycle { phase = x } } }
     ensures sound { IsSound k.new }
+    ensures made { k.new.made ≡ k.old.made }
 {
     k.cycle.phase = x;
 }
@@ -29,6 +30,7 @@ pub(crate) fn update_channels(k: &mut Kernel)
     ensures design { k.new.design ≡ k.old.design }
     ensures program { k.new.program ≡ k.old.program }
     ensures sound { IsSound k.new }
+    ensures made { k.new.made ≡ k.old.made }
 {
     what_an_update_phase_announces();
     k.channels.update(&k.design, &mut k.events);
@@ -40,6 +42,7 @@ fn end_session(k: &mut Kernel)
     ensures moves { Moves k.old k.new phases.session_stopped }
     ensures left { k.new ≡ record k.old { cycle = record k.old.cycle { stopped = true } } }
     ensures sound { IsSound k.new }
+    ensures made { k.new.made ≡ k.old.made }
 {
     k.cycle.stopped = true;
 }
@@ -51,6 +54,7 @@ pub fn update(k: &mut Kernel)
     ensures moves { Moves k.old k.new phases.update_step }
     ensures kept { KeepsBodies k.old k.new }
     ensures sound { IsSound k.new }
+    ensures made { k.new.made ≡ k.old.made }
 {
     update_channels(k);
     if k.cycle.stop_asked {

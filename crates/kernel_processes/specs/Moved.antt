@@ -1,5 +1,5 @@
 -- What the moves of processes make of the instance that moves.
-use Rattle.std.specs.Prelude.{◌≡◌, ◌≢◌, ◌≤◌, ◌+◌, ℕ, Bool, true, false, ◌||◌, List, ◌∷◌, [], ◌++◌, Option, Some, None, option_map, if◌then◌else◌, length, vec_capacity}
+use Rattle.std.specs.Prelude.{◌≡◌, ◌≢◌, ◌≤◌, ◌<◌, ◌+◌, ℕ, Bool, true, false, ◌||◌, List, ◌∷◌, [], ◌++◌, Option, Some, None, option_map, if◌then◌else◌, length, vec_capacity}
 use Rattle.std.specs.FinMap as map
 use Rattle.std.specs.FinSet as set
 use Rattle.instance_table.specs.declared.instances.Instance.{Instance as Entry}
@@ -117,6 +117,12 @@ module _ {B : Type 0} where
     time = None;
     zero = false;
   }
+
+  -- there is room for an instance to wait for so many events, and until a time
+  pub record HasRoom (p n : ℕ) (s : Schedule B) : Type 0 where
+    pub events : n ≤ room_for s.lists p
+    pub times : 0 < s.deadlines.spare
+    pub zeros : 0 < s.zero.spare
 
   -- the top is off the stack, and nothing else changes
   pub record LeavesTop (p : ℕ) (s t : Schedule B) : Type 0 where

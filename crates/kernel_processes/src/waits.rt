@@ -4,7 +4,7 @@ ghost use Rattle.std.specs.FinMap as map;
 ghost use Rattle.wait_lists.specs.Waits.{room_for};
 ghost use Rattle.kernel_processes.specs.Sound.{IsSound};
 ghost use Rattle.kernel_processes.specs.Moves.{events_of, sensitive_of, Changes, MovesOne};
-ghost use Rattle.kernel_processes.specs.Moved.{IsTop, Stays, leaves_top, waits_as, rests_as, waiting_seen};
+ghost use Rattle.kernel_processes.specs.Moved.{HasRoom, IsTop, Stays, leaves_top, waits_as, rests_as, waiting_seen};
 
 use super::turns::leave_stack;
 use crate::{
@@ -57,21 +57,31 @@ pub fn wait<B>(s: &mut Schedule<B>, p: u32, t: &Trigger) -> Result<(), AllocErro
     Ok(())
 }
 
-/// The method on top has returned: it leaves the stack and waits so, and its body has not begun (IEEE 1666-2011, 5.2.10).
-/// Where memory is refused nothing changes.
-pub fn rest<B>(s: &mut Schedule<B>, p: u32, t: &Trigger) -> Result<(), AllocError>
+/// Makes room for the instance on top, so that it can wait for as many as `items` events, and until a time. Nothing else changes.
+pub fn hold<B>(s: &mut Schedule<B>, p: u32, items: u32) -> Result<(), AllocError>
     requires sound { IsSound s.old }
     requires top { IsTop p s.old.stack.items }
-    ensures moves { OnOk result (MovesOne p (rests_as t.now) false (leaves_top p) s.old s.new) }
-    ensures stays { OnErr result (Stays s.old s.new) }
+    ensures room { OnOk result (HasRoom p items s.new) }
+    ensures table { s.new.table ≡ s.old.table }
+    ensures stays { Stays s.old s.new }
     ensures sound { IsSound s.new }
 {
-    match make_room(s, p, t) {
-        Ok(()) => {}
-        Err(_) => return Err(AllocError),
+    match hold_room(s, p, items) {
+        Ok(()) => Ok(()),
+        Err(_) => Err(AllocError),
     }
+}
+
+/// The method on top has returned: it leaves the stack and waits so, and its body has not begun (IEEE 1666-2011, 5.2.10).
+/// There is room for the wait, so it takes no memory.
+pub fn rest_ready<B>(s: &mut Schedule<B>, p: u32, t: &Trigger)
+    requires sound { IsSound s.old }
+    requires top { IsTop p s.old.stack.items }
+    requires room { HasRoom p (length (events_of t.now.wait (sensitive_of (map.get s.old.table.live p)))) s.old }
+    ensures moves { MovesOne p (rests_as t.now) false (leaves_top p) s.old s.new }
+    ensures sound { IsSound s.new }
+{
     leave_stack(s, p);
     put(s, p, t);
     mark_started(s, p, false);
-    Ok(())
 }

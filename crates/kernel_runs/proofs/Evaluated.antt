@@ -68,6 +68,19 @@ there_when (Some i) is = (i, refl)
 
 -- ---- a step of the instance on top
 
+-- it is refused, or at fault, where the instance's is
+pub top_refused : (m : Made) (a : StepAnswer) (P : Type 0) → m ≡ made_of a → (a ≡ answer.NoMemory → P) → m ≡ made.NoMemory → P
+top_refused m answer.Went P is rest e = cc
+top_refused m (answer.Printed p s v) P is rest e = cc
+top_refused m (answer.Fault f) P is rest e = cc
+top_refused m answer.NoMemory P is rest e = rest refl
+
+pub top_faulted : (m : Made) (a : StepAnswer) (P : Type 0) → m ≡ made_of a → ((f : RunFault) → a ≡ answer.Fault f → P) → (f : RunFault) → m ≡ made.Fault f → P
+top_faulted m answer.Went P is rest f e = cc
+top_faulted m (answer.Printed p s v) P is rest f e = cc
+top_faulted m (answer.Fault g) P is rest f e = rest g refl
+top_faulted m answer.NoMemory P is rest f e = cc
+
 module _ (k new : Kernel) where
   module _ (c : Config) (i : Instance) where
     told_made : (a : StepAnswer) (r : Result Config RunFault) → TellsAll new a c i r → MadeAs new c (as_outcome r) (made_of a)

@@ -1,5 +1,5 @@
 -- What a step of a session asks of its kernel.
-use Rattle.std.specs.Prelude.{◌≡◌, ℕ}
+use Rattle.std.specs.Prelude.{◌≡◌, ◌<◌, ◌-◌, ◌^◌, ℕ, All}
 use Rattle.kernel_phases.specs.SimModel.declared.plain.Phase.TheVariants as phase
 use Rattle.kernel_phases.specs.KernelBodies.declared.program.Program.{Program}
 use Rattle.kernel_phases.specs.KernelState.Moves.{IsOnTop}
@@ -16,4 +16,5 @@ pub record MayStep (k : Kernel) (program : Program) : Type 0 where
   pub throws : (p : ℕ) → IsOnTop k p → ThrowsFreeNext k p
   pub alone : (p : ℕ) → IsOnTop k p → ActsAloneNext k p
   pub others : OthersHaveNoGoal k
+  pub posts : All (λ v. v < 2 ^ 64 - 1) k.channels.semaphores
   pub fresh : k.cycle.phase ≡ phase.Start → IsFresh k

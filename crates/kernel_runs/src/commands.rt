@@ -15,6 +15,7 @@ fn carry_out(k: &mut Kernel, command: Command) -> Made
     ensures makes { Makes k.old k.new result (λ c. spec.as_outcome (spec.carry_out c command)) }
     ensures plain { IsPlain result }
     ensures sound { IsSound k.new }
+    ensures made { k.new.made ≡ k.old.made }
 {
     match command {
         Command::Run(time) => match begin_run(k, time) {
@@ -36,6 +37,7 @@ pub(crate) fn next_command(k: &mut Kernel, script: &[Command], place: &mut usize
     ensures steps { StepsOn k.old k.new (drop place.old script.now) (drop place.new script.now) result (λ c. spec.next_command c c.script) }
     ensures sound { IsSound k.new }
     ensures within { place.new ≤ length script.now }
+    ensures made { k.new.made ≡ k.old.made }
 {
     if *place == script.len() {
         return Made::Ended;

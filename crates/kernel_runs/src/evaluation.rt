@@ -1,5 +1,6 @@
 //! The evaluation phase.
-ghost use Rattle.std.specs.Prelude.{◌≡◌, []};
+ghost use Rattle.std.specs.Prelude.{◌≡◌, ◌≤◌, ◌<◌, ◌+◌, ◌^◌, []};
+ghost use Rattle.flat_design.specs.declared.faults.RunFault.{RunFault};
 ghost use Rattle.kernel_phases.specs.SimModel.Steps.{evaluate};
 ghost use Rattle.kernel_phases.specs.KernelState.Kernel.{IsSound};
 ghost use Rattle.kernel_phases.specs.KernelState.Moves.{IsOnTop};
@@ -23,6 +24,7 @@ fn evaluate_next<C: Chooser>(k: &mut Kernel, chooser: &mut C) -> Made
     ensures makes { Makes k.old k.new result (λ c. evaluate c c.processes.stack c.processes.runnable) }
     ensures asks { Asks C.picks C.later k.old chooser.old chooser.new result (λ c. evaluate c c.processes.stack c.processes.runnable) }
     ensures sound { IsSound k.new }
+    ensures made { k.new.made ≡ k.old.made }
 {
     least_of_a_set();
     match k.schedule.ready.least() {
@@ -37,21 +39,18 @@ fn evaluate_next<C: Chooser>(k: &mut Kernel, chooser: &mut C) -> Made
     }
 }
 
-/// As many instances, payloads and references to payloads as a kernel has made in all, while it makes more: so that each has a
-/// number. A session of fewer steps never makes so many.
-const MOST_MADE: u32 = 2_147_483_648;
-
 /// A step of the instance on top.
 fn step_of_top(k: &mut Kernel, program: &Program, alloc: Global, p: u32) -> Made
     requires sound { IsSound k.old }
     requires asked { MayStep k.old program.now }
+    requires room { k.old.made < 2 ^ 31 }
     requires top { IsOnTop k.old p }
     ensures makes { Makes k.old k.new result (λ c. evaluate c c.processes.stack c.processes.runnable) }
     ensures sound { IsSound k.new }
+    ensures made { k.new.made ≤ k.old.made + 1 }
+    ensures refused { result ≡ Made.NoMemory → k.new.made ≡ k.old.made }
+    ensures faulted { (f : RunFault) → result ≡ Made.Fault f → k.new.made ≡ k.old.made }
 {
-    if k.made > MOST_MADE {
-        return Made::NoMemory;
-    }
     of_instance(step_statement(k, program, alloc, p))
 }
 
@@ -65,9 +64,13 @@ pub(crate) fn evaluate<C: Chooser>(
 ) -> Made
     requires sound { IsSound k.old }
     requires asked { MayStep k.old program.now }
+    requires room { k.old.made < 2 ^ 31 }
     ensures makes { Makes k.old k.new result (λ c. evaluate c c.processes.stack c.processes.runnable) }
     ensures asks { Asks C.picks C.later k.old chooser.old chooser.new result (λ c. evaluate c c.processes.stack c.processes.runnable) }
     ensures sound { IsSound k.new }
+    ensures made { k.new.made ≤ k.old.made + 1 }
+    ensures refused { result ≡ Made.NoMemory → k.new.made ≡ k.old.made }
+    ensures faulted { (f : RunFault) → result ≡ Made.Fault f → k.new.made ≡ k.old.made }
 {
     match top(&k.schedule) {
         Some(p) => step_of_top(k, program, alloc, p),

@@ -1,5 +1,6 @@
 //! One step of a session.
-ghost use Rattle.std.specs.Prelude.{◌≡◌, ◌≢◌, ◌≤◌, [], drop, length, false, OnOk};
+ghost use Rattle.std.specs.Prelude.{◌≡◌, ◌≢◌, ◌≤◌, ◌<◌, ◌+◌, ◌^◌, [], drop, length, false, OnOk};
+ghost use Rattle.flat_design.specs.declared.faults.RunFault.{RunFault};
 ghost use Rattle.kernel_phases.specs.SimModel.Phases as phases;
 ghost use Rattle.kernel_phases.specs.SimModel.Steps as spec;
 ghost use Rattle.kernel_phases.specs.SimModel.declared.plain.Phase.TheVariants as phase;
@@ -36,6 +37,7 @@ fn start(k: &mut Kernel, events: &mut Vec<u32>) -> Made
     ensures makes { Makes k.old k.new result (λ c. spec.went (phases.initialization c)) }
     ensures none { events.new.items ≡ [] }
     ensures sound { IsSound k.new }
+    ensures made { k.new.made ≡ k.old.made }
 {
     match reserve_events(k, events) {
         Ok(()) => {
@@ -53,6 +55,7 @@ fn notify(k: &mut Kernel, events: &mut Vec<u32>) -> Made
     ensures makes { Makes k.old k.new result (λ c. spec.went (phases.delta_step c)) }
     ensures none { events.new.items ≡ [] }
     ensures sound { IsSound k.new }
+    ensures made { k.new.made ≡ k.old.made }
 {
     match reserve_events(k, events) {
         Ok(()) => {
@@ -70,6 +73,7 @@ fn go_to_next_time(k: &mut Kernel, events: &mut Vec<u32>) -> Made
     ensures makes { Makes k.old k.new result (λ c. spec.went (phases.timed_step c)) }
     ensures none { events.new.items ≡ [] }
     ensures sound { IsSound k.new }
+    ensures made { k.new.made ≡ k.old.made }
 {
     match reserve_events(k, events) {
         Ok(()) => {
@@ -90,6 +94,7 @@ fn go_on<C: Chooser>(
 ) -> Made
     requires sound { IsSound k.old }
     requires asked { MayStep k.old program.now }
+    requires room { k.old.made < 2 ^ 31 }
     requires running { k.old.cycle.phase ≢ phase.Idle }
     requires going { k.old.cycle.stopped ≡ false }
     requires none { events.old.items ≡ [] }
@@ -97,6 +102,9 @@ fn go_on<C: Chooser>(
     ensures asks { Asks C.picks C.later k.old chooser.old chooser.new result spec.step }
     ensures none { events.new.items ≡ [] }
     ensures sound { IsSound k.new }
+    ensures made { k.new.made ≤ k.old.made + 1 }
+    ensures refused { result ≡ Made.NoMemory → k.new.made ≡ k.old.made }
+    ensures faulted { (f : RunFault) → result ≡ Made.Fault f → k.new.made ≡ k.old.made }
 {
     match k.cycle.phase {
         Phase::Idle => unreachable!(),
@@ -119,6 +127,7 @@ fn make<C: Chooser>(
 ) -> Made
     requires sound { IsSound k.old }
     requires asked { MayStep k.old program.now }
+    requires room { k.old.made < 2 ^ 31 }
     requires within { place.old ≤ length script.now }
     requires none { events.old.items ≡ [] }
     ensures steps { StepsOn k.old k.new (drop place.old script.now) (drop place.new script.now) result spec.step }
@@ -126,6 +135,9 @@ fn make<C: Chooser>(
     ensures sound { IsSound k.new }
     ensures within { place.new ≤ length script.now }
     ensures none { events.new.items ≡ [] }
+    ensures made { k.new.made ≤ k.old.made + 1 }
+    ensures refused { result ≡ Made.NoMemory → k.new.made ≡ k.old.made }
+    ensures faulted { (f : RunFault) → result ≡ Made.Fault f → k.new.made ≡ k.old.made }
 {
     if k.cycle.stopped {
         return Made::Ended;
@@ -140,6 +152,8 @@ fn make<C: Chooser>(
 /// (IEEE 1666-2011, 4.2.1). The chooser is asked once where the step takes a process, and in no other step. `place` counts the
 /// commands that were carried out; `events` is a list without members, whose room is used again. The program is the kernel's own,
 /// held apart, so that no statement is copied.
+///
+/// At most one instance, payload or reference to a payload is made, and none where the step is refused.
 pub fn make_step<C: Chooser>(
     k: &mut SoundKernel,
     program: &Program,
@@ -150,12 +164,16 @@ pub fn make_step<C: Chooser>(
     events: &mut Vec<u32>,
 ) -> Made
     requires asked { MayStep k.old.kernel program.now }
+    requires room { k.old.kernel.made < 2 ^ 31 }
     requires within { place.old ≤ length script.now }
     requires none { events.old.items ≡ [] }
     ensures steps { StepsOn k.old.kernel k.new.kernel (drop place.old script.now) (drop place.new script.now) result spec.step }
     ensures asks { Asks C.picks C.later k.old.kernel chooser.old chooser.new result spec.step }
     ensures within { place.new ≤ length script.now }
     ensures none { events.new.items ≡ [] }
+    ensures made { k.new.kernel.made ≤ k.old.kernel.made + 1 }
+    ensures refused { result ≡ Made.NoMemory → k.new.kernel.made ≡ k.old.kernel.made }
+    ensures faulted { (f : RunFault) → result ≡ Made.Fault f → k.new.kernel.made ≡ k.old.kernel.made }
 {
     make(
         &mut k.kernel,

@@ -16,6 +16,7 @@ pub(crate) fn take<C: Chooser>(k: &mut Kernel, chooser: &mut C) -> Option<u32>
     ensures held { chooser.new ≡ C.later chooser.old (rising k.old.schedule.ready.members) }
     ensures stays { result ≡ None → k.new ≡ k.old }
     ensures sound { IsSound k.new }
+    ensures made { k.new.made ≡ k.old.made }
 {
     match chooser.choose(&k.schedule.ready) {
         None => None,

@@ -47,6 +47,7 @@ fn leave(k: &mut Kernel, q: u32)
     ensures moves { MovesAt k.old k.new q (λ c i. with_left c (left_by_unw i.residual)) }
     ensures schedule { k.new.schedule ≡ k.old.schedule }
     ensures sound { IsSound k.new }
+    ensures made { k.new.made ≡ k.old.made }
 {
     left_calls_end();
     match k.schedule.table.get(q) {
@@ -63,6 +64,7 @@ fn unwind_body(k: &mut Kernel, q: u32, end: Goal)
     ensures stack { k.new.schedule.stack ≡ k.old.schedule.stack }
     ensures lives { Lives k.new q }
     ensures sound { IsSound k.new }
+    ensures made { k.new.made ≡ k.old.made }
 {
     match k.schedule.table.get_mut(q) {
         Some(x) => x.body.body.body.unwind(end),
@@ -78,6 +80,7 @@ fn clear_trigger(k: &mut Kernel, q: u32)
     ensures stack { k.new.schedule.stack ≡ k.old.schedule.stack }
     ensures lives { Lives k.new q }
     ensures sound { IsSound k.new }
+    ensures made { k.new.made ≡ k.old.made }
 {
     match k.schedule.table.get_mut(q) {
         Some(x) => x.body.body.trigger = None,
@@ -93,6 +96,7 @@ fn push(k: &mut Kernel, q: u32)
     requires rests { is_on k.old.schedule.stack.items q ≡ false }
     ensures moves { Moves k.old k.new (λ c. pushed c q) }
     ensures sound { IsSound k.new }
+    ensures made { k.new.made ≡ k.old.made }
 {
     clear_trigger(k, q);
     kernel_processes::push(&mut k.schedule, q);
@@ -105,6 +109,7 @@ fn unwind(k: &mut Kernel, q: u32, end: Goal)
     requires place { is_on k.old.schedule.stack.items q ≡ true → IsTop q k.old.schedule.stack.items }
     ensures moves { MovesAt k.old k.new q (λ c i. unwinds c q i end) }
     ensures sound { IsSound k.new }
+    ensures made { k.new.made ≡ k.old.made }
 {
     left_calls_end();
     leave(k, q);
@@ -173,6 +178,7 @@ fn end_or_restart(k: &mut Kernel, q: u32, end: Goal)
     requires place { is_on k.old.schedule.stack.items q ≡ true → IsTop q k.old.schedule.stack.items }
     ensures follows { (c : Config) → StandsFor k.old c → Follows k.new (Ok tt) c (unless_ended c (instance_at c q) (λ i. ends_or_restarts c q i end)) }
     ensures sound { IsSound k.new }
+    ensures made { k.new.made ≡ k.old.made }
 {
     if !lives(k, q) {
         return;
@@ -190,6 +196,7 @@ fn unwind_other(k: &mut Kernel, p: u32, q: u32, end: Goal) -> Result<(), RunFaul
     requires statement { HasStatement k.old p }
     ensures does { Does k.old k.new result p (λ c s i r. unless_ended (passes c s r) (instance_at (passes c s r) q) (λ j. ends_or_restarts (passes c s r) q j end)) }
     ensures sound { IsSound k.new }
+    ensures made { k.new.made ≡ k.old.made }
 {
     if is_below_top(k, q) {
         return Err(RunFault::ControlOnActive { serial: q });
@@ -207,6 +214,7 @@ pub fn kill(k: &mut Kernel, p: u32, q: u32) -> Result<(), RunFault>
     requires statement { HasStatement k.old p }
     ensures does { Does k.old k.new result p (λ c s i r. control_call (passes c s r) q order.Kill) }
     ensures sound { IsSound k.new }
+    ensures made { k.new.made ≡ k.old.made }
 {
     unwind_other(k, p, q, Goal::End)
 }
@@ -219,6 +227,7 @@ pub fn reset(k: &mut Kernel, p: u32, q: u32) -> Result<(), RunFault>
     requires statement { HasStatement k.old p }
     ensures does { Does k.old k.new result p (λ c s i r. control_call (passes c s r) q order.Reset) }
     ensures sound { IsSound k.new }
+    ensures made { k.new.made ≡ k.old.made }
 {
     unwind_other(k, p, q, Goal::Restart)
 }

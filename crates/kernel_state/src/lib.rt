@@ -57,9 +57,9 @@ pub mod kernel_events_api {
 /// What is passed on of kernel_processes.
 pub mod kernel_processes_api {
     pub use kernel_processes::{
-        Schedule, Trigger, Wait, begin, disable, earliest, empty, end, fire, initialize, is_active,
-        not_before, push, rest, resume, spawn, stay_kept, suspend, take, take_due, take_zero, top,
-        wake_due,
+        Schedule, Trigger, Wait, begin, count_events, disable, earliest, empty, end, fire, hold,
+        initialize, is_active, not_before, push, rest_ready, resume, spawn, stay_kept, suspend,
+        take, take_due, take_zero, top, wake_due,
     };
 }
 

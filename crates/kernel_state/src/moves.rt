@@ -22,6 +22,7 @@ pub fn pass(k: &mut Kernel, p: u32)
     ensures steps { Steps k.old k.new p (λ c q i r. storing.passes c q r) }
     ensures stack { k.new.schedule.stack ≡ k.old.schedule.stack }
     ensures sound { IsSound k.new }
+    ensures made { k.new.made ≡ k.old.made }
 {
     match k.schedule.table.get_mut(p) {
         Some(x) => x.body.body.body.past(&k.program),
@@ -35,6 +36,7 @@ pub fn fire(k: &mut Kernel, e: Ev)
     ensures moves { Moves k.old k.new (λ c. waiting.fire c e) }
     ensures kept { KeepsBodies k.old k.new }
     ensures sound { IsSound k.new }
+    ensures made { k.new.made ≡ k.old.made }
 {
     fire_processes(&mut k.schedule, e);
 }
@@ -58,6 +60,7 @@ pub fn wait(k: &mut Kernel, p: u32, t: &Trigger) -> Result<(), AllocError>
     ensures stays { OnErr result (Moves k.old k.new (λ c. c)) }
     ensures kept { KeepsBodies k.old k.new }
     ensures sound { IsSound k.new }
+    ensures made { k.new.made ≡ k.old.made }
 {
     match kernel_processes::begin_wait(&mut k.schedule, p, t) {
         Ok(()) => Ok(()),
@@ -71,6 +74,7 @@ pub fn notify(k: &mut Kernel, e: u32, w: When)
     ensures moves { Moves k.old k.new (λ c. waiting.notify c e w) }
     ensures kept { KeepsBodies k.old k.new }
     ensures sound { IsSound k.new }
+    ensures made { k.new.made ≡ k.old.made }
 {
     k.events.notify(e, w);
 }
@@ -81,6 +85,7 @@ pub fn set_variable(k: &mut Kernel, n: u32, v: Value)
     ensures moves { Moves k.old k.new (λ c. storing.set_variable c n v) }
     ensures kept { KeepsBodies k.old k.new }
     ensures sound { IsSound k.new }
+    ensures made { k.new.made ≡ k.old.made }
 {
     if (n as usize) < k.variables.len() {
         k.variables[n as usize] = v;
@@ -93,6 +98,7 @@ pub fn settle(k: &mut Kernel, p: u32)
     requires lives { Lives k.old p }
     ensures steps { Steps k.old k.new p (λ c q i r. with_residual c q r) }
     ensures sound { IsSound k.new }
+    ensures made { k.new.made ≡ k.old.made }
 {
     match k.schedule.table.get_mut(p) {
         Some(x) => x.body.body.body.settle(&k.program),
@@ -106,6 +112,7 @@ pub fn set_local(k: &mut Kernel, p: u32, n: u32, v: Value)
     requires lives { Lives k.old p }
     ensures moves { Moves k.old k.new (λ c. storing.set_local c p n v) }
     ensures sound { IsSound k.new }
+    ensures made { k.new.made ≡ k.old.made }
 {
     match k.schedule.table.get_mut(p) {
         Some(x) => x.body.body.body.set_local(n as usize, v),

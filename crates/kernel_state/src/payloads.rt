@@ -1,5 +1,5 @@
 //! Statements on payloads (IEEE 1666-2011, 14.5).
-ghost use Rattle.std.specs.Prelude.{◌≡◌, ◌<◌, ◌+◌, ◌^◌, length, Ok, OnOk, OnErr};
+ghost use Rattle.std.specs.Prelude.{◌≤◌, ◌≡◌, ◌<◌, ◌+◌, ◌^◌, length, Ok, OnOk, OnErr};
 ghost use Rattle.kernel_processes.specs.LogicValues.declared.kinds.Value.{Value as Values};
 ghost use Rattle.kernel_processes.specs.SimModel.Values.{on_ok, bits, index_within};
 ghost use Rattle.kernel_processes.specs.SimModel.Configuration.{Config};
@@ -24,6 +24,8 @@ pub fn acquire(k: &mut Kernel, p: u32, t: u32) -> Result<(), RunFault>
     requires room { k.old.made < 2 ^ 31 + 2 }
     ensures does { Does k.old k.new result p (λ c q i r. on_ok (live_payload c t) (λ x. Ok (with_pool (passes c q r) (with_acquired c.transactions.pool t)))) }
     ensures sound { IsSound k.new }
+    ensures made { k.new.made ≤ k.old.made + 1 }
+    ensures refused { OnErr result (k.new.made ≡ k.old.made) }
 {
     match k.transactions.acquire(t) {
         Ok(()) => {
@@ -43,6 +45,7 @@ pub fn release(k: &mut Kernel, p: u32, t: u32) -> Result<(), RunFault>
     requires statement { HasStatement k.old p }
     ensures does { Does k.old k.new result p (λ c q i r. on_ok (live_payload c t) (λ x. Ok (with_pool (passes c q r) (with_released c.transactions.pool t)))) }
     ensures sound { IsSound k.new }
+    ensures made { k.new.made ≡ k.old.made }
 {
     match k.transactions.release(t) {
         Ok(()) => {
@@ -89,6 +92,7 @@ pub fn set_field(
     requires statement { HasStatement k.old p }
     ensures does { (v : Values) → bits v ≡ n → Does k.old k.new result p (λ c q i r. on_ok (live_payload c t) (λ x. Ok (set_payload (passes c q r) t (with_field field v x)))) }
     ensures sound { IsSound k.new }
+    ensures made { k.new.made ≡ k.old.made }
 {
     live_payloads_are_used();
     match k.transactions.set_field(t, field, n) {
@@ -115,6 +119,7 @@ pub fn set_byte(
     requires statement { HasStatement k.old p }
     ensures does { Does k.old k.new result p (λ c q i r. on_ok (live_payload c t) (λ x. on_ok (index_within at (length (bytes_in part x))) (λ n. Ok (set_payload (passes c q r) t (with_byte part n byte x))))) }
     ensures sound { IsSound k.new }
+    ensures made { k.new.made ≡ k.old.made }
 {
     live_payloads_are_used();
     match k.transactions.set_byte(t, part, at, byte) {

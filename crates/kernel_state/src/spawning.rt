@@ -1,5 +1,5 @@
 //! Spawned instances.
-ghost use Rattle.std.specs.Prelude.{◌≡◌, ◌<◌, ◌+◌, ◌^◌, ℕ, IfOk, OnErr, length};
+ghost use Rattle.std.specs.Prelude.{◌≤◌, ◌≡◌, ◌<◌, ◌+◌, ◌^◌, ℕ, IfOk, OnErr, length};
 ghost use Rattle.kernel_processes.specs.SimModel.Configuration.{Config};
 ghost use Rattle.kernel_processes.specs.SimModel.Calls.{may_spawn};
 ghost use Rattle.kernel_processes.specs.Seen.{body_at as kept_at};
@@ -29,6 +29,8 @@ pub fn spawn(k: &mut Kernel, alloc: Global, o: Offspring) -> Result<u32, SpawnSt
     ensures stack { k.new.schedule.stack.items ≡ k.old.schedule.stack.items }
     ensures program { k.new.program ≡ k.old.program }
     ensures sound { IsSound k.new }
+    ensures made { k.new.made ≤ k.old.made + 1 }
+    ensures refused { OnErr result (k.new.made ≡ k.old.made) }
 {
     let serial = k.schedule.table.next_serial();
     let Offspring {

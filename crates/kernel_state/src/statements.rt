@@ -26,6 +26,7 @@ pub fn store_variable(k: &mut Kernel, p: u32, n: u32, v: Value)
     requires statement { HasStatement k.old p }
     ensures steps { Steps k.old k.new p (λ c q i r. storing.set_variable (passes c q r) n v) }
     ensures sound { IsSound k.new }
+    ensures made { k.new.made ≡ k.old.made }
 {
     pass(k, p);
     set_variable(k, n, v);
@@ -39,6 +40,7 @@ pub fn wait_so(k: &mut Kernel, p: u32, t: &Trigger) -> Result<(), AllocError>
     ensures steps { OnOk result (Steps k.old k.new p (λ c q i r. waits (passes c q r) q (wait_as t.now.wait) (deadline_of t.now.deadline))) }
     ensures stays { OnErr result (Moves k.old k.new (λ c. c)) }
     ensures sound { IsSound k.new }
+    ensures made { k.new.made ≡ k.old.made }
 {
     match wait(k, p, t) {
         Ok(()) => {
@@ -57,6 +59,7 @@ pub fn block(k: &mut Kernel, alloc: Global, p: u32, e: Ev) -> Result<(), AllocEr
     ensures steps { OnOk result (Steps k.old k.new p (λ c q i r. channels.blocks c q r e)) }
     ensures stays { OnErr result (Moves k.old k.new (λ c. c)) }
     ensures sound { IsSound k.new }
+    ensures made { k.new.made ≡ k.old.made }
 {
     let mut events = Items::new(alloc);
     match events.push(e) {
@@ -93,6 +96,7 @@ pub fn write_fifo(
     ensures steps { OnOk result (Steps k.old k.new p (λ c q i r. channels.write_fifo c q r n (channel.Fifo n events) v (slice_get c.channels.fifos n))) }
     ensures stays { OnErr result (Moves k.old k.new (λ c. c)) }
     ensures sound { IsSound k.new }
+    ensures made { k.new.made ≡ k.old.made }
 {
     match k.channels.write_fifo(n, v) {
         Some(true) => {

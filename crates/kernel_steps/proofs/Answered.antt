@@ -1,5 +1,6 @@
 -- What a step answers, from what its statement answers.
 use Rattle.std.proofs.Common.{◌≡◌, ℕ, false, List, Some, Result, Ok, Err, refl, sym, ap, ◌∙◌, subst}
+use Rattle.std.specs.Prelude.{OnErr}
 use Rattle.flat_design.specs.Code.{arena_of, statement_at, statement_of}
 use Rattle.flat_design.specs.declared.code.Handler.{Handler}
 use Rattle.flat_design.specs.declared.code.Statement.TheVariants as kept
@@ -96,3 +97,23 @@ pub try_carried : (old new : Kernel) (p s b : ℕ) (x : Kept) (handlers : List H
 try_carried old new p s b x handlers is there does =
     carried old new answer.Went p s x (kept.Try b handlers) is refl
     (subst (λ hs. Does old new (Ok tt) p (λ c q i r. do_try c q r b hs)) (ap handlers_if (there ∙ ap (λ z. Some (statement_of z)) is)) does)
+
+-- ---- what a refused statement leaves
+
+pub plain_refused : (a : StepAnswer) (done : Result Unit RunFault) (P : Type 0) → a ≡ plain_answer done → OnErr done P → a ≡ answer.NoMemory → P
+plain_refused a (Ok u) P is rest e = cc
+plain_refused a (Err f) P is rest e = rest
+
+pub plain_faulted : (a : StepAnswer) (done : Result Unit RunFault) (P : Type 0) → a ≡ plain_answer done → OnErr done P → (f : RunFault) → a ≡ answer.Fault f → P
+plain_faulted a (Ok u) P is rest f e = cc
+plain_faulted a (Err g) P is rest f e = rest
+
+pub taking_refused : (a : StepAnswer) (done : Result Unit StatementStop) (P : Type 0) → a ≡ taking_answer done → OnErr done P → a ≡ answer.NoMemory → P
+taking_refused a (Ok u) P is rest e = cc
+taking_refused a (Err (stop.Fault f)) P is rest e = rest
+taking_refused a (Err stop.NoMemory) P is rest e = rest
+
+pub taking_faulted : (a : StepAnswer) (done : Result Unit StatementStop) (P : Type 0) → a ≡ taking_answer done → OnErr done P → (f : RunFault) → a ≡ answer.Fault f → P
+taking_faulted a (Ok u) P is rest f e = cc
+taking_faulted a (Err (stop.Fault g)) P is rest f e = rest
+taking_faulted a (Err stop.NoMemory) P is rest f e = rest

@@ -1,6 +1,7 @@
 //! A statement of any form, carried out.
-ghost use Rattle.std.specs.Prelude.{◌≡◌, ◌<◌, ◌+◌, ◌^◌, Some};
+ghost use Rattle.std.specs.Prelude.{◌≡◌, ◌≤◌, ◌<◌, ◌+◌, ◌-◌, ◌^◌, All, Some};
 ghost use Rattle.flat_design.specs.Blocking.{ActsAlone};
+ghost use Rattle.flat_design.specs.declared.faults.RunFault.{RunFault};
 ghost use Rattle.flat_design.specs.Code.{arena_of, statement_at, statement_of};
 ghost use Rattle.exec_channels.specs.KernelState.Kernel.{IsSound, whole_design};
 ghost use Rattle.exec_channels.specs.KernelState.Moves.{HasStatement, IsOnTop};
@@ -48,6 +49,7 @@ pub(crate) fn carry_out(
     requires names { NamesFit (whole_design k.old) }
     requires numbers { NumbersEvents (whole_design k.old) }
     requires room { k.old.made < 2 ^ 31 + 2 }
+    requires posts { All (λ v. v < 2 ^ 64 - 1) k.old.channels.semaphores }
     requires next { Shows k.old p s }
     requires there { statement_at (arena_of k.old.program.code) s ≡ Some (statement_of statement.now) }
     requires free { ThrowsFree k.old p (statement_of statement.now) }
@@ -55,6 +57,9 @@ pub(crate) fn carry_out(
     requires others { OthersHaveNoGoal k.old }
     ensures carries { CarriesAll k.old k.new result p s (statement_of statement.now) }
     ensures sound { IsSound k.new }
+    ensures made { k.new.made ≤ k.old.made + 1 }
+    ensures refused { result ≡ StepAnswer.NoMemory → k.new.made ≡ k.old.made }
+    ensures faulted { (f : RunFault) → result ≡ StepAnswer.Fault f → k.new.made ≡ k.old.made }
 {
     top_lives(k, p);
     has_statement(k, p, s);
@@ -92,7 +97,7 @@ pub(crate) fn carry_out(
         Statement::NextTrigger(how) => taking(trigger_statement(k, alloc, p, how)),
         Statement::Lock(at) => taking(lock(k, alloc, p, at)),
         Statement::SemWait(at) => taking(sem_wait(k, alloc, p, at)),
-        Statement::Post(at) => taking(post(k, p, at)),
+        Statement::Post(at) => plain(post(k, p, at)),
         Statement::Make(n, e, more) => taking(make(k, p, *n, e, more)),
         Statement::Acquire(n) => plain(acquire(k, p, *n)),
         Statement::Release(n) => plain(release(k, p, *n)),

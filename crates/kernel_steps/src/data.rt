@@ -28,6 +28,7 @@ pub(crate) fn var_step(
     requires statement { HasStatement k.old p }
     ensures carries { Carries k.old k.new result p s (code.var n t (option_map term_of e.now)) }
     ensures sound { IsSound k.new }
+    ensures made { k.new.made ≡ k.old.made }
 {
     top_lives(k, p);
     let value = eval_if_at(k, p, e);
@@ -48,6 +49,7 @@ pub(crate) fn print_step(
     requires there { statement_at (arena_of k.old.program.code) s ≡ Some (code.print text.now (option_map term_of e.now)) }
     ensures carries { CarriesAll k.old k.new result p s (code.print text.now (option_map term_of e.now)) }
     ensures sound { IsSound k.new }
+    ensures made { k.new.made ≡ k.old.made }
 {
     let _ = text;
     top_lives(k, p);
@@ -74,6 +76,7 @@ pub(crate) fn if_step(
     requires there { statement_at (arena_of k.old.program.code) s ≡ Some (code.if_ (term_of e.now) b other) }
     ensures carries { Carries k.old k.new result p s (code.if_ (term_of e.now) b other) }
     ensures sound { IsSound k.new }
+    ensures made { k.new.made ≡ k.old.made }
 {
     top_lives(k, p);
     let value = eval_at(k, p, e);
@@ -89,6 +92,7 @@ pub(crate) fn while_step(k: &mut Kernel, p: u32, s: StmtId, e: &Expr, b: BlockId
     requires there { statement_at (arena_of k.old.program.code) s ≡ Some (code.while_ (term_of e.now) b) }
     ensures carries { Carries k.old k.new result p s (code.while_ (term_of e.now) b) }
     ensures sound { IsSound k.new }
+    ensures made { k.new.made ≡ k.old.made }
 {
     top_lives(k, p);
     let value = eval_at(k, p, e);

@@ -99,6 +99,7 @@ pub(crate) fn leave(k: &mut Kernel, program: &Program, p: u32) -> Result<(), Run
     requires same { arena_of program.now.code ≡ arena_of k.old.program.code }
     ensures does { LeavesBy k.old k.new result p }
     ensures sound { IsSound k.new }
+    ensures made { k.new.made ≡ k.old.made }
 {
     match end_at(k, program, p) {
         CallEnd::Blocking(_, _, d) => b_transport_returns(k, p, d),

@@ -1,5 +1,6 @@
 //! The step of an instance.
-ghost use Rattle.std.specs.Prelude.{◌≡◌, ◌<◌, ◌+◌, ◌^◌, ℕ, Ok};
+ghost use Rattle.std.specs.Prelude.{◌≡◌, ◌≤◌, ◌<◌, ◌+◌, ◌-◌, ◌^◌, ℕ, All, Ok};
+ghost use Rattle.flat_design.specs.declared.faults.RunFault.{RunFault};
 ghost use Rattle.flat_design.specs.Code.{arena_of, statement_at};
 ghost use Rattle.exec_channels.specs.SimModel.Residual as residual;
 ghost use Rattle.exec_channels.specs.SimModel.Residual.{Frame};
@@ -52,12 +53,16 @@ fn on_statement(k: &mut Kernel, program: &Program, alloc: Global, p: u32, s: Stm
     requires top { IsOnTop k.old p }
     requires ready { Ready k.old program.now }
     requires room { k.old.made < 2 ^ 31 + 2 }
+    requires posts { All (λ v. v < 2 ^ 64 - 1) k.old.channels.semaphores }
     requires others { OthersHaveNoGoal k.old }
     requires next { Shows k.old p s }
     requires free { ThrowsFreeIf k.old p (statement_at (arena_of k.old.program.code) s) }
     requires alone { ActsAloneIf (statement_at (arena_of k.old.program.code) s) }
     ensures makes { MakesAll k.old k.new result p (λ c q i r. statements.on_statement c q i r s (statement_at (arena_of k.old.program.code) s)) }
     ensures sound { IsSound k.new }
+    ensures made { k.new.made ≤ k.old.made + 1 }
+    ensures refused { result ≡ StepAnswer.NoMemory → k.new.made ≡ k.old.made }
+    ensures faulted { (f : RunFault) → result ≡ StepAnswer.Fault f → k.new.made ≡ k.old.made }
 {
     top_lives(k, p);
     match program.statement(s) {
@@ -75,6 +80,7 @@ fn end_body(k: &mut Kernel, p: u32) -> StepAnswer
     requires top { IsOnTop k.old p }
     ensures makes { MakesAll k.old k.new result p (λ c q i r. Ok (control.done_by c q i i.kind)) }
     ensures sound { IsSound k.new }
+    ensures made { k.new.made ≡ k.old.made }
 {
     match body_ends(k, p) {
         Ok(()) => StepAnswer::Went,
@@ -89,11 +95,15 @@ pub fn step_statement(k: &mut Kernel, program: &Program, alloc: Global, p: u32) 
     requires top { IsOnTop k.old p }
     requires ready { Ready k.old program.now }
     requires room { k.old.made < 2 ^ 31 + 2 }
+    requires posts { All (λ v. v < 2 ^ 64 - 1) k.old.channels.semaphores }
     requires others { OthersHaveNoGoal k.old }
     requires free { ThrowsFreeNext k.old p }
     requires alone { ActsAloneNext k.old p }
     ensures makes { MakesStep k.old k.new result p }
     ensures sound { IsSound k.new }
+    ensures made { k.new.made ≤ k.old.made + 1 }
+    ensures refused { result ≡ StepAnswer.NoMemory → k.new.made ≡ k.old.made }
+    ensures faulted { (f : RunFault) → result ≡ StepAnswer.Fault f → k.new.made ≡ k.old.made }
 {
     top_lives(k, p);
     match next_at(k, p) {

@@ -1,12 +1,13 @@
 -- Designs of one model: what a script names is the same in each of them, and a session can be run of one that is sound.
 use mathlib.Core.Path.{fun_ext}
-use Rattle.std.proofs.Common.{◌≡◌, ◌≤◌, ℕ, Bool, ◌&&◌, is_some, List, [], ◌∷◌, length, position, bytes_eq, slice_get, option_map, option_and_then, Option, Some, None, inr, refl, sym, ap, ap₂, ◌∙◌, arith}
+use Rattle.std.proofs.Common.{◌≡◌, ◌≤◌, ◌<◌, ◌^◌, ℕ, All, Bool, ◌&&◌, is_some, List, [], ◌∷◌, length, position, bytes_eq, slice_get, option_map, option_and_then, Option, Some, None, inr, refl, sym, ap, ap₂, ◌∙◌, arith}
 use Rattle.std.specs.Option.{option_or}
 use Rattle.model_tree.specs.Tree as tree
 use Rattle.flat_design.specs.Sound.{SoundDesign}
 use Rattle.flat_design.specs.declared.objects.Objects.{Objects}
 use Rattle.flat_design.specs.declared.value_types.ValueType.{ValueType}
 use Rattle.flat_design.specs.declared.design.Design.{Design}
+use Rattle.flat_design.specs.declared.design.SemaphorePart.{SemaphorePart}
 use Rattle.flat_design.specs.declared.design.SignalPart.{SignalPart}
 use Rattle.flat_design.specs.declared.design.Visible.{Visible}
 use Rattle.flat_design.specs.declared.design.VisibleId.{VisibleId}
@@ -17,6 +18,7 @@ use Rattle.elaborate.specs.DesignRules.BindingFaults as binding
 use Rattle.elaborate.specs.DesignRules.Designs.{IsDesignOf}
 use Rattle.elaborate.specs.DesignRules.Parts.{signals_of, visible_of}
 use Rattle.elaborate.specs.Elaborated.{elaboration_fault}
+use Rattle.elaborate.specs.ModelRules.Passes.{first_fault}
 use Rattle.script_text.specs.SimModel.Configuration.{path_of, path_up}
 use Rattle.script_text.specs.NamedScript.{is_declared_set, signal_type, type_if, set_type, is_shown_at, is_set_at, value_at, show_named, set_valued, set_named, named_form, in_front, name_script}
 use Rattle.script_text.specs.ValueTexts.{value_read}
@@ -97,12 +99,14 @@ none_too_large m whole = second_none (cycle_fault m) (limit_fault m) (first_none
 pub can_run : (m : tree.Model) (d : Design)
     → ((n : tree.Model) (e : Design) → limit_fault n ≡ None → IsDesignOf n e → length e.processes ≤ 65536)
     → ((n : tree.Model) (e : Design) → limit_fault n ≡ None → IsDesignOf n e → e.events ≤ 196608)
-    → elaboration_fault m ≡ None → IsDesignOf m d → SoundDesign d → CanRun d
-can_run m d processes events whole is sound =
+    → ((n : tree.Model) (e : Design) → first_fault n ≡ None → IsDesignOf n e → All (λ (p : SemaphorePart). p.start < 2 ^ 31) e.semaphores)
+    → first_fault m ≡ None → elaboration_fault m ≡ None → IsDesignOf m d → SoundDesign d → CanRun d
+can_run m d processes events starts faultless whole is sound =
     let few = none_too_large m whole in
     let count : d.events ≤ 196608 = events m d few is in
     record {
       sound = sound;
       few = processes m d few is;
       events = omega arith;
+      starts = starts m d faultless is;
     }

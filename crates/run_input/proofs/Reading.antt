@@ -1,9 +1,9 @@
 -- Why one of several files was not read, from why a file was not.
-use Rattle.std.proofs.Common.{◌≤◌, ◌⊎◌, inl, inr, ⊎_elim, ℕ, List, length, Option, Some, None, ap, sym, subst}
-use Rattle.sim_io.specs.Told.{Files, AfterTold, Same, Lacks, IsText, IsLarge}
-use Rattle.sim_io.proofs.Chains.{large_of_past, after_told_same, lacks_before}
+use Rattle.std.proofs.Common.{◌≤◌, ◌⊎◌, inl, inr, ⊎_elim, ℕ, List, length, Option, Some, None, ap, refl, sym, subst}
+use Rattle.sim_io.specs.Told.{Files, AfterTold, Same, Lacks, IsPastOf, IsText, IsLarge}
+use Rattle.sim_io.proofs.Chains.{large_of_past, past_of, after_told_same, lacks_before}
 use Rattle.run_input.specs.Limits.{model_limit, script_limit, replay_limit}
-use Rattle.run_input.specs.Loaded.{TextCause, ReplayCause, FileCause, LoadCause}
+use Rattle.run_input.specs.Loaded.{TextCause, ReplayCause, FileCause, LoadCause, IfTooLarge, IsAloneLimit, IsRunLimit, TookPast, TookReplayPast, TookOnePast}
 use Rattle.run_input.specs.declared.loading.LoadStop.{LoadStop}
 use Rattle.run_input.specs.declared.loading.LoadStop.TheVariants as load_stop
 
@@ -41,3 +41,46 @@ third_cause old mid new Risen Rising model script (Some name) text words (load_s
     let large : IsLarge old new file replay_limit = subst P (sym h.0) (large_of_past old mid new name replay_limit h.1.0 first second h.1.1) in
     inr (inr (ap (λ (n : List ℕ). Some n) (sym h.0), (text, is, within, (words, says, fits, large))))
 third_cause old mid new Risen Rising model script (Some name) text words load_stop.NoMemory risen first second is within says fits h = tt
+
+-- ---- one byte past the limit
+
+-- what was taken of one file, in the words of several calls
+took_on : {S : Type 0} (Reading : S → ℕ → Type 0) (left : S → ℕ → Option (List ℕ)) (shelf : S) (old mid new : Option Files) (IsLimit : List ℕ → ℕ → Type 0) (name file : List ℕ) (limit : ℕ) → AfterTold old mid Same → AfterTold mid new Same → IsLimit file limit → TookPast Reading left shelf mid name limit file → TookOnePast Reading left shelf old new IsLimit file
+took_on Reading left shelf old mid new IsLimit name file limit first second is h =
+    let P : List ℕ → Type 0 = λ x. IsPastOf old new x limit (left shelf h.1.0) in
+    record {
+      limit = limit;
+      is_limit = is;
+      id = h.1.0;
+      reads = h.1.1;
+      past = subst P (sym h.0) (past_of old mid new name limit (left shelf h.1.0) first second h.1.2);
+    }
+
+-- a file that is read alone
+pub alone_took : {S : Type 0} (Reading : S → ℕ → Type 0) (left : S → ℕ → Option (List ℕ)) (shelf : S) (old new : Option Files) (name : List ℕ) (stop : LoadStop) → AfterTold old new Same → IfTooLarge stop (TookPast Reading left shelf old name model_limit) → IfTooLarge stop (TookOnePast Reading left shelf old new (IsAloneLimit name))
+alone_took Reading left shelf old new name (load_stop.Failed file) kept h = tt
+alone_took Reading left shelf old new name (load_stop.TooLarge file) kept h =
+    took_on Reading left shelf old old new (IsAloneLimit name) name file model_limit (after_told_same old) kept (h.0, refl) h
+alone_took Reading left shelf old new name load_stop.NoMemory kept h = tt
+
+-- the model of a run
+pub first_took : {S : Type 0} (Reading : S → ℕ → Type 0) (left : S → ℕ → Option (List ℕ)) (shelf : S) (old new : Option Files) (model script : List ℕ) (replay : Option (List ℕ)) (stop : LoadStop) → AfterTold old new Same → IfTooLarge stop (TookPast Reading left shelf old model model_limit) → IfTooLarge stop (TookOnePast Reading left shelf old new (IsRunLimit model script replay))
+first_took Reading left shelf old new model script replay (load_stop.Failed file) kept h = tt
+first_took Reading left shelf old new model script replay (load_stop.TooLarge file) kept h =
+    took_on Reading left shelf old old new (IsRunLimit model script replay) model file model_limit (after_told_same old) kept (inl (h.0, refl)) h
+first_took Reading left shelf old new model script replay load_stop.NoMemory kept h = tt
+
+-- its script
+pub second_took : {S : Type 0} (Reading : S → ℕ → Type 0) (left : S → ℕ → Option (List ℕ)) (shelf : S) (old mid new : Option Files) (model script : List ℕ) (replay : Option (List ℕ)) (stop : LoadStop) → AfterTold old mid Same → AfterTold mid new Same → IfTooLarge stop (TookPast Reading left shelf mid script script_limit) → IfTooLarge stop (TookOnePast Reading left shelf old new (IsRunLimit model script replay))
+second_took Reading left shelf old mid new model script replay (load_stop.Failed file) first second h = tt
+second_took Reading left shelf old mid new model script replay (load_stop.TooLarge file) first second h =
+    took_on Reading left shelf old mid new (IsRunLimit model script replay) script file script_limit first second (inr (inl (h.0, refl))) h
+second_took Reading left shelf old mid new model script replay load_stop.NoMemory first second h = tt
+
+-- its replay file
+pub third_took : {S : Type 0} (Reading : S → ℕ → Type 0) (left : S → ℕ → Option (List ℕ)) (shelf : S) (old mid new : Option Files) (model script : List ℕ) (replay : Option (List ℕ)) (stop : LoadStop) → AfterTold old mid Same → AfterTold mid new Same → IfTooLarge stop (TookReplayPast Reading left shelf mid replay) → IfTooLarge stop (TookOnePast Reading left shelf old new (IsRunLimit model script replay))
+third_took Reading left shelf old mid new model script replay (load_stop.Failed file) first second h = tt
+third_took Reading left shelf old mid new model script None (load_stop.TooLarge file) first second h = absurd h
+third_took Reading left shelf old mid new model script (Some name) (load_stop.TooLarge file) first second h =
+    took_on Reading left shelf old mid new (IsRunLimit model script (Some name)) name file replay_limit first second (inr (inr (ap (λ (n : List ℕ). Some n) (sym h.0), refl))) h
+third_took Reading left shelf old mid new model script replay load_stop.NoMemory first second h = tt

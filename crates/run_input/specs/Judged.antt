@@ -1,5 +1,5 @@
 -- Which texts are accepted, and which are refused; and what the laid-out text of a model is.
-use Rattle.std.specs.Prelude.{◌≡◌, ◌≤◌, ◌<◌, ◌-◌, ◌^◌, ◌⊎◌, ℕ, List, length, Option, Some, None, IsSome, Ok, Err}
+use Rattle.std.specs.Prelude.{◌≡◌, ◌≤◌, ◌<◌, ◌-◌, ◌^◌, ◌⊎◌, ℕ, List, All, length, Option, Some, None, IsSome, Ok, Err}
 use Rattle.model_tree.specs.Tree as tree
 use Rattle.model_tree.specs.declared.faults.Fault.{Fault}
 use Rattle.script_text.specs.ModelLexer.Reads.{Reads}
@@ -8,6 +8,7 @@ use Rattle.elaborate.specs.DesignRules.Designs.{IsDesignOf}
 use Rattle.elaborate.specs.Elaborated.{elaboration_fault}
 use Rattle.flat_design.specs.Sound.{SoundDesign}
 use Rattle.flat_design.specs.declared.design.Design.{Design}
+use Rattle.flat_design.specs.declared.design.SemaphorePart.{SemaphorePart}
 use Rattle.instance_table.specs.declared.TheConstants.{MAX_LIVE}
 use Rattle.script_text.specs.SimModel.declared.plain.Command.{Command}
 use Rattle.script_text.specs.ScriptText.{read_script}
@@ -61,11 +62,12 @@ pub record AcceptsModel (model : List ℕ) (m : tree.Source) : Type 0 where
 abbrev pub IsDesignOfText : List ℕ → Design → Type 0
 IsDesignOfText model d = (m : tree.Source) × AcceptsModel model m × IsDesignOf m.model d
 
--- a design that a session can be run of: it is sound, and has no more processes and events than a session takes
+-- a design that a session can be run of: it is sound, has no more processes and events than a session takes, and its semaphores start low
 pub record CanRun (d : Design) : Type 0 where
   pub sound : SoundDesign d
   pub few : length d.processes ≤ MAX_LIVE
   pub events : d.events < 2 ^ 32 - 1
+  pub starts : All (λ (p : SemaphorePart). p.start < 2 ^ 31) d.semaphores
 
 -- the script has no command list, or a command that names what the design lacks or has a bad value
 abbrev pub BreaksScript : Design → List ℕ → Type 0

@@ -1,6 +1,6 @@
 -- What the reading of files gives: of a model alone, or of a model, a script and, where one is named, a replay file.
 use Rattle.std.specs.Prelude.{◌≡◌, ◌≤◌, ◌⊎◌, ℕ, List, Option, Some, None, IfSome, length, ⊤}
-use Rattle.sim_io.specs.Told.{Files, Lacks, IsText, IsLarge, IsPastLimit}
+use Rattle.sim_io.specs.Told.{Files, Lacks, IsText, IsLarge, IsPast, IsPastLimit, IsPastOf}
 use Rattle.run_input.specs.Limits.{model_limit, script_limit, replay_limit}
 use Rattle.run_input.specs.Together.{Together}
 use Rattle.run_input.specs.declared.loading.LoadStop.{LoadStop}
@@ -63,3 +63,38 @@ abbrev pub LoadCause : Option Files → Option Files → Type 0 → List ℕ →
 LoadCause old new Risen model script replay (load_stop.Failed file) = IsUnread old new Risen model script replay file
 LoadCause old new Risen model script replay (load_stop.TooLarge file) = IsTooLarge old new model script replay file
 LoadCause old new Risen model script replay load_stop.NoMemory = ⊤
+
+-- ---- how much was taken of a file that is too large
+
+-- P of the file that has more bytes than its limit
+abbrev pub IfTooLarge : LoadStop → (List ℕ → Type 0) → Type 0
+IfTooLarge (load_stop.Failed file) P = ⊤
+IfTooLarge (load_stop.TooLarge file) P = P file
+IfTooLarge load_stop.NoMemory P = ⊤
+
+-- just one byte past the limit is gone of this file from what an id that reads has still to give, in the words of one call: what an
+-- id has still to give, and whether it reads, are told by a shelf
+abbrev pub TookPast : {S : Type 0} → (S → ℕ → Type 0) → (S → ℕ → Option (List ℕ)) → S → Option Files → List ℕ → ℕ → List ℕ → Type 0
+TookPast Reading left shelf files name limit file = (file ≡ name) × ((id : ℕ) × Reading shelf id × IsPast files name limit (left shelf id))
+
+-- the same of the replay file, where one is named
+abbrev pub TookReplayPast : {S : Type 0} → (S → ℕ → Type 0) → (S → ℕ → Option (List ℕ)) → S → Option Files → Option (List ℕ) → List ℕ → Type 0
+TookReplayPast Reading left shelf files None = λ file. ⊥
+TookReplayPast Reading left shelf files (Some name) = TookPast Reading left shelf files name replay_limit
+
+-- the same in the words of several calls, of a file that has a limit
+pub record TookOnePast {S : Type 0} (Reading : S → ℕ → Type 0) (left : S → ℕ → Option (List ℕ)) (shelf : S) (old new : Option Files) (IsLimit : List ℕ → ℕ → Type 0) (file : List ℕ) : Type 0 where
+  pub limit : ℕ
+  pub is_limit : IsLimit file limit
+  pub id : ℕ
+  pub reads : Reading shelf id
+  pub past : IsPastOf old new file limit (left shelf id)
+
+-- the limit of a file that is read alone
+abbrev pub IsAloneLimit : List ℕ → List ℕ → ℕ → Type 0
+IsAloneLimit name file limit = (file ≡ name) × (limit ≡ model_limit)
+
+-- the limit of one of the files of a run
+abbrev pub IsRunLimit : List ℕ → List ℕ → Option (List ℕ) → List ℕ → ℕ → Type 0
+IsRunLimit model script replay file limit =
+    ((file ≡ model) × (limit ≡ model_limit)) ⊎ (((file ≡ script) × (limit ≡ script_limit)) ⊎ ((replay ≡ Some file) × (limit ≡ replay_limit)))

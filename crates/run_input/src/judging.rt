@@ -9,7 +9,7 @@ ghost use Rattle.run_input.specs.Judged.{Accepts, AcceptsModel, CanRun, HasModel
 ghost use Rattle.run_input.specs.Refused.{IfModelFault, IfScriptFault, HasTextFault};
 
 use super::loading::Texts;
-use elaborate::laws_design_api::designs_are_few;
+use elaborate::laws_design_api::{designs_are_few, semaphores_start_low};
 use elaborate::model_check_api::check;
 use elaborate::sound_design;
 use flat_design::{Choices, Design};
@@ -86,6 +86,7 @@ pub(crate) fn judge_tree(alloc: Global, tree: Tree) -> Result<Design, ModelStop>
     ensures fault { IfErr result (λ stop. (text : List ℕ) → Reads text (source_of tree) → IfModelFault stop (HasModelFault text)) }
 {
     designs_are_few();
+    semaphores_start_low();
     let checked = match check(alloc, tree) {
         Ok(checked) => checked,
         Err(CheckStop::Refused(fault)) => return Err(ModelStop::Fault(ModelFault::Rule(fault))),

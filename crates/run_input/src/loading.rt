@@ -3,7 +3,7 @@ ghost use Rattle.sim_io.specs.Told.{AfterTold, IsText, IsWhole, Same};
 ghost use Rattle.sim_io.specs.Cause.{Rose};
 ghost use Rattle.run_input.specs.Limits.{model_limit, replay_limit};
 ghost use Rattle.run_input.specs.Together.{Together};
-ghost use Rattle.run_input.specs.Loaded.{AreTexts, FileCause, LoadCause, ReplayCause, TextCause};
+ghost use Rattle.run_input.specs.Loaded.{AreTexts, FileCause, IfTooLarge, IsAloneLimit, IsRunLimit, LoadCause, ReplayCause, TextCause, TookOnePast, TookPast, TookReplayPast};
 
 use model_print::logic_values_api::Text;
 use sim_io::{Bytes, ReadStop, Shelf, read_all};
@@ -58,6 +58,7 @@ fn load_text<S: Shelf>(
     ensures whole { IfOk result (λ bytes. IsWhole (S.files shelf.old) name.now bytes) }
     ensures within { IfOk result (λ bytes. length bytes ≤ limit) }
     ensures cause { IfErr result (TextCause (S.files shelf.old) (Rose (S.reads shelf.old) (S.reads shelf.new)) name.now limit) }
+    ensures no_more { IfErr result (λ stop. IfTooLarge stop (TookPast S.reading S.left shelf.new (S.files shelf.old) name.now limit)) }
     ensures later { S.reads shelf.old ≤ S.reads shelf.new }
     ensures files { AfterTold (S.files shelf.old) (S.files shelf.new) Same }
     ensures writes { S.writes shelf.new ≡ S.writes shelf.old }
@@ -76,11 +77,12 @@ fn load_text<S: Shelf>(
     }
 }
 
-/// Reads a model alone to its end, within its limit.
+/// Reads a model alone to its end, within its limit. Where it is larger, just one byte past the limit was taken of it.
 pub fn load_model<S: Shelf>(alloc: Global, shelf: &mut S, model: &str) -> Result<Bytes, LoadStop>
     ensures text { IfOk result (IsText (S.files shelf.old) (S.files shelf.new) model.now) }
     ensures within { IfOk result (λ bytes. length bytes ≤ model_limit) }
     ensures cause { IfErr result (FileCause (S.files shelf.old) (S.files shelf.new) (Rose (S.reads shelf.old) (S.reads shelf.new)) model.now model_limit) }
+    ensures no_more { IfErr result (λ stop. IfTooLarge stop (TookOnePast S.reading S.left shelf.new (S.files shelf.old) (S.files shelf.new) (IsAloneLimit model.now))) }
     ensures later { S.reads shelf.old ≤ S.reads shelf.new }
     ensures files { AfterTold (S.files shelf.old) (S.files shelf.new) Same }
     ensures writes { S.writes shelf.new ≡ S.writes shelf.old }
@@ -100,6 +102,7 @@ fn load_replay<S: Shelf>(
     ensures whole { IfOk result (λ bytes. Together (option_copied replay.entry) bytes (IsWhole (S.files shelf.old))) }
     ensures within { IfOk result (λ bytes. IfSome bytes (λ text. length text ≤ replay_limit)) }
     ensures cause { IfErr result (ReplayCause (S.files shelf.old) (Rose (S.reads shelf.old) (S.reads shelf.new)) (option_copied replay.entry)) }
+    ensures no_more { IfErr result (λ stop. IfTooLarge stop (TookReplayPast S.reading S.left shelf.new (S.files shelf.old) (option_copied replay.entry))) }
     ensures later { S.reads shelf.old ≤ S.reads shelf.new }
     ensures files { AfterTold (S.files shelf.old) (S.files shelf.new) Same }
     ensures writes { S.writes shelf.new ≡ S.writes shelf.old }
@@ -114,6 +117,7 @@ fn load_replay<S: Shelf>(
 }
 
 /// Reads the model, then the script, and then the replay file where one is named, each to its end within its limit.
+/// Where one is larger, just one byte past its limit was taken of it.
 pub fn load<S: Shelf>(
     alloc: Global,
     shelf: &mut S,
@@ -123,6 +127,7 @@ pub fn load<S: Shelf>(
 ) -> Result<Texts, LoadStop>
     ensures texts { IfOk result (λ texts. AreTexts (S.files shelf.old) (S.files shelf.new) model.now script.now (option_copied replay.entry) texts.model texts.script texts.replay) }
     ensures cause { IfErr result (LoadCause (S.files shelf.old) (S.files shelf.new) (Rose (S.reads shelf.old) (S.reads shelf.new)) model.now script.now (option_copied replay.entry)) }
+    ensures no_more { IfErr result (λ stop. IfTooLarge stop (TookOnePast S.reading S.left shelf.new (S.files shelf.old) (S.files shelf.new) (IsRunLimit model.now script.now (option_copied replay.entry)))) }
     ensures later { S.reads shelf.old ≤ S.reads shelf.new }
     ensures files { AfterTold (S.files shelf.old) (S.files shelf.new) Same }
     ensures writes { S.writes shelf.new ≡ S.writes shelf.old }

@@ -62,6 +62,7 @@ pub record Going (plan : Plan) (first : Config) (held : Chooser) (choices : List
   pub left : at.script ≡ script
   pub reached : Reached plan.rule first held choices steps at
   pub sound : IsReached at
+  pub counted : sound.steps ≡ steps
   pub design : at.design ≡ first.design
   pub keeps : KeepsIf plan.vcd tracing at.trace.snapshots
   pub given : Given AreNamed old now due (so_far plan at choices)
@@ -177,6 +178,7 @@ pub record Advanced (plan : Plan) (first : Config) (held : Chooser) (choices lat
   pub left : to.script ≡ script
   pub reached : Reached plan.rule first held later steps to
   pub sound : IsReached to
+  pub counted : sound.steps ≡ steps
   pub design : to.design ≡ at.design
   pub grown : AreFronts (so_far plan at choices) (so_far plan to later)
   pub lasts : Lasts plan first later steps (so_far plan at choices)
@@ -198,7 +200,8 @@ module _ (goes_on : GoesOn) (plan : Plan) (first : Config) (held : Chooser) (cho
         stands = h.0;
         left = h.1;
         reached = by_step plan.rule first held choices steps g.at d g.reached e;
-        sound = goes_on.steps g.at d g.sound e;
+        sound = (goes_on.steps g.at d g.sound e).next;
+        counted = (goes_on.steps g.at d g.sound e).steps ∙ ap (λ n. n + 1) g.counted;
         design = goes_on.keeps g.at d g.sound e;
         grown = record {
           report = longer plan.log (record g.at { script = script' }) d t h.2;
@@ -242,7 +245,8 @@ module _ (goes_on : GoesOn) (plan : Plan) (first : Config) (held : Chooser) (cho
             stands = took.stands;
             left = took.script ∙ sym h.1;
             reached = subst (λ x. Reached plan.rule first x (choices ++ p ∷ []) (steps + 1) took.to) (sym asked.1) (by_taking plan.rule first held choices steps g.at took.to p g.reached e took.taken picks);
-            sound = goes_on.takings g.at took.to p g.sound e took.taken;
+            sound = (goes_on.takings g.at took.to p g.sound e took.taken).next;
+            counted = (goes_on.takings g.at took.to p g.sound e took.taken).steps ∙ ap (λ n. n + 1) g.counted;
             design = same;
             grown = record {
               report = longer_by_one plan.log g.at took.to _ took.turn.told;
@@ -313,6 +317,7 @@ module _ (plan : Plan) (first : Config) (held next : Chooser) (choices later : L
     left = a.left;
     reached = a.reached;
     sound = a.sound;
+    counted = a.counted;
     design = a.design ∙ g.design;
     keeps = (a.traces r.parts.1.0 r.parts.1.1).keeps;
     given = given_on T P C AreNamed old mid now due left (so_far plan g.at choices) (so_far plan a.to later) a.adds (λ text is. (a.traces text is).adds) a.lists g.given r;
@@ -491,7 +496,7 @@ module _ (plan : Plan) (first : Config) (held : Chooser) (choices : List ℕ) (s
   module _ (goes_on : GoesOn) (k k' : Kernel) (script script' : List Command) (tracing : Tracing) (mid now : Outer) (s' : Stop) (few : FitsRoom due) (g : Going plan first held choices steps k script tracing AreNamed old mid due) where
     -- a kernel that stands for the same configuration
     moved : StandsFor k' g.at → script' ≡ g.at.script → Going plan first held choices steps k' script' tracing AreNamed old mid due
-    moved stands same = record { at = g.at; stands = stands; left = sym same; reached = g.reached; sound = g.sound; design = g.design; keeps = g.keeps; given = g.given; lasts = g.lasts }
+    moved stands same = record { at = g.at; stands = stands; left = sym same; reached = g.reached; sound = g.sound; counted = g.counted; design = g.design; keeps = g.keeps; given = g.given; lasts = g.lasts }
 
     ends_so : (s : Stop) → IsEnd s → StandsFor k' g.at → script' ≡ g.at.script → steps < plan.budget → end_of plan g.at choices steps ≡ Some s → Ends k' tracing mid now s s' → Ran first plan choices steps s' (Took AreNamed old now)
     unfolding moved
@@ -581,13 +586,14 @@ no_choices (Some id) = refl
 
 module _ (plan : Plan) (first : Config) (k : Kernel) (script : List Command) (tracing : Tracing) (AreNamed : Names → Type 0) (old now : Outer) (left : Texts) (stands : StandsFor k first) (nothing_told : first.trace.told ≡ []) (nothing_seen : first.trace.snapshots ≡ []) where
   -- with the header of the trace given
-  pub begins : first.script ≡ script → IsReached first → KeepsIf plan.vcd tracing first.trace.snapshots → Recorded Nothing (TextFor plan.vcd (HeaderOf k)) Nothing AreNamed old now no_texts left (Ok tt) → Going plan first (chooser_of plan.rule) [] 0 k script tracing AreNamed old now left
-  begins is_left sound keeps r = record {
+  pub begins : first.script ≡ script → (sound : IsReached first) → sound.steps ≡ 0 → KeepsIf plan.vcd tracing first.trace.snapshots → Recorded Nothing (TextFor plan.vcd (HeaderOf k)) Nothing AreNamed old now no_texts left (Ok tt) → Going plan first (chooser_of plan.rule) [] 0 k script tracing AreNamed old now left
+  begins is_left sound none keeps r = record {
     at = first;
     stands = stands;
     left = is_left;
     reached = starts plan.rule first;
     sound = sound;
+    counted = none;
     design = refl;
     keeps = keeps;
     given = given_on Nothing (TextFor plan.vcd (HeaderOf k)) Nothing AreNamed old old now no_texts left no_texts (so_far plan first []) (λ text none. first_report plan first nothing_told ∙ sym none) (first_trace plan.vcd k first stands nothing_seen) (λ text none. no_choices plan.choices ∙ sym none) (nothing_given AreNamed old) r;

@@ -1,5 +1,6 @@
 //! What a run of a sound design gives each of its steps.
-ghost use Rattle.std.specs.Prelude.{◌≡◌, ◌<◌, ◌-◌, ◌^◌};
+ghost use Rattle.std.specs.Prelude.{◌≡◌, ◌<◌, ◌-◌, ◌^◌, All};
+ghost use Rattle.flat_design.specs.declared.design.SemaphorePart.{SemaphorePart};
 ghost use Rattle.flat_design.specs.Code.{arena_of};
 ghost use Rattle.kernel_start.specs.KernelBodies.declared.program.Program.{Program};
 ghost use Rattle.vcd_trace.specs.SimModel.Configuration.{Config};
@@ -11,19 +12,21 @@ ghost use Rattle.session.specs.Begun.{GoesOn};
 
 use laws_reached::{
     designs_stay, fresh_at_start, others_have_no_goal, reached_designs_are_sound, runnable_once,
-    runs_go_on, throws_are_free,
+    runs_go_on, semaphores_are_within, throws_are_free,
 };
 use vcd_trace::laws_runs_api::{steps_add_snapshots, takings_add_none};
 
-/// Where a kernel stands for a configuration that a run of a sound design comes to, its next step may be made.
+/// Where a kernel stands for a configuration that a run of a sound design comes to, whose semaphores start low, its next step may be
+/// made.
 pub(crate) fn runs_may_step()
-    ensures { (k : Kernel) (program : Program) (c : Config) → StandsFor k c → IsReached c → c.design.events < 2 ^ 32 - 1
-        → arena_of program.code ≡ arena_of c.design.code → MayStep k program }
+    ensures { (k : Kernel) (program : Program) (c : Config) → StandsFor k c → (r : IsReached c) → c.design.events < 2 ^ 32 - 1
+        → All (λ (p : SemaphorePart). p.start < 2 ^ 31) c.design.semaphores → r.steps < 2 ^ 63 → arena_of program.code ≡ arena_of c.design.code → MayStep k program }
 {
     fresh_at_start();
     throws_are_free();
     others_have_no_goal();
     reached_designs_are_sound();
+    semaphores_are_within();
 }
 
 /// A run of a sound design goes on so.

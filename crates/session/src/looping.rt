@@ -1,7 +1,8 @@
 //! The steps of a session, one after another.
-ghost use Rattle.std.specs.Prelude.{◌≡◌, ◌≤◌, ◌<◌, ◌-◌, ◌^◌, [], ◌∷◌, ◌++◌, length, IfOk, IfSome, vec_len, vec_capacity};
+ghost use Rattle.std.specs.Prelude.{◌≡◌, ◌≤◌, ◌<◌, ◌-◌, ◌^◌, All, [], ◌∷◌, ◌++◌, length, IfOk, IfSome, vec_len, vec_capacity};
 ghost use Rattle.flat_design.specs.Code.{arena_of};
 ghost use Rattle.flat_design.specs.Sound.{SoundDesign};
+ghost use Rattle.flat_design.specs.declared.design.SemaphorePart.{SemaphorePart};
 ghost use Rattle.kernel_start.specs.InstanceTable.declared.TheConstants.{MAX_LIVE};
 ghost use Rattle.vcd_trace.specs.SimModel.Configuration.{Config, start};
 ghost use Rattle.kernel_start.specs.KernelState.Kernel.{StandsFor};
@@ -49,9 +50,10 @@ fn run_on<S: Shelf, O: Sink>(
     out: &mut O,
 ) -> Outcome
     requires begun { HasBegun k.old.kernel program.now script.now }
+    requires budget { plan.budget ≤ 2 ^ 26 }
     requires created { IfSome plan.vcd (S.created shelf.old) }
     requires listed { IfSome plan.choices (S.created shelf.old) }
-    ensures ran { (first : Config) → StandsFor k.old.kernel first → IsFirst first script.now → IsReached first
+    ensures ran { (first : Config) → StandsFor k.old.kernel first → IsFirst first script.now → (r : IsReached first) → r.steps ≡ 0
         → Ran first plan result.choices result.steps result.stop (Took (AreNames S.stands shelf.old plan.vcd plan.choices)
         (outer_of S.files O.holds shelf.old out.old) (outer_of S.files O.holds shelf.new out.new)) }
     ensures kept { WriteKeeps S.files S.reads S.reading S.created S.stands shelf.old shelf.new }
@@ -206,7 +208,8 @@ fn program_beside(alloc: Global, design: &Design) -> Result<Program, AllocError>
     }
 }
 
-/// Runs a session: carries the script out over a sound design, and writes the report to `out`. The rule of the plan picks each
+/// Runs a session: carries the script out over a sound design whose semaphores start low, in no more steps than the plan has, and writes
+/// the report to `out`. The rule of the plan picks each
 /// process that is taken (IEEE 1666-2011, 4.2.1.2). The files of the plan get the trace (IEEE 1364-2005, 18) and the choices.
 ///
 /// What a step tells, its point of the trace and its choice are given behind that step, each to a buffer of 65,536 bytes of its own; the
@@ -224,6 +227,8 @@ pub fn run_session<S: Shelf, O: Sink>(
     requires sound { SoundDesign design }
     requires few { length design.processes ≤ MAX_LIVE }
     requires events { design.events < 2 ^ 32 - 1 }
+    requires starts { All (λ (p : SemaphorePart). p.start < 2 ^ 31) design.semaphores }
+    requires budget { plan.budget ≤ 2 ^ 26 }
     requires created { IfSome plan.vcd (S.created shelf.old) }
     requires listed { IfSome plan.choices (S.created shelf.old) }
     ensures ran { Ran (start design script.now) plan result.choices result.steps result.stop (Took (AreNames S.stands shelf.old plan.vcd plan.choices)

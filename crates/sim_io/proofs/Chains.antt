@@ -3,7 +3,7 @@ use Rattle.std.proofs.Common.{◌⊎◌, inl, inr, Result, ◌≡◌, ◌<◌, �
 use Rattle.std.proofs.lemmas.List.{take-take}
 use Rattle.std.proofs.Math.Seq.{take-add, take-append-add}
 use Rattle.std.specs.Io.KnownBytes.{append_known, Consumes}
-use Rattle.sim_io.specs.Told.{Files, Same, AfterTold, WereTold, Grows, Grew, Lacks, IsText, IsLarge, IsWhole, IsPastLimit, text_of}
+use Rattle.sim_io.specs.Told.{Files, Same, AfterTold, WereTold, Grows, Grew, Lacks, IsText, IsLarge, IsWhole, IsPast, IsPastLimit, IsPastOf, text_of}
 use Rattle.sim_io.specs.Cause.{Rose}
 use Rattle.std.specs.Io.{StartsWith}
 use Rattle.sim_io.specs.Taken.{PieceTaken, TookOf}
@@ -51,6 +51,13 @@ large_of_past None (Some mid) (Some new) name limit bytes a b past = tt
 large_of_past (Some old) (Some mid) (Some new) name limit bytes a b past =
     let P : Option (List ℕ) → Type 0 = λ file. limit < length (text_of file) in
     subst P (a name) (longer_than_front limit (text_of (mid name)) bytes past.count past.begins)
+
+-- and just one byte past it is gone, in the words of all these calls
+pub past_of : (old mid new : Option Files) (name : List ℕ) (limit : ℕ) (left : Option (List ℕ)) → AfterTold old mid Same → AfterTold mid new Same → IsPast mid name limit left → IsPastOf old new name limit left
+past_of old mid None name limit left a b past = tt
+past_of old None (Some new) name limit left a b past = absurd b
+past_of None (Some mid) (Some new) name limit left a b past = tt
+past_of (Some old) (Some mid) (Some new) name limit left a b past = past ∙ ap (λ file. Some (drop (limit + 1) (text_of file))) (a name)
 
 -- files that are left alone are as before
 pub after_told_same : (files : Option Files) → AfterTold files files Same

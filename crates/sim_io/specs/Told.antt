@@ -78,3 +78,9 @@ pub record IsPastLimit (files : Option Files) (name : List ℕ) (limit : ℕ) (b
 -- these are the bytes that the file has past the limit and one byte more, where the files are told
 abbrev pub IsPast : Option Files → List ℕ → ℕ → Option (List ℕ) → Type 0
 IsPast files name limit left = IfSome files (λ told. left ≡ Some (drop (limit + 1) (text_of (told name))))
+
+-- just one byte past the limit is gone of this file from what an id has still to give, where the files are told after the call
+abbrev pub IsPastOf : Option Files → Option Files → List ℕ → ℕ → Option (List ℕ) → Type 0
+IsPastOf old None name limit left = ⊤
+IsPastOf None (Some new) name limit left = ⊤
+IsPastOf (Some old) (Some new) name limit left = left ≡ Some (drop (limit + 1) (text_of (old name)))

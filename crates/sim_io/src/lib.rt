@@ -22,7 +22,7 @@ pub use outside::{Shelf, Sink, Trouble};
 pub use plain_lists::Bytes;
 pub use sound_file::SoundFile;
 pub use sound_shelf::SoundShelf;
-pub use transfer::{ReadStop, read_all, write_all, write_file};
+pub use transfer::{ReadStop, read_all, read_opened, write_all, write_file};
 
 /// What is passed on of plain_lists.
 pub mod plain_lists_api {

@@ -54,7 +54,7 @@ pub fn read_all<S: Shelf>(
     ensures kept { ReadKeeps S.files S.writes S.reading S.created S.stands shelf.old shelf.new }
 {
     match shelf.open_read(name) {
-        Ok(id) => match read_rest(alloc, shelf, id, limit) {
+        Ok(id) => match read_opened(alloc, shelf, id, limit) {
             Ok(held) => Ok(Bytes::from_vec(held)),
             Err(stop) => Err(stop),
         },
@@ -63,8 +63,10 @@ pub fn read_all<S: Shelf>(
     }
 }
 
-// What is left of an opened file. One byte past the limit is taken at most.
-fn read_rest<S: Shelf>(
+/// Reads what is left of an opened file. Whatever the answer, one byte past the limit is taken at most.
+///
+/// `Failed` comes only where the count of reads rose.
+pub fn read_opened<S: Shelf>(
     alloc: Global,
     shelf: &mut S,
     id: u32,

@@ -1,8 +1,8 @@
 //! Files and streams, of the operating system and in memory, with a call that fails in their midst.
 
 use sim_io::{
-    HostShelf, HostSink, MemoryShelf, MemorySink, ReadStop, Shelf, Trouble, read_all, write_all,
-    write_file,
+    HostShelf, HostSink, MemoryShelf, MemorySink, ReadStop, Shelf, Trouble, read_all, read_opened,
+    write_all, write_file,
 };
 use std::alloc::{AllocError, Global};
 use std::fs;
@@ -60,6 +60,18 @@ fn a_shelf_in_memory(rt: HostRuntime) -> Result<(), Fail> {
     write_file(&mut shelf, id, b"new")?;
     assert_eq!(rt; write_file(&mut shelf, id, b"er"), Err(Trouble::Failed));
     assert_eq!(rt; shelf.file("m").unwrap_or(b"none"), b"new".as_slice());
+    Ok(())
+}
+
+#[test]
+fn an_opened_file_of_which_one_byte_past_the_limit_is_taken(rt: HostRuntime) -> Result<(), Fail> {
+    let alloc = rt.alloc();
+    let mut shelf = make_shelf(alloc, 9)?;
+    let id = shelf.open_read("m")?;
+    let large = read_opened(alloc, &mut shelf, id, 2);
+    assert!(rt; matches!(large, Err(ReadStop::TooLarge { limit: 2 })));
+    let rest = read_opened(alloc, &mut shelf, id, 2)?;
+    assert_eq!(rt; rest.as_slice(), b"el".as_slice());
     Ok(())
 }
 

@@ -9,7 +9,7 @@ use Rattle.command_line.specs.declared.modes.Order.{Order}
 use Rattle.command_line.specs.declared.modes.Order.TheVariants as order
 use Rattle.model_gen.specs.Generated.{generated}
 use Rattle.run_input.specs.Limits.{model_limit}
-use Rattle.run_input.specs.Loaded.{AreTexts}
+use Rattle.run_input.specs.Loaded.{AreTexts, IsAloneLimit, IsRunLimit}
 use Rattle.run_input.specs.Together.{Together}
 use Rattle.session.specs.declared.plans.Plan.{Plan}
 use Rattle.tlmsim.specs.Call.{Call}
@@ -37,6 +37,16 @@ abbrev pub IsModel : Call → Mode → List ℕ → Type 0
 IsModel c (Simulate s) model = (script : List ℕ) × (replay : Option (List ℕ)) × HasTexts c (Simulate s) model script replay
 IsModel c (Page kind name) model = ReadsModel kind × HasText c name model
 IsModel c (Generate g) model = model ≡ generated g.size
+
+-- this is the limit of a file that is read
+abbrev pub IsLimitIn : Mode → List ℕ → ℕ → Type 0
+IsLimitIn (Simulate s) = IsRunLimit s.model s.script (replay_of s.rule)
+IsLimitIn (Page kind name) = IsAloneLimit name
+IsLimitIn (Generate g) = λ file limit. ⊥
+
+abbrev pub IsLimitOf : Option Mode → List ℕ → ℕ → Type 0
+IsLimitOf None = λ file limit. ⊥
+IsLimitOf (Some mode) = IsLimitIn mode
 
 -- ---- how a run goes
 

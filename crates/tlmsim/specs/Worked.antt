@@ -103,3 +103,14 @@ abbrev pub Works : Call → Result Outcome WorkStop → Type 0
 Works c (Ok o) = EndedSo c o.choices o.steps o.stop
 Works c (Err (work_stop.Refused r)) = RefusedFor c r × Unmoved c
 Works c (Err work_stop.NoMemory) = Unmoved c
+
+-- P of the file that is larger than its limit
+abbrev pub IfLarge : WorkStop → (List ℕ → Type 0) → Type 0
+IfLarge (work_stop.Refused (refusal.TooLarge file)) P = P file
+IfLarge (work_stop.Refused refusal.Usage) P = ⊤
+IfLarge (work_stop.Refused (refusal.Read file)) P = ⊤
+IfLarge (work_stop.Refused (refusal.Model f)) P = ⊤
+IfLarge (work_stop.Refused (refusal.Script f)) P = ⊤
+IfLarge (work_stop.Refused (refusal.Replay at)) P = ⊤
+IfLarge (work_stop.Refused (refusal.Bus f)) P = ⊤
+IfLarge work_stop.NoMemory P = ⊤

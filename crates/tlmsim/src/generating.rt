@@ -1,5 +1,5 @@
 //! The run of a generated model.
-ghost use Rattle.std.specs.Prelude.{◌≡◌, ◌≤◌, ℕ, List, Option, IfOk, None, Some, length};
+ghost use Rattle.std.specs.Prelude.{◌≡◌, ◌≤◌, ◌^◌, ℕ, List, Option, IfErr, IfOk, None, Some, length};
 ghost use Rattle.session.specs.SimIo.Told.{AfterTold, Same};
 ghost use Rattle.session.specs.SimIo.Cause.{RoseIf};
 ghost use Rattle.command_line.specs.Line as line;
@@ -7,7 +7,7 @@ ghost use Rattle.model_gen.specs.Generated as spec;
 ghost use Rattle.tlmsim.specs.Asked.{IsPlan};
 ghost use Rattle.tlmsim.specs.Call.{outside_of};
 ghost use Rattle.tlmsim.specs.Taken.{steps_line};
-ghost use Rattle.tlmsim.specs.Worked.{IsCutAs, TellsSteps, CutNow, Works};
+ghost use Rattle.tlmsim.specs.Worked.{IfLarge, IsCutAs, TellsSteps, CutNow, Works};
 
 use super::running::{rule_of, run};
 use super::simulating::unfit;
@@ -103,11 +103,13 @@ pub(crate) fn generate<S: Shelf, O: Sink>(
     shelf: &mut S,
     out: &mut O,
 ) -> Result<Outcome, WorkStop>
+    requires budget { generated.budget ≤ 2 ^ 26 }
     ensures works { (words : List (List ℕ)) (err err' : Option (List ℕ)) (faults faults' : ℕ) → line.line_of words ≡ Some (line.Generate generated) → Works (record {
       words = words;
       before = outside_of S.files S.reads S.writes O.holds O.faults shelf.old out.old err faults;
       after = outside_of S.files S.reads S.writes O.holds O.faults shelf.new out.new err' faults';
     }) result }
+    ensures no_more { IfErr result (λ stop. IfLarge stop (λ file. ⊥)) }
     ensures files { AfterTold (S.files shelf.old) (S.files shelf.new) Same }
     ensures reads { S.reads shelf.old ≤ S.reads shelf.new }
     ensures writes { S.writes shelf.old ≤ S.writes shelf.new }

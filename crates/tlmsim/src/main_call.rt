@@ -1,4 +1,7 @@
-ghost use Rattle.std.specs.Prelude.{◌≡◌};
+ghost use Rattle.std.specs.Prelude.{◌≡◌, ℕ, List};
+ghost use Rattle.command_line.specs.Line.{line_of};
+ghost use Rattle.run_input.specs.Loaded.{TookOnePast};
+ghost use Rattle.tlmsim.specs.Asked.{IsLimitOf};
 ghost use Rattle.tlmsim.specs.Call.{outside_of};
 ghost use Rattle.tlmsim.specs.Headline.{Answers, IsRunStatus};
 
@@ -47,7 +50,8 @@ pub struct Ended {
 /// for `script` and for `bus`; `replay LINE Syntax`; `too large FILE`; `write fault`; `no memory`. A refusal whose line cannot be
 /// written is 7, or 8 for want of memory. With 0, 5, 6 and 9 `err` is left alone.
 ///
-/// Files are created once all is judged, the trace's before that of the choices. A run that is cut leaves fronts of its texts.
+/// Files are created once all is judged, the trace's before that of the choices. A run that is cut leaves fronts of its texts. Of a
+/// file that is too large just one byte past its limit was taken.
 pub fn sim_main<S: Shelf, O: Sink, E: Sink>(
     alloc: Global,
     words: &Words,
@@ -61,6 +65,7 @@ pub fn sim_main<S: Shelf, O: Sink, E: Sink>(
       after = outside_of S.files S.reads S.writes O.holds O.faults shelf.new out.new (E.holds err.new) (E.faults err.new);
     }) result.status result.choices result.steps }
     ensures silent { IsRunStatus result.status → err.new ≡ err.old }
+    ensures no_more { result.status ≡ 10 → (file : List ℕ) × TookOnePast S.reading S.left shelf.new (S.files shelf.old) (S.files shelf.new) (IsLimitOf (line_of words.now)) file }
 {
     one_tree();
     let choices = Choices::new(alloc);

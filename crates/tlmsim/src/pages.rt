@@ -3,12 +3,14 @@ ghost use Rattle.std.specs.Prelude.{◌≡◌, ◌≤◌, ◌<◌, ◌^◌, ℕ,
 ghost use Rattle.session.specs.SimIo.Told.{AfterTold, Same};
 ghost use Rattle.command_line.specs.Line as line;
 ghost use Rattle.run_input.specs.Judged.{HasModelFault};
+ghost use Rattle.run_input.specs.Loaded.{TookOnePast};
 ghost use Rattle.run_input.specs.Refused.{IfModelFault};
+ghost use Rattle.tlmsim.specs.Asked.{IsLimitIn};
 ghost use Rattle.tlmsim.specs.Call.{outside_of};
 ghost use Rattle.tlmsim.specs.Pages as spec;
 ghost use Rattle.tlmsim.specs.Pages.{IsPageOf, IsVerdictOf};
 ghost use Rattle.tlmsim.specs.Worked as worked;
-ghost use Rattle.tlmsim.specs.Worked.{HasNoPage, Works};
+ghost use Rattle.tlmsim.specs.Worked.{HasNoPage, IfLarge, Works};
 
 use super::simulating::unread;
 use super::working::WorkStop;
@@ -119,6 +121,7 @@ pub(crate) fn page<S: Shelf, O: Sink>(
       before = outside_of S.files S.reads S.writes O.holds O.faults shelf.old out.old err faults;
       after = outside_of S.files S.reads S.writes O.holds O.faults shelf.new out.new err' faults';
     }) result }
+    ensures no_more { IfErr result (λ stop. IfLarge stop (TookOnePast S.reading S.left shelf.new (S.files shelf.old) (S.files shelf.new) (IsLimitIn (line.Page kind file.now)))) }
     ensures files { AfterTold (S.files shelf.old) (S.files shelf.new) Same }
     ensures reads { S.reads shelf.old ≤ S.reads shelf.new }
     ensures writes { S.writes shelf.new ≡ S.writes shelf.old }

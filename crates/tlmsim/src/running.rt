@@ -1,5 +1,5 @@
 //! The run of accepted texts.
-ghost use Rattle.std.specs.Prelude.{◌≡◌, IfSome, None};
+ghost use Rattle.std.specs.Prelude.{◌≡◌, ◌≤◌, ◌^◌, IfSome, None};
 ghost use Rattle.session.specs.SimIo.Cause.{Rose, RoseIf};
 ghost use Rattle.session.specs.SimIo.Keeps.{WriteKeeps};
 ghost use Rattle.session.specs.SimIo.Told.{Grew};
@@ -50,6 +50,7 @@ fn run_alone<O: Sink>(
     out: &mut O,
 ) -> Outcome
     requires runs { CanRun design }
+    requires budget { plan.budget ≤ 2 ^ 26 }
     requires untraced { plan.vcd ≡ None }
     requires unlisted { plan.choices ≡ None }
     ensures ran { Ran (start design script.now) plan result.choices result.steps result.stop (λ t. Grew (O.holds out.old) (O.holds out.new) t.report) }
@@ -69,6 +70,7 @@ fn run_planned<S: Shelf, O: Sink>(
     out: &mut O,
 ) -> Outcome
     requires runs { CanRun design }
+    requires budget { plan.budget ≤ 2 ^ 26 }
     requires created { IfSome plan.vcd (S.created shelf.old) }
     requires listed { IfSome plan.choices (S.created shelf.old) }
     ensures ran { Ran (start design script.now) plan result.choices result.steps result.stop (Took (AreNames S.stands shelf.old plan.vcd plan.choices)
@@ -101,6 +103,7 @@ pub(crate) fn run<S: Shelf, O: Sink>(
     out: &mut O,
 ) -> Outcome
     requires runs { CanRun design }
+    requires budget { plan.budget ≤ 2 ^ 26 }
     requires created { IfSome plan.vcd (S.created shelf.old) }
     requires listed { IfSome plan.choices (S.created shelf.old) }
     ensures orderly { Orderly design script.now }

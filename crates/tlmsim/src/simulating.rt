@@ -1,15 +1,16 @@
 //! The simulation of a model under a script.
-ghost use Rattle.std.specs.Prelude.{◌≡◌, ◌≤◌, ℕ, List, Option, Some, ⊤, option_copied};
+ghost use Rattle.std.specs.Prelude.{◌≡◌, ◌≤◌, ◌^◌, ℕ, List, Option, Some, ⊤, IfErr, option_copied};
 ghost use Rattle.session.specs.SimIo.Told.{AfterTold};
 ghost use Rattle.command_line.specs.Line as line;
 ghost use Rattle.command_line.specs.Seen.{rule_of as seen_rule, simulation_of};
 ghost use Rattle.session.specs.Outputs.{AreApart};
+ghost use Rattle.run_input.specs.Loaded.{TookOnePast};
 ghost use Rattle.run_input.specs.Together.{Together};
 ghost use Rattle.tlmsim.specs.Held.{ForEach};
-ghost use Rattle.tlmsim.specs.Asked.{IsRule, PlansRun, replay_of};
+ghost use Rattle.tlmsim.specs.Asked.{IsLimitIn, IsRule, PlansRun, replay_of};
 ghost use Rattle.tlmsim.specs.Call.{OnlyThese, names_in, outside_of};
 ghost use Rattle.tlmsim.specs.Worked as spec;
-ghost use Rattle.tlmsim.specs.Worked.{Works};
+ghost use Rattle.tlmsim.specs.Worked.{IfLarge, Works};
 
 use super::running::{rule_of, run};
 use super::working::WorkStop;
@@ -94,11 +95,13 @@ pub(crate) fn simulate<S: Shelf, O: Sink>(
     out: &mut O,
 ) -> Result<Outcome, WorkStop>
     requires apart { AreApart (simulation_of simulation).vcd (simulation_of simulation).choices }
+    requires budget { simulation.budget ≤ 2 ^ 26 }
     ensures works { (words : List (List ℕ)) (err err' : Option (List ℕ)) (faults faults' : ℕ) → line.line_of words ≡ Some (line.Simulate (simulation_of simulation.entry)) → Works (record {
       words = words;
       before = outside_of S.files S.reads S.writes O.holds O.faults shelf.old out.old err faults;
       after = outside_of S.files S.reads S.writes O.holds O.faults shelf.new out.new err' faults';
     }) result }
+    ensures no_more { IfErr result (λ stop. IfLarge stop (TookOnePast S.reading S.left shelf.new (S.files shelf.old) (S.files shelf.new) (IsLimitIn (line.Simulate (simulation_of simulation.entry))))) }
     ensures files { AfterTold (S.files shelf.old) (S.files shelf.new) (OnlyThese (names_in (line.Simulate (simulation_of simulation.entry)))) }
     ensures reads { S.reads shelf.old ≤ S.reads shelf.new }
     ensures writes { S.writes shelf.old ≤ S.writes shelf.new }

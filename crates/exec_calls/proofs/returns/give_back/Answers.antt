@@ -11,6 +11,7 @@ loop-i-preserved c = record {
   sound = c.give_one.ensures.sound;
   lives = c.give_one.ensures.lives;
   design = c.give_one.ensures.design ∙ c.loop-i.invariant.design;
+  made = c.give_one.ensures.made ∙ c.loop-i.invariant.made;
   moves = λ h design home d stands.
       let w = c.loop-i.invariant.moves h design home d stands in (
         given_back w.0 c.args.p h (call_of c.args.frame.now) c.loop-i.i (argument_term c.index-arguments-i.result ∷ []),

@@ -2,7 +2,8 @@ use Rattle.std.proofs.Common.{option_map, sym, ap, ◌∙◌, subst}
 use Rattle.std.specs.Option.{option_copied_mut}
 use Rattle.exec_data.specs.SimModel.Configuration.{change_instance}
 use Rattle.exec_data.specs.KernelState.Kernel.{StandsFor, trigger_of}
-use Rattle.exec_control.proofs.OneInstance.{shows_at, with_trigger, trigger_moves, trigger_there, trigger_sound}
+use Rattle.exec_control.specs.Resting.{CanRest, next_kept}
+use Rattle.exec_control.proofs.OneInstance.{shows_at, with_trigger, trigger_moves, trigger_rests, trigger_there, trigger_sound}
 use Rattle.exec_control.proofs.endings.take_trigger.Goals as goal
 
 pub returns-in-Some-clause-shown : goal.returns-in-Some-clause-shown
@@ -20,3 +21,8 @@ returns-in-Some-clause-lives c = trigger_there c.args.k.now c.args.p c.in-Some.x
 
 pub returns-in-Some-clause-sound : goal.returns-in-Some-clause-sound
 returns-in-Some-clause-sound c = trigger_sound c.args.k.now c.args.p c.in-Some.x.now c.replace.new.dest (sym c.get_mut.ensures.value ∙ ap option_copied_mut c.in-Some.is) c.requires.sound
+
+pub returns-in-Some-clause-room : goal.returns-in-Some-clause-room
+returns-in-Some-clause-room c =
+    let at = sym c.get_mut.ensures.value ∙ ap option_copied_mut c.in-Some.is in
+    trigger_rests c.args.k.now c.args.p c.in-Some.x.now c.replace.new.dest at c.replace.result (subst (CanRest c.args.k.now c.args.p) (ap next_kept at ∙ sym c.replace.ensures.value) c.requires.room)

@@ -12,7 +12,7 @@ use Rattle.exec_channels.specs.KernelBodies.Depths.{blocks_in}
 use Rattle.kernel_steps.specs.Told.{CarriesAll}
 use Rattle.kernel_steps.specs.declared.answers.StepAnswer.TheVariants as answer
 use Rattle.kernel_steps.proofs.Blocks.{is_first}
-use Rattle.kernel_steps.proofs.Answered.{carried, plain_carried, taking_carried, sending_carried, try_carried}
+use Rattle.kernel_steps.proofs.Answered.{carried, plain_carried, plain_faulted, plain_refused, taking_carried, taking_faulted, taking_refused, sending_carried, try_carried}
 use Rattle.kernel_steps.proofs.carrying.carry_out.Goals as goal
 
 pub returns-in-Var-clause-carries : goal.returns-in-Var-clause-carries
@@ -77,7 +77,7 @@ pub returns-in-SemWait-clause-carries : goal.returns-in-SemWait-clause-carries
 returns-in-SemWait-clause-carries c = taking_carried c.args.k.now c.sem_wait.new.k c.taking-in-SemWait.result c.args.p c.args.s c.args.statement.now _ c.in-SemWait.is refl c.sem_wait.result c.taking-in-SemWait.ensures c.sem_wait.ensures.does
 
 pub returns-in-Post-clause-carries : goal.returns-in-Post-clause-carries
-returns-in-Post-clause-carries c = taking_carried c.args.k.now c.post.new.k c.taking-in-Post.result c.args.p c.args.s c.args.statement.now _ c.in-Post.is refl c.post.result c.taking-in-Post.ensures c.post.ensures.does
+returns-in-Post-clause-carries c = plain_carried c.args.k.now c.post.new.k c.plain-in-Post.result c.args.p c.args.s c.args.statement.now _ c.in-Post.is refl c.post.result c.plain-in-Post.ensures c.post.ensures.does
 
 pub returns-in-Spawn-clause-carries : goal.returns-in-Spawn-clause-carries
 returns-in-Spawn-clause-carries c = taking_carried c.args.k.now c.spawn.new.k c.taking-in-Spawn.result c.args.p c.args.s c.args.statement.now _ c.in-Spawn.is refl c.spawn.result c.taking-in-Spawn.ensures c.spawn.ensures.does
@@ -161,3 +161,21 @@ returns-in-NbTransport-clause-carries c = sending_carried c.args.k.now c.nb_tran
 
 pub returns-in-BTransport-clause-carries : goal.returns-in-BTransport-clause-carries
 returns-in-BTransport-clause-carries c = sending_carried c.args.k.now c.b_transport.new.k c.taking-in-BTransport.result c.args.p c.args.s c.args.statement.now _ c.in-BTransport.is refl c.b_transport.result c.taking-in-BTransport.ensures c.b_transport.ensures.calls
+
+pub returns-in-Make-clause-refused : goal.returns-in-Make-clause-refused
+returns-in-Make-clause-refused c = taking_refused c.taking-in-Make.result c.make.result _ c.taking-in-Make.ensures c.make.ensures.refused
+
+pub returns-in-Make-clause-faulted : goal.returns-in-Make-clause-faulted
+returns-in-Make-clause-faulted c = taking_faulted c.taking-in-Make.result c.make.result _ c.taking-in-Make.ensures c.make.ensures.refused
+
+pub returns-in-Acquire-clause-refused : goal.returns-in-Acquire-clause-refused
+returns-in-Acquire-clause-refused c = plain_refused c.plain-in-Acquire.result c.acquire.result _ c.plain-in-Acquire.ensures c.acquire.ensures.refused
+
+pub returns-in-Acquire-clause-faulted : goal.returns-in-Acquire-clause-faulted
+returns-in-Acquire-clause-faulted c = plain_faulted c.plain-in-Acquire.result c.acquire.result _ c.plain-in-Acquire.ensures c.acquire.ensures.refused
+
+pub returns-in-Spawn-clause-refused : goal.returns-in-Spawn-clause-refused
+returns-in-Spawn-clause-refused c = taking_refused c.taking-in-Spawn.result c.spawn.result _ c.taking-in-Spawn.ensures c.spawn.ensures.refused
+
+pub returns-in-Spawn-clause-faulted : goal.returns-in-Spawn-clause-faulted
+returns-in-Spawn-clause-faulted c = taking_faulted c.taking-in-Spawn.result c.spawn.result _ c.taking-in-Spawn.ensures c.spawn.ensures.refused

@@ -29,7 +29,7 @@ returns-in-Ok-sound_design-clause-design c =
 pub returns-in-Ok-sound_design-clause-runs : goal.returns-in-Ok-sound_design-clause-runs
 returns-in-Ok-sound_design-clause-runs c =
     let made = c.in-Ok-sound_design.ensures in
-    can_run (model_of c.in-Ok.checked.tree) c.in-Ok-sound_design.design c.designs_are_few.ensures.processes c.designs_are_few.ensures.events made.accepted made.design made.sound
+    can_run (model_of c.in-Ok.checked.tree) c.in-Ok-sound_design.design c.designs_are_few.ensures.processes c.designs_are_few.ensures.events c.semaphores_start_low.ensures c.in-Ok.checked.accepted made.accepted made.design made.sound
 
 pub returns-in-Err-Refused-clause-fault : goal.returns-in-Err-Refused-clause-fault
 returns-in-Err-Refused-clause-fault c = λ text reads.

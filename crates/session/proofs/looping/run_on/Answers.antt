@@ -1,6 +1,7 @@
-use Rattle.std.proofs.Common.{◌<◌, ◌+◌, ◌-◌, ◌^◌, length, refl, sym, ap, ◌∙◌, subst, arith}
+use Rattle.std.proofs.Common.{◌<◌, ◌+◌, ◌-◌, ◌^◌, All, length, refl, sym, ap, ◌∙◌, subst, arith}
 use Rattle.std.proofs.lemmas.Option.{IfSome_then}
 use Rattle.flat_design.specs.Code.{arena_of}
+use Rattle.flat_design.specs.declared.design.SemaphorePart.{SemaphorePart}
 use Rattle.write_buffer.proofs.SimIo.Chains.{write_keeps_on}
 use Rattle.session.specs.Outputs.{AreNames}
 use Rattle.session.proofs.Outputs.{finishes_from, let_go_from, recorded_from}
@@ -9,69 +10,77 @@ use Rattle.session.proofs.Turning.{told_on, told_cut, took_on, took_cut}
 use Rattle.session.proofs.looping.run_on.Goals as goal
 
 pub returns-in_default-clause-ran : goal.returns-in_default-clause-ran
-returns-in_default-clause-ran g c = λ first h s r. rw (c.cut.ensures, c.new-in_default.ensures)
+returns-in_default-clause-ran g c = λ first h s r z. rw (c.cut.ensures, c.new-in_default.ensures)
     (never_began c.args.plan first (AreNames g.S.Shelf.stands c.args.shelf.now c.args.plan.vcd c.args.plan.choices) _)
 
 pub returns-in-Err-clause-ran : goal.returns-in-Err-clause-ran
-returns-in-Err-clause-ran g c = λ first h s r. rw (c.cut-in-Err.ensures, c.from_vec.ensures, c.new-choices.ensures.items)
+returns-in-Err-clause-ran g c = λ first h s r z. rw (c.cut-in-Err.ensures, c.from_vec.ensures, c.new-choices.ensures.items)
     (cut_in_header c.args.plan first c.args.k.now.kernel c.args.script.now c.new-tracing.result (AreNames g.S.Shelf.stands c.args.shelf.now c.args.plan.vcd c.args.plan.choices) _ _ _ h s.nothing_told s.nothing_seen c.in-Err.trouble (rw c.in-Ok.ensures at c.in-Err.ensures.records))
 
 pub loop-steps-init : goal.loop-steps-init
 loop-steps-init g c = record {
   within = omega arith;
+  made = omega (arith, c.requires.begun.made);
   in_script = omega arith;
   none = c.new-events.ensures.items;
   faults_later = omega arith;
   writes_later = c.in-Ok-record_begin.ensures.cause.writes_later;
   kept = c.in-Ok-record_begin.ensures.kept;
-  going = λ first h s r. rw (c.new-choosing.ensures, c.new-choices.ensures.items)
-      (begins c.args.plan first c.args.k.now.kernel c.args.script.now c.new-tracing.result (AreNames g.S.Shelf.stands c.args.shelf.now c.args.plan.vcd c.args.plan.choices) _ _ _ h s.nothing_told s.nothing_seen s.script_left r
+  going = λ first h s r z. rw (c.new-choosing.ensures, c.new-choices.ensures.items)
+      (begins c.args.plan first c.args.k.now.kernel c.args.script.now c.new-tracing.result (AreNames g.S.Shelf.stands c.args.shelf.now c.args.plan.vcd c.args.plan.choices) _ _ _ h s.nothing_told s.nothing_seen s.script_left r z
       (first_keeps c.args.plan.vcd c.new-tracing.result first.trace.snapshots c.new-tracing.ensures s.nothing_seen) (rw c.in-Ok.ensures at c.in-Ok-record_begin.ensures.records));
 }
 
 pub make_step-requires-clause-asked : goal.make_step-requires-clause-asked
 make_step-requires-clause-asked g c =
     let begun = c.requires.begun in
-    let so_far = c.loop-steps.invariant.going begun.first begun.stands begun.is_first begun.reached in
+    let so_far = c.loop-steps.invariant.going begun.first begun.stands begun.is_first begun.reached begun.no_steps in
     c.runs_may_step.ensures c.loop-steps.k.kernel c.args.program.now so_far.at so_far.stands so_far.sound
     (subst (λ d. d.events < 2 ^ 32 - 1) (sym so_far.design) begun.events)
+    (subst (λ d. All (λ (p : SemaphorePart). p.start < 2 ^ 31) d.semaphores) (sym so_far.design) begun.starts)
+    (omega (arith, so_far.counted, c.requires.budget, c.loop-steps-test.true))
     (begun.code ∙ ap (λ d. arena_of d.code) (sym so_far.design))
+
+pub make_step-requires-clause-room : goal.make_step-requires-clause-room
+make_step-requires-clause-room g c = omega (arith, c.requires.budget, c.loop-steps.invariant.made, c.loop-steps-test.true)
 
 pub loop-steps-preserved-in-Ok-record_step : goal.loop-steps-preserved-in-Ok-record_step
 loop-steps-preserved-in-Ok-record_step g c = record {
   within = omega arith;
+  made = omega (arith, c.in-Went.ensures.made, c.loop-steps.invariant.made);
   in_script = c.in-Went.ensures.within;
   none = c.in-Went.ensures.none;
   faults_later = omega (arith, c.in-Ok-record_step.ensures.cause.faults_later);
   writes_later = omega (arith, c.in-Ok-record_step.ensures.cause.writes_later);
   kept = write_keeps_on _ _ _ _ _ _ _ _ c.loop-steps.invariant.kept c.in-Ok-record_step.ensures.kept;
-  going = λ first h s r. rw c.reserve.ensures.items
-      (told_on c.sound_runs_go_on.ensures c.args.plan first _ _ _ _ _ _ _ _ _ (AreNames g.S.Shelf.stands c.args.shelf.now c.args.plan.vcd c.args.plan.choices) _ _ _ _ _ (c.loop-steps.invariant.going first h s r)
+  going = λ first h s r z. rw c.reserve.ensures.items
+      (told_on c.sound_runs_go_on.ensures c.args.plan first _ _ _ _ _ _ _ _ _ (AreNames g.S.Shelf.stands c.args.shelf.now c.args.plan.vcd c.args.plan.choices) _ _ _ _ _ (c.loop-steps.invariant.going first h s r z)
       c.in-Went.told c.now-time.result.0 c.now-time.ensures c.in-Went.ensures.steps _ c.in-Went.ensures.asks
       (recorded_from g.S.Shelf.stands c.args.shelf.now c.loop-steps.shelf c.args.plan.vcd c.args.plan.choices c.loop-steps.invariant.kept.ids.stands _ _ _ _ _ _ _ _ c.in-Ok-record_step.ensures.records));
 }
 
 pub returns-in-Err-record_step-clause-ran : goal.returns-in-Err-record_step-clause-ran
-returns-in-Err-record_step-clause-ran g c = λ first h s r. rw (c.cut-in-Err-record_step.ensures, c.from_vec-in-Err-record_step.ensures, c.reserve.ensures.items)
-    (told_cut c.sound_runs_go_on.ensures c.args.plan first _ _ _ _ _ _ _ _ _ (AreNames g.S.Shelf.stands c.args.shelf.now c.args.plan.vcd c.args.plan.choices) _ _ _ _ _ (c.loop-steps.invariant.going first h s r)
+returns-in-Err-record_step-clause-ran g c = λ first h s r z. rw (c.cut-in-Err-record_step.ensures, c.from_vec-in-Err-record_step.ensures, c.reserve.ensures.items)
+    (told_cut c.sound_runs_go_on.ensures c.args.plan first _ _ _ _ _ _ _ _ _ (AreNames g.S.Shelf.stands c.args.shelf.now c.args.plan.vcd c.args.plan.choices) _ _ _ _ _ (c.loop-steps.invariant.going first h s r z)
     c.in-Went.told c.now-time.result.0 c.now-time.ensures c.in-Went.ensures.steps c.in-Err-record_step.trouble (omega arith) c.hold_little.ensures
     (recorded_from g.S.Shelf.stands c.args.shelf.now c.loop-steps.shelf c.args.plan.vcd c.args.plan.choices c.loop-steps.invariant.kept.ids.stands _ _ _ _ _ _ _ _ c.in-Err-record_step.ensures.records))
 
 pub returns-in-Err-reserve-clause-ran : goal.returns-in-Err-reserve-clause-ran
-returns-in-Err-reserve-clause-ran g c = λ first h s r. rw (c.cut_between.ensures.cut, c.reserve.ensures.items)
-    (cut_before_step c.args.plan first _ _ _ (AreNames g.S.Shelf.stands c.args.shelf.now c.args.plan.vcd c.args.plan.choices) _ _ _ _ _ _ _ (c.loop-steps.invariant.going first h s r) (omega arith) c.hold_little.ensures
+returns-in-Err-reserve-clause-ran g c = λ first h s r z. rw (c.cut_between.ensures.cut, c.reserve.ensures.items)
+    (cut_before_step c.args.plan first _ _ _ (AreNames g.S.Shelf.stands c.args.shelf.now c.args.plan.vcd c.args.plan.choices) _ _ _ _ _ _ _ (c.loop-steps.invariant.going first h s r z) (omega arith) c.hold_little.ensures
     (let_go_from g.S.Shelf.stands c.args.shelf.now c.loop-steps.shelf c.args.plan.vcd c.args.plan.choices c.loop-steps.invariant.kept.ids.stands _ _ _ c.cut_between.ensures.goes))
 
 pub loop-steps-preserved : goal.loop-steps-preserved
 loop-steps-preserved g c = record {
   within = omega arith;
+  made = omega (arith, c.in-Took.ensures.made, c.loop-steps.invariant.made);
   in_script = c.in-Took.ensures.within;
   none = c.in-Took.ensures.none;
   faults_later = omega (arith, c.in-Ok-record_turn.ensures.cause.faults_later);
   writes_later = omega (arith, c.in-Ok-record_turn.ensures.cause.writes_later);
   kept = write_keeps_on _ _ _ _ _ _ _ _ c.loop-steps.invariant.kept c.in-Ok-record_turn.ensures.kept;
-  going = λ first h s r.
-      took_on c.sound_runs_go_on.ensures c.args.plan first _ _ _ _ _ _ _ _ c.loop-steps.tracing (AreNames g.S.Shelf.stands c.args.shelf.now c.args.plan.vcd c.args.plan.choices) _ _ _ _ _ (c.loop-steps.invariant.going first h s r)
+  going = λ first h s r z.
+      took_on c.sound_runs_go_on.ensures c.args.plan first _ _ _ _ _ _ _ _ c.loop-steps.tracing (AreNames g.S.Shelf.stands c.args.shelf.now c.args.plan.vcd c.args.plan.choices) _ _ _ _ _ (c.loop-steps.invariant.going first h s r z)
       c.in-Took.serial _ _ (rw c.reserve.ensures.items at c.add_choice.ensures) c.in-Took.ensures.steps c.in-Took.ensures.asks
       (recorded_from g.S.Shelf.stands c.args.shelf.now c.loop-steps.shelf c.args.plan.vcd c.args.plan.choices c.loop-steps.invariant.kept.ids.stands _ _ _ _ _ _ _ _ c.in-Ok-record_turn.ensures.records);
 }
@@ -83,37 +92,37 @@ pub record_turn-requires-clause-listed : goal.record_turn-requires-clause-listed
 record_turn-requires-clause-listed g c = IfSome_then c.args.plan.choices c.requires.listed (λ id is. c.loop-steps.invariant.kept.ids.created id is)
 
 pub returns-in-Err-record_turn-clause-ran : goal.returns-in-Err-record_turn-clause-ran
-returns-in-Err-record_turn-clause-ran g c = λ first h s r. rw (c.cut-in-Err-record_turn.ensures, c.from_vec-in-Err-record_turn.ensures)
-    (took_cut c.sound_runs_go_on.ensures c.args.plan first _ _ _ _ _ _ _ _ c.loop-steps.tracing (AreNames g.S.Shelf.stands c.args.shelf.now c.args.plan.vcd c.args.plan.choices) _ _ _ _ _ (c.loop-steps.invariant.going first h s r)
+returns-in-Err-record_turn-clause-ran g c = λ first h s r z. rw (c.cut-in-Err-record_turn.ensures, c.from_vec-in-Err-record_turn.ensures)
+    (took_cut c.sound_runs_go_on.ensures c.args.plan first _ _ _ _ _ _ _ _ c.loop-steps.tracing (AreNames g.S.Shelf.stands c.args.shelf.now c.args.plan.vcd c.args.plan.choices) _ _ _ _ _ (c.loop-steps.invariant.going first h s r z)
     c.in-Took.serial _ _ (rw c.reserve.ensures.items at c.add_choice.ensures) c.in-Took.ensures.steps c.in-Took.ensures.asks c.in-Err-record_turn.trouble (omega arith) c.hold_little.ensures
     (recorded_from g.S.Shelf.stands c.args.shelf.now c.loop-steps.shelf c.args.plan.vcd c.args.plan.choices c.loop-steps.invariant.kept.ids.stands _ _ _ _ _ _ _ _ c.in-Err-record_turn.ensures.records))
 
 pub returns-in-Ended-clause-ran : goal.returns-in-Ended-clause-ran
-returns-in-Ended-clause-ran g c = λ first h s r. rw (c.finish.ensures.choices, c.finish.ensures.steps, c.reserve.ensures.items)
-    (ended_run c.args.plan first _ _ _ (AreNames g.S.Shelf.stands c.args.shelf.now c.args.plan.vcd c.args.plan.choices) _ _ c.sound_runs_go_on.ensures _ _ _ _ _ _ _ _ c.hold_little.ensures (c.loop-steps.invariant.going first h s r)
+returns-in-Ended-clause-ran g c = λ first h s r z. rw (c.finish.ensures.choices, c.finish.ensures.steps, c.reserve.ensures.items)
+    (ended_run c.args.plan first _ _ _ (AreNames g.S.Shelf.stands c.args.shelf.now c.args.plan.vcd c.args.plan.choices) _ _ c.sound_runs_go_on.ensures _ _ _ _ _ _ _ _ c.hold_little.ensures (c.loop-steps.invariant.going first h s r z)
     _ c.ended_as-ending.ensures.end c.in-Ended.ensures.steps c.loop-steps-test.true c.ended_as-ending.ensures.ended
     (finishes_from g.S.Shelf.stands c.args.shelf.now c.loop-steps.shelf c.args.plan.vcd c.args.plan.choices c.loop-steps.invariant.kept.ids.stands _ _ _ _ _ _ _ c.finish.ensures.finishes))
 
 pub returns-in-Fault-clause-ran : goal.returns-in-Fault-clause-ran
-returns-in-Fault-clause-ran g c = λ first h s r. rw (c.finish-in-Fault.ensures.choices, c.finish-in-Fault.ensures.steps, c.reserve.ensures.items)
-    (faulted_run c.args.plan first _ _ _ (AreNames g.S.Shelf.stands c.args.shelf.now c.args.plan.vcd c.args.plan.choices) _ _ c.sound_runs_go_on.ensures _ _ _ _ _ _ _ _ c.hold_little.ensures (c.loop-steps.invariant.going first h s r)
+returns-in-Fault-clause-ran g c = λ first h s r z. rw (c.finish-in-Fault.ensures.choices, c.finish-in-Fault.ensures.steps, c.reserve.ensures.items)
+    (faulted_run c.args.plan first _ _ _ (AreNames g.S.Shelf.stands c.args.shelf.now c.args.plan.vcd c.args.plan.choices) _ _ c.sound_runs_go_on.ensures _ _ _ _ _ _ _ _ c.hold_little.ensures (c.loop-steps.invariant.going first h s r z)
     _ c.in-Fault.ensures.steps c.loop-steps-test.true
     (finishes_from g.S.Shelf.stands c.args.shelf.now c.loop-steps.shelf c.args.plan.vcd c.args.plan.choices c.loop-steps.invariant.kept.ids.stands _ _ _ _ _ _ _ c.finish-in-Fault.ensures.finishes))
 
 pub returns-in-NotReady-clause-ran : goal.returns-in-NotReady-clause-ran
-returns-in-NotReady-clause-ran g c = λ first h s r. rw (c.finish-in-NotReady.ensures.choices, c.finish-in-NotReady.ensures.steps, c.reserve.ensures.items)
-    (unready_run c.args.plan first _ _ _ (AreNames g.S.Shelf.stands c.args.shelf.now c.args.plan.vcd c.args.plan.choices) _ _ c.sound_runs_go_on.ensures _ _ _ _ _ _ _ _ c.hold_little.ensures (c.loop-steps.invariant.going first h s r)
+returns-in-NotReady-clause-ran g c = λ first h s r z. rw (c.finish-in-NotReady.ensures.choices, c.finish-in-NotReady.ensures.steps, c.reserve.ensures.items)
+    (unready_run c.args.plan first _ _ _ (AreNames g.S.Shelf.stands c.args.shelf.now c.args.plan.vcd c.args.plan.choices) _ _ c.sound_runs_go_on.ensures _ _ _ _ _ _ _ _ c.hold_little.ensures (c.loop-steps.invariant.going first h s r z)
     (length c.loop-steps.choices.items + 1) c.make_step.new.chooser refl c.in-NotReady.ensures.steps c.in-NotReady.ensures.asks c.loop-steps-test.true
     (finishes_from g.S.Shelf.stands c.args.shelf.now c.loop-steps.shelf c.args.plan.vcd c.args.plan.choices c.loop-steps.invariant.kept.ids.stands _ _ _ _ _ _ _ (rw (c.not_ready-ending.ensures.place, c.as_slice.ensures.value, c.reserve.ensures.items) at c.finish-in-NotReady.ensures.finishes)))
 
 pub returns-in-NoMemory-clause-ran : goal.returns-in-NoMemory-clause-ran
-returns-in-NoMemory-clause-ran g c = λ first h s r. rw (c.cut_between-in-NoMemory.ensures.cut, c.reserve.ensures.items)
-    (cut_before_step c.args.plan first _ _ _ (AreNames g.S.Shelf.stands c.args.shelf.now c.args.plan.vcd c.args.plan.choices) _ _ _ _ _ _ _ (c.loop-steps.invariant.going first h s r) (omega arith) c.hold_little.ensures
+returns-in-NoMemory-clause-ran g c = λ first h s r z. rw (c.cut_between-in-NoMemory.ensures.cut, c.reserve.ensures.items)
+    (cut_before_step c.args.plan first _ _ _ (AreNames g.S.Shelf.stands c.args.shelf.now c.args.plan.vcd c.args.plan.choices) _ _ _ _ _ _ _ (c.loop-steps.invariant.going first h s r z) (omega arith) c.hold_little.ensures
     (let_go_from g.S.Shelf.stands c.args.shelf.now c.loop-steps.shelf c.args.plan.vcd c.args.plan.choices c.loop-steps.invariant.kept.ids.stands _ _ _ c.cut_between-in-NoMemory.ensures.goes))
 
 pub returns-clause-ran : goal.returns-clause-ran
-returns-clause-ran g c = λ first h s r.
-    let so_far = c.loop-steps.invariant.going first h s r in
+returns-clause-ran g c = λ first h s r z.
+    let so_far = c.loop-steps.invariant.going first h s r z in
     rw (c.finish-2.ensures.choices, c.finish-2.ensures.steps)
     (spent_run c.args.plan first _ _ _ (AreNames g.S.Shelf.stands c.args.shelf.now c.args.plan.vcd c.args.plan.choices) _ _ _ _ _ _ _ _ _ so_far c.hold_little-2.ensures c.end_at_budget-ending.ensures.end c.loop-steps.invariant.within c.loop-steps-test.false
     (c.end_at_budget-ending.ensures.ending so_far.at c.args.plan.rule (length c.loop-steps.choices.items) so_far.stands so_far.left)

@@ -12,12 +12,13 @@ use Rattle.session.proofs.looping.run_on.Given as goal
 abbrev pub invariant-loop-steps : goal.invariant-loop-steps
 invariant-loop-steps g l = record {
   within : l.steps ≤ l.budget;
+  made : l.k.kernel.made ≤ l.steps;
   in_script : l.place ≤ length l.script;
   none : l.events.items ≡ [];
   faults_later : g.O.Sink.faults l.fn.out ≤ g.O.Sink.faults l.out;
   writes_later : g.S.Shelf.writes l.fn.shelf ≤ g.S.Shelf.writes l.shelf;
   kept : WriteKeeps g.S.Shelf.files g.S.Shelf.reads g.S.Shelf.reading g.S.Shelf.created g.S.Shelf.stands l.fn.shelf l.shelf;
-  going : (first : Config) → StandsFor l.initial.k.kernel first → IsFirst first l.script → IsReached first
+  going : (first : Config) → StandsFor l.initial.k.kernel first → IsFirst first l.script → (r : IsReached first) → r.steps ≡ 0
       → Going l.fn.plan first l.choosing l.choices.items l.steps l.k.kernel (drop l.place l.script) l.tracing (AreNames g.S.Shelf.stands l.fn.shelf l.fn.plan.vcd l.fn.plan.choices)
       (outer_of g.S.Shelf.files g.O.Sink.holds l.fn.shelf l.fn.out) (outer_of g.S.Shelf.files g.O.Sink.holds l.shelf l.out) (due_of l.held);
 }

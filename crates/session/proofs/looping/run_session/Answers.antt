@@ -14,14 +14,17 @@ run_on-requires-clause-begun g c = record {
   stands = c.in-Ok-first_kernel.ensures.first c.args.script.now;
   is_first = record { script_left = refl; nothing_told = refl; nothing_seen = refl };
   reached = (c.runs_begin.ensures c.args.design c.args.script.now c.requires.sound).0;
+  no_steps = (c.runs_begin.ensures c.args.design c.args.script.now c.requires.sound).3;
   code = c.in-Ok.ensures;
   events = c.requires.events;
+  starts = c.requires.starts;
+  made = c.in-Ok-first_kernel.ensures.made;
 }
 
 pub returns-in-Ok-first_kernel-clause-ran : goal.returns-in-Ok-first_kernel-clause-ran
 returns-in-Ok-first_kernel-clause-ran g c =
     c.run_on.ensures.ran (start c.args.design c.args.script.now) (c.in-Ok-first_kernel.ensures.first c.args.script.now) (record { script_left = refl; nothing_told = refl; nothing_seen = refl })
-    (c.runs_begin.ensures c.args.design c.args.script.now c.requires.sound).0
+    (c.runs_begin.ensures c.args.design c.args.script.now c.requires.sound).0 (c.runs_begin.ensures c.args.design c.args.script.now c.requires.sound).3
 
 pub returns-in-Err-first_kernel-clause-ran : goal.returns-in-Err-first_kernel-clause-ran
 returns-in-Err-first_kernel-clause-ran g c = rw (c.cut-in-Err-first_kernel.ensures, c.new-in-Err-first_kernel.ensures)

@@ -1,8 +1,9 @@
-use Rattle.std.proofs.Common.{ap}
+use Rattle.std.proofs.Common.{ap, arith}
 use Rattle.session.specs.SimIo.Told.{Grew}
 use Rattle.session.specs.declared.plans.Plan.{Plan}
 use Rattle.tlmsim.proofs.Courses.{ran_some, ran_with}
 use Rattle.tlmsim.proofs.Ends.{files_stay, generated_so, steps_rose}
+use Rattle.tlmsim.proofs.Large.{small_unfit}
 use Rattle.tlmsim.proofs.generating.generate.Goals as goal
 
 pub returns-clause-files : goal.returns-clause-files
@@ -20,3 +21,9 @@ returns-clause-works g c = λ words err err' faults faults' line.
     c.run-outcome.ensures.no_end_before
     (files_stay g.S.Shelf.stands c.args.shelf.now _ _ taken.0 taken.1)
     (steps_rose _ _ _ _ _ _ _ c.tell_steps.ensures.tells c.run-outcome.ensures.cause.faults_later c.tell_steps.ensures.cause.later (c.run-outcome.ensures.alone (ap (λ (p : Plan). p.vcd) c.plan_of.ensures) (ap (λ (p : Plan). p.choices) c.plan_of.ensures)) c.tell_steps.ensures.cause.rose)
+
+pub returns-in-Err-clause-no_more : goal.returns-in-Err-clause-no_more
+returns-in-Err-clause-no_more g c = rw c.unfit.ensures (small_unfit c.in-Err.stop _)
+
+pub run-requires-clause-budget : goal.run-requires-clause-budget
+run-requires-clause-budget g c = let same = ap (λ (p : Plan). p.budget) c.plan_of.ensures in omega (arith, same, c.requires.budget)

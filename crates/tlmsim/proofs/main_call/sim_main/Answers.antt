@@ -1,6 +1,8 @@
 use Rattle.std.proofs.Common.{refl, ap}
+use Rattle.command_line.specs.SimModel.declared.plain.Stop.TheVariants as stop
 use Rattle.tlmsim.proofs.Lines.{end_of, told_no_end, memory_no_end}
 use Rattle.tlmsim.proofs.Answered.{of_outcome, of_refusal, of_memory}
+use Rattle.tlmsim.proofs.Large.{large_never_ends, large_told}
 use Rattle.tlmsim.proofs.main_call.sim_main.Goals as goal
 
 pub returns-in-Ok-clause-answers : goal.returns-in-Ok-clause-answers
@@ -49,3 +51,13 @@ returns-in-Err-NoMemory-clause-answers g c =
 
 pub returns-in-Err-NoMemory-clause-silent : goal.returns-in-Err-NoMemory-clause-silent
 returns-in-Err-NoMemory-clause-silent g c = λ h. absurd (memory_no_end h)
+
+pub returns-in-Ok-clause-no_more : goal.returns-in-Ok-clause-no_more
+returns-in-Ok-clause-no_more g c = rw c.stop_status.ensures (λ h. absurd (large_never_ends c.in-Ok.outcome.stop h))
+
+pub returns-in-Err-Refused-clause-no_more : goal.returns-in-Err-Refused-clause-no_more
+returns-in-Err-Refused-clause-no_more g c =
+    λ h. large_told _ _ _ _ _ _ _ c.tell_refusal.ensures.told (rw c.in-Err-Refused.field-0-is at c.in-Err-Refused.ensures.no_more) h
+
+pub returns-in-Err-NoMemory-clause-no_more : goal.returns-in-Err-NoMemory-clause-no_more
+returns-in-Err-NoMemory-clause-no_more g c = λ h. absurd (large_never_ends stop.NoMemory h)

@@ -7,6 +7,7 @@ use Rattle.tlmsim.specs.Call.{names_in}
 use Rattle.tlmsim.proofs.Courses.{holds_by, ran_some, ran_with}
 use Rattle.tlmsim.proofs.Ends.{copied_text, made_on, named_by, not_begun, only_held, simulated, spared_on, texts_later, unfit_works}
 use Rattle.tlmsim.proofs.Holding.{held_by}
+use Rattle.tlmsim.proofs.Large.{large_unread, small_unfit}
 use Rattle.tlmsim.proofs.simulating.simulate.Goals as goal
 
 pub returns-in-Err-judge-clause-works : goal.returns-in-Err-judge-clause-works
@@ -57,3 +58,12 @@ returns-clause-files g c =
     let names = names_in (Simulate (simulation_of c.args.simulation)) in
     let taken = ran_some _ _ _ _ _ _ c.run.ensures.ran in
     only_held names taken.0 _ _ (held_by (AreNames g.S.Shelf.stands c.create_files.new.shelf c.plan_of-plan.result.vcd c.plan_of-plan.result.choices) names taken.0 _ _ _ (made_on names _ _ _ c.in-Ok.ensures.files (rw (copied_text c.args.simulation.vcd, copied_text c.args.simulation.choices) at c.in-Ok-create_files.ensures.made)) c.run.ensures.kept.told (named_by g.S.Shelf.stands c.create_files.new.shelf _ _ _ _ names _ c.plan_of-plan.ensures.vcd c.plan_of-plan.ensures.choices (rw (copied_text c.args.simulation.vcd, copied_text c.args.simulation.choices) at c.in-Ok-create_files.ensures.named)) (λ named. taken.1.files names named))
+
+pub returns-in-Err-clause-no_more : goal.returns-in-Err-clause-no_more
+returns-in-Err-clause-no_more g c = rw c.unread.ensures (large_unread c.in-Err.stop _ (rw c.replay_file.ensures at c.in-Err.ensures.no_more))
+
+pub returns-in-Err-judge-clause-no_more : goal.returns-in-Err-judge-clause-no_more
+returns-in-Err-judge-clause-no_more g c = rw c.unfit.ensures (small_unfit c.in-Err-judge.stop _)
+
+pub run-requires-clause-budget : goal.run-requires-clause-budget
+run-requires-clause-budget g c = omega (arith, c.plan_of-plan.ensures.plans.budget_is, c.requires.budget)

@@ -1,7 +1,7 @@
 use Rattle.std.proofs.Common.{length, ◌-◌, ◌+◌, ◌≤◌}
 use Rattle.std.specs.Io.KnownBytes.{Consumes}
 use Rattle.sim_io.specs.Keeps.{ReadKeeps}
-use Rattle.sim_io.proofs.transfer.read_rest.Given as goal
+use Rattle.sim_io.proofs.transfer.read_opened.Given as goal
 
 abbrev pub invariant-loop-buffer : goal.invariant-loop-buffer
 invariant-loop-buffer g l = record {

@@ -1,7 +1,7 @@
 use Rattle.std.proofs.Common.{◌≤◌, ◌+◌, ◌++◌, length, take, arith}
 use Rattle.std.proofs.lemmas.Grind.{common_steps}
 use Rattle.sim_io.proofs.Chains.{consumes_on}
-use Rattle.sim_io.proofs.transfer.read_rest.Goals as goal
+use Rattle.sim_io.proofs.transfer.read_opened.Goals as goal
 
 pub returns-then-is_err-clause-at_most : goal.returns-then-is_err-clause-at_most
 returns-then-is_err-clause-at_most g c =
