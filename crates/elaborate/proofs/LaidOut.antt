@@ -9,10 +9,12 @@ use Rattle.flat_design.specs.Code.{Statement, arena_of}
 use Rattle.flat_design.specs.Reach.{IsIn}
 use Rattle.flat_design.specs.declared.code.Code.{Code}
 use Rattle.flat_design.specs.declared.design.Design.{Design}
+use Rattle.model_tree.specs.SimTime.declared.moments.Resolution.{Resolution}
 use Rattle.model_check.specs.ModelRules.Passes.{first_fault}
 use Rattle.binding.specs.DesignRules.Listing.{objects_of}
 use Rattle.binding.specs.DesignRules.ObjectFaults.{cycle_fault, instances_fault, limit_fault}
 use Rattle.binding.specs.DesignRules.BindingFaults as binding
+use Rattle.binding.specs.DesignRules.Designs.{IsDesignOf}
 use Rattle.model_check.specs.CodeRooms.Rooms.{HasRooms, IsNested}
 use Rattle.laws_design.specs.LawsCode.Bodies.{StatementsStand}
 use Rattle.model_check.specs.Parts.{AllStand}
@@ -49,4 +51,26 @@ laid_out d c same nested stand rooms = record {
   nested = subst (λ (x : Code). IsNested (arena_of x)) (sym same) nested;
   standing = all_standing d (subst AllStand (sym same) stand);
   rooms = subst (λ (x : Code). HasRooms (arena_of x)) (sym same) rooms;
+}
+
+-- the design of a model is that at any resolution
+pub at_resolution : (m : tree.Model) (d : Design) (r : Resolution) → IsDesignOf m d → IsDesignOf m (record d { resolution = r })
+at_resolution m d r is = record {
+  objects = is.objects;
+  instances = is.instances;
+  signals = is.signals;
+  resolved = is.resolved;
+  fifos = is.fifos;
+  mutexes = is.mutexes;
+  semaphores = is.semaphores;
+  keepers = is.keepers;
+  memories = is.memories;
+  variables = is.variables;
+  ports = is.ports;
+  processes = is.processes;
+  hops = is.hops;
+  events = is.events;
+  visible = is.visible;
+  exceptions = is.exceptions;
+  code = is.code;
 }

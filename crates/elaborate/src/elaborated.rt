@@ -37,7 +37,7 @@ fn design(alloc: Global, tree: &Tree, found: BoundObjects, code: Code) -> Result
 /// (ModuleCycle); else too many objects or bytes of memories (TooManyObjects); else the first fault of a binding
 /// (KindDiffers), and else that of a port, an export or a socket (DoubleBound, TooMany, Unbound).
 ///
-/// Its resolution is a picosecond. Out of memory is also answered where a number of the design does not fit 32 bits.
+/// Its resolution is a picosecond, whatever the text asks for. Out of memory is also answered where a number of the design does not fit 32 bits.
 pub fn elaborate(alloc: Global, tree: &Tree, code: Code) -> Result<Design, CheckStop>
     requires rules { first_fault (model_of tree.now) ≡ None }
     requires code { IsCodeOf (model_of tree.now) code }

@@ -204,7 +204,7 @@ fn may_break(wanted: &Wanted, fault: &str) -> bool {
 }
 
 /// The first fault of a tree, by the rules on modules alone where no more is asked.
-fn fault_of(alloc: Global, wanted: &Wanted, tree: &Tree) -> Result<Option<String>, AllocError> {
+fn fault_of(alloc: Global, wanted: &Wanted, tree: Tree) -> Result<Option<String>, AllocError> {
     match wanted {
         Wanted::Accepted => module_fault(alloc, tree),
         _ => first_fault(alloc, tree),
@@ -221,7 +221,7 @@ fn without_fault(wanted: &Wanted) -> Verdict {
 }
 
 /// Judges a tree by the rules.
-fn judge_rules_of(alloc: Global, wanted: &Wanted, tree: &Tree) -> Result<Verdict, AllocError> {
+fn judge_rules_of(alloc: Global, wanted: &Wanted, tree: Tree) -> Result<Verdict, AllocError> {
     match fault_of(alloc, wanted, tree)? {
         Some(fault) if may_break(wanted, fault.as_str()) => Ok(Verdict::Breaks(fault)),
         Some(fault) => Ok(Verdict::Wrong(Wrong::BreaksThis(fault))),
@@ -232,7 +232,7 @@ fn judge_rules_of(alloc: Global, wanted: &Wanted, tree: &Tree) -> Result<Verdict
 /// Judges a text that is to break no rule, or this one first.
 fn judge_ruled(alloc: Global, case: &Case) -> Result<Verdict, AllocError> {
     match reading_of(alloc, case.text.as_slice())? {
-        Reading::Tree(tree) => judge_rules_of(alloc, &case.wanted, &tree),
+        Reading::Tree(tree) => judge_rules_of(alloc, &case.wanted, tree),
         Reading::Refused(line) => Ok(Verdict::Wrong(Wrong::RefusedAt(line))),
         Reading::TooLong => Ok(Verdict::Wrong(Wrong::TooLong)),
     }

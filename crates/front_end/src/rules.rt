@@ -1,7 +1,7 @@
 //! The first fault of a tree, in one line.
 
 use elaborate::bound_objects;
-use elaborate::model_check_api::judge_rules;
+use elaborate::model_check_api::judge_source;
 use model_print::model_tree_api::{CheckStop, Fault, Kind, Tree};
 use std::alloc::{AllocError, Global};
 
@@ -61,21 +61,21 @@ fn refused(alloc: Global, stop: CheckStop) -> Result<Option<String>, AllocError>
     }
 }
 
-/// The first fault of a tree by the rules on modules.
-pub fn module_fault(alloc: Global, tree: &Tree) -> Result<Option<String>, AllocError> {
-    match judge_rules(alloc, tree) {
-        Ok(()) => Ok(None),
+/// The first fault of a tree by its resolution and the rules on modules.
+pub fn module_fault(alloc: Global, tree: Tree) -> Result<Option<String>, AllocError> {
+    match judge_source(alloc, tree) {
+        Ok(_) => Ok(None),
         Err(stop) => refused(alloc, stop),
     }
 }
 
-/// The first fault of a tree by the rules on modules, and where there is none, that of its instances and bindings.
-pub fn first_fault(alloc: Global, tree: &Tree) -> Result<Option<String>, AllocError> {
-    match judge_rules(alloc, tree) {
-        Ok(()) => {}
+/// The first fault of a tree by its resolution and the rules on modules, and where there is none, that of its instances and bindings.
+pub fn first_fault(alloc: Global, tree: Tree) -> Result<Option<String>, AllocError> {
+    let ticked = match judge_source(alloc, tree) {
+        Ok(ticked) => ticked,
         Err(stop) => return refused(alloc, stop),
-    }
-    match bound_objects(alloc, tree) {
+    };
+    match bound_objects(alloc, &ticked) {
         Ok(_) => Ok(None),
         Err(stop) => refused(alloc, stop),
     }

@@ -25,20 +25,23 @@ use Rattle.model_print.specs.ModelTree.declared.items.TargetRole.{TargetRole}
 use Rattle.model_print.specs.ModelTree.declared.items.TargetRole.TheVariants as target
 use Rattle.model_print.specs.ModelTree.declared.items.SignalItem.{SignalItem}
 use Rattle.model_print.specs.ModelTree.declared.items.ClockItem.{ClockItem}
+use Rattle.model_print.specs.ModelTree.declared.items.ResolutionLine.{ResolutionLine}
+use Rattle.model_print.specs.ModelTree.declared.items.Head.{Head}
+use Rattle.model_print.specs.ModelTree.declared.items.Head.TheVariants as head
 use Rattle.model_print.specs.ModelTree.declared.items.Top.{Top}
 use Rattle.model_print.specs.ModelTree.Leaves.{is_name}
-use Rattle.model_print.specs.ModelTree.Limits.{is_number, within, option_name, fits_events, fits_type, fits_var_type, fits_interface, fits_constant_form, fits_constant, fits_span, fits_number, fits_size, fits_initiator, fits_socket, fits_end, fits_parameters, fits_answer, fits_block, fits_item, fits_items, fits_modules, is_sound, bracket_limit}
+use Rattle.model_print.specs.ModelTree.Limits.{is_number, within, option_name, fits_events, fits_type, fits_var_type, fits_interface, fits_constant_form, fits_constant, fits_span, fits_number, fits_size, fits_initiator, fits_socket, fits_end, fits_parameters, fits_answer, fits_block, fits_item, fits_items, fits_modules, is_sound, bracket_limit, fits_resolution, fits_head}
 use Rattle.model_print.specs.ModelTree.Tree as tree
 use Rattle.model_lexer.specs.ModelGrammar.Tokens.{Tokens, name, number, logic, word, symbol}
 use Rattle.model_lexer.specs.ModelGrammar.Rules.{At, Takes, Maybe}
 use Rattle.model_print.specs.ModelTree.Spelling.{truth_word}
-use Rattle.model_lexer.specs.ModelGrammar.Items.{DerivesConstantForm, DerivesConstant, DerivesFirstValue, DerivesTime, DerivesStart, DerivesFifoSize, DerivesInterface, DerivesBound, DerivesPortSize, DerivesHandler, DerivesInitiatorRole, DerivesTargetRole, DerivesEnd, DerivesMode, DerivesParameter, DerivesParameters, DerivesAnswer, DerivesItem, DerivesModule, DerivesTop, DerivesModel}
+use Rattle.model_lexer.specs.ModelGrammar.Items.{DerivesConstantForm, DerivesConstant, DerivesFirstValue, DerivesTime, DerivesStart, DerivesFifoSize, DerivesInterface, DerivesBound, DerivesPortSize, DerivesHandler, DerivesInitiatorRole, DerivesTargetRole, DerivesEnd, DerivesMode, DerivesParameter, DerivesParameters, DerivesAnswer, DerivesItem, DerivesModule, DerivesTop, DerivesModel, DerivesResolution, DerivesHead, DerivesSource}
 use Rattle.model_print.specs.ModelTree.Spelling.{signal_word, plain_word, process_word}
 use Rattle.model_print.specs.Pieces as piece
 use Rattle.model_print.specs.Leaves as leaf
 use Rattle.model_print.specs.Printed as printed
 use Rattle.laws_print.specs.Unlined as unlined
-use Rattle.laws_print.proofs.Pieces.{word_piece, name_piece, number_piece, logic_piece, operator_piece, minus_piece, left_paren_piece, left_bracket_piece, right_paren_piece, right_bracket_piece}
+use Rattle.laws_print.proofs.Pieces.{word_piece, name_piece, number_piece, logic_piece, operator_piece, semicolon_piece, minus_piece, left_paren_piece, left_bracket_piece, right_paren_piece, right_bracket_piece}
 use Rattle.laws_print.proofs.Spelled.{Spelled, both, as_one, moved, loose, led, led_at, one, one_at, ended_by, of_nothing}
 use Rattle.laws_print.proofs.Lists.{name_spelled, flag_spelled, maybe_fixed, maybe_spelled, All, each_spelled, some_spelled}
 use Rattle.laws_print.proofs.Expressions.{unit_spelled}
@@ -312,9 +315,30 @@ top_spelled t h k =
     as_one (λ y. record { line = y.0; «module» = t.module; name = t.name }) (λ y s. refl) (λ y ts rest d. d) (headed_name w.Top t.module h (closed (name_spelled false t.name k)))
 
 -- the modules and the instance at the top
-pub model_spelled : (m : tree.Model) → is_sound m ≡ true → Spelled false DerivesModel (λ y. unlined.model y ≡ unlined.model m) (printed.model m)
+model_spelled : (m : tree.Model) → is_sound m ≡ true → Spelled false DerivesModel (λ y. unlined.model y ≡ unlined.model m) (printed.model m)
 model_spelled m h =
     let parts = and_parts (fits_modules m.modules bracket_limit) (is_name m.top.module && is_name m.top.name) h in
     let last = and_parts (is_name m.top.module) (is_name m.top.name) parts.1 in
     as_one (λ y. record { modules = y.0; top = y.1 }) (λ y s. rw (s.0, s.1) refl) (λ y ts rest d. d)
     (both (each_spelled unlined.module_ DerivesModule printed.module_ m.modules (modules_all bracket_limit m.modules parts.0)) (loose (top_spelled m.top last.0 last.1)))
+
+-- what a text says of its language
+resolution_spelled : (r : ResolutionLine) → is_number r.span.count ≡ true → Spelled false DerivesResolution (λ y. unlined.resolution y ≡ unlined.resolution r) (printed.resolution r)
+resolution_spelled r h = as_one (λ y. record { line = y.0; span = r.span }) (λ y s. refl) (λ y ts rest d. d) (loose (headed w.Resolution (closed (time_spelled r.span h))))
+
+resolution_number : (o : Option ResolutionLine) (r : ResolutionLine) → fits_resolution o ≡ true → o ≡ Some r → is_number r.span.count ≡ true
+resolution_number o r h e = subst (λ (z : Option ResolutionLine). fits_resolution z ≡ true) e h
+
+head_spelled : (x : Head) → fits_head x ≡ true → Spelled false DerivesHead (λ y. unlined.head y ≡ unlined.head x) (printed.first_lines x)
+head_spelled head.First h = as_one (λ y. head.First) (λ y s. refl) (λ y ts rest d. d) of_nothing
+head_spelled (head.Second r) h =
+    as_one (λ y. head.Second y) (λ y s. ap head.Second s) (λ y ts rest d. d)
+    (led false (piece.word w.Language) (word w.Language) (word_piece w.Language) refl
+    (led false (piece.number 2) (number 2) (number_piece 2 refl) refl
+    (led false piece.semicolon (symbol s.Semicolon) semicolon_piece refl
+    (maybe_spelled unlined.resolution DerivesResolution printed.resolution r (λ x e. resolution_spelled x (resolution_number r x h e))))))
+
+-- a whole text
+pub source_spelled : (x : tree.Source) → fits_head x.head ≡ true → is_sound x.model ≡ true → Spelled false DerivesSource (λ y. unlined.source y ≡ unlined.source x) (printed.printed x)
+source_spelled x k h =
+    as_one (λ y. record { head = y.0; model = y.1 }) (λ y s. rw (s.0, s.1) refl) (λ y ts rest d. d) (both (head_spelled x.head k) (model_spelled x.model h))

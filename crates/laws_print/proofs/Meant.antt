@@ -46,6 +46,7 @@ use Rattle.model_print.specs.ModelTree.declared.items.InitiatorRole.TheVariants 
 use Rattle.model_print.specs.ModelTree.declared.items.TargetRole.{TargetRole}
 use Rattle.model_print.specs.ModelTree.declared.items.TargetRole.TheVariants as target
 use Rattle.model_print.specs.ModelTree.declared.items.Top.{Top}
+use Rattle.model_print.specs.ModelTree.declared.items.ResolutionLine.{ResolutionLine}
 use Rattle.model_print.specs.ModelTree.declared.items.Head.{Head}
 use Rattle.model_print.specs.ModelTree.declared.items.Head.TheVariants as head
 use Rattle.model_print.specs.ModelTree.declared.vocabulary.Word.{Word}
@@ -58,11 +59,11 @@ use Rattle.model_print.specs.ModelTree.Tree as tree
 use Rattle.model_print.specs.ModelTree.Languages as leaf
 use Rattle.model_print.specs.ModelTree.Languages.{Leaf, Leaves, named, in_unit, descending, may_have}
 use Rattle.model_lexer.specs.ModelGrammar.Tokens.{Token, Tokens, name, number, logic, quoted, word, symbol, unit_token}
-use Rattle.model_lexer.specs.ModelGrammar.Languages.{Front, behind_number, behind_at, behind_other, behind_symbol, behind, word_or_same, later_token, in_second}
+use Rattle.model_lexer.specs.ModelGrammar.Languages.{Front, behind_number, behind_at, behind_other, behind_symbol, behind, word_or_same, later_token, in_second, says_second, in_language}
 use Rattle.model_lexer.specs.ModelGrammar.Rules.{Rule, ◌⨾◌, At, Takes, Nothing, Never, Each, Separated, Maybe, Written, Binds, OnLine}
 use Rattle.model_lexer.specs.ModelGrammar.Expressions.{Short, Parenthesized, DerivesAt, DerivesExpression}
 use Rattle.model_lexer.specs.ModelGrammar.Statements.{DerivesForm, DerivesType, DerivesVarTypeAt, DerivesVarType, DerivesPlace, DerivesChannel, DerivesMember, DerivesEvent, DerivesSensitive, DerivesArguments, DerivesIndex, DerivesTarget, NextName, NextExpression, DerivesOperation, DerivesResult, DerivesSpan, DerivesWaiting, DerivesNotification, DerivesHandle, DerivesSpawn, DerivesWho, DerivesAction, Braced, DerivesInitial, DerivesStatement, DerivesStatements, DerivesElse, HasHandler, DerivesHandlers}
-use Rattle.model_lexer.specs.ModelGrammar.Items.{DerivesConstantForm, DerivesFirstValue, DerivesTime, DerivesStart, DerivesFifoSize, DerivesInterface, DerivesBound, DerivesPortSize, DerivesHandler, DerivesInitiatorRole, DerivesTargetRole, DerivesEnd, DerivesMode, DerivesParameter, DerivesParameters, DerivesAnswer, DerivesItem, DerivesModule, DerivesTop, DerivesModel}
+use Rattle.model_lexer.specs.ModelGrammar.Items.{DerivesConstantForm, DerivesFirstValue, DerivesTime, DerivesStart, DerivesFifoSize, DerivesInterface, DerivesBound, DerivesPortSize, DerivesHandler, DerivesInitiatorRole, DerivesTargetRole, DerivesEnd, DerivesMode, DerivesParameter, DerivesParameters, DerivesAnswer, DerivesItem, DerivesModule, DerivesTop, DerivesModel, DerivesResolution, DerivesHead, DerivesSource}
 use Rattle.laws_print.specs.Unlined as unlined
 use Rattle.laws_print.proofs.Reading.{as_cut}
 
@@ -281,9 +282,8 @@ unit_calm unit.Fs f = refl
 unit_calm _ f = refl
 
 meant_descendants : (h : Head) → may_have h descending ≡ true → meant h behind_other (as_cut (word w.Descendants)) ≡ word w.Descendants
-unfolding later_word_of
 meant_descendants head.First k = cc
-meant_descendants (head.Second r) k = refl
+meant_descendants (head.Second r) k = cc
 
 -- words and symbols that a tree chooses
 
@@ -815,13 +815,51 @@ module _ (h : Head) where
       let (b, c) = leaf_parts (named m.top.module) (named m.top.name ∷ []) rest in
       each DerivesModule leaf.in_module module_text m.modules a >> top m.top b (only (named m.top.name) c)
 
-  nothing_left : (g : Front) → in_head h g (cut []) ≡ []
-  nothing_left g = none h
-    where
-      none : (x : Head) → in_head x g (cut []) ≡ []
-      none head.First = refl
-      none (head.Second r) = refl
+nothing_left : (h : Head) (g : Front) → in_head h g (cut []) ≡ []
+nothing_left head.First g = refl
+nothing_left (head.Second r) g = refl
 
-  -- the tokens of modules and of the instance at the top
-  pub derived_told : (m : tree.Model) (ts : Tokens) → leaf.keeps_language h m ≡ true → DerivesModel m ts [] → in_head h behind_other (cut ts) ≡ ts
-  derived_told m ts keeps derived = (model m keeps).told behind_other refl ts [] derived (λ g b. nothing_left g)
+-- the words of a head, which only a text of language 2 has
+
+abbrev seconds : Option ResolutionLine → Head
+seconds r = head.Second r
+
+language_fine : (r : Option ResolutionLine) → Fine (seconds r) Calm (word w.Language) Calm
+unfolding later_word_of
+language_fine r = λ f is. (subst (λ (g : Front). later_token g (as_cut (word w.Language)) ≡ word w.Language) (sym is) refl, refl)
+
+resolution_fine : (r : Option ResolutionLine) → Fine (seconds r) Calm (word w.Resolution) Calm
+unfolding later_word_of
+resolution_fine r = λ f is. (subst (λ (g : Front). later_token g (as_cut (word w.Resolution)) ≡ word w.Resolution) (sym is) refl, refl)
+
+resolution_told : (r o : Option ResolutionLine) → Told (seconds r) Calm (Maybe DerivesResolution o) Calm
+resolution_told r None = nothing
+resolution_told r (Some x) = at {h = seconds r} {A = Calm} {B = Calm} (resolution_fine r) >> time x.span refl >> mark refl
+
+head_told : (x : Head) → Told x Calm (DerivesHead x) Calm
+head_told head.First = nothing
+head_told (head.Second r) = takes {h = seconds r} {A = Calm} {B = Calm} (language_fine r) >> number_taken >> mark refl >> resolution_told r r
+
+source_told : (x : tree.Source) (ts : Tokens) → leaf.keeps_language x.head x.model ≡ true → DerivesSource x ts [] → in_head x.head behind_other (cut ts) ≡ ts
+source_told x ts keeps derived = (head_told x.head >> model x.head x.model keeps).told behind_other refl ts [] derived (λ g b. nothing_left x.head g)
+
+-- which language the tokens are of is seen at the first one
+
+first_told : (m : tree.Model) (ts : Tokens) → DerivesModel m ts [] → says_second ts ≡ false
+first_told m ts derived = begun m.modules derived
+  where
+    begun : (ms : List tree.Module) → DerivesModel (record { modules = ms; top = m.top }) ts [] → says_second ts ≡ false
+    begun [] (mid, none, (a, one, more)) = rw (none, one) refl
+    begun (x ∷ xs) (mid, (b, (a, one, more), others), last) = rw one refl
+
+by_head : (h : Head) (m : tree.Model) (ts : Tokens) → DerivesSource (record { head = h; model = m }) ts [] → in_head h behind_other (cut ts) ≡ ts → in_language (cut ts) ≡ ts
+by_head head.First m ts (mid, none, derived) same =
+    let apart : says_second (cut ts) ≡ false = ap says_second same ∙ first_told m ts (subst (λ (us : Tokens). DerivesModel m us []) (sym none) derived) in
+    rw apart same
+by_head (head.Second r) m ts ((mid, (a, (line, one), more), derived)) same =
+    let second : says_second (cut ts) ≡ true = rw one refl in
+    rw second same
+
+-- the tokens of a text, cut and read in the language that it says
+pub language_told : (x : tree.Source) (ts : Tokens) → leaf.keeps_language x.head x.model ≡ true → DerivesSource x ts [] → in_language (cut ts) ≡ ts
+language_told x ts keeps derived = by_head x.head x.model ts derived (source_told x ts keeps derived)

@@ -1,80 +1,73 @@
 -- That the printed text of a tree reads as the same tree but for line numbers.
-use Rattle.std.proofs.Common.{◌≡◌, true, false, List, [], ◌∷◌, append-nil, ◌∙◌, refl, sym, ap, subst, arith}
+use Rattle.std.proofs.Common.{◌≡◌, true, List, [], ◌∷◌, append-nil, ◌∙◌, refl, sym, ap, subst, arith}
 use Rattle.std.specs.Prelude.{map}
 use Rattle.std.specs.List.{list_all}
-use Rattle.model_print.specs.ModelTree.Limits.{is_sound}
-use Rattle.model_print.specs.ModelTree.Languages.{Leaves, may_have, leaves_of, keeps_language}
+use Rattle.model_print.specs.ModelTree.Limits.{is_sound, fits_head}
+use Rattle.model_print.specs.ModelTree.Languages.{Leaf, Leaves, named, in_unit, descending, may_have, leaves_of, keeps_language}
 use Rattle.model_print.specs.ModelTree.declared.items.Head.{Head}
 use Rattle.model_print.specs.ModelTree.declared.items.Head.TheVariants as head
 use Rattle.model_print.specs.ModelTree.Tree as tree
 use Rattle.model_lexer.specs.ModelGrammar.Tokens.{Token, Tokens}
-use Rattle.model_lexer.specs.ModelGrammar.Items.{DerivesModel}
+use Rattle.model_lexer.specs.ModelGrammar.Items.{DerivesSource}
+use Rattle.model_lexer.specs.ModelGrammar.Languages.{in_language}
 use Rattle.model_lexer.specs.ModelGrammar.Brackets.{brackets}
 use Rattle.model_lexer.specs.Cut.{Lexeme}
 use Rattle.model_lexer.specs.Laws.{with_lines}
-use Rattle.model_print.specs.Printed.{model, printed_text}
+use Rattle.model_print.specs.Printed.{printed, printed_text}
 use Rattle.laws_print.specs.PrintsAgain.{PrintsAgain}
 use Rattle.laws_print.specs.ReadsBack.{ReadsBack}
 use Rattle.laws_print.specs.Unlined as unlined
 use Rattle.laws_print.proofs.Reading.{as_cut}
 use Rattle.laws_print.proofs.Laid.{layout_cut}
-use Rattle.laws_print.proofs.Spelled.{Spelled, meanings}
-use Rattle.laws_print.proofs.Items.{model_spelled}
+use Rattle.laws_print.proofs.Spelled.{meanings}
+use Rattle.laws_print.proofs.Items.{source_spelled}
 use Rattle.laws_print.proofs.Depths.{same_brackets, sound_deep}
-use Rattle.laws_print.proofs.Meant.{same_leaves, cut, derived_told}
+use Rattle.laws_print.proofs.Meant.{same_leaves, cut, language_told}
 use Rattle.laws_print.proofs.Unprinted.{same_text}
 
-tokens_lined : (ls : List Lexeme) → meanings (with_lines ls) ≡ map (λ l. l.token) ls
-tokens_lined [] = refl
-tokens_lined (l ∷ ls) = ap (λ (ts : List Token). l.token ∷ ts) (tokens_lined ls)
+-- tokens on the lines of those that a text is cut into
+lined_as : (ts : List Token) (ls : List Lexeme) → map (λ l. l.token) ls ≡ map as_cut ts → (us : Tokens) × (meanings us ≡ ts) × (cut us ≡ with_lines ls)
+lined_as [] [] e = ([], refl, refl)
+lined_as [] (l ∷ ls) e = cc
+lined_as (t ∷ ts) [] e = cc
+lined_as (t ∷ ts) (l ∷ ls) e =
+    let one : as_cut t ≡ l.token = cc in
+    let rest : map (λ (l : Lexeme). l.token) ls ≡ map as_cut ts = cc in
+    let (us, meant, same) = lined_as ts ls rest in (
+      (t, l.line) ∷ us,
+      ap (λ (xs : List Token). t ∷ xs) meant,
+      ap (λ (x : Token). (x, l.line) ∷ cut us) one ∙ ap (λ (xs : Tokens). (l.token, l.line) ∷ xs) same,
+    )
 
--- tokens on some line
-abbrev lined : List Token → Tokens
-lined ts = map (λ t. (t, 0)) ts
+-- a tree keeps to its language whatever its lines are
+same_leaf : (h : Head) (x : Leaf) → may_have (unlined.head h) x ≡ may_have h x
+same_leaf head.First x = refl
+same_leaf (head.Second r) (named x) = refl
+same_leaf (head.Second r) (in_unit u) = refl
+same_leaf (head.Second r) descending = refl
 
-lined_meant : (ts : List Token) → meanings (lined ts) ≡ ts
-lined_meant [] = refl
-lined_meant (t ∷ ts) = ap (λ (us : List Token). t ∷ us) (lined_meant ts)
+same_all : (h : Head) (xs : Leaves) → list_all (may_have (unlined.head h)) xs ≡ list_all (may_have h) xs
+same_all h [] = refl
+same_all h (x ∷ xs) = rw (same_leaf h x, same_all h xs) refl
 
--- a tree keeps to language 1 whatever its lines are
-keeps_too : (m n : tree.Model) → unlined.model n ≡ unlined.model m → keeps_language head.First m ≡ true → keeps_language head.First n ≡ true
-keeps_too m n alike keeps =
-    let same : leaves_of n ≡ leaves_of m = sym (same_leaves n) ∙ ap leaves_of alike ∙ same_leaves m in
-    subst (λ (xs : Leaves). list_all (may_have head.First) xs ≡ true) (sym same) keeps
+unlined_keeps : (x : tree.Source) → keeps_language (unlined.source x).head (unlined.source x).model ≡ keeps_language x.head x.model
+unlined_keeps x = ap (list_all (may_have (unlined.head x.head))) (same_leaves x.model) ∙ same_all x.head (leaves_of x.model)
 
--- so its tokens are those that a text is cut into
-cut_lined : (ts : List Token) → meanings (cut (lined ts)) ≡ map as_cut ts
-cut_lined [] = refl
-cut_lined (t ∷ ts) = ap (λ (us : List Token). as_cut t ∷ us) (cut_lined ts)
+keeps_too : (x y : tree.Source) → unlined.source y ≡ unlined.source x → keeps_language x.head x.model ≡ true → keeps_language y.head y.model ≡ true
+keeps_too x y alike keeps = sym (unlined_keeps y) ∙ ap (λ (z : tree.Source). keeps_language z.head z.model) alike ∙ unlined_keeps x ∙ keeps
 
-module _ (m : tree.Model) (keeps : keeps_language head.First m ≡ true) where
-  cut_same : (a : Spelled false DerivesModel (λ y. unlined.model y ≡ unlined.model m) (model m)) → map as_cut a.tokens ≡ a.tokens
-  cut_same a =
-      let (n, alike, derives) = a.reads (lined a.tokens) (lined_meant a.tokens) in
-      let derived : DerivesModel n (lined a.tokens) [] = subst (λ (ts : Tokens). DerivesModel n ts []) (append-nil (lined a.tokens)) (derives []) in
-      let same : cut (lined a.tokens) ≡ lined a.tokens = derived_told head.First n (lined a.tokens) (keeps_too m n alike keeps) derived in
-      sym (cut_lined a.tokens) ∙ ap meanings same ∙ lined_meant a.tokens
+pub printed_reads : (x : tree.Source) → fits_head x.head ≡ true → keeps_language x.head x.model ≡ true → is_sound x.model ≡ true → ReadsBack (printed_text x) x
+printed_reads x k keeps h =
+    let a = source_spelled x k h in
+    let (ls, same, cuts) = layout_cut (printed x) a.tokens a.means a.fits in
+    let (us, meant, lined) = lined_as a.tokens ls same in
+    let (y, alike, derives) = a.reads us meant in
+    let derived : DerivesSource y us [] = subst (λ (ts : Tokens). DerivesSource y ts []) (append-nil us) (derives []) in
+    let told : in_language (cut us) ≡ us = language_told y us (keeps_too x y alike keeps) derived in
+    let here : us ≡ in_language (with_lines ls) = sym told ∙ ap in_language lined in
+    let deep : brackets y.model ≡ brackets x.model = sym (same_brackets y.model) ∙ ap (λ (z : tree.Source). brackets z.model) alike ∙ same_brackets x.model in
+    let few = sound_deep x.model h in
+    (y, (ls, cuts, subst (λ (ts : Tokens). DerivesSource y ts []) here derived, omega (arith, deep)), sym alike)
 
--- a model behind a head
-abbrev behind_head : tree.Model → Head → tree.Source
-behind_head m h = record { head = h; model = m }
-
-abbrev first_source : tree.Model → tree.Source
-first_source m = behind_head m head.First
-
-first_reads : (m : tree.Model) → keeps_language head.First m ≡ true → is_sound m ≡ true → ReadsBack (printed_text (first_source m)) (first_source m)
-first_reads m keeps h =
-    let a = model_spelled m h in
-    let (ls, same, cut) = layout_cut (model m) a.tokens a.means a.fits in
-    let (n, alike, derives) = a.reads (with_lines ls) (tokens_lined ls ∙ same ∙ cut_same m keeps a) in
-    let deep : brackets n ≡ brackets m = sym (same_brackets n) ∙ ap brackets alike ∙ same_brackets m in
-    let few = sound_deep m h in
-    (first_source n, (ls, cut, (with_lines ls, refl, subst (λ (ts : Tokens). DerivesModel n ts []) (append-nil (with_lines ls)) (derives [])), omega (arith, deep)), ap first_source (sym alike))
-
-pub printed_reads : (x : tree.Source) → x.head ≡ head.First → keeps_language x.head x.model ≡ true → is_sound x.model ≡ true → ReadsBack (printed_text x) x
-printed_reads x first keeps h =
-    let same : first_source x.model ≡ x = ap (behind_head x.model) (sym first) in
-    subst (λ (z : tree.Source). ReadsBack (printed_text z) z) same (first_reads x.model (subst (λ (z : Head). keeps_language z x.model ≡ true) first keeps) h)
-
-pub printed_again : (x : tree.Source) → x.head ≡ head.First → keeps_language x.head x.model ≡ true → is_sound x.model ≡ true → PrintsAgain (printed_text x) x
-printed_again x first keeps h = let (y, reads, same) = printed_reads x first keeps h in (y, reads, same, sym (same_text x y same))
+pub printed_again : (x : tree.Source) → fits_head x.head ≡ true → keeps_language x.head x.model ≡ true → is_sound x.model ≡ true → PrintsAgain (printed_text x) x
+printed_again x k keeps h = let (y, reads, same) = printed_reads x k keeps h in (y, reads, same, sym (same_text x y same))

@@ -1,9 +1,8 @@
 ghost use Rattle.std.specs.Prelude.{◌≡◌, ℕ, ◌*◌, ◌^◌, ◌<◌, ◌≤◌, true, List, length};
 ghost use Rattle.model_print.specs.ModelTree.Languages.{keeps_language};
-ghost use Rattle.model_print.specs.ModelTree.Limits.{is_sound};
+ghost use Rattle.model_print.specs.ModelTree.Limits.{fits_head, is_sound};
 ghost use Rattle.model_print.specs.ModelTree.Seen.{source_of};
 ghost use Rattle.model_print.specs.ModelTree.Tree as tree;
-ghost use Rattle.model_print.specs.ModelTree.declared.items.Head.TheVariants as head;
 ghost use Rattle.model_print.specs.ModelTree.declared.whole.Tree.{Tree};
 ghost use Rattle.model_print.specs.Printed.{printed_text};
 ghost use Rattle.model_lexer.specs.Reads.{Reads};
@@ -12,14 +11,14 @@ ghost use Rattle.laws_print.specs.PrintsAgain.{PrintsAgain};
 ghost use Rattle.laws_print.specs.ReadsBack.{ReadsBack};
 ghost use Rattle.laws_print.specs.Unlined.{SameButLines};
 
-/// The printed text of a tree of language 1 within the limits reads as the same tree but for line numbers.
+/// The printed text of a tree within the limits reads as the same tree but for line numbers.
 pub fn print_reads_back()
-    ensures { (x : tree.Source) → x.head ≡ head.First → keeps_language x.head x.model ≡ true → is_sound x.model ≡ true → ReadsBack (printed_text x) x }
+    ensures { (x : tree.Source) → fits_head x.head ≡ true → keeps_language x.head x.model ≡ true → is_sound x.model ≡ true → ReadsBack (printed_text x) x }
 {}
 
-/// So does that of each tree of language 1 in memory, which is within the limits.
+/// So does that of each tree in memory, which is within the limits.
 pub fn print_of_a_tree_reads_back()
-    ensures { (t : Tree) → t.head ≡ head.First → ReadsBack (printed_text (source_of t)) (source_of t) }
+    ensures { (t : Tree) → ReadsBack (printed_text (source_of t)) (source_of t) }
 {}
 
 /// Two trees that are the same but for line numbers have one printed text.
@@ -27,9 +26,9 @@ pub fn lines_are_not_printed()
     ensures { (x y : tree.Source) → SameButLines x y → printed_text x ≡ printed_text y }
 {}
 
-/// The printed text of a tree of language 1 within the limits is printed again, byte for byte, of the tree that it reads as.
+/// The printed text of a tree within the limits is printed again, byte for byte, of the tree that it reads as.
 pub fn print_prints_again()
-    ensures { (x : tree.Source) → x.head ≡ head.First → keeps_language x.head x.model ≡ true → is_sound x.model ≡ true → PrintsAgain (printed_text x) x }
+    ensures { (x : tree.Source) → fits_head x.head ≡ true → keeps_language x.head x.model ≡ true → is_sound x.model ≡ true → PrintsAgain (printed_text x) x }
 {}
 
 /// The printed text of a tree that was read is at most so many times as long as the text it was read of: indentation grows

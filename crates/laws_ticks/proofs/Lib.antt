@@ -1,2 +1,4 @@
 pub mod First
 pub mod Same
+mod Literals
+mod Late

@@ -3,3 +3,5 @@ pub mod BodyLemmas
 pub mod LaidLemmas
 pub mod Standing
 mod Raised
+pub mod Ticked
+pub mod Told

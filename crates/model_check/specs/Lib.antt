@@ -2,3 +2,4 @@ pub mod Parts
 pub mod ModelRules
 pub mod CodeRules
 pub mod CodeRooms
+pub mod TickRules

@@ -1,4 +1,4 @@
-//! All rules on the modules of a tree: its first fault.
+//! All rules on the modules of a tree: its first fault, and that of a whole text of either language.
 //!
 //! The code of a model: the bodies of its functions and processes, and the threads of its clocks.
 //!
@@ -12,10 +12,12 @@ mod clocks;
 mod items;
 mod judged;
 mod locals;
+mod sources;
 mod whole;
 
 pub use checked::{Checked, check};
 pub use judged::judge_rules;
+pub use sources::judge_source;
 pub use whole::code_of;
 
 /// What is passed on of code_terms.
@@ -31,4 +33,9 @@ pub mod logic_values_api {
 /// What is passed on of plain_lists.
 pub mod plain_lists_api {
     pub use code_rooms::plain_lists_api::Items;
+}
+
+/// What is passed on of tick_rules.
+pub mod tick_rules_api {
+    pub use tick_rules::{resolution_of, ticks_act_alone};
 }

@@ -27,7 +27,6 @@ use Rattle.model_tree.specs.declared.items.InitiatorRole.{InitiatorRole}
 use Rattle.model_tree.specs.declared.items.InitiatorRole.TheVariants as initiator
 use Rattle.model_tree.specs.declared.items.TargetRole.{TargetRole}
 use Rattle.model_tree.specs.declared.items.TargetRole.TheVariants as target
-use Rattle.model_tree.specs.declared.items.Top.{Top}
 use Rattle.model_tree.specs.declared.items.Head.{Head}
 use Rattle.model_tree.specs.declared.items.Head.TheVariants as head
 use Rattle.model_tree.specs.declared.vocabulary.Word.{Word}
@@ -36,12 +35,12 @@ use Rattle.model_tree.specs.declared.vocabulary.Symbol.TheVariants as s
 use Rattle.model_tree.specs.Tree as tree
 use Rattle.model_tree.specs.Languages as leaf
 use Rattle.model_tree.specs.Languages.{Leaf, Leaves, named, in_unit, descending, may_have}
-use Rattle.model_grammar.specs.Tokens.{Token, Tokens, name, number, word, symbol, each_is, unit_token}
+use Rattle.model_grammar.specs.Tokens.{Token, Tokens, word, symbol, each_is, unit_token}
 use Rattle.model_grammar.specs.Versions.{may_token}
-use Rattle.model_grammar.specs.Rules.{Rule, ◌⨾◌, At, Takes, Nothing, Each, Separated, Maybe, Written}
+use Rattle.model_grammar.specs.Rules.{Rule, ◌⨾◌, At, Takes, Each, Separated, Maybe, Written}
 use Rattle.model_grammar.specs.Expressions.{Parenthesized, DerivesAt, DerivesExpression}
-use Rattle.model_grammar.specs.Statements.{DerivesForm, DerivesType, DerivesVarTypeAt, DerivesVarType, DerivesPlace, DerivesChannel, DerivesMember, DerivesEvent, DerivesSensitive, DerivesArguments, DerivesIndex, DerivesTarget, NextName, NextExpression, DerivesOperation, DerivesResult, DerivesSpan, DerivesWaiting, DerivesNotification, DerivesHandle, DerivesSpawn, DerivesWho, DerivesAction, Braced, DerivesInitial, DerivesStatement, DerivesStatements, DerivesElse, HasHandler, DerivesHandlers, DerivesBlock}
-use Rattle.model_grammar.specs.Items.{DerivesConstantForm, DerivesConstant, DerivesFirstValue, DerivesTime, DerivesStart, DerivesFifoSize, DerivesInterface, DerivesBound, DerivesPortSize, DerivesHandler, DerivesInitiatorRole, DerivesTargetRole, DerivesEnd, DerivesMode, DerivesParameter, DerivesParameters, DerivesAnswer, DerivesItem, DerivesModule, DerivesTop, DerivesModel}
+use Rattle.model_grammar.specs.Statements.{DerivesForm, DerivesType, DerivesVarTypeAt, DerivesVarType, DerivesPlace, DerivesChannel, DerivesMember, DerivesEvent, DerivesSensitive, DerivesArguments, DerivesIndex, DerivesTarget, NextName, NextExpression, DerivesOperation, DerivesResult, DerivesSpan, DerivesWaiting, DerivesNotification, DerivesHandle, DerivesSpawn, DerivesWho, DerivesAction, Braced, DerivesInitial, DerivesStatement, DerivesStatements, DerivesElse, HasHandler, DerivesHandlers}
+use Rattle.model_grammar.specs.Items.{DerivesConstantForm, DerivesConstant, DerivesFirstValue, DerivesTime, DerivesStart, DerivesFifoSize, DerivesInterface, DerivesBound, DerivesPortSize, DerivesHandler, DerivesInitiatorRole, DerivesTargetRole, DerivesEnd, DerivesMode, DerivesParameter, DerivesParameters, DerivesAnswer, DerivesItem, DerivesModule, DerivesModel}
 use Rattle.model_grammar.proofs.Keeps.{KeepsBy, at, takes, nothing, ◌>>=◌, so, ends, never, short, binds, on_line, any_line, written}
 
 module _ (h : Head) where

@@ -64,10 +64,16 @@ behind f (quoted x) = behind_other
 behind f (word u) = behind_other
 behind f (symbol u) = behind_symbol u
 
+-- what a reserved word of language 2 is read as: itself, but that no form has `descendants` yet, which is read as `language`, the word
+-- with which nothing goes on
+abbrev pub as_read : Word → Word
+as_read w.Descendants = w.Language
+as_read u = u
+
 -- a name in language 2: one of its reserved words, or a name
 abbrev pub word_or_same : Option Word → List ℕ → Token
 word_or_same None x = name x
-word_or_same (Some u) x = word u
+word_or_same (Some u) x = word (as_read u)
 
 abbrev pub later_name : List ℕ → Token
 later_name x = word_or_same (later_word_of x) x
@@ -99,6 +105,10 @@ says_language (quoted x) = false
 says_language (word u) = false
 says_language (symbol u) = false
 
+-- whether the tokens are those of a text of language 2
+abbrev pub says_second : Tokens → Bool
+says_second [] = false
+says_second (t ∷ ts) = says_language t.0
+
 abbrev pub in_language : Tokens → Tokens
-in_language [] = []
-in_language (t ∷ ts) = if says_language t.0 then in_second behind_other (t ∷ ts) else t ∷ ts
+in_language ts = if says_second ts then in_second behind_other ts else ts

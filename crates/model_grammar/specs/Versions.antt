@@ -1,5 +1,5 @@
 -- Which tokens a text of a version of the language may have, once they are as its language has them.
-use Rattle.std.specs.Prelude.{ℕ, Bool, true, not, ◌||◌, if◌then◌else◌}
+use Rattle.std.specs.Prelude.{Bool, true, not, ◌||◌, if◌then◌else◌}
 use denote.Enum.Bare.{sameb}
 use Rattle.model_tree.specs.SimTime.declared.moments.Unit.TheVariants as unit
 use Rattle.model_tree.specs.contracts.vocabulary.Word.{the_type as the_word}

@@ -9,15 +9,15 @@ use Rattle.model_grammar.specs.LogicValues.declared.kinds.Digit.{Digit}
 use Rattle.model_grammar.specs.ModelTree.declared.vocabulary.Word.{Word}
 use Rattle.model_grammar.specs.ModelTree.declared.vocabulary.Symbol.{Symbol}
 use Rattle.model_grammar.specs.ModelTree.declared.vocabulary.TheConstants.{WORDS}
-use Rattle.model_grammar.specs.ModelTree.declared.items.Head.TheVariants as head
 use Rattle.model_grammar.specs.ModelTree.Vocabulary.{word_of, word_text}
 use Rattle.model_grammar.specs.ModelTree.Languages.{keeps_language}
 use Rattle.model_grammar.specs.ModelTree.Tree as tree
 use Rattle.model_grammar.specs.ModelTree.Leaves.{is_name, is_print_text}
-use Rattle.model_grammar.specs.ModelTree.Limits.{is_number}
+use Rattle.model_grammar.specs.ModelTree.Limits.{is_number, is_sound, fits_head}
 use Rattle.model_grammar.specs.Tokens.{Token, name, number, logic, quoted, symbol, symbol_of, is_limited, are_limited, each_is, word_or_name}
+use Rattle.model_grammar.specs.Languages.{in_language}
 use Rattle.model_grammar.specs.Versions.{is_later_word, is_plain}
-use Rattle.model_grammar.proofs.Tokens.{plain_first, plain_keeps}
+use Rattle.model_grammar.proofs.Tokens.{keeps_to, source_sound, source_fits, language_limited}
 use Rattle.std.specs.Str.Parse.{digits_value}
 use Rattle.model_lexer.specs.declared.forms.Form.{Form}
 use Rattle.model_lexer.specs.declared.forms.Form.TheVariants as form
@@ -88,11 +88,8 @@ cut_plain text at [] c = refl
 cut_plain text at (t ∷ ts) (gap, k, more) =
     and_from (is_plain t.token) (each_is is_plain (with_lines ts)) (token_plain (meaning k.form (take k.len (drop t.start text))) t.token (meaning_plain k.form (take k.len (drop t.start text))) k.meant) (cut_plain text t.end ts more)
 
-pub reads_first : (text : List ℕ) (x : tree.Source) → Reads text x → x.head ≡ head.First
-reads_first text x (ts, cut, derived, few) = plain_first x.head x.model (with_lines ts) derived (cut_plain text 0 ts cut)
-
 pub reads_keeps : (text : List ℕ) (x : tree.Source) → Reads text x → keeps_language x.head x.model ≡ true
-reads_keeps text x (ts, cut, derived, few) = plain_keeps x (with_lines ts) derived (cut_plain text 0 ts cut)
+reads_keeps text x (ts, cut, derived, few) = keeps_to x (with_lines ts) derived (cut_plain text 0 ts cut)
 
 -- the limits
 
@@ -147,6 +144,16 @@ pub cut_limited : (text : List ℕ) (at : ℕ) (ts : List Lexeme) → CutFrom te
 cut_limited text at [] c = refl
 cut_limited text at (t ∷ ts) (gap, k, more) =
     and_from (is_limited t.token) (are_limited (with_lines ts)) (token_limited (meaning k.form (take k.len (drop t.start text))) t.token (meaning_limited k.form (take k.len (drop t.start text))) k.meant) (cut_limited text t.end ts more)
+
+-- and so do they in the language of the text
+pub language_cut : (text : List ℕ) (ts : List Lexeme) → CutFrom text 0 ts → are_limited (in_language (with_lines ts)) ≡ true
+language_cut text ts cut = language_limited (with_lines ts) (cut_limited text 0 ts cut)
+
+pub reads_sound : (text : List ℕ) (x : tree.Source) → Reads text x → is_sound x.model ≡ true
+reads_sound text x (ts, cut, derived, few) = source_sound x (in_language (with_lines ts)) derived (language_cut text ts cut) few
+
+pub reads_fits : (text : List ℕ) (x : tree.Source) → Reads text x → fits_head x.head ≡ true
+reads_fits text x (ts, cut, derived, few) = source_fits x (in_language (with_lines ts)) derived (language_cut text ts cut)
 
 gaps_up : (text : List ℕ) (at up : ℕ) (ns : List ℕ) → AreGaps text at up ns → at ≤ up
 gaps_up text at up [] e = omega arith

@@ -3,6 +3,7 @@ pub mod Longest
 pub mod Cuts
 pub mod CutLaws
 pub mod Turns
+pub mod Later
 pub mod Numbers
 pub mod LogicDigits
 pub mod OneForm

@@ -2,10 +2,13 @@
 use Rattle.std.specs.Prelude.{◌≡◌, ℕ, List, map, take, Some}
 use Rattle.model_grammar.specs.LogicValues.Digits.{digits}
 use Rattle.model_grammar.specs.Tokens as t
+use Rattle.model_grammar.specs.Languages as l
 use Rattle.model_lexer.specs.declared.forms.Form.{Form}
 use Rattle.model_lexer.specs.declared.token.TokenKind.{TokenKind}
 use Rattle.model_lexer.specs.declared.token.TokenKind.TheVariants as kind
 use Rattle.model_lexer.specs.declared.token.Token.{Token}
+use Rattle.model_lexer.specs.declared.languages.Front.{Front}
+use Rattle.model_lexer.specs.declared.languages.Front.TheVariants as front
 use Rattle.model_lexer.specs.declared.lexing.Next.{Next}
 use Rattle.model_lexer.specs.declared.lexing.Next.TheVariants as next
 use Rattle.model_lexer.specs.Meanings.{meaning}
@@ -18,6 +21,12 @@ token_of (kind.Num n) = t.number n
 token_of (kind.Logic v) = t.logic (digits v)
 token_of (kind.Text bytes) = t.quoted bytes.now
 token_of (kind.Symbol s) = t.symbol s
+
+-- what stands in front of a token
+abbrev pub front_of : Front → l.Front
+front_of front.Number = l.behind_number
+front_of front.At = l.behind_at
+front_of front.Other = l.behind_other
 
 abbrev pub lexeme_of : Token → Lexeme
 lexeme_of x = record { token = token_of x.kind; start = x.start; end = x.end; line = x.line }

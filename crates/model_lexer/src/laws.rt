@@ -1,7 +1,6 @@
 ghost use Rattle.std.specs.Prelude.{◌≡◌, ℕ, ◌≤◌, List, length, count_by, take, drop, Some, true};
 ghost use Rattle.model_grammar.specs.ModelTree.Languages.{keeps_language};
 ghost use Rattle.model_grammar.specs.ModelTree.Tree as tree;
-ghost use Rattle.model_grammar.specs.ModelTree.declared.items.Head.TheVariants as head;
 ghost use Rattle.model_grammar.specs.Tokens.{are_limited, each_is};
 ghost use Rattle.model_grammar.specs.Versions.{is_plain};
 ghost use Rattle.model_lexer.specs.declared.forms.Form.{Form};
@@ -40,10 +39,9 @@ pub fn plain_tokens()
     ensures { (text : List ℕ) (ts : List Lexeme) → Cut text ts → each_is is_plain (with_lines ts) ≡ true }
 {}
 
-/// What a text reads as is of language 1, and keeps to it.
-pub fn reads_language_1()
-    ensures first { (text : List ℕ) (x : tree.Source) → Reads text x → x.head ≡ head.First }
-    ensures keeps { (text : List ℕ) (x : tree.Source) → Reads text x → keeps_language x.head x.model ≡ true }
+/// What a text reads as keeps to its language.
+pub fn reads_a_language()
+    ensures { (text : List ℕ) (x : tree.Source) → Reads text x → keeps_language x.head x.model ≡ true }
 {}
 
 /// The tokens' places are in order and within the text, and no two overlap.

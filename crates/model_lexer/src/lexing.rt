@@ -45,7 +45,7 @@ fn line_ends(bytes: &[u8]) -> u64
 }
 
 /// Adds a token at the end, or answers out of memory.
-fn push<'a>(found: &mut Tokens<'a>, token: Token<'a>) -> Result<(), ParseStop>
+pub(crate) fn push<'a>(found: &mut Tokens<'a>, token: Token<'a>) -> Result<(), ParseStop>
     ensures ok { OnOk result (found.new ≡ found.old ++ token.entry ∷ []) }
     ensures err { IfErr result (λ e. e ≡ ParseStop.NoMemory) }
 {

@@ -3,14 +3,16 @@
 
 mod forms;
 mod fronts;
+mod languages;
 mod laws;
 mod lexing;
 mod meanings;
 mod token;
 
+pub use languages::tokens_in_language;
 pub use laws::{
     limited_tokens, longest_piece, one_cut, one_form, one_piece, ordered_tokens,
-    past_limit_refused, plain_tokens, reads_language_1,
+    past_limit_refused, plain_tokens, reads_a_language,
 };
 pub use lexing::tokens;
 pub use token::{Token, TokenKind, Tokens};

@@ -3,29 +3,32 @@ use Rattle.std.proofs.Common.{◌≡◌, ℕ, suc, ◌≤◌, true, false, List,
 use Rattle.std.proofs.lemmas.Option.{same_Some}
 use Rattle.model_tree.specs.declared.vocabulary.Word.TheVariants as w
 use Rattle.model_tree.specs.declared.vocabulary.Symbol.TheVariants as s
+use Rattle.model_tree.specs.declared.vocabulary.Word.{Word}
+use Rattle.model_tree.specs.declared.items.ResolutionLine.{ResolutionLine}
 use Rattle.model_tree.specs.declared.items.Head.{Head}
 use Rattle.model_tree.specs.declared.items.Head.TheVariants as head
 use Rattle.model_tree.specs.declared.items.Top.{Top}
-use Rattle.model_tree.specs.Languages.{keeps_language}
-use Rattle.model_tree.specs.Limits.{is_sound}
 use Rattle.model_tree.specs.Tree as tree
+use Rattle.parse_statements.specs.ModelGrammar.Languages.{in_language}
+use Rattle.parse_statements.specs.ModelGrammar.Expressions.{sees}
+use Rattle.parse_statements.specs.ModelGrammar.Tokens as t
 use Rattle.parse_statements.specs.ModelGrammar.Tokens.{Tokens}
-use Rattle.parse_statements.specs.ModelGrammar.Rules.{Each}
-use Rattle.parse_statements.specs.ModelGrammar.Items.{DerivesModule, DerivesTop, DerivesModel, DerivesSource}
+use Rattle.parse_statements.specs.ModelGrammar.Rules.{Each, Maybe}
+use Rattle.parse_statements.specs.ModelGrammar.Items.{DerivesModule, DerivesTop, DerivesModel, DerivesResolution, DerivesHead, DerivesSource}
 use Rattle.parse_statements.specs.ModelGrammar.Brackets.{in_items, in_modules}
 use Rattle.parse_statements.proofs.ModelGrammar.Shrinks.{module_shortens}
-use Rattle.parse_statements.proofs.ModelGrammar.SoundItems.{model_sound}
 use Rattle.parse_statements.specs.ModelLexer.Laws.{with_lines}
-use Rattle.parse_statements.proofs.ModelLexer.CutLaws.{cut_limited, reads_first, reads_keeps}
 use Rattle.parse_statements.proofs.ModelLexer.Cuts.{one_cut_from}
-use Rattle.parse_statements.specs.ParseExpressions.Parse.{word, symbol, name}
-use Rattle.parse_statements.proofs.ParseExpressions.Parsers.{and_then_ok, made}
-use Rattle.parse_statements.proofs.ParseExpressions.OneToken.{symbol_ok, symbol_reads, symbol_sees, name_ok, name_reads, this_word_at, word_reads}
+use Rattle.parse_statements.specs.ParseExpressions.Parse.{pure, word, is_the_word, symbol, name, this_number}
+use Rattle.parse_statements.proofs.ParseExpressions.Parsers.{choose_cases, choose_first, choose_other, and_then_ok, made}
+use Rattle.parse_statements.proofs.ParseExpressions.OneToken.{this_number_ok, this_number_reads, word_ok, word_sees, symbol_ok, symbol_reads, symbol_sees, name_ok, name_reads, this_word_at, word_reads}
 use Rattle.parse_statements.proofs.ParseExpressions.Many.{Every, many_ok, many_reads}
+use Rattle.model_parser.specs.ItemParse.{time_span}
 use Rattle.model_parser.specs.Bodies.{items}
+use Rattle.model_parser.proofs.ValueLaws.{time_span_ok, time_span_reads}
 use Rattle.model_parser.proofs.ItemLaws.{items_ok, items_reads}
 use Rattle.parse_statements.specs.ModelLexer.Reads.{Reads}
-use Rattle.model_parser.specs.Parse.{module_text, at_no_module, modules, top, model, whole, first_source, from_tokens, IsFound}
+use Rattle.model_parser.specs.Parse.{module_text, at_no_module, modules, top, model, some_resolution, resolution, second_head, head_text, source, whole, from_tokens, IsFound}
 
 -- a module, in which at most so many brackets are open between its braces
 abbrev Few : ℕ → tree.Module → Type 0
@@ -101,59 +104,92 @@ unfolding model
 model_reads m ts rest (a, one, two) few =
     rw (modules_reads 63 m.modules ts a one few (rw two.1 refl), top_reads m.top a rest two) refl
 
+-- what a text says of its language
+
+resolution_ok : (ts rest : Tokens) (o : Option ResolutionLine) → resolution ts ≡ Some (o, rest) → Maybe DerivesResolution o ts rest
+unfolding resolution
+resolution_ok ts rest o h =
+    choose_cases (sees (is_the_word w.Resolution)) some_resolution (pure None) ts (o, rest) h
+    (λ is h.
+    let (line, a, one, h1) = and_then_ok (word w.Resolution ts) _ (o, rest) h in
+    let (x, b, two, h2) = and_then_ok (time_span a) _ (o, rest) h1 in
+    let (end, c, three, h3) = and_then_ok (symbol s.Semicolon b) _ (o, rest) h2 in
+    made (λ o c. Maybe DerivesResolution o ts c) h3 (a, this_word_at w.Resolution ts a line one, (b, time_span_ok a b x two, symbol_ok s.Semicolon b c end three)))
+    (λ is h. made (λ o b. Maybe DerivesResolution o ts b) h refl)
+
+resolution_reads : (o : Option ResolutionLine) (ts rest : Tokens) → Maybe DerivesResolution o ts rest → sees (is_the_word w.Resolution) rest ≡ false → resolution ts ≡ Some (o, rest)
+unfolding resolution
+resolution_reads None ts rest h free = choose_other (sees (is_the_word w.Resolution)) some_resolution (pure None) ts _ (rw h free) (rw h refl)
+resolution_reads (Some x) ts rest (a, one, (b, two, three)) free =
+    let read : some_resolution ts ≡ Some (Some x, rest) = rw (word_reads w.Resolution ts a (x.line, one), time_span_reads x.span a b two, symbol_reads s.Semicolon b rest three) refl in
+    choose_first (sees (is_the_word w.Resolution)) some_resolution (pure None) ts _ (word_sees w.Resolution ts a (x.line, one)) read
+
+head_ok : (ts rest : Tokens) (x : Head) → head_text ts ≡ Some (x, rest) → DerivesHead x ts rest
+unfolding head_text
+head_ok ts rest x h =
+    choose_cases (sees (is_the_word w.Language)) second_head (pure head.First) ts (x, rest) h
+    (λ is h.
+    let (line, a, one, h1) = and_then_ok (word w.Language ts) _ (x, rest) h in
+    let (version, b, two, h2) = and_then_ok (this_number 2 a) _ (x, rest) h1 in
+    let (end, c, three, h3) = and_then_ok (symbol s.Semicolon b) _ (x, rest) h2 in
+    let (r, d, four, h4) = and_then_ok (resolution c) _ (x, rest) h3 in
+    made (λ x d. DerivesHead x ts d) h4 (a, word_ok w.Language ts a line one, (b, this_number_ok 2 a b version two, (c, symbol_ok s.Semicolon b c end three, resolution_ok c d r four))))
+    (λ is h. made (λ x b. DerivesHead x ts b) h refl)
+
+head_reads : (x : Head) (ts rest : Tokens) → DerivesHead x ts rest → sees (is_the_word w.Language) rest ≡ false → sees (is_the_word w.Resolution) rest ≡ false → head_text ts ≡ Some (x, rest)
+unfolding head_text
+head_reads head.First ts rest h free bare = choose_other (sees (is_the_word w.Language)) second_head (pure head.First) ts _ (rw h free) (rw h refl)
+head_reads (head.Second r) ts rest (a, one, (b, two, (c, three, four))) free bare =
+    let read : second_head ts ≡ Some (head.Second r, rest) = rw (word_reads w.Language ts a one, this_number_reads 2 a b two, symbol_reads s.Semicolon b c three, resolution_reads r c rest four bare) refl in
+    choose_first (sees (is_the_word w.Language)) second_head (pure head.First) ts _ (word_sees w.Language ts a one) read
+
+-- modules and the top begin with their words
+begins_apart : (v : Word) → sees (is_the_word v) ((t.word w.Module, 0) ∷ []) ≡ false → sees (is_the_word v) ((t.word w.Top, 0) ∷ []) ≡ false → (ms : List tree.Module) (x : Top) (ts rest : Tokens) → DerivesModel (record { modules = ms; top = x }) ts rest → sees (is_the_word v) ts ≡ false
+begins_apart v p q [] x ts rest (mid, none, (a, one, more)) = rw (none, one) q
+begins_apart v p q (m ∷ ms) x ts rest (mid, (b, (a, one, more), others), last) = rw one p
+
+-- whole texts
+
+source_ok : (ts rest : Tokens) (x : tree.Source) → source ts ≡ Some (x, rest) → DerivesSource x ts rest × (in_modules x.model.modules ≤ 64)
+unfolding source
+source_ok ts rest x h =
+    let (y, a, one, h1) = and_then_ok (head_text ts) _ (x, rest) h in
+    let (m, b, two, h2) = and_then_ok (model a) _ (x, rest) h1 in
+    let all = model_ok a b m two in
+    made (λ (x : tree.Source) b. DerivesSource x ts b × (in_modules x.model.modules ≤ 64)) h2 ((a, head_ok ts a y one, all.0), all.1)
+
+source_reads : (x : tree.Source) (ts rest : Tokens) → DerivesSource x ts rest → in_modules x.model.modules ≤ 64 → source ts ≡ Some (x, rest)
+unfolding source
+source_reads x ts rest (a, one, two) few =
+    let free = begins_apart w.Language refl refl x.model.modules x.model.top a rest two in
+    let bare = begins_apart w.Resolution refl refl x.model.modules x.model.top a rest two in
+    rw (head_reads x.head ts a one free bare, model_reads x.model a rest two few) refl
+
 whole_ok : {A : Type 0} (o : Option (A × Tokens)) (x : A) → whole o ≡ Some x → o ≡ Some (x, [])
 whole_ok None x h = cc
 whole_ok (Some (y, [])) x h = ap (λ z. Some (z, [])) (same_Some y x h)
 whole_ok (Some (y, (t ∷ ts))) x h = cc
 
 -- what is read from a text, the text reads as
-pub found_reads : (text : List ℕ) (m : tree.Model) → IsFound text m → Reads text (first_source m)
+pub found_reads : (text : List ℕ) (x : tree.Source) → IsFound text x → Reads text x
 unfolding from_tokens
-found_reads text m (ts, cut, h) =
-    let all = model_ok (with_lines ts) [] m (whole_ok (model (with_lines ts)) m h) in
-    (ts, cut, (with_lines ts, refl, all.0), all.1)
+found_reads text x (ts, cut, h) =
+    let all = source_ok (in_language (with_lines ts)) [] x (whole_ok (source (in_language (with_lines ts))) x h) in
+    (ts, cut, all.0, all.1)
 
 -- what tokens derive is read from them
-pub derived_found : (m : tree.Model) (ts : Tokens) → DerivesModel m ts [] → in_modules m.modules ≤ 64 → from_tokens ts ≡ Some m
+pub derived_found : (x : tree.Source) (ts : Tokens) → DerivesSource x ts [] → in_modules x.model.modules ≤ 64 → from_tokens ts ≡ Some x
 unfolding from_tokens
-derived_found m ts h few = rw (model_reads m ts [] h few) refl
-
--- a model behind a head
-abbrev behind_head : tree.Model → Head → tree.Source
-behind_head m h = record { head = h; model = m }
-
--- no token is in front of the modules of a text of language 1
-first_derives : (h : Head) (m : tree.Model) (ts : Tokens) → h ≡ head.First → DerivesSource (behind_head m h) ts [] → DerivesModel m ts []
-first_derives h m ts is derived =
-    let (mid, none, all) = subst (λ (x : Head). DerivesSource (behind_head m x) ts []) is derived in
-    subst (λ (us : Tokens). DerivesModel m us []) (sym none) all
-
--- so what a text reads as is found in it
-pub reads_found : (text : List ℕ) (x : tree.Source) → Reads text x → IsFound text x.model
-reads_found text x (ts, cut, derived, few) =
-    (ts, cut, derived_found x.model (with_lines ts) (first_derives x.head x.model (with_lines ts) (reads_first text x (ts, cut, derived, few)) derived) few)
+derived_found x ts h few = rw (source_reads x ts [] h few) refl
 
 -- a text has one list of tokens, and so one tree
-found_same : (text : List ℕ) (m n : tree.Model) → IsFound text m → IsFound text n → m ≡ n
-found_same text m n (ts, cut, h) (us, other, k) =
+pub found_one : (text : List ℕ) (x y : tree.Source) → IsFound text x → Reads text y → x ≡ y
+found_one text x y (ts, cut, h) (us, other, derived, few) =
     let same : ts ≡ us = one_cut_from text 0 ts us cut other in
-    same_Some m n (sym h ∙ (ap (λ z. from_tokens (with_lines z)) same ∙ k))
+    same_Some x y (sym h ∙ (ap (λ z. from_tokens (in_language (with_lines z))) same ∙ derived_found y (in_language (with_lines us)) derived few))
 
-pub found_one : (text : List ℕ) (m : tree.Model) (x : tree.Source) → IsFound text m → Reads text x → first_source m ≡ x
-found_one text m x found reads =
-    let same : m ≡ x.model = found_same text m x.model found (reads_found text x reads) in
-    ap first_source same ∙ ap (behind_head x.model) (sym (reads_first text x reads))
+pub reads_found : (text : List ℕ) (x : tree.Source) → Reads text x → IsFound text x
+reads_found text x (ts, cut, derived, few) = (ts, cut, derived_found x (in_language (with_lines ts)) derived few)
 
 pub reads_one : (text : List ℕ) (x y : tree.Source) → Reads text x → Reads text y → x ≡ y
-reads_one text x y one two = sym (found_one text x.model x (reads_found text x one) one) ∙ found_one text x.model y (reads_found text x one) two
-
--- a tree that a text reads as keeps the limits of the language
-pub reads_sound : (text : List ℕ) (m : tree.Model) → IsFound text m → is_sound m ≡ true
-unfolding from_tokens
-reads_sound text m (ts, cut, h) =
-    let all = model_ok (with_lines ts) [] m (whole_ok (model (with_lines ts)) m h) in
-    model_sound m (with_lines ts) all.0 (cut_limited text 0 ts cut) all.1
-
--- and the words of its version
-pub reads_kept : (text : List ℕ) (m : tree.Model) → IsFound text m → keeps_language head.First m ≡ true
-reads_kept text m found = reads_keeps text (first_source m) (found_reads text m found)
+reads_one text x y one two = found_one text x y (reads_found text x one) two

@@ -4,6 +4,8 @@ use Rattle.std.specs.Prelude.{◌≡◌, ◌≢◌, ℕ, Bool, not, List, [], �
 use Rattle.std.specs.Global.{Vec}
 use Rattle.model_tree.specs.declared.vocabulary.Word.TheVariants as w
 use Rattle.model_tree.specs.declared.vocabulary.Symbol.TheVariants as s
+use Rattle.model_tree.specs.declared.items.ResolutionLine.{ResolutionLine}
+use Rattle.model_tree.specs.declared.items.Head.{Head}
 use Rattle.model_tree.specs.declared.items.Head.TheVariants as head
 use Rattle.model_tree.specs.declared.items.Module.{Module}
 use Rattle.model_tree.specs.declared.items.Top.{Top}
@@ -11,11 +13,13 @@ use Rattle.model_tree.specs.declared.faults.ParseStop.{ParseStop}
 use Rattle.model_tree.specs.declared.faults.ParseStop.TheVariants as stop
 use Rattle.model_tree.specs.Tree as tree
 use Rattle.model_tree.specs.Views.{modules_of}
+use Rattle.parse_statements.specs.ModelGrammar.Languages.{in_language}
 use Rattle.parse_statements.specs.ModelGrammar.Tokens as t
 use Rattle.parse_statements.specs.ModelGrammar.Expressions.{sees}
 use Rattle.parse_statements.specs.ModelLexer.Cut.{Lexeme, Cut}
 use Rattle.parse_statements.specs.ModelLexer.Laws.{with_lines}
-use Rattle.parse_statements.specs.ParseExpressions.Parse.{Parser, ◌>>=◌, pure, many, word, is_the_word, symbol, name}
+use Rattle.parse_statements.specs.ParseExpressions.Parse.{Parser, ◌>>=◌, pure, choose, many, word, is_the_word, symbol, name, this_number}
+use Rattle.model_parser.specs.ItemParse.{time_span}
 use Rattle.model_parser.specs.Bodies.{items}
 
 -- a module, in which so many brackets may be opened between its braces
@@ -49,9 +53,41 @@ model = do
   x ← top
   pure (record { modules = ms; top = x })
 
+-- what a text says of its language
+
+abbrev pub some_resolution : Parser (Option ResolutionLine)
+some_resolution = do
+  line ← word w.Resolution
+  x ← time_span
+  end ← symbol s.Semicolon
+  pure (Some (record { line = line; span = x }))
+
+unfoldable pub resolution : Parser (Option ResolutionLine)
+resolution = choose (sees (is_the_word w.Resolution)) some_resolution (pure None)
+
+abbrev pub second_head : Parser Head
+second_head = do
+  line ← word w.Language
+  version ← this_number 2
+  end ← symbol s.Semicolon
+  r ← resolution
+  pure (head.Second r)
+
+unfoldable pub head_text : Parser Head
+head_text = choose (sees (is_the_word w.Language)) second_head (pure head.First)
+
+unfoldable pub source : Parser tree.Source
+source = do
+  h ← head_text
+  m ← model
+  pure (record { head = h; model = m })
+
 -- the modules and the top that the code hands on, as a tree
 abbrev pub parts_of : Vec Module × Top → tree.Model
 parts_of parts = record { modules = modules_of parts.0.items; top = parts.1 }
+
+abbrev pub source_of_parts : Head × Vec Module × Top → tree.Source
+source_of_parts parts = record { head = parts.0; model = parts_of (parts.1, parts.2) }
 
 -- all of the tokens
 abbrev pub whole : {A : Type 0} → Option (A × t.Tokens) → Option A
@@ -59,17 +95,13 @@ whole None = None
 whole (Some (x, [])) = Some x
 whole (Some (x, (t ∷ ts))) = None
 
--- what is read of language 1
-abbrev pub first_source : tree.Model → tree.Source
-first_source m = record { head = head.First; model = m }
-
-unfoldable pub from_tokens : t.Tokens → Option tree.Model
-from_tokens ts = whole (model ts)
+unfoldable pub from_tokens : t.Tokens → Option tree.Source
+from_tokens ts = whole (source ts)
 
 -- the tree is read from the text's tokens
-abbrev pub IsFound : List ℕ → tree.Model → Type 0
-IsFound text m = (ts : List Lexeme) × Cut text ts × (from_tokens (with_lines ts) ≡ Some m)
+abbrev pub IsFound : List ℕ → tree.Source → Type 0
+IsFound text x = (ts : List Lexeme) × Cut text ts × (from_tokens (in_language (with_lines ts)) ≡ Some x)
 
 -- no tree is read from any tokens of the text, unless memory ran out
 abbrev pub IsStopped : List ℕ → ParseStop → Type 0
-IsStopped text e = e ≢ stop.NoMemory → (ts : List Lexeme) → Cut text ts → from_tokens (with_lines ts) ≡ None
+IsStopped text e = e ≢ stop.NoMemory → (ts : List Lexeme) → Cut text ts → from_tokens (in_language (with_lines ts)) ≡ None

@@ -4,6 +4,7 @@
 #![tactic(auto)]
 
 mod bodies;
+mod heads;
 mod module_items;
 mod modules;
 mod parsing;
@@ -18,5 +19,7 @@ pub use parsing::{one_tree, parse};
 
 /// What is passed on of model_lexer.
 pub mod model_lexer_api {
-    pub use parse_statements::model_lexer_api::{Token, TokenKind, reads_language_1, tokens};
+    pub use parse_statements::model_lexer_api::{
+        Token, TokenKind, reads_a_language, tokens, tokens_in_language,
+    };
 }

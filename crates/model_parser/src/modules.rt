@@ -3,8 +3,9 @@ ghost use Rattle.model_tree.specs.Views.{module_of};
 ghost use Rattle.parse_statements.specs.ParseExpressions.Parse.{Parses};
 ghost use Rattle.model_parser.specs.Parse as spec;
 
+use super::heads::head;
 use crate::items;
-use model_tree::{Module, ParseStop, Symbol, Top, Word};
+use model_tree::{Head, Module, ParseStop, Symbol, Top, Word};
 use parse_statements::parse_expressions_api::{Cursor, push};
 use std::alloc::Global;
 
@@ -62,12 +63,22 @@ fn top(alloc: Global, tokens: &mut Cursor<'_>) -> Result<Top, ParseStop>
     Ok(Top { line, module, name })
 }
 
-/// The modules and the top of a whole text.
+/// The modules and the top of a text.
 #[tactic(auto, unfolding(crate::specs::Parse::model))]
-pub fn model(alloc: Global, tokens: &mut Cursor<'_>) -> Result<(Vec<Module>, Top), ParseStop>
+fn model(alloc: Global, tokens: &mut Cursor<'_>) -> Result<(Vec<Module>, Top), ParseStop>
     ensures { Parses spec.parts_of spec.model tokens.old result tokens.new }
 {
     let modules = modules(alloc, tokens, BRACKET_LIMIT - 1)?;
     let top = top(alloc, tokens)?;
     Ok((modules, top))
+}
+
+/// A whole text: what it says of its language, its modules and its top.
+#[tactic(auto, unfolding(crate::specs::Parse::source))]
+pub fn source(alloc: Global, tokens: &mut Cursor<'_>) -> Result<(Head, Vec<Module>, Top), ParseStop>
+    ensures { Parses spec.source_of_parts spec.source tokens.old result tokens.new }
+{
+    let head = head(tokens)?;
+    let (modules, top) = model(alloc, tokens)?;
+    Ok((head, modules, top))
 }

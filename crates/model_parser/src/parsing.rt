@@ -4,9 +4,9 @@ ghost use Rattle.model_tree.specs.Seen.{source_of};
 ghost use Rattle.parse_statements.specs.ModelLexer.Reads.{Reads};
 ghost use Rattle.model_parser.specs.Parse as spec;
 
-use super::modules::model;
+use super::modules::source;
 use model_tree::{Head, Module, ParseStop, Top, Tree};
-use parse_statements::model_lexer_api::tokens;
+use parse_statements::model_lexer_api::tokens_in_language;
 use parse_statements::parse_expressions_api::Cursor;
 use std::alloc::Global;
 
@@ -23,14 +23,14 @@ fn last_line(text: &[u8]) -> u32 {
 
 /// The parts of the tree that the text reads as.
 #[tactic(auto, unfolding(crate::specs::Parse::from_tokens))]
-fn read(alloc: Global, text: &[u8]) -> Result<(Vec<Module>, Top), ParseStop>
+fn read(alloc: Global, text: &[u8]) -> Result<(Head, Vec<Module>, Top), ParseStop>
     requires { length text.now < 2 ^ 32 }
-    ensures found { IfOk result (λ parts. spec.IsFound text.now (spec.parts_of parts)) }
+    ensures found { IfOk result (λ parts. spec.IsFound text.now (spec.source_of_parts parts)) }
     ensures stopped { IfErr result (λ e. spec.IsStopped text.now e) }
 {
-    let found = tokens(alloc, text)?;
+    let found = tokens_in_language(alloc, text)?;
     let mut cursor = Cursor::new(found.as_slice(), last_line(text));
-    let parts = model(alloc, &mut cursor)?;
+    let parts = source(alloc, &mut cursor)?;
     cursor.end()?;
     Ok(parts)
 }
@@ -38,18 +38,14 @@ fn read(alloc: Global, text: &[u8]) -> Result<(Vec<Module>, Top), ParseStop>
 /// The tree that the text reads as. Syntax exactly where it reads as none. The line is that of the first
 /// piece that is no token; or else of the token at which reading stops: one that no tree goes on with, a bracket past
 /// the 64th, or a token past the 256th of an expression; or else, where the text ends too early, one more than the
-/// number of its line ends. Texts of language 1 alone are read. The text is shorter than 2^32 bytes.
+/// number of its line ends. The text is shorter than 2^32 bytes.
 pub fn parse(alloc: Global, text: &[u8]) -> Result<Tree, ParseStop>
     requires { length text.now < 2 ^ 32 }
     ensures found { IfOk result (λ t. Reads text.now (source_of t)) }
     ensures only { (x : tree.Source) → Reads text.now x → MatchResult result (λ t. source_of t ≡ x) (λ e. e ≡ ParseStop.NoMemory) }
 {
-    let (modules, top) = read(alloc, text)?;
-    Ok(Tree {
-        head: Head::First,
-        modules,
-        top,
-    })
+    let (head, modules, top) = read(alloc, text)?;
+    Ok(Tree { head, modules, top })
 }
 
 /// No text reads as two trees.

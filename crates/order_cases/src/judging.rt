@@ -1,11 +1,8 @@
 //! What is answered of a text.
-ghost use Rattle.std.specs.Prelude.{◌≡◌, IfOk, IfSome};
-ghost use Rattle.model_tree.specs.declared.items.Head.TheVariants as head;
-
 use elaborate::model_check_api::check;
 use elaborate::sound_design;
+use elaborate::tick_rules_api::ticks_act_alone;
 use flat_design::Design;
-use model_parser::model_lexer_api::reads_language_1;
 use model_parser::parse;
 use model_tree::{CheckStop, ParseStop, Tree};
 use order_free::{Verdict, order_free};
@@ -15,10 +12,7 @@ use std::alloc::{AllocError, Global};
 const TEXT_LIMIT: usize = 1_048_576;
 
 /// The tree of a text, if it reads.
-fn tree_of(alloc: Global, text: &[u8]) -> Result<Option<Tree>, AllocError>
-    ensures { IfOk result (λ found. IfSome found (λ tree. tree.head ≡ head.First)) }
-{
-    reads_language_1();
+fn tree_of(alloc: Global, text: &[u8]) -> Result<Option<Tree>, AllocError> {
     if text.len() > TEXT_LIMIT {
         return Ok(None);
     }
@@ -29,10 +23,9 @@ fn tree_of(alloc: Global, text: &[u8]) -> Result<Option<Tree>, AllocError>
     }
 }
 
-/// The design of a tree of language 1, if it breaks no rule.
-fn design_of(alloc: Global, tree: Tree) -> Result<Option<Design>, AllocError>
-    requires { tree.head ≡ head.First }
-{
+/// The design of a tree, if it breaks no rule.
+fn design_of(alloc: Global, tree: Tree) -> Result<Option<Design>, AllocError> {
+    ticks_act_alone();
     let checked = match check(alloc, tree) {
         Ok(checked) => checked,
         Err(CheckStop::Refused(_)) => return Ok(None),

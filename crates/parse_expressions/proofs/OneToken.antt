@@ -2,6 +2,7 @@
 use Rattle.std.proofs.Common.{◌≡◌, ℕ, zero, suc, ◌<◌, ◌≤◌, Bool, true, false, cond, List, [], ◌∷◌, Option, Some, None, refl, ap, sym, subst, arith}
 use Rattle.std.specs.Prelude.{codes}
 use Rattle.std.specs.Str.{bytes_eq}
+use Rattle.std.proofs.lemmas.Bool.{eqb-true, eq-eqb}
 use Rattle.std.proofs.lemmas.Option.{cond_some}
 use Rattle.std.proofs.lemmas.Slice.Eq.{bytes_eq-Decides}
 use denote.Enum.Bare.{sameb, same_true, true_same}
@@ -31,7 +32,7 @@ use Rattle.parse_expressions.specs.declared.starts.Start.{Start}
 use Rattle.parse_expressions.specs.declared.starts.Start.TheVariants as start
 use Rattle.model_lexer.specs.ModelGrammar.Expressions.{operator_of, operator_in, unit_of, unit_in, is_the_symbol, sees}
 use Rattle.model_tree.specs.Spelling.{unary_symbol, binary_symbol, truth_word, conversion_word, constant_word}
-use Rattle.parse_expressions.specs.Parse.{skip, symbol, named, name_in, name, numbered, number_in, number, logical, logic_in, opened, operator_ahead, sign_of, sign_in, sign_ahead, word_start, symbol_start, token_start, start_of, pure, is_the_word, word, true_behind, flag, text_in, text}
+use Rattle.parse_expressions.specs.Parse.{skip, symbol, named, name_in, name, numbered, number_in, number, is_the_number, this_number, logical, logic_in, opened, operator_ahead, sign_of, sign_in, sign_ahead, word_start, symbol_start, token_start, start_of, pure, is_the_word, word, true_behind, flag, text_in, text}
 use Rattle.parse_expressions.proofs.Parsers.{and_then_ok, choose_cases, choose_first, choose_other}
 
 pub is_symbol_same : (v : Symbol) (x : t.Token) → is_the_symbol v x ≡ true → x ≡ t.symbol v
@@ -59,6 +60,22 @@ symbol_at v (y ∷ ts) rest line h =
     let e = cond_some (is_the_symbol v y.0) (y.1, ts) (line, rest) h in
     let p : ◌≡◌ {A = ℕ × Tokens} (y.1, ts) (line, rest) = e.1 in
     subst (λ (z : ℕ × Tokens). At z.0 (t.symbol v) (y ∷ ts) z.1) p (at_front y.0 (t.symbol v) y.1 ts (is_symbol_same v y.0 e.0))
+
+is_number_same : (n : ℕ) (x : t.Token) → is_the_number n x ≡ true → x ≡ t.number n
+is_number_same n (t.name x) h = cc
+is_number_same n (t.number m) h = ap t.number (eqb-true m n h)
+is_number_same n (t.logic x) h = cc
+is_number_same n (t.quoted x) h = cc
+is_number_same n (t.word u) h = cc
+is_number_same n (t.symbol u) h = cc
+
+pub this_number_ok : (n : ℕ) (ts rest : Tokens) (line : ℕ) → this_number n ts ≡ Some (line, rest) → Takes (t.number n) ts rest
+unfolding this_number
+this_number_ok n [] rest line h = cc
+this_number_ok n (y ∷ ts) rest line h =
+    let e = cond_some (is_the_number n y.0) (y.1, ts) (line, rest) h in
+    let p : ◌≡◌ {A = ℕ × Tokens} (y.1, ts) (line, rest) = e.1 in
+    (line, subst (λ (z : ℕ × Tokens). At z.0 (t.number n) (y ∷ ts) z.1) p (at_front y.0 (t.number n) y.1 ts (is_number_same n y.0 e.0)))
 
 pub symbol_ok : (v : Symbol) (ts rest : Tokens) (line : ℕ) → symbol v ts ≡ Some (line, rest) → Takes (t.symbol v) ts rest
 symbol_ok v ts rest line h = (line, symbol_at v ts rest line h)
@@ -425,6 +442,10 @@ skip_reads x line ts rest h = rw h refl
 pub symbol_reads : (v : Symbol) (ts rest : Tokens) (h : Takes (t.symbol v) ts rest) → symbol v ts ≡ Some (h.0, rest)
 unfolding symbol
 symbol_reads v ts rest h = rw (h.1, true_same the_symbol v v refl) refl
+
+pub this_number_reads : (n : ℕ) (ts rest : Tokens) (h : Takes (t.number n) ts rest) → this_number n ts ≡ Some (h.0, rest)
+unfolding this_number
+this_number_reads n ts rest h = rw (h.1, eq-eqb n n refl) refl
 
 pub opened_reads : (d : ℕ) (v : Symbol) (ts rest : Tokens) (h : Takes (t.symbol v) ts rest) → 1 ≤ d → opened d v ts ≡ Some (h.0, rest)
 unfolding opened

@@ -184,6 +184,18 @@ is_number_in (t.quoted x) = false
 is_number_in (t.word u) = false
 is_number_in (t.symbol u) = false
 
+abbrev pub is_the_number : ℕ → t.Token → Bool
+is_the_number n (t.name x) = false
+is_the_number n (t.number m) = m == n
+is_the_number n (t.logic digits) = false
+is_the_number n (t.quoted x) = false
+is_the_number n (t.word u) = false
+is_the_number n (t.symbol u) = false
+
+-- this number
+unfoldable pub this_number : ℕ → Parser ℕ
+this_number n = expect (is_the_number n)
+
 -- whether a number comes
 abbrev pub sees_number : t.Tokens → Bool
 sees_number = sees is_number_in

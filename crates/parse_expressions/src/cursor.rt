@@ -6,7 +6,8 @@ ghost use Rattle.model_lexer.specs.ModelGrammar.Expressions as grammar;
 ghost use Rattle.parse_expressions.specs.Parse as spec;
 
 use super::kinds::{
-    is_number, is_the_symbol, is_the_word, operator_in, sign_in, token_start, unit_in, word_in,
+    is_number, is_the_number, is_the_symbol, is_the_word, operator_in, sign_in, token_start,
+    unit_in, word_in,
 };
 use super::starts::Start;
 use model_lexer::logic_values_api::Lv;
@@ -325,6 +326,20 @@ impl<'a> Cursor<'a> {
     {
         let (_line, number) = self.numbered()?;
         Ok(number)
+    }
+
+    /// Takes this number. The answer is its line.
+    #[tactic(auto, unfolding(crate::specs::Parse::this_number))]
+    pub fn this_number(&mut self, number: u64) -> Result<u32, ParseStop>
+        ensures { spec.Parses (λ line. line) (spec.this_number number) self.old result self.new }
+    {
+        match self.rest {
+            [first, after @ ..] if is_the_number(first.kind, number) => {
+                self.rest = after;
+                Ok(first.line)
+            }
+            _ => Err(ParseStop::Syntax { line: self.line() }),
+        }
     }
 
     /// Takes a logic literal. The answer is its line and its digits.

@@ -38,6 +38,16 @@ pub fn is_number(kind: TokenKind<'_>) -> bool
     }
 }
 
+/// Whether the token is this number.
+pub fn is_the_number(kind: TokenKind<'_>, number: u64) -> bool
+    ensures { result ≡ spec.is_the_number number (token_of kind.entry) }
+{
+    match kind {
+        TokenKind::Num(found) => found == number,
+        _ => false,
+    }
+}
+
 /// The unit that the token is, if it is one.
 pub fn unit_in(kind: TokenKind<'_>) -> Option<Unit>
     ensures { result ≡ grammar.unit_in (token_of kind.entry) }

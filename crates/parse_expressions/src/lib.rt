@@ -21,7 +21,7 @@ pub mod logic_values_api {
 
 /// What is passed on of model_lexer.
 pub mod model_lexer_api {
-    pub use model_lexer::{Token, TokenKind, reads_language_1, tokens};
+    pub use model_lexer::{Token, TokenKind, reads_a_language, tokens, tokens_in_language};
 }
 
 /// What is passed on of sim_time.

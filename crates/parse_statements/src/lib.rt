@@ -15,7 +15,9 @@ pub mod logic_values_api {
 
 /// What is passed on of model_lexer.
 pub mod model_lexer_api {
-    pub use parse_actions::model_lexer_api::{Token, TokenKind, reads_language_1, tokens};
+    pub use parse_actions::model_lexer_api::{
+        Token, TokenKind, reads_a_language, tokens, tokens_in_language,
+    };
 }
 
 /// What is passed on of parse_actions.

@@ -3,16 +3,15 @@ use Rattle.std.proofs.Common.{◌≡◌, ◌⊎◌, ⊎_elim, ℕ, List, Option,
 use Rattle.model_tree.specs.Tree as tree
 use Rattle.model_tree.specs.declared.faults.Fault.{Fault}
 use Rattle.script_text.specs.ModelLexer.Reads.{Reads}
-use Rattle.elaborate.specs.ModelRules.Passes.{first_fault}
+use Rattle.elaborate.specs.TickRules.Sources.{source_fault, ticked}
 use Rattle.elaborate.specs.Elaborated.{elaboration_fault}
 use Rattle.model_print.specs.Printed.{printed_text}
-use Rattle.elaborate.specs.DesignRules.Designs.{IsDesignOf}
 use Rattle.flat_design.specs.declared.design.Design.{Design}
 use Rattle.script_text.specs.SimModel.declared.plain.Command.{Command}
 use Rattle.script_text.specs.ScriptText.{read_script}
 use Rattle.script_text.specs.NamedScript.{name_script}
 use Rattle.script_text.specs.declared.forms.TextCommand.{TextCommand}
-use Rattle.run_input.specs.Judged.{HasNoTree, BreaksRule, BreaksWhole, IsBrokenModel, AcceptsModel, BreaksScript, IsBrokenScript, Accepts, ReadsReplay, IsBrokenReplay, IsLayoutOf}
+use Rattle.run_input.specs.Judged.{HasNoTree, BreaksRule, BreaksWhole, IsBrokenModel, AcceptsModel, BreaksScript, IsBrokenScript, Accepts, ReadsReplay, IsBrokenReplay, IsLayoutOf, IsDesignOfSource}
 use Rattle.run_input.proofs.Designs.{same_naming}
 
 -- no text reads as two trees
@@ -31,15 +30,15 @@ found_both find m n e none some = let P : tree.Source → Type 0 = λ x. find x 
 pub not_broken : OneTree → (model : List ℕ) (m : tree.Source) → AcceptsModel model m → IsBrokenModel model → ⊥
 not_broken one model m a b =
     ⊎_elim (λ none. none m a.reads)
-    (⊎_elim (λ f. found_both (λ (x : tree.Source). first_fault x.model) m f.m (one model m f.m a.reads f.reads) a.faultless f.fault)
-    (λ w. found_both (λ (x : tree.Source). elaboration_fault x.model) m w.m (one model m w.m a.reads w.reads) a.elaborated w.fault)) b
+    (⊎_elim (λ f. found_both source_fault m f.m (one model m f.m a.reads f.reads) a.faultless f.fault)
+    (λ w. found_both (λ (x : tree.Source). elaboration_fault (ticked x)) m w.m (one model m w.m a.reads w.reads) a.elaborated w.fault)) b
 
 -- nor refused for two causes
 pub not_unread : (model : List ℕ) → HasNoTree model → BreaksRule model ⊎ BreaksWhole model → ⊥
 not_unread model none b = ⊎_elim (λ f. none f.m f.reads) (λ w. none w.m w.reads) b
 
 pub not_ruled : OneTree → (model : List ℕ) → BreaksRule model → BreaksWhole model → ⊥
-not_ruled one model f w = found_both (λ (x : tree.Source). first_fault x.model) w.m f.m (one model w.m f.m w.reads f.reads) w.faultless f.fault
+not_ruled one model f w = found_both source_fault w.m f.m (one model w.m f.m w.reads f.reads) w.faultless f.fault
 
 -- a script is not both accepted and refused, over whatever designs of a model
 breaks : (d e : Design) (script : List ℕ) (text : List TextCommand) (commands : List Command) → ((cs : List TextCommand) → name_script d cs ≡ name_script e cs) → read_script script ≡ Ok text → name_script d text ≡ Ok commands → BreaksScript e script → ⊥
@@ -56,9 +55,9 @@ breaks d e script text commands same read named b =
 
 pub not_both : OneTree → (model script : List ℕ) (m n : tree.Source) (d : Design) (commands : List Command) → Accepts model script m d commands → AcceptsModel model n → IsBrokenScript n script → ⊥
 not_both one model script m n d commands a b broken =
-    let P : tree.Source → Type 0 = λ x. IsDesignOf x.model broken.design in
-    let is : IsDesignOf m.model broken.design = subst P (one model n m b.reads a.accepted.reads) broken.is_design in
-    breaks d broken.design script a.named.0 commands (same_naming m.model d broken.design a.is_design is) a.named.1 a.named.2 broken.breaks
+    let P : tree.Source → Type 0 = λ x. IsDesignOfSource x broken.design in
+    let is : IsDesignOfSource m broken.design = subst P (one model n m b.reads a.accepted.reads) broken.is_design in
+    breaks d broken.design script a.named.0 commands (same_naming m d broken.design a.is_design is) a.named.1 a.named.2 broken.breaks
 
 -- a replay text has a list or a line at which it does not read, and never both
 pub not_listed : (replay choices : Option (List ℕ)) → ReadsReplay replay choices → IsBrokenReplay replay → ⊥

@@ -1,8 +1,11 @@
 -- Designs of one model: what a script names is the same in each of them, and a session can be run of one that is sound.
 use mathlib.Core.Path.{fun_ext}
-use Rattle.std.proofs.Common.{◌≡◌, ◌≤◌, ◌<◌, ◌^◌, ℕ, All, Bool, ◌&&◌, is_some, List, [], ◌∷◌, length, position, bytes_eq, slice_get, option_map, option_and_then, Option, Some, None, inr, refl, sym, ap, ap₂, ◌∙◌, arith}
+use Rattle.std.proofs.Common.{◌≡◌, ◌≤◌, ◌<◌, ◌*◌, ◌%◌, ◌^◌, ℕ, All, Bool, ◌&&◌, is_some, List, [], ◌∷◌, length, position, bytes_eq, slice_get, option_map, option_and_then, Option, Some, None, inr, refl, sym, ap, ap₂, ◌∙◌, arith}
 use Rattle.std.specs.Option.{option_or}
 use Rattle.model_tree.specs.Tree as tree
+use Rattle.model_tree.specs.SimTime.Times.{femtoseconds_in, ticks_of, whole_ticks}
+use Rattle.model_tree.specs.SimTime.declared.moments.Resolution.{Resolution}
+use Rattle.model_tree.specs.SimTime.declared.moments.Unit.{Unit as TimeUnit}
 use Rattle.flat_design.specs.Sound.{SoundDesign}
 use Rattle.flat_design.specs.declared.objects.Objects.{Objects}
 use Rattle.flat_design.specs.declared.value_types.ValueType.{ValueType}
@@ -20,18 +23,19 @@ use Rattle.elaborate.specs.DesignRules.Parts.{signals_of, visible_of}
 use Rattle.elaborate.specs.Elaborated.{elaboration_fault}
 use Rattle.elaborate.specs.ModelRules.Passes.{first_fault}
 use Rattle.script_text.specs.SimModel.Configuration.{path_of, path_up}
-use Rattle.script_text.specs.NamedScript.{is_declared_set, signal_type, type_if, set_type, is_shown_at, is_set_at, value_at, show_named, set_valued, set_named, named_form, in_front, name_script}
+use Rattle.script_text.specs.NamedScript.{is_declared_set, signal_type, type_if, set_type, is_shown_at, is_set_at, value_at, run_timed, show_named, set_valued, set_named, named_form, in_front, name_script}
 use Rattle.script_text.specs.ValueTexts.{value_read}
 use Rattle.script_text.specs.declared.forms.CommandForm.{CommandForm}
 use Rattle.script_text.specs.declared.forms.CommandForm.TheVariants as form
 use Rattle.script_text.specs.declared.forms.TextCommand.{TextCommand}
-use Rattle.run_input.specs.Judged.{CanRun}
+use Rattle.run_input.specs.Judged.{CanRun, IsDesignOfSource}
 
 -- what two designs agree in so that a script names the same in both
 record Agree (d e : Design) : Type 0 where
   objects : d.objects ≡ e.objects
   signals : d.signals ≡ e.signals
   visible : d.visible ≡ e.visible
+  resolution : d.resolution.power ≡ e.resolution.power
 
 same_path : (d e : Design) → Agree d e → (i : ℕ) → path_of d i ≡ path_of e i
 same_path d e a i = ap (λ (os : Objects). path_up i os.list i) a.objects
@@ -62,8 +66,13 @@ set_there : (d e : Design) → Agree d e → (line : ℕ) (path text : List ℕ)
 set_there d e a line path text None = refl
 set_there d e a line path text (Some i) = ap (set_valued line path i) (same_value d e a i text)
 
+-- a resolution counts by its power alone
+same_time : (q r : Resolution) (n : ℕ) (u : TimeUnit) → q.power ≡ r.power → ticks_of n u q ≡ ticks_of n u r
+same_time q r n u e = ap (λ (p : ℕ). whole_ticks ((n * femtoseconds_in u) % (10 ^ p)) (n * femtoseconds_in u) (10 ^ p)) e
+
 same_form : (d e : Design) → Agree d e → (line : ℕ) (f : CommandForm) → named_form d line f ≡ named_form e line f
-same_form d e a line (form.Run time) = refl
+same_form d e a line (form.Run None) = refl
+same_form d e a line (form.Run (Some (n, u))) = ap (run_timed line) (same_time d.resolution e.resolution n u a.resolution)
 same_form d e a line (form.Set path text) =
     set_there d e a line path text (position (is_set_at d path) d.visible) ∙ ap (set_named e line path text) (same_place (is_set_at d path) (is_set_at e path) d.visible e.visible (same_set d e a path) a.visible)
 same_form d e a line (form.Show path) =
@@ -74,14 +83,17 @@ same_script d e a [] = refl
 same_script d e a (c ∷ cs) = ap₂ in_front (same_form d e a c.line c.form) (same_script d e a cs)
 
 -- a script names the same in all designs of a model
-pub same_naming : (m : tree.Model) (d e : Design) → IsDesignOf m d → IsDesignOf m e → (cs : List TextCommand) → name_script d cs ≡ name_script e cs
-same_naming m d e is is' cs =
+pub same_naming : (m : tree.Source) (d e : Design) → IsDesignOfSource m d → IsDesignOfSource m e → (cs : List TextCommand) → name_script d cs ≡ name_script e cs
+same_naming m d e first second cs =
+    let is = first.parts in
+    let is' = second.parts in
     let objects = is.objects ∙ sym is'.objects in
     let list = ap (λ (os : Objects). os.list) objects in
     same_script d e (record {
       objects = objects;
       signals = is.signals ∙ ap signals_of list ∙ sym is'.signals;
       visible = is.visible ∙ ap visible_of list ∙ sym is'.visible;
+      resolution = first.resolution ∙ sym second.resolution;
     }) cs
 
 first_none : {T : Type 0} (o p : Option T) → option_or o p ≡ None → o ≡ None

@@ -5,12 +5,11 @@ use Rattle.model_tree.specs.declared.faults.Fault.{Fault}
 use Rattle.model_tree.specs.declared.faults.CheckStop.{CheckStop}
 use Rattle.model_tree.specs.declared.faults.CheckStop.TheVariants.{Refused}
 use Rattle.script_text.specs.ModelLexer.Reads.{Reads}
-use Rattle.elaborate.specs.ModelRules.Passes.{first_fault}
+use Rattle.elaborate.specs.TickRules.Sources.{source_fault, ticked}
 use Rattle.model_tree.specs.Stops.{IfRefused}
 use Rattle.flat_design.specs.declared.design.Design.{Design}
-use Rattle.elaborate.specs.DesignRules.Designs.{IsDesignOf}
 use Rattle.elaborate.specs.Elaborated.{elaboration_fault}
-use Rattle.run_input.specs.Judged.{BreaksRule, BreaksWhole, IsBrokenModel, HasModelFault, AcceptsModel, IsDesignOfText, BreaksScript, HasScriptFault, HasReplayFault, IsBrokenReplay}
+use Rattle.run_input.specs.Judged.{BreaksRule, BreaksWhole, IsBrokenModel, HasModelFault, AcceptsModel, IsDesignOfSource, IsDesignOfText, BreaksScript, HasScriptFault, HasReplayFault, IsBrokenReplay}
 use Rattle.run_input.specs.Refused.{HasTextFault, IfModelFault}
 use Rattle.run_input.specs.declared.judging.ModelStop.{ModelStop}
 use Rattle.run_input.specs.declared.judging.JudgeStop.{JudgeStop}
@@ -34,8 +33,8 @@ refused_fault stop fault o e h =
 pub model_broken_by : (model : List ℕ) (f : ModelFault) → HasModelFault model f → IsBrokenModel model
 model_broken_by model (model_fault.Syntax line) h = inl h
 model_broken_by model (model_fault.Rule fault) h = inr (⊎_elim
-    (λ (f : first_fault h.0.model ≡ Some fault). inl (record { m = h.0; reads = h.1; fault = is_some (first_fault h.0.model) fault f }))
-    (λ w. inr (record { m = h.0; reads = h.1; faultless = w.0; fault = is_some (elaboration_fault h.0.model) fault w.1 }))
+    (λ (f : source_fault h.0 ≡ Some fault). inl (record { m = h.0; reads = h.1; fault = is_some (source_fault h.0) fault f }))
+    (λ w. inr (record { m = h.0; reads = h.1; faultless = w.0; fault = is_some (elaboration_fault (ticked h.0)) fault w.1 }))
     h.2)
 
 -- and what is wrong with a script
@@ -54,18 +53,18 @@ beside_replay model script replay (judge_stop.Script f) h = h
 beside_replay model script replay (judge_stop.Replay line) h = absurd h.4
 beside_replay model script replay judge_stop.NoMemory h = tt
 
-by_findings : (text : List ℕ) (m : tree.Source) → Reads text m → (fault whole : Option Fault) → first_fault m.model ≡ fault → elaboration_fault m.model ≡ whole
+by_findings : (text : List ℕ) (m : tree.Source) → Reads text m → (fault whole : Option Fault) → source_fault m ≡ fault → elaboration_fault (ticked m) ≡ whole
     → AcceptsModel text m ⊎ (BreaksRule text ⊎ BreaksWhole text)
-by_findings text m reads (Some fault) whole f w = inr (inl (record { m = m; reads = reads; fault = is_some (first_fault m.model) fault f }))
-by_findings text m reads None (Some fault) f w = inr (inr (record { m = m; reads = reads; faultless = f; fault = is_some (elaboration_fault m.model) fault w }))
+by_findings text m reads (Some fault) whole f w = inr (inl (record { m = m; reads = reads; fault = is_some (source_fault m) fault f }))
+by_findings text m reads None (Some fault) f w = inr (inr (record { m = m; reads = reads; faultless = f; fault = is_some (elaboration_fault (ticked m)) fault w }))
 by_findings text m reads None None f w = inl (record { reads = reads; faultless = f; elaborated = w })
 
 -- a model that reads is accepted or refused
 pub one_of : (text : List ℕ) (m : tree.Source) → Reads text m → AcceptsModel text m ⊎ (BreaksRule text ⊎ BreaksWhole text)
-one_of text m reads = by_findings text m reads (first_fault m.model) (elaboration_fault m.model) refl refl
+one_of text m reads = by_findings text m reads (source_fault m) (elaboration_fault (ticked m)) refl refl
 
 -- what is said of a tree is so of a text that reads as it
-pub text_design : (text : List ℕ) (m : tree.Source) (r : Result Design ModelStop) → Reads text m → OnOk r ((t : List ℕ) → Reads t m → AcceptsModel t m) → IfOk r (IsDesignOf m.model) → IfOk r (IsDesignOfText text)
+pub text_design : (text : List ℕ) (m : tree.Source) (r : Result Design ModelStop) → Reads text m → OnOk r ((t : List ℕ) → Reads t m → AcceptsModel t m) → IfOk r (IsDesignOfSource m) → IfOk r (IsDesignOfText text)
 text_design text m (Ok d) reads accepted is = (m, accepted text reads, is)
 text_design text m (Err stop) reads accepted is = tt
 

@@ -3,7 +3,7 @@ use Rattle.std.specs.Prelude.{◌≡◌, ◌≤◌, ◌<◌, ◌-◌, ◌^◌, �
 use Rattle.model_tree.specs.Tree as tree
 use Rattle.model_tree.specs.declared.faults.Fault.{Fault}
 use Rattle.script_text.specs.ModelLexer.Reads.{Reads}
-use Rattle.elaborate.specs.ModelRules.Passes.{first_fault}
+use Rattle.elaborate.specs.TickRules.Sources.{resolution_of, source_fault, ticked}
 use Rattle.elaborate.specs.DesignRules.Designs.{IsDesignOf}
 use Rattle.elaborate.specs.Elaborated.{elaboration_fault}
 use Rattle.flat_design.specs.Sound.{SoundDesign}
@@ -26,26 +26,26 @@ use Rattle.refusal_lines.specs.declared.refusals.ScriptFault.TheVariants as scri
 abbrev pub HasNoTree : List ℕ → Type 0
 HasNoTree model = (m : tree.Source) → Reads model m → ⊥
 
--- the model reads as a tree, and breaks a rule on single modules
+-- the model reads as a tree, and breaks the rule on its resolution, or one on single modules
 pub record BreaksRule (model : List ℕ) : Type 0 where
   pub m : tree.Source
   pub reads : Reads model m
-  pub fault : IsSome (first_fault m.model)
+  pub fault : IsSome (source_fault m)
 
 -- the model reads as a tree that breaks no such rule, whose instances or whose bindings are at fault
 pub record BreaksWhole (model : List ℕ) : Type 0 where
   pub m : tree.Source
   pub reads : Reads model m
-  pub faultless : first_fault m.model ≡ None
-  pub fault : IsSome (elaboration_fault m.model)
+  pub faultless : source_fault m ≡ None
+  pub fault : IsSome (elaboration_fault (ticked m))
 
 -- the model is refused, for one of these causes
 abbrev pub IsBrokenModel : List ℕ → Type 0
 IsBrokenModel model = HasNoTree model ⊎ (BreaksRule model ⊎ BreaksWhole model)
 
--- this is the first fault of a model: of a rule on single modules, or, where it breaks none, of its instances and bindings
+-- this is the first fault of a model: of its resolution or of a rule on single modules, or, where it breaks none, of its instances and bindings
 abbrev pub IsFirstFault : tree.Source → Fault → Type 0
-IsFirstFault m fault = (first_fault m.model ≡ Some fault) ⊎ ((first_fault m.model ≡ None) × (elaboration_fault m.model ≡ Some fault))
+IsFirstFault m fault = (source_fault m ≡ Some fault) ⊎ ((source_fault m ≡ None) × (elaboration_fault (ticked m) ≡ Some fault))
 
 -- what is said of a model that is refused is so: it reads as no tree; or as one of which this is the first fault
 abbrev pub HasModelFault : List ℕ → ModelFault → Type 0
@@ -55,12 +55,17 @@ HasModelFault model (model_fault.Rule fault) = (m : tree.Source) × Reads model 
 -- the model reads as this tree, which breaks no rule, and whose instances and bindings are not at fault
 pub record AcceptsModel (model : List ℕ) (m : tree.Source) : Type 0 where
   pub reads : Reads model m
-  pub faultless : first_fault m.model ≡ None
-  pub elaborated : elaboration_fault m.model ≡ None
+  pub faultless : source_fault m ≡ None
+  pub elaborated : elaboration_fault (ticked m) ≡ None
+
+-- the design of a whole text: it is that of the tree of ticks, and its resolution is that of the text
+pub record IsDesignOfSource (m : tree.Source) (d : Design) : Type 0 where
+  pub parts : IsDesignOf (ticked m) d
+  pub resolution : d.resolution.power ≡ (resolution_of m.head).power
 
 -- the design is that of the tree that the model is accepted as
 abbrev pub IsDesignOfText : List ℕ → Design → Type 0
-IsDesignOfText model d = (m : tree.Source) × AcceptsModel model m × IsDesignOf m.model d
+IsDesignOfText model d = (m : tree.Source) × AcceptsModel model m × IsDesignOfSource m d
 
 -- a design that a session can be run of: it is sound, has no more processes and events than a session takes, and its semaphores start low
 pub record CanRun (d : Design) : Type 0 where
@@ -83,19 +88,17 @@ HasScriptFault d script (script_fault.Command fault) = (text : List TextCommand)
 -- the script is refused over a design of the tree
 pub record IsBrokenScript (m : tree.Source) (script : List ℕ) : Type 0 where
   pub design : Design
-  pub is_design : IsDesignOf m.model design
+  pub is_design : IsDesignOfSource m design
   pub breaks : BreaksScript design script
 
 -- the script has a command list, whose names and values fit the design
 abbrev pub NamesScript : Design → List ℕ → List Command → Type 0
 NamesScript d script commands = (text : List TextCommand) × (read_script script ≡ Ok text) × (name_script d text ≡ Ok commands)
 
--- the model is accepted as this tree, of which this is a design, at the resolution of a picosecond, and the script as these
--- commands over the design
+-- the model is accepted as this tree, of which this is a design, and the script as these commands over the design
 pub record Accepts (model script : List ℕ) (m : tree.Source) (d : Design) (commands : List Command) : Type 0 where
   pub accepted : AcceptsModel model m
-  pub is_design : IsDesignOf m.model d
-  pub resolution : d.resolution.power ≡ 3
+  pub is_design : IsDesignOfSource m d
   pub named : NamesScript d script commands
 
 -- the replay text is this list of serials; where there is no text there is no list

@@ -2,8 +2,7 @@
 use Rattle.std.specs.Prelude.{ℕ, List, Option, ⊤}
 use Rattle.model_tree.specs.Tree as tree
 use Rattle.flat_design.specs.declared.design.Design.{Design}
-use Rattle.elaborate.specs.DesignRules.Designs.{IsDesignOf}
-use Rattle.run_input.specs.Judged.{Accepts, AcceptsModel, HasModelFault, HasReplayFault, HasScriptFault}
+use Rattle.run_input.specs.Judged.{Accepts, AcceptsModel, HasModelFault, HasReplayFault, HasScriptFault, IsDesignOfSource}
 use Rattle.script_text.specs.SimModel.declared.plain.Command.{Command}
 use Rattle.refusal_lines.specs.declared.refusals.ModelFault.{ModelFault}
 use Rattle.refusal_lines.specs.declared.refusals.ScriptFault.{ScriptFault}
@@ -27,7 +26,7 @@ IfScriptFault script_stop.NoMemory P = ⊤
 -- are accepted, and what is said of the replay text is so
 abbrev pub HasTextFault : List ℕ → List ℕ → Option (List ℕ) → JudgeStop → Type 0
 HasTextFault model script replay (judge_stop.Model f) = HasModelFault model f
-HasTextFault model script replay (judge_stop.Script f) = (m : tree.Source) × (d : Design) × AcceptsModel model m × IsDesignOf m.model d × HasScriptFault d script f
+HasTextFault model script replay (judge_stop.Script f) = (m : tree.Source) × (d : Design) × AcceptsModel model m × IsDesignOfSource m d × HasScriptFault d script f
 HasTextFault model script replay (judge_stop.Replay line) =
     (m : tree.Source) × (d : Design) × (commands : List Command) × Accepts model script m d commands × HasReplayFault replay line
 HasTextFault model script replay judge_stop.NoMemory = ⊤

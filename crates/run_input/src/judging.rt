@@ -1,19 +1,17 @@
-ghost use Rattle.std.specs.Prelude.{◌≡◌, ◌<◌, ◌^◌, ℕ, List, None, true, IfErr, IfOk, OnOk, length};
+ghost use Rattle.std.specs.Prelude.{◌≡◌, ◌<◌, ◌^◌, ℕ, List, None, IfErr, IfOk, OnOk, length};
 ghost use Rattle.model_tree.specs.Tree as tree;
-ghost use Rattle.model_tree.specs.Seen.{model_of, source_of};
+ghost use Rattle.model_tree.specs.Seen.{source_of};
 ghost use Rattle.model_tree.specs.Stops.{IfSyntax};
-ghost use Rattle.model_tree.specs.declared.items.Head.TheVariants as head;
 ghost use Rattle.script_text.specs.ModelLexer.Reads.{Reads};
-ghost use Rattle.elaborate.specs.DesignRules.Designs.{IsDesignOf};
-ghost use Rattle.run_input.specs.Judged.{Accepts, AcceptsModel, CanRun, HasModelFault, HasReplayFault, HasScriptFault, IsDesignOfText, NamesScript, ReadsReplay};
+ghost use Rattle.run_input.specs.Judged.{Accepts, AcceptsModel, CanRun, HasModelFault, HasReplayFault, HasScriptFault, IsDesignOfSource, IsDesignOfText, NamesScript, ReadsReplay};
 ghost use Rattle.run_input.specs.Refused.{IfModelFault, IfScriptFault, HasTextFault};
 
 use super::loading::Texts;
 use elaborate::laws_design_api::{designs_are_few, semaphores_start_low};
 use elaborate::model_check_api::check;
 use elaborate::sound_design;
+use elaborate::tick_rules_api::ticks_act_alone;
 use flat_design::{Choices, Design};
-use model_parser::model_lexer_api::reads_language_1;
 use model_parser::parse;
 use model_tree::{CheckStop, ParseStop, Tree};
 use refusal_lines::{ModelFault, ScriptFault};
@@ -75,18 +73,17 @@ pub(crate) fn read_model(alloc: Global, text: &[u8]) -> Result<Tree, ModelStop>
     }
 }
 
-/// The design of a tree of language 1, which is judged by the rules on its modules, and then by those on its instances and
-/// bindings. What is said of it is so of each text that reads as this tree. Its resolution is a picosecond.
+/// The design of a tree of either language: it is judged by its resolution and the rules on its modules, and then by those on its
+/// instances and bindings. What is said of it is so of each text that reads as this tree.
 pub(crate) fn judge_tree(alloc: Global, tree: Tree) -> Result<Design, ModelStop>
-    requires { (source_of tree).head ≡ head.First }
     ensures accepted { OnOk result ((text : List ℕ) → Reads text (source_of tree) → AcceptsModel text (source_of tree)) }
-    ensures design { IfOk result (IsDesignOf (model_of tree)) }
-    ensures resolution { IfOk result (λ design. design.resolution.power ≡ 3) }
+    ensures design { IfOk result (IsDesignOfSource (source_of tree)) }
     ensures runs { IfOk result CanRun }
     ensures fault { IfErr result (λ stop. (text : List ℕ) → Reads text (source_of tree) → IfModelFault stop (HasModelFault text)) }
 {
     designs_are_few();
     semaphores_start_low();
+    ticks_act_alone();
     let checked = match check(alloc, tree) {
         Ok(checked) => checked,
         Err(CheckStop::Refused(fault)) => return Err(ModelStop::Fault(ModelFault::Rule(fault))),
@@ -99,15 +96,13 @@ pub(crate) fn judge_tree(alloc: Global, tree: Tree) -> Result<Design, ModelStop>
     }
 }
 
-/// The design of a model, which is judged by all rules; its resolution is a picosecond. A refusal has what is wrong with it.
+/// The design of a model, which is judged by all rules. A refusal has what is wrong with it.
 pub fn judge_model(alloc: Global, text: &[u8]) -> Result<Design, ModelStop>
     requires { length text.now < 2 ^ 32 }
     ensures accepted { IfOk result (IsDesignOfText text.now) }
-    ensures resolution { IfOk result (λ design. design.resolution.power ≡ 3) }
     ensures runs { IfOk result CanRun }
     ensures fault { IfErr result (λ stop. IfModelFault stop (HasModelFault text.now)) }
 {
-    reads_language_1();
     match read_model(alloc, text) {
         Ok(tree) => judge_tree(alloc, tree),
         Err(stop) => Err(stop),

@@ -3,7 +3,6 @@ ghost use Rattle.run_input.specs.Judged.{HasModelFault, IsLayoutOf};
 ghost use Rattle.run_input.specs.Refused.{IfModelFault};
 
 use super::judging::{ModelStop, judge_tree, read_model};
-use model_parser::model_lexer_api::reads_language_1;
 use model_print::logic_values_api::Text;
 use model_print::print;
 use std::alloc::Global;
@@ -14,7 +13,6 @@ pub fn laid_out(alloc: Global, model: &[u8]) -> Result<Text, ModelStop>
     ensures page { IfOk result (IsLayoutOf model.now) }
     ensures fault { IfErr result (λ stop. IfModelFault stop (HasModelFault model.now)) }
 {
-    reads_language_1();
     let tree = match read_model(alloc, model) {
         Ok(tree) => tree,
         Err(stop) => return Err(stop),

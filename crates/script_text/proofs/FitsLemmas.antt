@@ -22,7 +22,10 @@ use Rattle.script_text.specs.declared.forms.CommandForm.TheVariants as form
 use Rattle.script_text.specs.declared.forms.TextCommand.{TextCommand}
 use Rattle.text_lines.specs.Lines.{decimal_read}
 use Rattle.script_text.specs.ValueTexts.{is_width, int_from_zero, int_below_zero, int_read, uint_within, uint_read, logic_read, vector_of, vector_read, value_read}
-use Rattle.script_text.specs.NamedScript.{is_shown_at, is_set_at, set_type, show_named, set_valued, set_named, value_at, named_form, named, in_front, name_script}
+use Rattle.sim_model.specs.SimTime.Times.{ticks_of}
+use Rattle.sim_model.specs.SimTime.declared.moments.Time.{Time}
+use Rattle.sim_model.specs.SimTime.declared.moments.UnitStop.{UnitStop}
+use Rattle.script_text.specs.NamedScript.{run_timed, is_shown_at, is_set_at, set_type, show_named, set_valued, set_named, value_at, named_form, named, in_front, name_script}
 use Rattle.script_text.specs.Fits.{Fits, IsOfTypeAt}
 
 within_if : (b : Bool) (m n : ℕ) → (b ≡ true → m < n) → IfSome (cond b (Some m) None) (λ i. i < n)
@@ -122,8 +125,13 @@ show_fits : (d : Design) (line : ℕ) (path : List ℕ) (o : Option ℕ) → IfS
 show_fits d line path None h = tt
 show_fits d line path (Some i) h = h
 
+run_fits : (d : Design) (line : ℕ) (r : Result Time UnitStop) → IfOk (run_timed line r) (Fits d)
+run_fits d line (Ok t) = tt
+run_fits d line (Err stop) = tt
+
 form_fits : (d : Design) (line : ℕ) (f : CommandForm) → IfOk (named_form d line f) (Fits d)
-form_fits d line (form.Run time) = tt
+form_fits d line (form.Run None) = tt
+form_fits d line (form.Run (Some (n, u))) = run_fits d line (ticks_of n u d.resolution)
 form_fits d line (form.Set path text) = set_fits d line path text (position (is_set_at d path) d.visible) (position_within (is_set_at d path) d.visible)
 form_fits d line (form.Show path) = show_fits d line path (position (is_shown_at d path) d.visible) (position_within (is_shown_at d path) d.visible)
 

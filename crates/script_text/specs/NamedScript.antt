@@ -1,6 +1,9 @@
 -- What the commands of a script name in a design, or the first of them that cannot be carried out.
-use Rattle.std.specs.Prelude.{ℕ, Bool, true, false, ◌&&◌, is_some, List, [], ◌∷◌, slice_get, position, bytes_eq, Option, Some, None, option_map, option_and_then, Result, Ok, Err}
+use Rattle.std.specs.Prelude.{ℕ, Bool, true, false, ◌&&◌, is_some, List, [], ◌∷◌, slice_get, position, bytes_eq, codes, Option, Some, None, option_map, option_and_then, Result, Ok, Err}
 use Rattle.sim_model.specs.LogicValues.declared.kinds.Value.{Value}
+use Rattle.sim_model.specs.SimTime.Times.{ticks_of}
+use Rattle.sim_model.specs.SimTime.declared.moments.Time.{Time}
+use Rattle.sim_model.specs.SimTime.declared.moments.UnitStop.{UnitStop}
 use Rattle.text_lines.specs.ModelTree.declared.faults.Fault.{Fault}
 use Rattle.text_lines.specs.ModelTree.declared.faults.Kind.{Kind}
 use Rattle.text_lines.specs.ModelTree.declared.faults.Kind.TheVariants as kind
@@ -87,9 +90,15 @@ abbrev pub set_named : Design → ℕ → List ℕ → List ℕ → Option ℕ �
 set_named d line path text None = Err (fault kind.UnknownName line path)
 set_named d line path text (Some i) = set_valued line path i (value_at d i text)
 
+-- a run for a number of resolutions, where it is one below 2^64; else its name is `run`
+abbrev pub run_timed : ℕ → Result Time UnitStop → Result Command Fault
+run_timed line (Ok t) = Ok (command.Run (Some t))
+run_timed line (Err stop) = Err (fault kind.BadValue line (codes "run"))
+
 -- what a command on a line is over a design
 abbrev pub named_form : Design → ℕ → CommandForm → Result Command Fault
-named_form d line (form.Run time) = Ok (command.Run time)
+named_form d line (form.Run None) = Ok (command.Run None)
+named_form d line (form.Run (Some (n, unit))) = run_timed line (ticks_of n unit d.resolution)
 named_form d line (form.Set path text) = set_named d line path text (position (is_set_at d path) d.visible)
 named_form d line (form.Show path) = show_named line path (position (is_shown_at d path) d.visible)
 

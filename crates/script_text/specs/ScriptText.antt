@@ -1,8 +1,7 @@
 -- What a script text says: the commands of its lines in order, or the first line at which it says none.
-use Rattle.std.specs.Prelude.{ℕ, suc, ◌*◌, min, Bool, true, false, nat_lt, if◌then◌else◌, List, [], ◌∷◌, slice_get, bytes_eq, codes, Option, Some, None, option_map, option_and_then, Result, Ok, Err}
-use Rattle.sim_model.specs.SimTime.declared.moments.Time.{Time}
+use Rattle.std.specs.Prelude.{ℕ, suc, min, Bool, true, false, nat_lt, if◌then◌else◌, List, [], ◌∷◌, slice_get, bytes_eq, codes, Option, Some, None, option_map, option_and_then, Result, Ok, Err}
 use Rattle.sim_model.specs.SimTime.declared.moments.Unit.{Unit as TimeUnit}
-use Rattle.sim_model.specs.SimTime.Times.{time_of, picoseconds_in}
+use Rattle.sim_model.specs.SimTime.declared.moments.Unit.TheVariants as unit
 use Rattle.text_lines.specs.ModelGrammar.Expressions.{unit_of}
 use Rattle.text_lines.specs.Lines.{lines, words, is_comment, number_read, line_number}
 use Rattle.script_text.specs.declared.forms.CommandForm.{CommandForm}
@@ -11,32 +10,32 @@ use Rattle.script_text.specs.declared.forms.LineForm.{LineForm}
 use Rattle.script_text.specs.declared.forms.LineForm.TheVariants as line
 use Rattle.script_text.specs.declared.forms.TextCommand.{TextCommand}
 
--- a time from 1 ps up
-abbrev pub positive : Time → Option Time
-positive t = if nat_lt 0 t.0 then Some t else None
+-- the units of a script, of either language
+abbrev pub script_unit : List ℕ → Option TimeUnit
+script_unit x = if bytes_eq x (codes "fs") then Some unit.Fs else unit_of x
 
--- a number of units, where it is a time from 1 ps up and at most 2^64 - 1 ps
-abbrev pub units_read : ℕ → TimeUnit → Option Time
-units_read n u = option_and_then positive (time_of (n * picoseconds_in u))
+-- a number from 1 up
+abbrev pub positive : ℕ → Option ℕ
+positive n = if nat_lt 0 n then Some n else None
 
--- the time that a number and a unit write
-abbrev pub time_read : List ℕ → List ℕ → Option Time
-time_read number unit = option_and_then (λ n. option_and_then (units_read n) (unit_of unit)) (number_read number)
+-- how long a run is, as it is written: a number from 1 to 2^64 - 1, and a unit
+abbrev pub length_read : List ℕ → List ℕ → Option (ℕ × TimeUnit)
+length_read number unit = option_and_then (λ n. option_map (λ u. (n, u)) (script_unit unit)) (option_and_then positive (number_read number))
 
 -- a command where its word is the right one
 abbrev pub command_if : Bool → CommandForm → LineForm
 command_if true f = line.Command f
 command_if false f = line.Unreadable
 
--- a run for a time, where it is one
-abbrev pub run_for : Option Time → LineForm
+-- a run of so many units, where they are written
+abbrev pub run_for : Option (ℕ × TimeUnit) → LineForm
 run_for None = line.Unreadable
-run_for (Some t) = line.Command (form.Run (Some t))
+run_for (Some x) = line.Command (form.Run (Some x))
 
 -- three words: `run NUM UNIT`, or `set PATH VALUE`
 abbrev pub three_words : List ℕ → List ℕ → List ℕ → LineForm
 three_words word second third =
-    if bytes_eq word (codes "run") then run_for (time_read second third) else command_if (bytes_eq word (codes "set")) (form.Set second third)
+    if bytes_eq word (codes "run") then run_for (length_read second third) else command_if (bytes_eq word (codes "set")) (form.Set second third)
 
 -- a line of no words says nothing; the commands are `run`, `show PATH`, `run NUM UNIT` and `set PATH VALUE`
 abbrev pub words_form : List (List ℕ) → LineForm

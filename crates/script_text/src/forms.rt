@@ -1,11 +1,11 @@
 use sim_model::logic_values_api::Text;
-use sim_model::sim_time_api::Time;
+use sim_model::sim_time_api::Unit;
 
 /// A command as it stands in a text: its names and values are still the bytes that spell them.
 #[derive(Drop)]
 pub enum CommandForm {
-    /// `run`, to the end of all that is pending, or `run NUM UNIT`, for that time.
-    Run(Option<Time>),
+    /// `run`, to the end of all that is pending, or `run NUM UNIT`, for so many units.
+    Run(Option<(u64, Unit)>),
     /// `set PATH VALUE`
     Set {
         /// The path of what is set.

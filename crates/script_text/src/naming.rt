@@ -1,5 +1,6 @@
 ghost use Rattle.std.specs.Prelude.{◌≡◌, position, All, IfOk, IfErr};
 ghost use Rattle.text_lines.specs.ModelTree.Stops.{IfRefused};
+ghost use Rattle.sim_model.specs.SimTime.Times.{ticks_of};
 ghost use Rattle.script_text.specs.NamedScript as spec;
 ghost use Rattle.script_text.specs.NamedScript.{name_script};
 ghost use Rattle.script_text.specs.Fits.{Fits};
@@ -9,6 +10,7 @@ use super::forms::{CommandForm, TextCommand};
 use super::paths::is_path_of;
 use super::reading::Commands;
 use super::values::value_read;
+use model_tree::sim_time_api::{Resolution, Unit, of_unit};
 use sim_model::Command;
 use sim_model::flat_design_api::{Design, ObjectForm, ValueType, Visible, VisibleId};
 use sim_model::logic_values_api::{Text, Value};
@@ -139,11 +141,30 @@ fn set_named(
     }
 }
 
+/// A run of so many units at a resolution.
+fn run_timed(
+    alloc: Global,
+    line: u32,
+    number: u64,
+    unit: Unit,
+    resolution: Resolution,
+) -> Result<Command, CheckStop>
+    ensures { IsNamedAs result (spec.run_timed line (ticks_of number unit resolution)) }
+{
+    match of_unit(number, unit, resolution) {
+        Ok(time) => Ok(Command::Run(Some(time))),
+        Err(_) => Err(refused(alloc, Kind::BadValue, line, b"run")),
+    }
+}
+
 fn named(alloc: Global, design: &Design, command: &TextCommand) -> Result<Command, CheckStop>
     ensures { IsNamedAs result (spec.named design.now command.now) }
 {
     match &command.form {
-        CommandForm::Run(time) => Ok(Command::Run(*time)),
+        CommandForm::Run(None) => Ok(Command::Run(None)),
+        CommandForm::Run(Some((number, unit))) => {
+            run_timed(alloc, command.line, *number, *unit, design.resolution)
+        }
         CommandForm::Set { path, value } => {
             set_named(
                 alloc,
@@ -160,10 +181,12 @@ fn named(alloc: Global, design: &Design, command: &TextCommand) -> Result<Comman
 /// The commands of a script over a design: each path as the place of its object among those that have
 /// values to be seen, and each value as the object's type reads it.
 ///
-/// Refused has the line and the path of the first command that is not accepted: UnknownName where no
-/// object is to be shown, or set, under the path, and else BadValue where the value has not the form
-/// of its type or is out of its range. `set` needs a signal or a buffer; a clock or a resolved signal
-/// can only be shown. NoMemory is also answered where the place of an object does not fit 32 bits.
+/// A run is for its number of resolutions of the design. Refused has the line of the first command that
+/// is not accepted: BadValue and the name `run` where that number is not whole, or 2^64 or more; else its
+/// path, and UnknownName where no object is to be shown, or set, under the path, and else BadValue where
+/// the value has not the form of its type or is out of its range. `set` needs a signal or a buffer; a
+/// clock or a resolved signal can only be shown. NoMemory is also answered where the place of an object
+/// does not fit 32 bits.
 ///
 /// No path is made: a command takes the time of one look at the last name of each object that has
 /// values to be seen, and of one more for each further name that agrees.

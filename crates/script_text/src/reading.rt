@@ -9,7 +9,7 @@ ghost use Rattle.script_text.specs.Progress.{GoesOn, StopsAt};
 use super::forms::{CommandForm, LineForm, TextCommand};
 use sim_model::logic_values_api::Text;
 use sim_model::plain_lists_api::Items;
-use sim_model::sim_time_api::{Time, Unit, picoseconds_of};
+use sim_model::sim_time_api::Unit;
 use std::alloc::{AllocError, Global};
 use text_lines::model_tree_api::ParseStop;
 use text_lines::{cut, is_comment, line_number, next_word, number_read, without_return};
@@ -81,28 +81,39 @@ fn unit_of(bytes: &[u8]) -> Option<Unit>
     None
 }
 
-/// A number of units, where it is a time from 1 ps up and at most 2^64 - 1 ps.
-fn units_read(number: u64, unit: Unit) -> Option<Time>
-    ensures { result ≡ spec.units_read number unit }
+/// The unit that these bytes name in a script: a femtosecond too, in either language.
+fn script_unit(bytes: &[u8]) -> Option<Unit>
+    ensures { result ≡ spec.script_unit bytes.now }
 {
-    let time = picoseconds_of(number, unit)?;
-    if time.0 > 0 { Some(time) } else { None }
+    if bytes == b"fs".as_slice() {
+        Some(Unit::Fs)
+    } else {
+        unit_of(bytes)
+    }
 }
 
-/// The time that a number and a unit write.
-fn time_read(number: &[u8], unit: &[u8]) -> Option<Time>
-    ensures { result ≡ spec.time_read number.now unit.now }
+/// A number from 1 up.
+fn positive(number: u64) -> Option<u64>
+    ensures { result ≡ spec.positive number }
+{
+    if number > 0 { Some(number) } else { None }
+}
+
+/// The number and the unit that a run is written with: a number from 1 up.
+fn length_read(number: &[u8], unit: &[u8]) -> Option<(u64, Unit)>
+    ensures { result ≡ spec.length_read number.now unit.now }
 {
     let number = number_read(number)?;
-    let unit = unit_of(unit)?;
-    units_read(number, unit)
+    let number = positive(number)?;
+    let unit = script_unit(unit)?;
+    Some((number, unit))
 }
 
-fn run_for(time: Option<Time>) -> LineForm
-    ensures { result ≡ spec.run_for time }
+fn run_for(length: Option<(u64, Unit)>) -> LineForm
+    ensures { result ≡ spec.run_for length }
 {
-    match time {
-        Some(time) => LineForm::Command(CommandForm::Run(Some(time))),
+    match length {
+        Some(length) => LineForm::Command(CommandForm::Run(Some(length))),
         None => LineForm::Unreadable,
     }
 }
@@ -116,7 +127,7 @@ fn three_words(
     ensures { IfOk result (λ form. form ≡ spec.words_form (word.now ∷ second.now ∷ third.now ∷ [])) }
 {
     if word == b"run".as_slice() {
-        Ok(run_for(time_read(second, third)))
+        Ok(run_for(length_read(second, third)))
     } else {
         set_form(alloc, word, second, third)
     }
@@ -187,9 +198,9 @@ fn read_line(alloc: Global, list: &mut Commands, number: u64, line: &[u8]) -> Re
 ///
 /// A line is empty, a comment that begins with `#`, or a command: `run`, `run NUM UNIT`,
 /// `set PATH VALUE` or `show PATH`, its words separated by spaces. NUM is a number as in a model, in
-/// decimal or in hexadecimal behind `0x`, and the time is from 1 ps up to 2^64 - 1 ps. A byte 13 at the
-/// end of a line is ignored, and the last line may lack its end. Syntax has the first line that is none
-/// of these, or that holds command 4,097.
+/// decimal or in hexadecimal behind `0x`, from 1 to 2^64 - 1, and UNIT is fs, ps, ns, us, ms or s. A byte
+/// 13 at the end of a line is ignored, and the last line may lack its end. Syntax has the first line that
+/// is none of these, or that holds command 4,097.
 pub fn commands(alloc: Global, text: &[u8]) -> Result<Commands, ParseStop>
     ensures read { IfOk result (λ list. read_script text.now ≡ Ok list) }
     ensures syntax { IfErr result (λ stop. IfSyntax stop (λ line. read_script text.now ≡ Err line)) }

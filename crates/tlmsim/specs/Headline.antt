@@ -8,7 +8,6 @@ use Rattle.traffic_file.specs.BusText.{bus_of}
 use Rattle.model_tree.specs.Tree as tree
 use Rattle.flat_design.specs.declared.design.Design.{Design}
 use Rattle.flat_design.specs.Sound.{SoundDesign}
-use Rattle.run_input.specs.DesignRules.Designs.{IsDesignOf}
 use Rattle.command_line.specs.SimModel.Configuration.{start}
 use Rattle.command_line.specs.SimModel.declared.plain.Command.{Command}
 use Rattle.command_line.specs.SimModel.declared.plain.Stop.{Stop}
@@ -24,7 +23,7 @@ use Rattle.session.specs.Outputs.{Texts, IsFront}
 use Rattle.session.specs.declared.plans.Plan.{Plan}
 use Rattle.run_input.specs.Limits.{model_limit, script_limit, replay_limit}
 use Rattle.run_input.specs.Loaded.{IsUnread, IsTooLarge}
-use Rattle.run_input.specs.Judged.{IsBrokenModel, HasModelFault, AcceptsModel, IsBrokenScript, HasScriptFault, Accepts, ReadsReplay, HasReplayFault, IsBrokenReplay}
+use Rattle.run_input.specs.Judged.{IsBrokenModel, HasModelFault, AcceptsModel, IsBrokenScript, HasScriptFault, Accepts, ReadsReplay, HasReplayFault, IsBrokenReplay, IsDesignOfSource}
 use Rattle.run_input.specs.Together.{Together}
 use Rattle.tlmsim.specs.Asked.{HasTexts, HasText, IsModel, IsPlan, budget_of, replay_of}
 use Rattle.tlmsim.specs.Call.{Call, Keeps, NamesOne, names_in, names_if}
@@ -82,7 +81,7 @@ pub record ScriptRefused (c : Call) (f : ScriptFault) : Type 0 where
   pub m : tree.Source
   pub accepted : AcceptsModel model m
   pub design : Design
-  pub is_design : IsDesignOf m.model design
+  pub is_design : IsDesignOfSource m design
   pub fault : HasScriptFault design script f
 
 -- all files were read, model and script are accepted, and this line says that the replay text is no list of serials

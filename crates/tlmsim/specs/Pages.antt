@@ -12,8 +12,7 @@ use Rattle.order_free.specs.declared.verdicts.Verdict.{Verdict}
 use Rattle.order_free.specs.declared.verdicts.Verdict.TheVariants as verdict
 use Rattle.command_line.specs.declared.modes.PageKind.{PageKind}
 use Rattle.command_line.specs.declared.modes.PageKind.TheVariants as page_kind
-use Rattle.run_input.specs.DesignRules.Designs.{IsDesignOf}
-use Rattle.run_input.specs.Judged.{AcceptsModel, IsBrokenModel, IsLayoutOf}
+use Rattle.run_input.specs.Judged.{AcceptsModel, IsBrokenModel, IsLayoutOf, IsDesignOfSource}
 
 -- the line of a verdict
 abbrev pub verdict_line : Verdict → List ℕ
@@ -25,7 +24,7 @@ pub record IsVerdictOf (model page : List ℕ) : Type 0 where
   pub m : tree.Source
   pub accepted : AcceptsModel model m
   pub design : Design
-  pub is_design : IsDesignOf m.model design
+  pub is_design : IsDesignOfSource m design
   pub verdict : Verdict
   pub says : Says design verdict
   pub page_is : page ≡ verdict_line verdict

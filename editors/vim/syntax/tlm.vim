@@ -3,6 +3,7 @@ if exists("b:current_syntax")
   finish
 endif
 
+syntax keyword tlmItem language resolution descendants
 syntax keyword tlmItem module top inst bind to func thread method
 syntax keyword tlmItem signal buffer many resolved clock period high start fifo size mutex event keeper semaphore memory var
 syntax keyword tlmItem in out fifo_in fifo_out mutex_port semaphore_port export zero all_bound
@@ -23,7 +24,7 @@ syntax keyword tlmConstant OK INCOMPLETE GENERIC ADDRESS COMMAND BURST BYTE_ENAB
 syntax keyword tlmConstant BEGIN_REQ END_REQ BEGIN_RESP END_RESP ACCEPTED UPDATED COMPLETED
 
 syntax match tlmMember "\.\s*\h\w*"
-syntax match tlmNumber "\<\%(0x\x\+\|\d\+\)\>\%(\s*\<\%(ps\|ns\|us\|ms\|s\)\>\)\?"
+syntax match tlmNumber "\<\%(0x\x\+\|\d\+\)\>\%(\s*\<\%(fs\|ps\|ns\|us\|ms\|s\)\>\)\?"
 syntax match tlmLogic "'[01ZX]\{1,64}'"
 syntax match tlmText "\"[^\"]*\""
 syntax match tlmComment "//.*$" contains=tlmTodo

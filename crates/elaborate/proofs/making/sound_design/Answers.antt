@@ -1,12 +1,13 @@
-use Rattle.std.proofs.Common.{◌≡◌, true, subst}
-use Rattle.model_tree.specs.Languages.{keeps_language}
 use Rattle.model_tree.specs.Seen.{model_of}
-use Rattle.elaborate.proofs.LaidOut.{accepted, laid_out}
+use Rattle.elaborate.proofs.LaidOut.{accepted, at_resolution, laid_out}
 use Rattle.elaborate.proofs.making.sound_design.Goals as goal
+
+pub returns-clause-design : goal.returns-clause-design
+returns-clause-design c = at_resolution (model_of c.args.checked.tree) c.in_ok-design.design c.resolution_of-resolution.result c.in_ok-design.ensures.design
 
 pub returns-clause-sound : goal.returns-clause-sound
 returns-clause-sound c =
     let m = model_of c.args.checked.tree in
-    let d = c.in_ok-design.design in
+    let d = record c.in_ok-design.design { resolution = c.resolution_of-resolution.result } in
     let made = c.in_ok-design.ensures in
-    c.accepted_designs_are_sound.ensures m d (accepted m c.args.checked.accepted made.accepted c.requires.limits (subst (λ h. keeps_language h m ≡ true) c.requires.first c.args.checked.tree.language)) made.design (laid_out d c.args.checked.code made.code c.args.checked.nested c.requires.stand c.requires.rooms)
+    c.accepted_designs_are_sound.ensures m d (accepted m c.args.checked.accepted made.accepted c.requires.limits c.requires.alone) (at_resolution m c.in_ok-design.design c.resolution_of-resolution.result made.design) (laid_out d c.args.checked.code made.code c.args.checked.nested c.requires.stand c.requires.rooms)

@@ -1,9 +1,5 @@
-use Rattle.model_tree.specs.Seen.{source_of}
 use Rattle.run_input.proofs.Refusals.{text_design, text_fault}
 use Rattle.run_input.proofs.judging.judge_model.Goals as goal
-
-pub judge_tree-requires : goal.judge_tree-requires
-judge_tree-requires c = c.reads_language_1.ensures.first c.args.text.now (source_of c.in-Ok.tree) c.in-Ok.ensures.reads
 
 pub returns-in-Ok-clause-accepted : goal.returns-in-Ok-clause-accepted
 returns-in-Ok-clause-accepted c = text_design _ _ _ c.in-Ok.ensures.reads c.judge_tree.ensures.accepted c.judge_tree.ensures.design

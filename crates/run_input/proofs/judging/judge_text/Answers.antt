@@ -11,4 +11,4 @@ returns-in-Err-Fault-judge_script-clause-fault c =
 pub returns-in-Ok-judge_script-clause-accepted : goal.returns-in-Ok-judge_script-clause-accepted
 returns-in-Ok-judge_script-clause-accepted c =
     let accepted = c.in-Ok.ensures.accepted in
-    (accepted.0, record { accepted = accepted.1; is_design = accepted.2; resolution = c.in-Ok.ensures.resolution; named = c.in-Ok-judge_script.ensures.accepted })
+    (accepted.0, record { accepted = accepted.1; is_design = accepted.2; named = c.in-Ok-judge_script.ensures.accepted })

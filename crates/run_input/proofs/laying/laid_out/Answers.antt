@@ -1,9 +1,6 @@
 use Rattle.model_tree.specs.Seen.{source_of}
 use Rattle.run_input.proofs.laying.laid_out.Goals as goal
 
-pub judge_tree-requires : goal.judge_tree-requires
-judge_tree-requires c = c.reads_language_1.ensures.first c.args.model.now (source_of c.in-Ok.tree) c.in-Ok.ensures.reads
-
 pub returns-in-Ok-page-clause-page : goal.returns-in-Ok-page-clause-page
 returns-in-Ok-page-clause-page c =
     record { m = source_of c.in-Ok.tree; accepted = c.in-Ok-judge_tree.ensures.accepted _ c.in-Ok.ensures.reads; page_is = c.in-Ok-page.ensures }

@@ -1,4 +1,4 @@
-use Rattle.std.proofs.Common.{ap, arith}
+use Rattle.std.proofs.Common.{◌≡◌, ap, arith}
 use Rattle.session.specs.SimIo.Told.{Grew}
 use Rattle.session.specs.declared.plans.Plan.{Plan}
 use Rattle.tlmsim.proofs.Courses.{ran_some, ran_with}
@@ -25,5 +25,7 @@ returns-clause-works g c = λ words err err' faults faults' line.
 pub returns-in-Err-clause-no_more : goal.returns-in-Err-clause-no_more
 returns-in-Err-clause-no_more g c = rw c.unfit.ensures (small_unfit c.in-Err.stop _)
 
-pub run-requires-clause-budget : goal.run-requires-clause-budget
-run-requires-clause-budget g c = let same = ap (λ (p : Plan). p.budget) c.plan_of.ensures in omega (arith, same, c.requires.budget)
+pub run-outcome-requires-clause-budget : goal.run-outcome-requires-clause-budget
+run-outcome-requires-clause-budget g c =
+    let same : c.plan_of.result.budget ≡ c.args.generated.budget = ap (λ (p : Plan). p.budget) c.plan_of.ensures in
+    omega (arith, same, c.requires.budget)

@@ -1,4 +1,4 @@
-use Rattle.std.proofs.Common.{Err, ap, arith, inl, inr, refl, ⊎_elim}
+use Rattle.std.proofs.Common.{◌≡◌, Err, ap, arith, inl, inr, refl, ⊎_elim}
 use Rattle.session.proofs.SimIo.Chains.{rose_on, were_told_on}
 use Rattle.command_line.specs.Line.{Simulate}
 use Rattle.command_line.specs.Seen.{simulation_of}
@@ -66,4 +66,6 @@ pub returns-in-Err-judge-clause-no_more : goal.returns-in-Err-judge-clause-no_mo
 returns-in-Err-judge-clause-no_more g c = rw c.unfit.ensures (small_unfit c.in-Err-judge.stop _)
 
 pub run-requires-clause-budget : goal.run-requires-clause-budget
-run-requires-clause-budget g c = omega (arith, c.plan_of-plan.ensures.plans.budget_is, c.requires.budget)
+run-requires-clause-budget g c =
+    let same : c.plan_of-plan.result.budget ≡ c.args.simulation.budget = c.plan_of-plan.ensures.plans.budget_is in
+    omega (arith, same, c.requires.budget)

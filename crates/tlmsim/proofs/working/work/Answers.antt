@@ -1,4 +1,4 @@
-use Rattle.std.proofs.Common.{arith}
+use Rattle.std.proofs.Common.{◌≤◌, arith}
 use Rattle.command_line.specs.Seen.{simulation_of}
 use Rattle.tlmsim.proofs.Ends.{apart_of}
 use Rattle.tlmsim.proofs.Large.{large_asked, never_large}
@@ -11,12 +11,12 @@ simulate-requires-clause-apart g c =
 
 pub simulate-requires-clause-budget : goal.simulate-requires-clause-budget
 simulate-requires-clause-budget g c =
-    let few = c.budgets_are_limited.ensures.simulated c.args.words.now (simulation_of c.in-Ok-Simulate.simulation) (rw c.in-Ok-Simulate.field-0-is at c.in-Ok-Simulate.ensures) in
+    let few : c.in-Ok-Simulate.simulation.budget ≤ 67108864 = c.budgets_are_limited.ensures.simulated c.args.words.now (simulation_of c.in-Ok-Simulate.simulation) (rw c.in-Ok-Simulate.field-0-is at c.in-Ok-Simulate.ensures) in
     omega (arith, few)
 
 pub generate-requires : goal.generate-requires
 generate-requires g c =
-    let few = c.budgets_are_limited.ensures.generated c.args.words.now c.in-Ok-Generate.generated (rw c.in-Ok-Generate.field-0-is at c.in-Ok-Generate.ensures) in
+    let few : c.in-Ok-Generate.generated.budget ≤ 67108864 = c.budgets_are_limited.ensures.generated c.args.words.now c.in-Ok-Generate.generated (rw c.in-Ok-Generate.field-0-is at c.in-Ok-Generate.ensures) in
     record { budget = omega (arith, few) }
 
 pub returns-in-Ok-Simulate-clause-works : goal.returns-in-Ok-Simulate-clause-works

@@ -1,0 +1,1 @@
+pub use Rattle.tick_rules.specs.Sources as Sources

@@ -1,1 +1,0 @@
-pub use Rattle.elaborate.specs.DesignRules.Designs as Designs

@@ -1,0 +1,1 @@
+pub use Rattle.tick_trees.specs.Ticks as Ticks
