@@ -1,0 +1,11 @@
+pub mod Showing
+pub mod Going
+pub mod Restarting
+pub mod Counting
+pub mod OwnSteps
+pub mod Away
+pub mod SameDesign
+pub mod Passing
+pub mod Ticking
+pub mod SameValues
+pub mod Levels

@@ -1,0 +1,5 @@
+pub mod Spots
+pub mod Ticks
+pub mod Turns
+pub mod Levels
+pub mod Resets

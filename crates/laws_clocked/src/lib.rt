@@ -1,0 +1,10 @@
+//! Laws on clocked threads, as functions that do nothing and whose clauses are the laws.
+#![tactic(auto)]
+
+mod resets;
+mod spots;
+mod ticks;
+
+pub use resets::a_reset_begins_anew;
+pub use spots::{ticks_go_on, what_shows_stands_in_place};
+pub use ticks::ticks_take_their_takings;
