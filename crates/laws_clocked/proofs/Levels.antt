@@ -40,7 +40,7 @@ new_via : (t : Tick) (x : Test) (xs : List Test) → within (put (left_at t (che
 new_via t x [] = refl
 new_via t x (y ∷ ys) = refl
 
-goes_via : (a : Arena) (t : Tick) (has : HasTick a t) (x : Test) (xs : List Test) (r : Residual) → Shows (left_at t (checking (x ∷ xs))) r → within (settle a (put r skip)) ≡ within r
+pub goes_via : (a : Arena) (t : Tick) (has : HasTick a t) (x : Test) (xs : List Test) (r : Residual) → Shows (left_at t (checking (x ∷ xs))) r → within (settle a (put r skip)) ≡ within r
 goes_via a t has x xs r h =
     let g = test-goes a t has x xs in
     within-settled a (put (left_at t (checking (x ∷ xs))) skip) (goes-left a (left_at t (checking (x ∷ xs))) skip (left_at t (checking xs)) x.test g r h)
@@ -49,7 +49,7 @@ goes_via a t has x xs r h =
 
 -- ---- from the taking on
 
-agrees_body : (c d : Config) (p : ℕ) (f : Instance → Instance) (ps : Processes) (tr : Trace) → ((i : Instance) → (f i).ended ≡ i.ended) → ps.instances ≡ change d.processes.instances p f → Agrees c d → Agrees c (record d { processes = ps; trace = tr })
+pub agrees_body : (c d : Config) (p : ℕ) (f : Instance → Instance) (ps : Processes) (tr : Trace) → ((i : Instance) → (f i).ended ≡ i.ended) → ps.instances ≡ change d.processes.instances p f → Agrees c d → Agrees c (record d { processes = ps; trace = tr })
 agrees_body c d p f ps tr keeps is a = record {
   same = ap (λ (x : Config). record x { processes = ps; trace = tr }) a.same;
   ended = λ q. ap (λ js. has_ended (slice_get js q)) is ∙ ended-change d.processes.instances p f keeps q ∙ a.ended q;

@@ -9,3 +9,8 @@ pub mod Passing
 pub mod Ticking
 pub mod SameValues
 pub mod Levels
+pub mod Rousing
+pub mod Carrying
+pub mod Ending
+pub mod Waking
+pub mod Throwing

@@ -34,6 +34,7 @@ use Rattle.laws_moves.proofs.RunSteps.{step-moves, taking-moves, takes-empty}
 use Rattle.laws_clocked.specs.Spots.{Shows}
 use Rattle.laws_clocked.specs.Ticks.{Test, Tick, behind, IsTest, AreTests, HasTick, Spot, left_at, entering, declaring, testing, waiting, checking, IsIn}
 use Rattle.laws_clocked.specs.Turns.{ComesTo, IsLeaving, IsNotUnwound}
+use Rattle.laws_clocked.specs.Wakes.{WaitsStatically}
 use Rattle.laws_clocked.proofs.Going.{GoesTo, goes-next, goes, goes-within, goes-set, goes-set_within, enter-goes, declare-goes, loop-goes, wait-goes, test-goes, throw-goes, lower-goes, next-throw}
 use Rattle.laws_clocked.proofs.Counting.{cut-bits, lowered-bits, goes-on, lowered}
 use Rattle.laws_clocked.proofs.OwnSteps.{step-top, same-went, not-went, changed-at, changed-twice, carries, chooses, loops-by, assigns}
@@ -274,6 +275,66 @@ module _ (p : ℕ) (t : Tick) where
         (comes testing w tt (set (checking []) v ct begun w t.lowers testing g) begun
         (lowered-bits (bits v) n (bits has.unit) owes.0 has.is_one (subst (λ k. k < 2 ^ 32) (sym owes.0) owes.1), omega (arith, small)))
     own_step (checking (x ∷ xs)) v fits ct begun n owes not few d now = tested x xs fits.0 fits.1 v ct begun n owes d now _ refl
+
+    -- where its own step takes it off the stack, that is the wait
+    on_stack : (rest stack : List ℕ) → stack ≡ p ∷ rest → times p stack ≡ 0 → ⊥
+    on_stack rest stack top off =
+        let here = times-here p rest in
+        let is = ap (times p) top in
+        omega (arith, here, is, off)
+
+    module _ (spot : Spot) (v : Value) (ct : ComesTo c p t spot v) (begun : ct.instance.started ≡ true) where
+      stays_on : (d e : Config) → statement_step c p ≡ Ok e → step c ≡ went d → e.processes.stack ≡ c.processes.stack → times p d.processes.stack ≡ 0 → ⊥
+      stays_on d e is now same off = on_stack ct.rest d.processes.stack (ap (λ (x : Config). x.processes.stack) (sym (to spot v ct begun d e is now)) ∙ same ∙ ct.top) off
+
+    tested_off : (x : Test) (xs : List Test) (is : IsTest a x) (v : Value) (ct : ComesTo c p t (checking (x ∷ xs)) v) → ct.instance.started ≡ true → (d : Config) → step c ≡ went d → times p d.processes.stack ≡ 0
+        → (m : Result Value RunFault) → val (here (settled_in c p ct.instance.residual) p (record ct.instance { residual = settle a ct.instance.residual }) (settle a ct.instance.residual)) x.is_at_level ≡ m → ⊥
+    tested_off x xs is v ct begun d now off (Err f) value_is =
+        faults_not (checking (x ∷ xs)) v ct begun d f
+        (chooses c p ct.instance ct.at x.test x.block x.is_at_level (next (checking (x ∷ xs)) v ct begun skip (left_at t (checking xs)) x.test (test-goes a t has x xs)) is.tests
+        ∙ ap (λ (m : Result Value RunFault). on_ok m (λ w. Ok (with_residual (settled_in c p ct.instance.residual) p (put (settle a ct.instance.residual) (chosen (settled_in c p ct.instance.residual) (truth w) x.block None))))) value_is) now
+    tested_off x xs is v ct begun d now off (Ok w) value_is =
+        stays_on (checking (x ∷ xs)) v ct begun d (with_residual (settled_in c p ct.instance.residual) p (put (settle a ct.instance.residual) (chosen (settled_in c p ct.instance.residual) (truth w) x.block None)))
+        (chooses c p ct.instance ct.at x.test x.block x.is_at_level (next (checking (x ∷ xs)) v ct begun skip (left_at t (checking xs)) x.test (test-goes a t has x xs)) is.tests
+        ∙ ap (λ (m : Result Value RunFault). on_ok m (λ w. Ok (with_residual (settled_in c p ct.instance.residual) p (put (settle a ct.instance.residual) (chosen (settled_in c p ct.instance.residual) (truth w) x.block None))))) value_is) now refl off
+
+    pub own-off : (spot : Spot) (v : Value) → Fits a spot → (ct : ComesTo c p t spot v) → ct.instance.started ≡ true → (IsLeaving c p t → ⊥) → (d : Config) → step c ≡ went d → times p d.processes.stack ≡ 0 → WaitsStatically d p
+    own-off entering v fits ct begun not d now off =
+        let body = settle a ct.instance.residual in
+        let old = settled_in c p ct.instance.residual in
+        absurd (stays_on entering v ct begun d (with_residual old p (put body (block a t.inside)))
+        (chooses c p ct.instance ct.at t.whole t.inside (code.literal (value.Bool true)) (next entering v ct begun (block a t.inside) (left_at t declaring) t.whole (enter-goes a t has)) has.whole) now refl off)
+    own-off declaring v fits ct begun not d now off =
+        let body = settle a ct.instance.residual in
+        let old = settled_in c p ct.instance.residual in
+        absurd (stays_on declaring v ct begun d (set_local (passes old p body) p t.local (cut_to (type.Uint 32) has.first))
+        (carries c p ct.instance ct.at t.declares (code.var t.local (type.Uint 32) (Some (code.literal has.first))) (next declaring v ct begun skip (left_at t testing) t.declares (declare-goes a t has)) has.declares) now refl off)
+    own-off testing v fits ct begun not d now off =
+        let body = settle a ct.instance.residual in
+        let old = settled_in c p ct.instance.residual in
+        let more = more_or v ct not (bits v) refl in
+        absurd (stays_on testing v ct begun d (with_residual old p (put body (followed (block a t.round) (t.loops ∷ []))))
+        (loops-by c p ct.instance ct.at t.loops t.round _ (next testing v ct begun (followed (block a t.round) (t.loops ∷ [])) (left_at t waiting) t.loops (loop-goes a t has)) has.loops (bool_value true)
+        (goes-on old p (record ct.instance { residual = body }) body t ct.inside.frame v ct.inside.innermost_is ct.inside.counts has.zero_width has.zero has.is_zero more)) now refl off)
+    own-off waiting v fits ct begun not d now off =
+        let body = settle a ct.instance.residual in
+        let old = settled_in c p ct.instance.residual in
+        subst (λ z. WaitsStatically z p)
+        (to waiting v ct begun d (waits (passes old p body) p waits_statically no_deadline) (carries c p ct.instance ct.at t.waits (code.wait code.static) (next waiting v ct begun skip (left_at t (checking t.tests)) t.waits (wait-goes a t has)) has.waits) now)
+        (record {
+          instance = record ct.instance { residual = put body skip; wait = waits_statically; deadline = no_deadline };
+          at = changed-twice c p ct.instance ct.at (λ j. record j { residual = put body skip }) (λ j. record j { wait = waits_statically; deadline = no_deadline });
+          waits = refl;
+          never = refl;
+        })
+    own-off (checking []) v fits ct begun not d now off =
+        let body = settle a ct.instance.residual in
+        let old = settled_in c p ct.instance.residual in
+        let w = cut_to (type.Uint 32) (unsigned (difference_of (bits v) (bits has.unit))) in
+        absurd (stays_on (checking []) v ct begun d (set_local (passes old p body) p t.local w)
+        (assigns c p ct.instance ct.at t.lowers _ _ (next (checking []) v ct begun skip (left_at t testing) t.lowers (lower-goes a t has)) has.lowers (unsigned (difference_of (bits v) (bits has.unit)))
+        (lowered old p (record ct.instance { residual = body }) body t ct.inside.frame v ct.inside.innermost_is ct.inside.counts has.one_width has.unit)) now refl off)
+    own-off (checking (x ∷ xs)) v fits ct begun not d now off = absurd (tested_off x xs fits.0 v ct begun d now off _ refl)
 
     -- a throw begins an unwinding
     left_processes : (vias : List Via) (x : Config) → (with_left x vias).processes ≡ x.processes

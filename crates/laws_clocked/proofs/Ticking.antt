@@ -80,7 +80,7 @@ module _ (design : Design) (script : List Command) where
   few-on_stack c r p = let once = (clean-after design script r.steps r.choices c r.reached).once p in omega (arith, once)
 
   module _ (sound : SoundDesign design) (p : ℕ) (t : Tick) where
-    unbegun : (x : Residual) → IsLeft x → has_goal x ≡ false → (a : _) (b : Bool) (r : Residual) → IsRooted b r → Shows x (settle a r) → b ≡ true
+    pub unbegun : (x : Residual) → IsLeft x → has_goal x ≡ false → (a : _) (b : Bool) (r : Residual) → IsRooted b r → Shows x (settle a r) → b ≡ true
     unbegun x l none a true r rooted h = refl
     unbegun x l none a false skip rooted h = absurd (shows-left x skip h l)
     unbegun x l none a false (goal r k) rooted h = absurd (true≢false (shows-goal x (goal (settle a r) k) h none))

@@ -1,5 +1,5 @@
--- A reset of a tick that is not at its level.
-use Rattle.std.specs.Prelude.{◌≡◌, ℕ, false, List, Some, Ok}
+-- A reset of a tick that is at its level, or not.
+use Rattle.std.specs.Prelude.{◌≡◌, ℕ, true, false, List, Some, Ok}
 use Rattle.laws_unwinding.specs.LogicValues.declared.kinds.Value.{Value}
 use Rattle.laws_unwinding.specs.FlatDesign.Typed.{EachOf}
 use Rattle.laws_unwinding.specs.SimModel.Values.{truth}
@@ -18,3 +18,11 @@ pub record IsNotAtLevel (c : Config) (p : ℕ) (x : Test) : Type 0 where
 
 abbrev pub NoneAtLevel : Config → ℕ → List Test → Type 0
 NoneAtLevel c p tests = EachOf (IsNotAtLevel c p) tests
+
+-- what it asks is true
+pub record IsAtLevel (c : Config) (p : ℕ) (x : Test) : Type 0 where
+  pub instance : Instance
+  pub at : instance_at c p ≡ Some instance
+  pub answer : Value
+  pub is : val (here c p instance (settle (arena c) instance.residual)) x.is_at_level ≡ Ok answer
+  pub on : truth answer ≡ true

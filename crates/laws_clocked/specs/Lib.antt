@@ -3,3 +3,5 @@ pub mod Ticks
 pub mod Turns
 pub mod Levels
 pub mod Resets
+pub mod Fired
+pub mod Wakes

@@ -6,7 +6,7 @@ use Rattle.laws_unwinding.specs.SimModel.Residual.{has_goal}
 use Rattle.laws_unwinding.specs.SimModel.Configuration.{Config, Instance, arena, instance_at}
 use Rattle.laws_unwinding.specs.SimModel.Runs.{after}
 use Rattle.laws_unwinding.specs.SimModel.declared.plain.Phase.TheVariants as phase
-use Rattle.laws_clocked.specs.Ticks.{Tick, Spot, IsIn, entering, testing}
+use Rattle.laws_clocked.specs.Ticks.{Tick, Spot, IsIn, entering, testing, checking}
 
 -- the next step is one of p, which is on top of the stack, and its statement is this one of the tick, with the count v
 pub record ComesTo (c : Config) (p : ℕ) (t : Tick) (spot : Spot) (v : Value) : Type 0 where
@@ -46,3 +46,9 @@ pub record LeavesNormally (c e : Config) (p : ℕ) (t : Tick) (n : ℕ) (choices
   pub leaves : IsLeaving e p t
   pub not_before : EachBefore (λ x. IsLeaving x p t → ⊥) n choices c
   pub not_unwound : EachUpTo (λ x. IsNotUnwound x p) n choices c
+
+-- p is behind the wait of the tick, with the count v: of its round the tests are left, and what lowers the count
+pub record IsBehindWait (c : Config) (p : ℕ) (t : Tick) (v : Value) : Type 0 where
+  pub instance : Instance
+  pub at : instance_at c p ≡ Some instance
+  pub inside : IsIn (arena c) t (checking t.tests) v instance.residual

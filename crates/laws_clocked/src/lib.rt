@@ -5,6 +5,6 @@ mod resets;
 mod spots;
 mod ticks;
 
-pub use resets::a_reset_begins_anew;
+pub use resets::{a_reset_at_its_level_throws, a_reset_begins_anew};
 pub use spots::{ticks_go_on, what_shows_stands_in_place};
 pub use ticks::ticks_take_their_takings;

@@ -10,10 +10,12 @@ ghost use Rattle.laws_unwinding.specs.SimModel.declared.plain.Command.{Command};
 ghost use Rattle.laws_clocked.specs.Ticks.{Tick, HasTick};
 ghost use Rattle.laws_clocked.specs.Turns.{LeavesNormally};
 ghost use Rattle.laws_clocked.specs.Levels.{NoneAtLevel};
+ghost use Rattle.laws_clocked.specs.Wakes.{FollowsWake};
 
 /// In every run of a sound design, whatever is chosen and whatever other processes do meanwhile, be it that they suspend the thread,
 /// resume it, disable or enable it: between the entering of a tick and where it is left normally its thread is taken exactly as many
-/// times as the number of the tick says (`counted`); and at none of these takings is a reset of the tick at its level (`levels`).
+/// times as the number of the tick says (`counted`); at none of these takings is a reset of the tick at its level (`levels`); and each
+/// of them follows a wake by an event of its static sensitivity since the wait before it (`follows`).
 pub fn ticks_take_their_takings()
     ensures counted { (design : Design) (script : List Command) → SoundDesign design
         → (steps : ℕ) (chosen : List ℕ) (c : Config) → after steps chosen (start design script) ≡ Some c
@@ -25,4 +27,10 @@ pub fn ticks_take_their_takings()
         → (n : ℕ) (choices : List ℕ) (e : Config) → LeavesNormally c e p t n choices
         → (k : ℕ) (own left : List ℕ) (x : Config) → k < n → choices ≡ own ++ p ∷ left → after k own c ≡ Some x → step x ≡ takes
         → NoneAtLevel x p t.tests }
+    ensures follows { (design : Design) (script : List Command) → SoundDesign design
+        → (steps : ℕ) (chosen : List ℕ) (c : Config) → after steps chosen (start design script) ≡ Some c
+        → (p : ℕ) (t : Tick) → HasTick (arena c) t
+        → (n : ℕ) (choices : List ℕ) (e : Config) → LeavesNormally c e p t n choices
+        → (k : ℕ) (own left : List ℕ) (x : Config) → k < n → choices ≡ own ++ p ∷ left → after k own c ≡ Some x → step x ≡ takes
+        → FollowsWake c p k own x }
 {}
