@@ -9,3 +9,4 @@ pub mod Injected
 pub mod Itself
 pub mod Others
 pub mod Handles
+pub mod Owes

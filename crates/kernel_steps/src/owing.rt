@@ -1,0 +1,121 @@
+//! A control call that a statement owes, made for one instance.
+ghost use Rattle.std.specs.Prelude.{◌≡◌};
+ghost use Rattle.flat_design.specs.Code.{arena_of, statement_at, statement_of};
+ghost use Rattle.exec_channels.specs.SimModel.Residual.{taken_off};
+ghost use Rattle.exec_channels.specs.SimModel.Configuration.{with_residual};
+ghost use Rattle.exec_channels.specs.SimModel.Statements as statements;
+ghost use Rattle.exec_channels.specs.KernelState.Kernel.{IsSound};
+ghost use Rattle.exec_channels.specs.KernelState.Moves.{IsOnTop};
+ghost use Rattle.exec_channels.specs.KernelState.Ways.{HasOwed};
+ghost use Rattle.exec_control.specs.Thrown.{OthersHaveNoGoal};
+ghost use Rattle.kernel_steps.specs.Owing.{Owes, call_of};
+ghost use Rattle.kernel_steps.specs.Told.{MakesAll};
+
+use crate::answers::{StepAnswer, plain};
+use exec_channels::kernel_bodies_api::Program;
+use exec_channels::kernel_state_api::{Kernel, Way, move_on, top_lives};
+use exec_control::exec_data_api::model_tree_api::Control;
+use exec_control::{control_owed, throw_owed};
+use flat_design::{NameId, Statement, StmtId};
+
+/// Which call a statement owes.
+#[derive(Clone, Copy)]
+pub enum OwedCall {
+    /// None: it is no control call.
+    Nothing,
+    /// A suspend, resume, disable, enable, kill or reset.
+    Control(Control),
+    /// An exception.
+    Throw(NameId),
+}
+
+/// Which call a statement owes.
+fn call_of(statement: &Statement) -> OwedCall
+    ensures { result ≡ call_of (statement_of statement.now) }
+{
+    match statement {
+        Statement::Var(_, _, _) => OwedCall::Nothing,
+        Statement::Assign(_, _) => OwedCall::Nothing,
+        Statement::Call(_, _, _) => OwedCall::Nothing,
+        Statement::Read(_, _) => OwedCall::Nothing,
+        Statement::NbRead(_, _, _) => OwedCall::Nothing,
+        Statement::NbWrite(_, _, _, _) => OwedCall::Nothing,
+        Statement::Trylock(_, _) => OwedCall::Nothing,
+        Statement::Unlock(_, _) => OwedCall::Nothing,
+        Statement::SemTrywait(_, _) => OwedCall::Nothing,
+        Statement::NbTransport(_, _, _, _, _) => OwedCall::Nothing,
+        Statement::Write(_, _, _) => OwedCall::Nothing,
+        Statement::Print(_, _) => OwedCall::Nothing,
+        Statement::Notify(_) => OwedCall::Nothing,
+        Statement::NotifyDelta(_) => OwedCall::Nothing,
+        Statement::NotifyAfter(_, _) => OwedCall::Nothing,
+        Statement::Cancel(_) => OwedCall::Nothing,
+        Statement::Wait(_) => OwedCall::Nothing,
+        Statement::NextTrigger(_) => OwedCall::Nothing,
+        Statement::Lock(_) => OwedCall::Nothing,
+        Statement::SemWait(_) => OwedCall::Nothing,
+        Statement::Post(_) => OwedCall::Nothing,
+        Statement::Make(_, _, _) => OwedCall::Nothing,
+        Statement::Acquire(_) => OwedCall::Nothing,
+        Statement::Release(_) => OwedCall::Nothing,
+        Statement::Carry(_, _) => OwedCall::Nothing,
+        Statement::BTransport(_, _, _) => OwedCall::Nothing,
+        Statement::QkGlobal(_) => OwedCall::Nothing,
+        Statement::QkInc(_, _) => OwedCall::Nothing,
+        Statement::QkSet(_, _) => OwedCall::Nothing,
+        Statement::QkReset(_) => OwedCall::Nothing,
+        Statement::Spawn(_) => OwedCall::Nothing,
+        Statement::Control(order, _, _) => OwedCall::Control(*order),
+        Statement::ThrowIt(_, e, _) => OwedCall::Throw(*e),
+        Statement::Throw(_) => OwedCall::Nothing,
+        Statement::Return(_) => OwedCall::Nothing,
+        Statement::Stop => OwedCall::Nothing,
+        Statement::If(_, _, _) => OwedCall::Nothing,
+        Statement::While(_, _) => OwedCall::Nothing,
+        Statement::Guard(_, _) => OwedCall::Nothing,
+        Statement::Try(_, _) => OwedCall::Nothing,
+    }
+}
+
+/// A call that is owed to instance `q` first is made for it.
+fn make_owed(k: &mut Kernel, p: u32, q: u32, statement: &Statement) -> StepAnswer
+    requires sound { IsSound k.old }
+    requires top { IsOnTop k.old p }
+    requires owes { HasOwed k.old p }
+    requires others { OthersHaveNoGoal k.old }
+    ensures makes { MakesAll k.old k.new result p (λ c t i r. statements.owed_call (with_residual c t (taken_off r)) q (statement_of statement.now)) }
+    ensures sound { IsSound k.new }
+    ensures made { k.new.made ≡ k.old.made }
+{
+    top_lives(k, p);
+    match call_of(statement) {
+        OwedCall::Control(order) => plain(control_owed(k, p, q, order)),
+        OwedCall::Throw(e) => plain(throw_owed(k, p, q, e)),
+        OwedCall::Nothing => {
+            move_on(k, p, Way::TakenOff);
+            StepAnswer::Went
+        }
+    }
+}
+
+/// The call that statement `s` owes to instance `q` comes next, and is made for it; the statement owes it to one less. It takes no
+/// memory.
+pub(crate) fn on_owed(k: &mut Kernel, program: &Program, p: u32, s: StmtId, q: u32) -> StepAnswer
+    requires sound { IsSound k.old }
+    requires top { IsOnTop k.old p }
+    requires same { arena_of program.now.code ≡ arena_of k.old.program.code }
+    requires owes { Owes k.old p s q }
+    requires others { OthersHaveNoGoal k.old }
+    ensures makes { MakesAll k.old k.new result p (λ c t i r. statements.owed_by (with_residual c t (taken_off r)) q (statement_at (arena_of k.old.program.code) s)) }
+    ensures sound { IsSound k.new }
+    ensures made { k.new.made ≡ k.old.made }
+{
+    top_lives(k, p);
+    match program.statement(s) {
+        Some(x) => make_owed(k, p, q, x),
+        None => {
+            move_on(k, p, Way::TakenOff);
+            StepAnswer::Went
+        }
+    }
+}
