@@ -9,4 +9,3 @@ pub mod Injected
 pub mod Itself
 pub mod Others
 pub mod Handles
-pub mod Owes

@@ -13,7 +13,7 @@ pub mod QuantumKeeper
 pub mod ModelTree
 pub mod SimModel
 pub mod KernelBodies
-pub mod ProcessBodies
+pub mod ProcessState
 pub mod KernelProcesses
 pub mod KernelTransactions
 pub mod KernelState

@@ -10,6 +10,6 @@ pub mod ReadySet
 pub mod InstanceTable
 pub mod SimModel
 pub mod KernelBodies
-pub mod ProcessBodies
+pub mod ProcessState
 pub mod KernelProcesses
 pub mod KernelState

@@ -15,8 +15,8 @@ use Rattle.kernel_state.specs.KernelBodies.declared.layers.Open.{Open}
 use Rattle.kernel_state.specs.KernelBodies.declared.layers.Open.TheVariants as layer
 use Rattle.kernel_state.specs.KernelBodies.declared.layers.Saved.{Saved}
 use Rattle.kernel_state.specs.KernelBodies.declared.program.Program.{Program}
-use Rattle.kernel_state.specs.ProcessBodies.Bodies as bodies
-use Rattle.kernel_state.specs.ProcessBodies.declared.body.Body.{Body}
+use Rattle.kernel_state.specs.ProcessState.Bodies as bodies
+use Rattle.kernel_state.specs.ProcessState.declared.body.Body.{Body}
 use Rattle.kernel_state.specs.KernelProcesses.Seen.{Seen, seen}
 use Rattle.kernel_state.specs.KernelProcesses.Sound as schedules
 use Rattle.kernel_state.specs.KernelProcesses.declared.parts.Process.{Process}

@@ -1,8 +1,6 @@
 pub mod Processes
 pub mod Kernel
 pub mod Moves
-pub mod Ways
-pub mod Added
 pub mod Stopping
 pub mod Spawned
 pub mod SimTime
@@ -16,7 +14,7 @@ pub mod QuantumKeeper
 pub mod FlatDesign
 pub mod SimModel
 pub mod KernelBodies
-pub mod ProcessBodies
+pub mod ProcessState
 pub mod KernelProcesses
 pub mod KernelEvents
 pub mod KernelChannels

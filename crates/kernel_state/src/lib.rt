@@ -10,8 +10,6 @@ mod reading;
 mod spawning;
 mod statements;
 mod stops;
-mod targets;
-mod ways;
 
 pub use control::{kill, reset};
 pub use kernel::{Cycle, Kept, Kernel, Offspring, PathOf};
@@ -21,8 +19,6 @@ pub use payloads::{acquire, make, release, set_byte, set_field};
 pub use spawning::spawn;
 pub use statements::{block, store_variable, wait_so, write_fifo};
 pub use stops::StatementStop;
-pub use targets::targets;
-pub use ways::{Way, move_on};
 
 /// What is passed on of event_core.
 pub mod event_core_api {
@@ -43,7 +39,7 @@ pub mod instance_table_api {
 
 /// What is passed on of kernel_bodies.
 pub mod kernel_bodies_api {
-    pub use process_bodies::kernel_bodies_api::{Frame, Next, Program, locals_in, many_locals};
+    pub use process_state::kernel_bodies_api::{Frame, Next, Program, locals_in, many_locals};
 }
 
 /// What is passed on of kernel_channels.
@@ -89,9 +85,9 @@ pub mod plain_lists_api {
     pub use kernel_processes::plain_lists_api::{Bytes, Items};
 }
 
-/// What is passed on of process_bodies.
-pub mod process_bodies_api {
-    pub use process_bodies::{Body, EnterStop};
+/// What is passed on of process_state.
+pub mod process_state_api {
+    pub use process_state::{Body, EnterStop};
 }
 
 /// What is passed on of ready_set.

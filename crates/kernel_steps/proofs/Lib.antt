@@ -5,4 +5,3 @@ pub mod Answered
 pub mod Shows
 pub mod Returned
 pub mod Endings
-pub mod OwedCalls

@@ -5,7 +5,6 @@ mod answers;
 mod carrying;
 mod data;
 mod leaving;
-mod owing;
 mod stepping;
 
 pub use answers::StepAnswer;

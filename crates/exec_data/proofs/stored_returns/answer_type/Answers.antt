@@ -1,7 +1,7 @@
 use Rattle.std.proofs.Common.{◌≡◌, Option, Some, None, refl, sym, ap, ◌∙◌}
 use Rattle.std.specs.Option.{option_copied}
 use Rattle.flat_design.specs.Code.{Arena, arena_of}
-use Rattle.kernel_view.specs.ProcessBodies.Bodies as bodies
+use Rattle.kernel_view.specs.ProcessState.Bodies as bodies
 use Rattle.kernel_view.specs.SimModel.Residual.{Frame, settle, innermost}
 use Rattle.kernel_view.specs.SimModel.Configuration.{arena}
 use Rattle.kernel_view.specs.SimModel.Calls.{answer_type}

@@ -1,11 +1,10 @@
-use Rattle.std.proofs.Common.{Err, not, [], ◌∷◌, ◌++◌, sym, ap, ◌∙◌, subst, None}
+use Rattle.std.proofs.Common.{Err, not, sym, ap, ◌∙◌, subst, None}
 use Rattle.kernel_processes.specs.FlatDesign.Code.{arena_of}
 use Rattle.kernel_processes.specs.Moved.{Spawns, spawned_as}
 use Rattle.kernel_state.specs.declared.kernel.PathOf.TheVariants as path_by
 use Rattle.kernel_state.proofs.Frames.{schedule_sound}
 use Rattle.kernel_state.proofs.Offsprings.{made_moves, spawned_moves, spawned_sound}
 use Rattle.kernel_state.proofs.Counting.{few_live, answers_stop, others_stay}
-use Rattle.kernel_state.proofs.Stacks.{top_is}
 use Rattle.kernel_state.proofs.spawning.spawn.Goals as goal
 
 pub returns-in-Ok-spawn_process-clause-spawned : goal.returns-in-Ok-spawn_process-clause-spawned
@@ -13,8 +12,8 @@ returns-in-Ok-spawn_process-clause-spawned c d h =
     let n = c.in-Ok-spawn_process.serial in
     let same = c.next_serial-serial.ensures.value ∙ sym c.in-Ok-spawn_process.ensures.spawns.number in
     let spawns = subst (λ m. Spawns n (spawned_as c.args.o.kind c.args.o.sensitive c.args.o.waits) (record { home = c.args.o.home; path = path_by.Spawned m; body = c.in-Ok.body; trigger = None }) (not c.args.o.waits) c.args.k.now.schedule c.spawn.new.s) same c.in-Ok-spawn_process.ensures.spawns in
-    made_moves (record c.args.k.now { schedule = c.spawn.new.s; parents = c.push_reserved.new.self }) _ _
-    (spawned_moves c.args.k.now c.requires.sound c.args.o n c.in-Ok.body c.spawn.new.s c.spawn.ensures.sound c.in-Ok.ensures.kept.0 c.in-Ok.ensures.kept.1 (c.in-Ok.ensures.left (arena_of c.args.k.now.program.code)) c.in-Ok.ensures.sound spawns c.push_reserved.new.self c.top.result (c.push_reserved.ensures.items ∙ ap (λ xs. xs ++ c.top.result ∷ []) c.in-Ok-reserve.ensures.items) (λ e g. top_is c.args.k.now e g c.top.result c.top.ensures.none c.top.ensures.some) d h)
+    made_moves (record c.args.k.now { schedule = c.spawn.new.s }) _ _
+    (spawned_moves c.args.k.now c.requires.sound c.args.o n c.in-Ok.body c.spawn.new.s c.spawn.ensures.sound c.in-Ok.ensures.kept.0 c.in-Ok.ensures.kept.1 (c.in-Ok.ensures.left (arena_of c.args.k.now.program.code)) c.in-Ok.ensures.sound spawns d h)
 
 pub returns-in-Ok-spawn_process-clause-answer : goal.returns-in-Ok-spawn_process-clause-answer
 returns-in-Ok-spawn_process-clause-answer c d h = few_live c.args.k.now d h c.in-Ok-spawn_process.ensures.few
@@ -27,7 +26,7 @@ returns-in-Ok-spawn_process-clause-sound c =
     let n = c.in-Ok-spawn_process.serial in
     let same = c.next_serial-serial.ensures.value ∙ sym c.in-Ok-spawn_process.ensures.spawns.number in
     let spawns = subst (λ m. Spawns n (spawned_as c.args.o.kind c.args.o.sensitive c.args.o.waits) (record { home = c.args.o.home; path = path_by.Spawned m; body = c.in-Ok.body; trigger = None }) (not c.args.o.waits) c.args.k.now.schedule c.spawn.new.s) same c.in-Ok-spawn_process.ensures.spawns in
-    spawned_sound c.args.k.now c.requires.sound c.args.o n c.in-Ok.body c.spawn.new.s c.spawn.ensures.sound c.in-Ok.ensures.kept.0 c.in-Ok.ensures.kept.1 (c.in-Ok.ensures.left (arena_of c.args.k.now.program.code)) c.in-Ok.ensures.sound spawns c.push_reserved.new.self
+    spawned_sound c.args.k.now c.requires.sound c.args.o n c.in-Ok.body c.spawn.new.s c.spawn.ensures.sound c.in-Ok.ensures.kept.0 c.in-Ok.ensures.kept.1 (c.in-Ok.ensures.left (arena_of c.args.k.now.program.code)) c.in-Ok.ensures.sound spawns
 
 pub returns-in-Err-spawn_process-clause-answer : goal.returns-in-Err-spawn_process-clause-answer
 returns-in-Err-spawn_process-clause-answer c d h = answers_stop c.args.k.now d h c.in-Err-spawn_process.stop (λ is. c.in-Err-spawn_process.ensures.many (ap Err is))

@@ -1,0 +1,1 @@
+pub use Rattle.exec_data.specs.ProcessState.Bodies as Bodies

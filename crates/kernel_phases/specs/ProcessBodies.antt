@@ -1,1 +1,0 @@
-pub use Rattle.kernel_state.specs.ProcessBodies.Bodies as Bodies

@@ -1,1 +1,0 @@
-pub use Rattle.kernel_bodies.proofs.Strips as Strips

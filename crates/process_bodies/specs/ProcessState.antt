@@ -1,1 +1,0 @@
-pub use Rattle.process_state.specs.declared as declared
