@@ -139,7 +139,7 @@ module _ (p : ℕ) (t : Tick) (x0 : Config) (i0 : Instance) (at0 : instance_at x
         answers false is_b =
             let d = with_residual old p (put body skip) in
             let next = placed p t y has (checking (x ∷ xs)) v ct begun skip x.test (checking xs) (test-goes (arena y) t has x xs) in (
-              record { instance = i0; at = at0; answer = w; is = sym as_then ∙ is; off = is_b },
+              record { instance = i0; at = at0; answer = w; is = sym as_then ∙ is; says = is_b },
               later d v next begun has fits.1
                   (record {
                     agrees = agrees_body x0 old p (λ j. record j { residual = put body skip }) d.processes d.trace (λ j. refl) refl (agrees_body x0 y p (λ j. record j { residual = body }) old.processes old.trace (λ j. refl) refl near.agrees);

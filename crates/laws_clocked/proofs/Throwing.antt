@@ -74,7 +74,7 @@ module _ (p : ℕ) (t : Tick) (x0 : Config) (i0 : Instance) (at0 : instance_at x
         let answers = subst (λ (j : Instance). val (here x0 p j (settle (arena x0) j.residual)) x.is_at_level ≡ Ok level.answer) (same_Some level.instance i0 (sym level.at ∙ at0)) level.is in
         record {
           then = d;
-          reached = ap (λ o. and_then o y [] (after 0)) (asked level.answer answers true level.on);
+          reached = ap (λ o. and_then o y [] (after 0)) (asked level.answer answers true level.says);
           runs = ct.runs;
           evaluates = ct.evaluates;
           alone = ct.top ∙ ap (λ l. p ∷ l) only;
@@ -91,7 +91,7 @@ module _ (p : ℕ) (t : Tick) (x0 : Config) (i0 : Instance) (at0 : instance_at x
         let answers = subst (λ (j : Instance). val (here x0 p j (settle (arena x0) j.residual)) x.is_at_level ≡ Ok level.answer) (same_Some level.instance i0 (sym level.at ∙ at0)) level.is in
         record {
           then = f.then;
-          reached = ap (λ o. and_then o y [] (after n)) (asked level.answer answers false level.off) ∙ f.reached;
+          reached = ap (λ o. and_then o y [] (after n)) (asked level.answer answers false level.says) ∙ f.reached;
           runs = f.runs;
           evaluates = f.evaluates;
           alone = f.alone;
