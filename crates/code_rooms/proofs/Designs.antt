@@ -14,7 +14,7 @@ use Rattle.code_rooms.specs.Rooms.{DiffersInRooms, HasRooms}
 use Rattle.code_rooms.specs.RoomFields.{IsTypedCode, HopsFit}
 use Rattle.code_rooms.proofs.Still.{differs_back, body_still, stands_still, holds_so, reached_still, nested_still}
 use Rattle.code_rooms.proofs.Suffices.{waits, calls}
-use Rattle.code_rooms.specs.DesignFields.{ProcessesFit, MethodsDoNotBlock, HandlersDoNotBlock, UnwindingIsPlain, ThreadsSetNoTrigger, StatementsActAlone}
+use Rattle.code_rooms.specs.DesignFields.{ProcessesFit, MethodsDoNotBlock, HandlersDoNotBlock, UnwindingIsPlain, ThreadsSetNoTrigger}
 
 module _ (d : Design) (after : Code) (differs : DiffersInRooms d.code after) where
   abbrev new : Design
@@ -130,11 +130,6 @@ module _ (d : Design) (after : Code) (differs : DiffersInRooms d.code after) whe
       let w = was f b found in
       fit f (record b { room = w.0 }) home s w.1 (inr root) (home_was home w.0 b home_of) (reached_still after d.code back b.block s x)
 
-  pub alone : StatementsActAlone d → StatementsActAlone new
-  alone fit f b home s found home_of stands =
-      let w = was f b found in
-      fit f (record b { room = w.0 }) home s w.1 (home_was home w.0 b home_of) (holds_so after d.code back b.block s stands)
-
   pub sound : HasRooms (arena_of after) → SoundDesign d → SoundDesign new
   sound rooms s = record {
     parents = s.parents;
@@ -154,5 +149,4 @@ module _ (d : Design) (after : Code) (differs : DiffersInRooms d.code after) whe
     threads = threads s.threads;
     waits = waits new rooms;
     room = calls new rooms (typed s.typed) (hops s.hops);
-    alone = alone s.alone;
   }

@@ -3,8 +3,8 @@ use Rattle.std.specs.Prelude.{◌≡◌, ◌⊎◌, ℕ, slice_get, Some}
 use Rattle.code_rules.specs.FlatDesign.Code as code
 use Rattle.code_rules.specs.FlatDesign.Code.{Statement, arena_of, body_at}
 use Rattle.code_rules.specs.FlatDesign.Reach.{InBody, Reached}
-use Rattle.code_rules.specs.FlatDesign.Blocking.{DoesNotBlock, IsPlain, SetsNoTrigger, ActsAlone}
-use Rattle.code_rules.specs.FlatDesign.Sound.{ProcessFits, IsHomeOf, IsMethodBody, IsThreadBody, IsNonblockingHandler, IsAnyHandler, EachReached, EachStatement}
+use Rattle.code_rules.specs.FlatDesign.Blocking.{DoesNotBlock, IsPlain, SetsNoTrigger}
+use Rattle.code_rules.specs.FlatDesign.Sound.{ProcessFits, IsHomeOf, IsMethodBody, IsThreadBody, IsNonblockingHandler, IsAnyHandler, EachReached}
 use Rattle.code_rules.specs.FlatDesign.declared.code.CodeBody.{CodeBody}
 use Rattle.code_rules.specs.FlatDesign.declared.design.ProcessPart.{ProcessPart}
 use Rattle.code_rules.specs.FlatDesign.declared.design.Design.{Design}
@@ -25,6 +25,3 @@ UnwindingIsPlain d =
 
 abbrev pub ThreadsSetNoTrigger : Design → Type 0
 ThreadsSetNoTrigger d = EachReached d (λ f b. IsThreadBody (arena_of d.code) f b ⊎ IsAnyHandler d f) (λ home s. SetsNoTrigger s)
-
-abbrev pub StatementsActAlone : Design → Type 0
-StatementsActAlone d = EachStatement d (λ f home b s. ActsAlone s)

@@ -7,7 +7,7 @@ ghost use Rattle.code_rules.specs.FlatDesign.declared.design.Design.{Design};
 ghost use Rattle.code_rules.specs.Bodies.{IsCodeOf};
 ghost use Rattle.code_rooms.specs.Rooms.{DiffersInRooms, HasRooms};
 ghost use Rattle.code_rooms.specs.RoomFields.{HopsFit, IsTypedCode};
-ghost use Rattle.code_rooms.specs.DesignFields.{HandlersDoNotBlock, MethodsDoNotBlock, ProcessesFit, StatementsActAlone, ThreadsSetNoTrigger, UnwindingIsPlain};
+ghost use Rattle.code_rooms.specs.DesignFields.{HandlersDoNotBlock, MethodsDoNotBlock, ProcessesFit, ThreadsSetNoTrigger, UnwindingIsPlain};
 
 /// Code that differs in rooms alone from code that reads back as a model's reads back as that model's.
 pub fn code_stays()
@@ -15,8 +15,8 @@ pub fn code_stays()
 {}
 
 /// What a design has of its code, but for rooms, it has with any other rooms: its processes run bodies of their kind, handlers
-/// of hops are functions with their parameters, code is typed, methods, handlers and unwind blocks do not block, threads set no
-/// next trigger, and no statement reaches the descendants of another.
+/// of hops are functions with their parameters, code is typed, methods, handlers and unwind blocks do not block, and threads
+/// set no next trigger.
 pub fn fields_stay()
     ensures processes { (d : Design) (after : Code) → DiffersInRooms d.code after → ProcessesFit d → ProcessesFit (record d { code = after }) }
     ensures hops { (d : Design) (after : Code) → DiffersInRooms d.code after → HopsFit d → HopsFit (record d { code = after }) }
@@ -25,7 +25,6 @@ pub fn fields_stay()
     ensures handlers { (d : Design) (after : Code) → DiffersInRooms d.code after → HandlersDoNotBlock d → HandlersDoNotBlock (record d { code = after }) }
     ensures unwinding { (d : Design) (after : Code) → DiffersInRooms d.code after → UnwindingIsPlain d → UnwindingIsPlain (record d { code = after }) }
     ensures threads { (d : Design) (after : Code) → DiffersInRooms d.code after → ThreadsSetNoTrigger d → ThreadsSetNoTrigger (record d { code = after }) }
-    ensures alone { (d : Design) (after : Code) → DiffersInRooms d.code after → StatementsActAlone d → StatementsActAlone (record d { code = after }) }
 {}
 
 /// A design that is sound with some rooms is sound with those of `raise_rooms`.

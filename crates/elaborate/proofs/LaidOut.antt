@@ -3,8 +3,6 @@ use Rattle.std.proofs.Common.{◌≡◌, ℕ, Bool, true, Option, Some, None, re
 use Rattle.std.specs.Option.{option_or}
 use Rattle.model_tree.specs.Tree as tree
 use Rattle.model_tree.specs.Limits.{is_sound}
-use Rattle.model_tree.specs.Languages.{keeps_language}
-use Rattle.model_tree.specs.declared.items.Head.TheVariants as head
 use Rattle.flat_design.specs.Code.{Statement, arena_of}
 use Rattle.flat_design.specs.Reach.{IsIn}
 use Rattle.flat_design.specs.declared.code.Code.{Code}
@@ -29,8 +27,8 @@ second_none : {T : Type 0} (o p : Option T) → option_or o p ≡ None → p ≡
 second_none None p h = h
 second_none (Some x) p h = cc
 
-pub accepted : (m : tree.Model) → first_fault m ≡ None → elaboration_fault m ≡ None → is_sound m ≡ true → keeps_language head.First m ≡ true → IsAccepted m
-accepted m rules whole limits language =
+pub accepted : (m : tree.Model) → first_fault m ≡ None → elaboration_fault m ≡ None → is_sound m ≡ true → IsAccepted m
+accepted m rules whole limits =
     let instances = first_none (instances_fault m) (binding.first_fault (objects_of m)) whole in
     record {
       rules = rules;
@@ -38,7 +36,6 @@ accepted m rules whole limits language =
       few = second_none (cycle_fault m) (limit_fault m) instances;
       bindings = second_none (instances_fault m) (binding.first_fault (objects_of m)) whole;
       within_limits = limits;
-      language = language;
     }
 
 all_standing : (d : Design) → AllStand d.code → StatementsStand d

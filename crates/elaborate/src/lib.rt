@@ -23,8 +23,3 @@ pub mod laws_design_api {
 pub mod model_check_api {
     pub use model_check::{check, judge_source};
 }
-
-/// What is passed on of tick_rules.
-pub mod tick_rules_api {
-    pub use model_check::tick_rules_api::ticks_act_alone;
-}

@@ -2,8 +2,6 @@ ghost use Rattle.std.specs.Prelude.{◌≡◌, IfErr, IfOk, None, OnOk, Some, tr
 ghost use Rattle.model_tree.specs.Limits.{is_sound};
 ghost use Rattle.model_tree.specs.Seen.{model_of};
 ghost use Rattle.model_tree.specs.Stops.{IfRefused};
-ghost use Rattle.model_tree.specs.Languages.{keeps_language};
-ghost use Rattle.model_tree.specs.declared.items.Head.TheVariants as head;
 ghost use Rattle.flat_design.specs.Code.{arena_of};
 ghost use Rattle.flat_design.specs.Sound.{SoundDesign};
 ghost use Rattle.model_check.specs.CodeRules.Bodies.{IsCodeOf};
@@ -21,8 +19,8 @@ use model_check::tick_rules_api::resolution_of;
 use model_tree::CheckStop;
 use std::alloc::Global;
 
-/// The flat design of a checked tree within the limits of a text, whose code is as [`model_check::check`] makes it, and which has
-/// nothing that language 1 lacks. It is sound, and its resolution is that of the text.
+/// The flat design of a checked tree within the limits of a text, whose code is as [`model_check::check`] makes it. It is sound, and
+/// its resolution is that of the text.
 ///
 /// # Errors
 /// Refused is exactly the first fault of the whole: a module that has itself among its instances, at any depth
@@ -31,7 +29,6 @@ use std::alloc::Global;
 /// where a number of the design does not fit 32 bits.
 pub fn sound_design(alloc: Global, checked: Checked) -> Result<Design, CheckStop>
     requires limits { is_sound (model_of checked.tree) ≡ true }
-    requires alone { keeps_language head.First (model_of checked.tree) ≡ true }
     requires reads_back { IsCodeOf (model_of checked.tree) checked.code }
     requires stand { AllStand checked.code }
     requires rooms { HasRooms (arena_of checked.code) }

@@ -2,7 +2,7 @@
 use Rattle.std.proofs.Common.{◌≡◌, ℕ, sym, ◌∙◌, subst}
 use Rattle.exec_data.specs.KernelProcesses.Seen.{body_at as kept_at}
 use Rattle.exec_data.specs.KernelProcesses.Moved.{IsTop}
-use Rattle.exec_data.specs.ProcessState.Bodies as bodies
+use Rattle.exec_data.specs.ProcessBodies.Bodies as bodies
 use Rattle.exec_data.specs.KernelState.Moves.{HasStatement, IsOnTop}
 use Rattle.exec_data.specs.KernelState.declared.kernel.Kernel.{Kernel}
 

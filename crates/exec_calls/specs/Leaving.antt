@@ -10,7 +10,7 @@ use Rattle.exec_data.specs.SimModel.Residual.{Frame, settle, next_of}
 use Rattle.exec_data.specs.SimModel.Configuration.{Config, Instance, instance_at, arena}
 use Rattle.exec_data.specs.SimModel.Reading.{here}
 use Rattle.exec_data.specs.SimModel.Statements.{settled_in, leaves_call, handed_back}
-use Rattle.exec_data.specs.ProcessState.Bodies as bodies
+use Rattle.exec_data.specs.ProcessBodies.Bodies as bodies
 use Rattle.exec_data.specs.KernelState.Kernel.{StandsFor}
 use Rattle.exec_data.specs.KernelState.Moves.{KeptAt, Follows}
 use Rattle.exec_data.specs.KernelState.declared.kernel.Kernel.{Kernel}

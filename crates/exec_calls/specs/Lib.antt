@@ -11,7 +11,7 @@ pub mod TransportPhases
 pub mod QuantumKeeper
 pub mod SimModel
 pub mod KernelBodies
-pub mod ProcessState
+pub mod ProcessBodies
 pub mod KernelProcesses
 pub mod KernelTransactions
 pub mod KernelState

@@ -21,7 +21,7 @@ mod storing;
 pub use calls::call;
 pub use entering::{enter_call, enter_ready_call};
 pub use exec_data::kernel_bodies_api::Frame;
-pub use exec_data::process_state_api::EnterStop;
+pub use exec_data::process_bodies_api::EnterStop;
 pub use frames::{answer_of, final_value};
 pub use leaving::{ending_call, leave_call};
 pub use returns::{calling_statement, leave_plain_call};
@@ -82,9 +82,9 @@ pub mod plain_lists_api {
     pub use exec_data::plain_lists_api::{Bytes, Items};
 }
 
-/// What is passed on of process_state.
-pub mod process_state_api {
-    pub use exec_data::process_state_api::Body;
+/// What is passed on of process_bodies.
+pub mod process_bodies_api {
+    pub use exec_data::process_bodies_api::Body;
 }
 
 /// What is passed on of sim_model.

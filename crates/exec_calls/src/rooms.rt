@@ -8,7 +8,7 @@ ghost use Rattle.exec_calls.specs.Calling.{ReadyFor, HasRoomIn, JudgesDepth, Cha
 use exec_data::kernel_bodies_api::{Program, many_locals};
 use exec_data::kernel_state_api::Kernel;
 use exec_data::logic_values_api::Value;
-use exec_data::process_state_api::EnterStop;
+use exec_data::process_bodies_api::EnterStop;
 use flat_design::CodeId;
 use std::alloc::AllocError;
 

@@ -3,7 +3,7 @@ ghost use Rattle.std.specs.Prelude.{◌≡◌};
 ghost use Rattle.flat_design.specs.Code.{Arena};
 ghost use Rattle.exec_data.specs.SimModel.Residual as residual;
 ghost use Rattle.exec_data.specs.SimModel.Reading as reading;
-ghost use Rattle.exec_data.specs.ProcessState.Bodies.{left_of};
+ghost use Rattle.exec_data.specs.ProcessBodies.Bodies.{left_of};
 ghost use Rattle.exec_data.specs.KernelState.Moves.{Lives};
 ghost use Rattle.exec_calls.specs.Standing.{StandsIn};
 

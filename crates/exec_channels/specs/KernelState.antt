@@ -3,3 +3,4 @@ pub use Rattle.kernel_view.specs.KernelState.Moves as Moves
 pub use Rattle.kernel_view.specs.KernelState.Processes as Processes
 pub use Rattle.kernel_view.specs.KernelState.Stopping as Stopping
 pub use Rattle.kernel_view.specs.KernelState.declared as declared
+pub use Rattle.kernel_view.specs.KernelState.Ways as Ways

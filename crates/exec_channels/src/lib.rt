@@ -19,7 +19,7 @@ pub mod kernel_bodies_api {
 
 /// What is passed on of kernel_state.
 pub mod kernel_state_api {
-    pub use kernel_view::kernel_state_api::{Kernel, StatementStop, pass, top_lives};
+    pub use kernel_view::kernel_state_api::{Kernel, StatementStop, Way, move_on, pass, top_lives};
 }
 
 /// What is passed on of kernel_view.

@@ -3,7 +3,7 @@ use Rattle.std.proofs.Common.{◌≡◌, ◌≢◌, ℕ, zero, suc, true, false,
 use Rattle.std.specs.Prelude.{is_some, if◌then◌else◌, Ok, Err}
 use Rattle.std.specs.FinMap as map
 use Rattle.flat_design.specs.declared.faults.RunFault.TheVariants as fault
-use Rattle.exec_data.specs.SimModel.Residual.{put, skip, settle}
+use Rattle.exec_data.specs.SimModel.Residual.{settle}
 use Rattle.exec_data.specs.SimModel.Unwinding.{catches, raise, left_by_raise}
 use Rattle.exec_data.specs.SimModel.Configuration.{Config, Instance, changed_at, change, instance_at, with_residual, arena}
 use Rattle.exec_data.specs.SimModel.Waits.{freed, without}
@@ -12,11 +12,14 @@ use Rattle.exec_data.specs.SimModel.Control.{pushed}
 use Rattle.exec_data.specs.SimModel.Statements.{settled_in}
 use Rattle.exec_data.specs.SimModel.declared.plain.Goal.TheVariants as goal_of
 use Rattle.exec_data.proofs.KernelProcesses.Wakes.{change-other}
-use Rattle.exec_data.specs.ProcessState.Bodies as bodies
+use Rattle.exec_data.specs.ProcessBodies.Bodies as bodies
 use Rattle.exec_data.specs.KernelTransactions.Board.{left}
 use Rattle.exec_data.specs.KernelState.Kernel.{StandsFor}
-use Rattle.exec_data.specs.KernelState.Moves.{Lives, HasStatement}
+use Rattle.exec_data.specs.KernelState.Moves.{Lives}
+use Rattle.exec_data.specs.KernelState.Ways.{moved, MayMoveOn}
 use Rattle.exec_data.specs.KernelState.declared.kernel.Kernel.{Kernel}
+use Rattle.exec_data.specs.KernelState.declared.ways.Way.{Way}
+use Rattle.exec_data.specs.KernelState.declared.ways.Way.TheVariants as way
 use Rattle.exec_data.proofs.KernelState.Leaving.{LeftCallsEnd}
 use Rattle.exec_control.specs.Others.{KeepsOthers}
 use Rattle.exec_control.proofs.OneInstance.{change_same}
@@ -51,12 +54,13 @@ module _ (q : ℕ) (old new : Kernel) (keeps : KeepsOthers q old new) (p : ℕ) 
   pub others_live : Lives old p → Lives new p
   others_live lives = sym (there_as (λ z. z.body.body) (map.get new.schedule.table.live p)) ∙ ap is_some (keeps.bodies p apart) ∙ there_as (λ z. z.body.body) (map.get old.schedule.table.live p) ∙ lives
 
-  pub others_state : HasStatement old p → HasStatement new p
-  others_state shows kept at = subst (λ x. bodies.IsStatement (bodies.next_in x kept.body)) (sym keeps.program) (shows kept (sym (keeps.bodies p apart) ∙ at))
+  pub others_state : (w : Way) → MayMoveOn w old p → MayMoveOn w new p
+  others_state way.Past shows = λ kept at. subst (λ x. bodies.IsStatement (bodies.next_in x kept.body)) (sym keeps.program) (shows kept (sym (keeps.bodies p apart) ∙ at))
+  others_state way.TakenOff shows = λ kept at. subst (λ x. bodies.IsOwed (bodies.next_in x kept.body)) (sym keeps.program) (shows kept (sym (keeps.bodies p apart) ∙ at))
 
 -- ---- the exception comes first, and then the statement is past
 
-module _ (calls : LeftCallsEnd) (c : Config) (p q : ℕ) (apart : q ≢ p) (i j : Instance) (e : ℕ) where
+module _ (w : Way) (calls : LeftCallsEnd) (c : Config) (p q : ℕ) (apart : q ≢ p) (i j : Instance) (e : ℕ) where
   abbrev pub raised : Config
   raised = with_left (with_residual c q (raise (arena c) j.residual e goal_of.Injected)) (left_by_raise j.residual e)
 
@@ -65,15 +69,15 @@ module _ (calls : LeftCallsEnd) (c : Config) (p q : ℕ) (apart : q ≢ p) (i j 
       ∙ change-other c.processes.instances q p (λ x. record x { residual = raise (arena c) j.residual e goal_of.Injected }) (λ same. apart (sym same)) ∙ there
 
   abbrev first : List Instance
-  first = change (change (change c.processes.instances q (λ x. record x { residual = raise (arena c) j.residual e goal_of.Injected })) p (λ x. record x { residual = settle (arena c) i.residual })) p (λ x. record x { residual = put (settle (arena c) i.residual) skip })
+  first = change (change (change c.processes.instances q (λ x. record x { residual = raise (arena c) j.residual e goal_of.Injected })) p (λ x. record x { residual = settle (arena c) i.residual })) p (λ x. record x { residual = moved w (settle (arena c) i.residual) })
 
   abbrev last : List Instance
-  last = change (change (change c.processes.instances p (λ x. record x { residual = settle (arena c) i.residual })) p (λ x. record x { residual = put (settle (arena c) i.residual) skip })) q (λ x. record x { residual = raise (arena c) j.residual e goal_of.Injected })
+  last = change (change (change c.processes.instances p (λ x. record x { residual = settle (arena c) i.residual })) p (λ x. record x { residual = moved w (settle (arena c) i.residual) })) q (λ x. record x { residual = raise (arena c) j.residual e goal_of.Injected })
 
   both_ways : first ≡ last
-  both_ways = ap (λ is. change is p (λ x. record x { residual = put (settle (arena c) i.residual) skip }))
+  both_ways = ap (λ is. change is p (λ x. record x { residual = moved w (settle (arena c) i.residual) }))
       (swapped c.processes.instances q p (λ x. record x { residual = raise (arena c) j.residual e goal_of.Injected }) (λ x. record x { residual = settle (arena c) i.residual }) apart)
-      ∙ swapped (change c.processes.instances p (λ x. record x { residual = settle (arena c) i.residual })) q p (λ x. record x { residual = raise (arena c) j.residual e goal_of.Injected }) (λ x. record x { residual = put (settle (arena c) i.residual) skip }) apart
+      ∙ swapped (change c.processes.instances p (λ x. record x { residual = settle (arena c) i.residual })) q p (λ x. record x { residual = raise (arena c) j.residual e goal_of.Injected }) (λ x. record x { residual = moved w (settle (arena c) i.residual) }) apart
 
   -- the whole, by its instances
   abbrev whole : List Instance → Config
@@ -83,16 +87,16 @@ module _ (calls : LeftCallsEnd) (c : Config) (p q : ℕ) (apart : q ≢ p) (i j 
     trace = (settled_in c p i.residual).trace;
   }
 
-  all_the_same : pushed (past raised p i) q ≡ with_left (pushed (with_residual (past c p i) q (raise (arena c) j.residual e goal_of.Injected)) q) (left_by_raise j.residual e)
-  all_the_same = ap (λ d. pushed (past d p i) q) (calls (with_residual c q (raise (arena c) j.residual e goal_of.Injected)) (left_by_raise j.residual e))
-      ∙ ap whole both_ways ∙ sym (calls (pushed (with_residual (past c p i) q (raise (arena c) j.residual e goal_of.Injected)) q) (left_by_raise j.residual e))
+  all_the_same : pushed (past w raised p i) q ≡ with_left (pushed (with_residual (past w c p i) q (raise (arena c) j.residual e goal_of.Injected)) q) (left_by_raise j.residual e)
+  all_the_same = ap (λ d. pushed (past w d p i) q) (calls (with_residual c q (raise (arena c) j.residual e goal_of.Injected)) (left_by_raise j.residual e))
+      ∙ ap whole both_ways ∙ sym (calls (pushed (with_residual (past w c p i) q (raise (arena c) j.residual e goal_of.Injected)) q) (left_by_raise j.residual e))
 
-  pub is_injected : catches j.residual e ≡ true → injects (past c p i) q j e ≡ Ok (pushed (past raised p i) q)
-  is_injected caught = ap (λ b. if b then Ok (with_left (pushed (with_residual (past c p i) q (raise (arena c) j.residual e goal_of.Injected)) q) (left_by_raise j.residual e)) else Err (fault.Uncaught e)) caught
+  pub is_injected : catches j.residual e ≡ true → injects (past w c p i) q j e ≡ Ok (pushed (past w raised p i) q)
+  is_injected caught = ap (λ b. if b then Ok (with_left (pushed (with_residual (past w c p i) q (raise (arena c) j.residual e goal_of.Injected)) q) (left_by_raise j.residual e)) else Err (fault.Uncaught e)) caught
       ∙ ap Ok (sym all_the_same)
 
-  pub is_uncaught : catches j.residual e ≡ false → injects (past c p i) q j e ≡ Err (fault.Uncaught e)
-  is_uncaught none = ap (λ b. if b then Ok (with_left (pushed (with_residual (past c p i) q (raise (arena c) j.residual e goal_of.Injected)) q) (left_by_raise j.residual e)) else Err (fault.Uncaught e)) none
+  pub is_uncaught : catches j.residual e ≡ false → injects (past w c p i) q j e ≡ Err (fault.Uncaught e)
+  is_uncaught none = ap (λ b. if b then Ok (with_left (pushed (with_residual (past w c p i) q (raise (arena c) j.residual e goal_of.Injected)) q) (left_by_raise j.residual e)) else Err (fault.Uncaught e)) none
 
   -- where nothing names it nothing changes
   pub nothing_raised : (l : Kernel) → instance_at c q ≡ Some j → catches j.residual e ≡ false → StandsFor l raised → StandsFor l c

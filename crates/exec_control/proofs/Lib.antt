@@ -9,3 +9,5 @@ pub mod Injected
 pub mod Itself
 pub mod Others
 pub mod Handles
+pub mod Owes
+pub mod Stops

@@ -12,9 +12,9 @@ use Rattle.exec_data.specs.SimModel.Residual.{Residual, skip, settle, begun}
 use Rattle.exec_data.specs.SimModel.Configuration.{Config, Instance, changed_at, change, change_instance, instance_at, with_residual, arena}
 use Rattle.exec_data.specs.SimModel.Waits.{leaves_stack}
 use Rattle.exec_data.specs.SimModel.Statements.{settled_in}
-use Rattle.exec_data.specs.ProcessState.Bodies as bodies
-use Rattle.exec_data.specs.ProcessState.Bodies.{left_in}
-use Rattle.exec_data.specs.ProcessState.declared.body.Body.{Body}
+use Rattle.exec_data.specs.ProcessBodies.Bodies as bodies
+use Rattle.exec_data.specs.ProcessBodies.Bodies.{left_in}
+use Rattle.exec_data.specs.ProcessBodies.declared.body.Body.{Body}
 use Rattle.exec_data.specs.KernelProcesses.Seen.{seen, shown_at, is_on, bare, as_instance}
 use Rattle.exec_data.specs.KernelProcesses.Seen.{body_at as kept_at}
 use Rattle.exec_data.specs.KernelProcesses.Sound as schedules
@@ -78,12 +78,12 @@ module _ (k : Kernel) (p : ℕ) (x : Entry (Process Kept)) (b : Body) (at : map.
   body_cleared left c h = residual_moves k p x.body.body b (was k p x at) (with_body k p x b at keeps) puts keeps c h skip (sym left)
 
   -- it is at its first statement
-  pub body_begun : left_in k.program b ≡ begun (arena_of k.program.code) x.body.body.body.code x.body.body.body.arguments.items
+  pub body_begun : left_in k.program b ≡ begun (arena_of k.program.code) x.body.body.body.calls.code x.body.body.body.calls.arguments.items
       → MovesAt k (record k { schedule = with_body k p x b at keeps }) p (λ c i. with_residual c p (begun (arena c) i.code i.arguments))
   body_begun left = body_moves (λ c i. begun (arena c) i.code i.arguments) (λ c i h there.
       let s = shows_at k p x at c i h there in
       strip-entered (arena c) i.code i.arguments None None ∙ ap (λ d. begun (arena_of d.code) i.code i.arguments) h.design ∙ ap (λ n. begun (arena_of k.program.code) n i.arguments) s.code
-      ∙ ap (begun (arena_of k.program.code) x.body.body.body.code) s.arguments ∙ sym left)
+      ∙ ap (begun (arena_of k.program.code) x.body.body.body.calls.code) s.arguments ∙ sym left)
 
   pub others_kept : KeepsOthers p k (record k { schedule = with_body k p x b at keeps })
   others_kept = record { bodies = puts.bodies; program = refl }

@@ -13,6 +13,7 @@ use Rattle.exec_data.specs.KernelState.Processes.{TellsBy, Tells}
 use Rattle.exec_data.specs.KernelState.Kernel.{Shows, StandsFor, IsSound, whole_design}
 use Rattle.exec_data.specs.KernelState.Moves.{Follows}
 use Rattle.exec_data.specs.KernelState.declared.kernel.Kernel.{Kernel}
+use Rattle.exec_data.specs.KernelState.declared.ways.Way.{Way}
 use Rattle.exec_data.proofs.KernelState.Frames.{lives_by_kept}
 use Rattle.exec_data.proofs.KernelState.Ending.{follows_as}
 use Rattle.exec_data.proofs.KernelState.Stacks.{off_stack_is, below_top_is, not_below}
@@ -28,29 +29,29 @@ module _ (k : Kernel) (q : ℕ) (none : map.contains_key k.schedule.table.live q
   over_at None tells = refl
   over_at (Some i) tells = over_by i i.ended refl tells
 
-module _ (k : Kernel) (c : Config) (p q : ℕ) (apart : q ≢ p) (i : Instance) (e : ℕ) (h : StandsFor k c) (there : instance_at c p ≡ Some i) where
+module _ (w : Way) (k : Kernel) (c : Config) (p q : ℕ) (apart : q ≢ p) (i : Instance) (e : ℕ) (h : StandsFor k c) (there : instance_at c p ≡ Some i) where
   -- one that has ended
-  pub over_past : map.contains_key k.schedule.table.live q ≡ false → (l : Kernel) → StandsFor l (past c p i) → Follows l (Ok tt) c (throw_call (past c p i) q e)
-  over_past none l stands = follows_as l c (Ok tt) (throw_call (past c p i) q e) (Ok (past c p i))
-      (ap (λ o. unless_ended (past c p i) o (λ j. throws_at (past c p i) q j e)) (others_passed c p i there q apart)
-      ∙ over_at k q none (past c p i) (λ j. throws_at (past c p i) q j e) (instance_at c q) (h.processes.each q)) stands
+  pub over_past : map.contains_key k.schedule.table.live q ≡ false → (l : Kernel) → StandsFor l (past w c p i) → Follows l (Ok tt) c (throw_call (past w c p i) q e)
+  over_past none l stands = follows_as l c (Ok tt) (throw_call (past w c p i) q e) (Ok (past w c p i))
+      (ap (λ o. unless_ended (past w c p i) o (λ j. throws_at (past w c p i) q j e)) (others_passed w c p i there q apart)
+      ∙ over_at k q none (past w c p i) (λ j. throws_at (past w c p i) q j e) (instance_at c q) (h.processes.each q)) stands
 
   module _ (sound : IsSound k) (j : Instance) (other : instance_at c q ≡ Some j) (alive : j.ended ≡ false) where
-    at_past : instance_at (past c p i) q ≡ Some j
-    at_past = others_passed c p i there q apart ∙ other
+    at_past : instance_at (past w c p i) q ≡ Some j
+    at_past = others_passed w c p i there q apart ∙ other
 
     -- one that is active below the top
-    pub below_past : IsTop p k.schedule.stack.items → is_on k.schedule.stack.items q ≡ true → throw_call (past c p i) q e ≡ Err (fault.ControlOnActive q)
-    below_past top on = is_refused (past c p i) q j e at_past alive (sym (below_top_is k c h p q top (λ same. apart (sym same))) ∙ on)
+    pub below_past : IsTop p k.schedule.stack.items → is_on k.schedule.stack.items q ≡ true → throw_call (past w c p i) q e ≡ Err (fault.ControlOnActive q)
+    below_past top on = is_refused (past w c p i) q j e at_past alive (sym (below_top_is k c h p q top (λ same. apart (sym same))) ∙ on)
 
     module _ (rests : is_on k.schedule.stack.items q ≡ false) where
-      goes : throw_call (past c p i) q e ≡ injected (past c p i) q j e
-      goes = to_other (past c p i) q j e at_past alive (not_below k c h q sound.schedule.once (λ on. absurd (true≢false (sym on ∙ rests)))) (off_stack_is k c h q rests)
+      goes : throw_call (past w c p i) q e ≡ injected (past w c p i) q j e
+      goes = to_other (past w c p i) q j e at_past alive (not_below k c h q sound.schedule.once (λ on. absurd (true≢false (sym on ∙ rests)))) (off_stack_is k c h q rests)
 
       -- one at which nothing can be thrown
-      pub no_thread_past : (is_thread j.kind && j.started) ≡ false → (l : Kernel) → StandsFor l (past c p i) → Follows l (Ok tt) c (throw_call (past c p i) q e)
-      no_thread_past neither l stands = follows_as l c (Ok tt) (throw_call (past c p i) q e) (Ok (past c p i)) (goes ∙ nothing_thrown (past c p i) q j e at_past alive neither) stands
+      pub no_thread_past : (is_thread j.kind && j.started) ≡ false → (l : Kernel) → StandsFor l (past w c p i) → Follows l (Ok tt) c (throw_call (past w c p i) q e)
+      no_thread_past neither l stands = follows_as l c (Ok tt) (throw_call (past w c p i) q e) (Ok (past w c p i)) (goes ∙ nothing_thrown (past w c p i) q j e at_past alive neither) stands
 
       -- and a thread that has begun
-      pub thrown_past : (is_thread j.kind && j.started) ≡ true → (l : Kernel) (a : Result Unit RunFault) → Follows l a c (injects (past c p i) q j e) → Follows l a c (throw_call (past c p i) q e)
-      thrown_past both l a follows = follows_as l c a (throw_call (past c p i) q e) (injects (past c p i) q j e) (goes ∙ is_injected (past c p i) q j e at_past alive both) follows
+      pub thrown_past : (is_thread j.kind && j.started) ≡ true → (l : Kernel) (a : Result Unit RunFault) → Follows l a c (injects (past w c p i) q j e) → Follows l a c (throw_call (past w c p i) q e)
+      thrown_past both l a follows = follows_as l c a (throw_call (past w c p i) q e) (injects (past w c p i) q j e) (goes ∙ is_injected (past w c p i) q j e at_past alive both) follows

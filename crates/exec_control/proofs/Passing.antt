@@ -6,20 +6,23 @@ use Rattle.exec_data.specs.KernelBodies.Strip.{strip}
 use Rattle.exec_data.proofs.KernelBodies.Strips.{strip-next}
 use Rattle.exec_data.specs.KernelBodies.Layers.{shown}
 use Rattle.exec_data.specs.SimModel.Residual as residual
-use Rattle.exec_data.specs.SimModel.Residual.{Residual, Frame, Next, skip, one, batch, seq, owing, guard, try_, frame, shell, run, goal, followed, next_of, frame_end, in_frame, before_goal, put, frame_or, goal_or, settle, has_goal}
+use Rattle.exec_data.specs.SimModel.Residual.{Residual, Frame, Next, skip, one, batch, seq, owing, guard, try_, frame, shell, run, goal, followed, next_of, frame_end, in_frame, before_goal, put, taken_off, frame_or, goal_or, settle, has_goal}
 use Rattle.exec_data.specs.SimModel.Unwinding.{catches, handles}
 use Rattle.exec_data.specs.SimModel.Configuration.{Config, Instance, change, instance_at, arena}
 use Rattle.exec_data.specs.SimModel.Calls.{thrown}
 use Rattle.exec_data.specs.SimModel.Control.{is_thread, is_top, is_below_top, throws_at, injected, unless_ended, throw_call}
 use Rattle.exec_data.specs.SimModel.declared.plain.Goal.{Goal}
-use Rattle.exec_data.specs.ProcessState.Bodies as bodies
+use Rattle.exec_data.specs.ProcessBodies.Bodies as bodies
 use Rattle.exec_data.proofs.KernelProcesses.Wakes.{change-here, change-other}
 use Rattle.std.specs.FinMap as map
 use Rattle.exec_data.specs.InstanceTable.declared.instances.Instance.{Instance as Entry}
 use Rattle.exec_data.specs.KernelProcesses.declared.parts.Process.{Process}
 use Rattle.exec_data.specs.KernelState.Moves.{Lives}
 use Rattle.exec_data.specs.KernelState.declared.kernel.Kept.{Kept}
+use Rattle.exec_data.specs.KernelState.Ways.{moved}
 use Rattle.exec_data.specs.KernelState.declared.kernel.Kernel.{Kernel}
+use Rattle.exec_data.specs.KernelState.declared.ways.Way.{Way}
+use Rattle.exec_data.specs.KernelState.declared.ways.Way.TheVariants as way
 use Rattle.exec_control.specs.Thrown.{past, injects}
 
 -- ---- tries
@@ -89,6 +92,38 @@ put_goal (shell r x) is = put_goal r is
 put_goal (run g r) is = put_goal r is
 put_goal (goal r k) is = goal_goal r k (put r skip) is
 
+-- ---- a call that is owed to one less
+
+pub taken_catches : (r : Residual) (e : ℕ) → catches (taken_off r) e ≡ catches r e
+taken_catches skip e = refl
+taken_catches (one s) e = refl
+taken_catches (batch s qs) e = refl
+taken_catches (seq r ss) e = taken_catches r e
+taken_catches (owing r g u) e = taken_catches r e
+taken_catches (guard r g u) e = taken_catches r e
+taken_catches (try_ r handlers) e = ap (λ b. b || handles handlers e) (taken_catches r e)
+taken_catches (frame r x) e = taken_catches r e
+taken_catches (shell r x) e = taken_catches r e
+taken_catches (run g r) e = taken_catches r e
+taken_catches (goal r k) e = taken_catches r e
+
+pub taken_goal : (r : Residual) → has_goal (taken_off r) ≡ has_goal r
+taken_goal skip = refl
+taken_goal (one s) = refl
+taken_goal (batch s qs) = refl
+taken_goal (seq r ss) = taken_goal r
+taken_goal (owing r g u) = taken_goal r
+taken_goal (guard r g u) = taken_goal r
+taken_goal (try_ r handlers) = taken_goal r
+taken_goal (frame r x) = taken_goal r
+taken_goal (shell r x) = taken_goal r
+taken_goal (run g r) = taken_goal r
+taken_goal (goal r k) = refl
+
+pub moved_catches : (w : Way) (r : Residual) (e : ℕ) → catches (moved w r) e ≡ catches r e
+moved_catches way.Past r e = put_catches r e
+moved_catches way.TakenOff r e = taken_catches r e
+
 -- the same of what a body stands for
 pub statement_in : (r q : Residual) → strip r ≡ q → bodies.IsStatement (shown (next_of q)) → bodies.IsStatement (shown (next_of r))
 statement_in r q same is = subst (λ n. bodies.IsStatement (shown n)) (strip-next r) (subst (λ x. bodies.IsStatement (shown (next_of x))) (sym same) is)
@@ -101,19 +136,19 @@ live_entry k p lives = by (map.get k.schedule.table.live p) refl lives
     by None none is = absurd (true≢false (sym is))
     by (Some x) at is = (x, at)
 
--- ---- an instance whose statement is past
+-- ---- an instance that is past its call
 
-module _ (c : Config) (p : ℕ) (i : Instance) (there : instance_at c p ≡ Some i) where
+module _ (w : Way) (c : Config) (p : ℕ) (i : Instance) (there : instance_at c p ≡ Some i) where
   abbrev pub passed : Instance
-  passed = record i { residual = put (settle (arena c) i.residual) skip }
+  passed = record i { residual = moved w (settle (arena c) i.residual) }
 
-  pub there_passed : instance_at (past c p i) p ≡ Some passed
-  there_passed = change-here (change c.processes.instances p (λ j. record j { residual = settle (arena c) i.residual })) p (λ j. record j { residual = put (settle (arena c) i.residual) skip })
-      ∙ ap (option_map (λ (j : Instance). record j { residual = put (settle (arena c) i.residual) skip })) (change-here c.processes.instances p (λ j. record j { residual = settle (arena c) i.residual })
+  pub there_passed : instance_at (past w c p i) p ≡ Some passed
+  there_passed = change-here (change c.processes.instances p (λ j. record j { residual = settle (arena c) i.residual })) p (λ j. record j { residual = moved w (settle (arena c) i.residual) })
+      ∙ ap (option_map (λ (j : Instance). record j { residual = moved w (settle (arena c) i.residual) })) (change-here c.processes.instances p (λ j. record j { residual = settle (arena c) i.residual })
       ∙ ap (option_map (λ (j : Instance). record j { residual = settle (arena c) i.residual })) there)
 
-  pub others_passed : (q : ℕ) → q ≢ p → instance_at (past c p i) q ≡ instance_at c q
-  others_passed q apart = change-other (change c.processes.instances p (λ j. record j { residual = settle (arena c) i.residual })) p q (λ j. record j { residual = put (settle (arena c) i.residual) skip }) apart
+  pub others_passed : (q : ℕ) → q ≢ p → instance_at (past w c p i) q ≡ instance_at c q
+  others_passed q apart = change-other (change c.processes.instances p (λ j. record j { residual = settle (arena c) i.residual })) p q (λ j. record j { residual = moved w (settle (arena c) i.residual) }) apart
       ∙ change-other c.processes.instances p q (λ j. record j { residual = settle (arena c) i.residual }) apart
 
 -- ---- what is thrown at an instance

@@ -15,9 +15,9 @@ use Rattle.exec_data.specs.SimModel.declared.plain.Goal.{Goal}
 use Rattle.exec_data.specs.SimModel.declared.plain.Goal.TheVariants as goal_of
 use Rattle.flat_design.specs.declared.code.Handler.{Handler}
 use Rattle.exec_data.proofs.KernelProcesses.Wakes.{change-here}
-use Rattle.exec_data.specs.ProcessState.Bodies as bodies
-use Rattle.exec_data.specs.ProcessState.Bodies.{left_in}
-use Rattle.exec_data.specs.ProcessState.declared.body.Body.{Body}
+use Rattle.exec_data.specs.ProcessBodies.Bodies as bodies
+use Rattle.exec_data.specs.ProcessBodies.Bodies.{left_in}
+use Rattle.exec_data.specs.ProcessBodies.declared.body.Body.{Body}
 use Rattle.exec_data.specs.KernelProcesses.declared.parts.Process.{Process}
 use Rattle.exec_data.specs.KernelTransactions.Board as board
 use Rattle.exec_data.specs.KernelTransactions.Board.{SameQuantum, left}

@@ -8,15 +8,16 @@ use Rattle.exec_data.specs.SimModel.Configuration.{Config, Instance, with_residu
 use Rattle.exec_data.specs.SimModel.Calls.{with_left}
 use Rattle.exec_data.specs.SimModel.Control.{pushed}
 use Rattle.exec_data.specs.SimModel.Statements.{settled_in}
-use Rattle.exec_data.specs.SimModel.Storing.{passes}
 use Rattle.exec_data.specs.SimModel.declared.plain.Goal.TheVariants as goal_of
 use Rattle.exec_data.specs.KernelProcesses.Seen.{is_on}
+use Rattle.exec_data.specs.KernelState.Ways.{moved_on}
 use Rattle.exec_data.specs.KernelState.declared.kernel.Kernel.{Kernel}
+use Rattle.exec_data.specs.KernelState.declared.ways.Way.{Way}
 use Rattle.exec_control.specs.Unwound.{HasNoGoal}
 
--- the statement in place of instance p, which is i, is past
-abbrev pub past : Config → ℕ → Instance → Config
-past c p i = passes (settled_in c p i.residual) p (settle (arena c) i.residual)
+-- instance p, which is i, is past its call this way
+abbrev pub past : Way → Config → ℕ → Instance → Config
+past w c p i = moved_on w (settled_in c p i.residual) p (settle (arena c) i.residual)
 
 -- an exception in a thread that has begun and is not active
 abbrev pub injects : Config → ℕ → Instance → ℕ → Result Config RunFault

@@ -5,7 +5,7 @@ use Rattle.flat_design.specs.Code.{Statement, arena_of, statement_at}
 use Rattle.exec_data.specs.SimModel.Residual as residual
 use Rattle.exec_data.specs.SimModel.Residual.{next_of, has_goal}
 use Rattle.exec_data.specs.SimModel.declared.plain.Goal.{Goal}
-use Rattle.exec_data.specs.ProcessState.Bodies.{left_in, settled_in}
+use Rattle.exec_data.specs.ProcessBodies.Bodies.{left_in, settled_in}
 use Rattle.exec_data.specs.KernelState.Moves.{KeptAt}
 use Rattle.exec_data.specs.KernelState.declared.kernel.Kernel.{Kernel}
 use Rattle.exec_data.specs.Entered.{Shows}

@@ -2,14 +2,14 @@
 ghost use Rattle.std.specs.Prelude.{◌≡◌, Ok};
 ghost use Rattle.exec_data.specs.ModelTree.declared.statements.Control.TheVariants as order;
 ghost use Rattle.exec_data.specs.SimModel.Configuration.{Config, instance_at};
-ghost use Rattle.exec_data.specs.SimModel.Storing.{passes};
 ghost use Rattle.exec_data.specs.SimModel.Control as spec;
 ghost use Rattle.exec_data.specs.SimModel.Control.{unless_ended, control_call};
 ghost use Rattle.exec_data.specs.KernelState.Kernel.{StandsFor, IsSound};
-ghost use Rattle.exec_data.specs.KernelState.Moves.{Moves, MovesAt, Follows, Does, Lives, HasStatement};
+ghost use Rattle.exec_data.specs.KernelState.Moves.{Moves, MovesAt, Follows, Does, Lives};
+ghost use Rattle.exec_data.specs.KernelState.Ways.{moved_on, MayMoveOn};
 
 use crate::shown::lives;
-use exec_data::kernel_state_api::{Kernel, pass};
+use exec_data::kernel_state_api::{Kernel, Way, move_on};
 
 /// An instance that has not ended is disabled, or enabled.
 fn disable_live(k: &mut Kernel, q: u32, on: bool)
@@ -35,28 +35,28 @@ fn set_disabled(k: &mut Kernel, q: u32, on: bool)
 }
 
 /// `disable`: events and times do not wake the instance any more (IEEE 1666-2011, 5.6.6.1).
-pub(crate) fn disable(k: &mut Kernel, p: u32, q: u32)
+pub(crate) fn disable(k: &mut Kernel, p: u32, q: u32, way: Way)
     requires sound { IsSound k.old }
     requires lives { Lives k.old p }
-    requires statement { HasStatement k.old p }
-    ensures does { Does k.old k.new (Ok tt) p (λ c s i r. control_call (passes c s r) q order.Disable) }
+    requires may { MayMoveOn way k.old p }
+    ensures does { Does k.old k.new (Ok tt) p (λ c s i r. control_call (moved_on way c s r) q order.Disable) }
     ensures sound { IsSound k.new }
     ensures made { k.new.made ≡ k.old.made }
 {
-    pass(k, p);
+    move_on(k, p, way);
     set_disabled(k, q, true);
 }
 
 /// `enable`: events and times wake the instance again (IEEE 1666-2011, 5.6.6.1).
-pub(crate) fn enable(k: &mut Kernel, p: u32, q: u32)
+pub(crate) fn enable(k: &mut Kernel, p: u32, q: u32, way: Way)
     requires sound { IsSound k.old }
     requires lives { Lives k.old p }
-    requires statement { HasStatement k.old p }
-    ensures does { Does k.old k.new (Ok tt) p (λ c s i r. control_call (passes c s r) q order.Enable) }
+    requires may { MayMoveOn way k.old p }
+    ensures does { Does k.old k.new (Ok tt) p (λ c s i r. control_call (moved_on way c s r) q order.Enable) }
     ensures sound { IsSound k.new }
     ensures made { k.new.made ≡ k.old.made }
 {
-    pass(k, p);
+    move_on(k, p, way);
     set_disabled(k, q, false);
 }
 
@@ -84,14 +84,14 @@ fn resume_if(k: &mut Kernel, q: u32)
 }
 
 /// `resume`: the instance is suspended no more, and runnable where it was kept (IEEE 1666-2011, 5.6.6.1).
-pub(crate) fn resume(k: &mut Kernel, p: u32, q: u32)
+pub(crate) fn resume(k: &mut Kernel, p: u32, q: u32, way: Way)
     requires sound { IsSound k.old }
     requires lives { Lives k.old p }
-    requires statement { HasStatement k.old p }
-    ensures does { Does k.old k.new (Ok tt) p (λ c s i r. control_call (passes c s r) q order.Resume) }
+    requires may { MayMoveOn way k.old p }
+    ensures does { Does k.old k.new (Ok tt) p (λ c s i r. control_call (moved_on way c s r) q order.Resume) }
     ensures sound { IsSound k.new }
     ensures made { k.new.made ≡ k.old.made }
 {
-    pass(k, p);
+    move_on(k, p, way);
     resume_if(k, q);
 }

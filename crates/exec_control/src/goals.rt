@@ -4,7 +4,7 @@ ghost use Rattle.exec_data.specs.SimModel.Residual as residual;
 ghost use Rattle.exec_data.specs.SimModel.Residual.{next_of};
 ghost use Rattle.exec_data.specs.SimModel.Storing.{passes};
 ghost use Rattle.exec_data.specs.SimModel.Control as control;
-ghost use Rattle.exec_data.specs.ProcessState.Bodies.{settled_in};
+ghost use Rattle.exec_data.specs.ProcessBodies.Bodies.{settled_in};
 ghost use Rattle.exec_data.specs.KernelState.Kernel.{IsSound};
 ghost use Rattle.exec_data.specs.KernelState.Moves.{Steps, Lives, IsOnTop, KeptAt};
 ghost use Rattle.exec_control.specs.Unwound.{Reaches};

@@ -1,7 +1,7 @@
 //! Guards, tries and exceptions, and what becomes of an instance whose body has ended or whose unwinding has reached its goal.
 //!
 //! Process control by statements (IEEE 1666-2011, 5.6.6): suspend, resume, disable, enable, kill, reset and exceptions for others.
-//! None of it takes memory.
+//! None of it takes memory but the list of those that a call reaches that is for descendants too.
 #![tactic(auto)]
 
 mod controls;
@@ -11,15 +11,16 @@ mod flags;
 mod goals;
 mod guards;
 mod instances;
+mod owing;
 mod pushing;
 mod shown;
 mod suspending;
 mod targets;
 mod throws;
 
-pub use controls::control;
+pub use controls::{control, control_owed};
 pub use endings::body_ends;
-pub use exceptions::throw_it;
+pub use exceptions::{throw_it, throw_owed};
 pub use goals::reach_goal;
 pub use guards::{begin_guard, begin_try};
 pub use instances::is_thread;

@@ -6,7 +6,7 @@ ghost use Rattle.exec_data.specs.SimModel.Unwinding as unwinding;
 ghost use Rattle.exec_data.specs.SimModel.Unwinding.{left_by_raise};
 ghost use Rattle.exec_data.specs.SimModel.Configuration.{Config, Instance, instance_at, with_residual, arena};
 ghost use Rattle.exec_data.specs.SimModel.Calls.{with_left, thrown};
-ghost use Rattle.exec_data.specs.ProcessState.Bodies.{left_in};
+ghost use Rattle.exec_data.specs.ProcessBodies.Bodies.{left_in};
 ghost use Rattle.exec_data.specs.KernelTransactions.Board as board;
 ghost use Rattle.exec_data.specs.KernelTransactions.Board.{StaysWithin, SameQuantum, left};
 ghost use Rattle.exec_data.specs.KernelState.Kernel.{StandsFor, IsSound};
@@ -17,7 +17,7 @@ ghost use Rattle.exec_control.specs.Others.{KeepsOthers};
 use exec_data::kernel_bodies_api::Program;
 use exec_data::kernel_state_api::Kernel;
 use exec_data::kernel_transactions_api::{TransactionBoard, left_calls_end};
-use exec_data::process_state_api::Body;
+use exec_data::process_bodies_api::Body;
 use exec_data::sim_model_api::Goal;
 use flat_design::{NameId, RunFault};
 

@@ -13,8 +13,8 @@ use Rattle.kernel_view.specs.KernelBodies.declared.layers.Next.{Next}
 use Rattle.kernel_view.specs.KernelBodies.declared.layers.Next.TheVariants as next
 use Rattle.kernel_view.specs.KernelBodies.Strip.{strip}
 use Rattle.kernel_view.proofs.KernelBodies.Strips.{strip-put}
-use Rattle.kernel_view.specs.ProcessState.Bodies as bodies
-use Rattle.kernel_view.specs.ProcessState.Bodies.{enclosed}
+use Rattle.kernel_view.specs.ProcessBodies.Bodies as bodies
+use Rattle.kernel_view.specs.ProcessBodies.Bodies.{enclosed}
 use Rattle.kernel_view.specs.KernelProcesses.declared.parts.Process.{Process}
 use Rattle.kernel_view.specs.SimModel.Residual as residual
 use Rattle.kernel_view.specs.SimModel.Residual.{Residual, next_of, settle, put, block, followed}

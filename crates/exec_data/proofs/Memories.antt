@@ -14,6 +14,7 @@ module _ (k : Kernel) (c : Config) (h : StandsFor k c) where
     design = h.design;
     cycle = h.cycle;
     processes = h.processes;
+    parents = h.parents;
     events = h.events;
     channels = h.channels;
     transactions = h.transactions;

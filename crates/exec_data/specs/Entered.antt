@@ -2,7 +2,7 @@
 use Rattle.std.specs.Prelude.{◌≡◌, ℕ}
 use Rattle.kernel_view.specs.SimModel.Residual as residual
 use Rattle.kernel_view.specs.SimModel.Residual.{next_of}
-use Rattle.kernel_view.specs.ProcessState.Bodies.{settled_in}
+use Rattle.kernel_view.specs.ProcessBodies.Bodies.{settled_in}
 use Rattle.kernel_view.specs.KernelState.Moves.{KeptAt}
 use Rattle.kernel_view.specs.KernelState.declared.kernel.Kernel.{Kernel}
 

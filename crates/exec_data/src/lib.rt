@@ -61,8 +61,8 @@ pub mod kernel_processes_api {
 /// What is passed on of kernel_state.
 pub mod kernel_state_api {
     pub use kernel_view::kernel_state_api::{
-        Kept, Kernel, Offspring, StatementStop, acquire, fire, kill, pass, release, reset,
-        set_variable, settle, spawn, top_lives,
+        Kept, Kernel, Offspring, StatementStop, Way, acquire, fire, kill, move_on, pass, release,
+        reset, set_variable, settle, spawn, targets, top_lives,
     };
 }
 
@@ -95,9 +95,9 @@ pub mod plain_lists_api {
     pub use kernel_view::plain_lists_api::{Bytes, Items};
 }
 
-/// What is passed on of process_state.
-pub mod process_state_api {
-    pub use kernel_view::process_state_api::{Body, EnterStop};
+/// What is passed on of process_bodies.
+pub mod process_bodies_api {
+    pub use kernel_view::process_bodies_api::{Body, EnterStop};
 }
 
 /// What is passed on of sim_model.

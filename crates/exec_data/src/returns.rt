@@ -5,7 +5,7 @@ ghost use Rattle.kernel_view.specs.SimModel.Configuration.{with_residual};
 ghost use Rattle.kernel_view.specs.SimModel.Reading.{here};
 ghost use Rattle.kernel_view.specs.SimModel.Calls.{do_return};
 ghost use Rattle.kernel_view.specs.KernelState.Kernel.{IsSound};
-ghost use Rattle.kernel_view.specs.KernelState.Moves.{Steps, Does, IsOnTop, Lives};
+ghost use Rattle.kernel_view.specs.KernelState.Moves.{Steps, Does, IsOnTop, Lives, HasStatement};
 
 use flat_design::RunFault;
 use kernel_view::kernel_state_api::{Kernel, top_lives};
@@ -14,6 +14,7 @@ use kernel_view::kernel_state_api::{Kernel, top_lives};
 fn answer_nothing(k: &mut Kernel, p: u32)
     requires sound { IsSound k.old }
     requires lives { Lives k.old p }
+    requires statement { HasStatement k.old p }
     ensures steps { Steps k.old k.new p (λ c q i r. with_residual c q (returned None r)) }
     ensures sound { IsSound k.new }
 {
@@ -30,6 +31,7 @@ fn answer_nothing(k: &mut Kernel, p: u32)
 pub fn return_nothing(k: &mut Kernel, p: u32) -> Result<(), RunFault>
     requires sound { IsSound k.old }
     requires top { IsOnTop k.old p }
+    requires statement { HasStatement k.old p }
     ensures does { Does k.old k.new result p (λ c q i r. do_return c q r (here c q i r) None) }
     ensures sound { IsSound k.new }
 {

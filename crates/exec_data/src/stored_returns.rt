@@ -8,7 +8,7 @@ ghost use Rattle.kernel_view.specs.SimModel.Reading.{here};
 ghost use Rattle.kernel_view.specs.SimModel.Calls as calls;
 ghost use Rattle.kernel_view.specs.SimModel.Calls.{do_return};
 ghost use Rattle.kernel_view.specs.KernelState.Kernel.{StandsFor, IsSound};
-ghost use Rattle.kernel_view.specs.KernelState.Moves.{Steps, Does, Lives};
+ghost use Rattle.kernel_view.specs.KernelState.Moves.{Steps, Does, Lives, HasStatement};
 ghost use Rattle.exec_data.specs.Answered as answered;
 
 use flat_design::{CodeId, Expr, RunFault, ValueType};
@@ -59,6 +59,7 @@ fn cut_answer(t: Option<ValueType>, v: Option<Value>) -> Option<Value>
 fn answer(k: &mut Kernel, p: u32, v: Option<Value>)
     requires sound { IsSound k.old }
     requires lives { Lives k.old p }
+    requires statement { HasStatement k.old p }
     ensures steps { Steps k.old k.new p (λ c q i r. with_marks (with_residual c q (returned v r)) (return_marks q r)) }
     ensures sound { IsSound k.new }
     ensures made { k.new.made ≡ k.old.made }
@@ -77,6 +78,7 @@ fn answer(k: &mut Kernel, p: u32, v: Option<Value>)
 pub fn return_value(k: &mut Kernel, p: u32, e: &Option<Expr>) -> Result<(), RunFault>
     requires sound { IsSound k.old }
     requires lives { Lives k.old p }
+    requires statement { HasStatement k.old p }
     ensures does { Does k.old k.new result p (λ c q i r. do_return c q r (here c q i r) (option_map term_of e.now)) }
     ensures sound { IsSound k.new }
     ensures made { k.new.made ≡ k.old.made }

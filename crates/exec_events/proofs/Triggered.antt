@@ -8,9 +8,9 @@ use Rattle.kernel_view.specs.SimModel.Residual.{Residual, settle}
 use Rattle.kernel_view.specs.SimModel.Configuration.{Config, Instance, change, change_instance, with_residual, arena}
 use Rattle.kernel_view.specs.SimModel.Statements.{settled_in}
 use Rattle.kernel_view.specs.KernelBodies.Strip.{strip}
-use Rattle.kernel_view.specs.ProcessState.Bodies as bodies
-use Rattle.kernel_view.specs.ProcessState.Bodies.{left_in}
-use Rattle.kernel_view.specs.ProcessState.declared.body.Body.{Body}
+use Rattle.kernel_view.specs.ProcessBodies.Bodies as bodies
+use Rattle.kernel_view.specs.ProcessBodies.Bodies.{left_in}
+use Rattle.kernel_view.specs.ProcessBodies.declared.body.Body.{Body}
 use Rattle.kernel_view.specs.KernelProcesses.Seen.{body_at as kept_at}
 use Rattle.kernel_view.specs.KernelProcesses.declared.parts.Process.{Process}
 use Rattle.kernel_view.specs.KernelProcesses.declared.parts.Schedule.{Schedule}

@@ -17,6 +17,7 @@ module _ (k : Kernel) (b : TransactionBoard) (same : SameTransactions k.transact
     design = h.design;
     cycle = h.cycle;
     processes = h.processes;
+    parents = h.parents;
     events = h.events;
     channels = h.channels;
     transactions = same.stands c.transactions h.transactions;

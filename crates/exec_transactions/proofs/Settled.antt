@@ -5,7 +5,7 @@ use Rattle.exec_calls.specs.InstanceTable.declared.instances.Instance.{Instance 
 use Rattle.exec_calls.specs.KernelBodies.Layers.{shown}
 use Rattle.exec_calls.specs.KernelBodies.declared.layers.Next.TheVariants as next
 use Rattle.exec_calls.proofs.KernelBodies.Strips.{strip-next}
-use Rattle.exec_calls.specs.ProcessState.Bodies as bodies
+use Rattle.exec_calls.specs.ProcessBodies.Bodies as bodies
 use Rattle.exec_calls.specs.KernelProcesses.declared.parts.Process.{Process}
 use Rattle.exec_calls.specs.SimModel.Residual as residual
 use Rattle.exec_calls.specs.SimModel.Residual.{Residual, Frame, Next, settle, next_of}

@@ -72,6 +72,7 @@ module _ (k : Kernel) (b : TransactionBoard) (ms : Vec (List ℕ)) where
     design = h.design;
     cycle = h.cycle;
     processes = h.processes;
+    parents = h.parents;
     events = h.events;
     channels = h.channels;
     transactions = stands;

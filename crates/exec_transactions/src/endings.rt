@@ -4,7 +4,7 @@ ghost use Rattle.flat_design.specs.Code.{arena_of};
 ghost use Rattle.exec_calls.specs.SimModel.Residual as residual;
 ghost use Rattle.exec_calls.specs.SimModel.Residual.{Frame as Left, next_of};
 ghost use Rattle.exec_calls.specs.KernelBodies.Layers.{call_of};
-ghost use Rattle.exec_calls.specs.ProcessState.Bodies.{settled_in, next_in};
+ghost use Rattle.exec_calls.specs.ProcessBodies.Bodies.{settled_in, next_in};
 ghost use Rattle.exec_calls.specs.KernelState.Moves.{Lives};
 ghost use Rattle.exec_calls.specs.Calling.{Leaves};
 ghost use Rattle.exec_transactions.specs.Ending as spec;
@@ -14,7 +14,7 @@ use exec_calls::answer_of;
 use exec_calls::kernel_bodies_api::{Frame, Next, Program};
 use exec_calls::kernel_state_api::Kernel;
 use exec_calls::logic_values_api::Value;
-use exec_calls::process_state_api::Body;
+use exec_calls::process_bodies_api::Body;
 use exec_calls::sim_model_api::Via;
 
 /// What is seen of a call that ends.

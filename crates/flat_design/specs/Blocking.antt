@@ -1,5 +1,5 @@
 -- Which statements block, and which stand neither in unwind blocks nor in methods or threads.
-use Rattle.std.specs.Prelude.{◌≡◌, ⊤, ℕ, false, slice_get, Some}
+use Rattle.std.specs.Prelude.{◌≡◌, ⊤, ℕ, slice_get, Some}
 use Rattle.flat_design.specs.Code as code
 use Rattle.flat_design.specs.Code.{Statement}
 use Rattle.flat_design.specs.Denotes.{denoted_at}
@@ -167,46 +167,3 @@ SetsNoTrigger (code.if_ e b other) = ⊤
 SetsNoTrigger (code.while_ e b) = ⊤
 SetsNoTrigger (code.guard b u) = ⊤
 SetsNoTrigger (code.try_ b handlers) = ⊤
-
--- a statement that does not reach the descendants of another: a control call and an exception for another without them, and all others
-abbrev pub ActsAlone : Statement → Type 0
-ActsAlone (code.var i t e) = ⊤
-ActsAlone (code.assign to e) = ⊤
-ActsAlone (code.call x f arguments) = ⊤
-ActsAlone (code.read x ch) = ⊤
-ActsAlone (code.nb_read x ch y) = ⊤
-ActsAlone (code.nb_write x ch t e) = ⊤
-ActsAlone (code.trylock x ch) = ⊤
-ActsAlone (code.unlock x ch) = ⊤
-ActsAlone (code.sem_trywait x ch) = ⊤
-ActsAlone (code.nb_transport x s p phase delay) = ⊤
-ActsAlone (code.write ch t e) = ⊤
-ActsAlone (code.print text e) = ⊤
-ActsAlone (code.notify n) = ⊤
-ActsAlone (code.notify_delta n) = ⊤
-ActsAlone (code.notify_after n e) = ⊤
-ActsAlone (code.cancel n) = ⊤
-ActsAlone (code.wait w) = ⊤
-ActsAlone (code.next_trigger w) = ⊤
-ActsAlone (code.lock ch) = ⊤
-ActsAlone (code.sem_wait ch) = ⊤
-ActsAlone (code.post ch) = ⊤
-ActsAlone (code.make p n enables) = ⊤
-ActsAlone (code.acquire p) = ⊤
-ActsAlone (code.release p) = ⊤
-ActsAlone (code.carry p m) = ⊤
-ActsAlone (code.b_transport s p delay) = ⊤
-ActsAlone (code.qk_global e) = ⊤
-ActsAlone (code.qk_inc n e) = ⊤
-ActsAlone (code.qk_set n e) = ⊤
-ActsAlone (code.qk_reset n) = ⊤
-ActsAlone (code.spawn s) = ⊤
-ActsAlone (code.control asked who all) = all ≡ false
-ActsAlone (code.throw_it who n all) = all ≡ false
-ActsAlone (code.throw n) = ⊤
-ActsAlone (code.return_ e) = ⊤
-ActsAlone code.stop = ⊤
-ActsAlone (code.if_ e b other) = ⊤
-ActsAlone (code.while_ e b) = ⊤
-ActsAlone (code.guard b u) = ⊤
-ActsAlone (code.try_ b handlers) = ⊤

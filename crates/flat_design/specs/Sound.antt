@@ -11,7 +11,7 @@ use Rattle.flat_design.specs.ValueTypes.{type_of_value}
 use Rattle.flat_design.specs.Denotes.{denoted_at}
 use Rattle.flat_design.specs.Typed.{IsTyped, ChannelOffers, EachOf, parameters_of}
 use Rattle.flat_design.specs.Reach.{IsIn, InBody, Reached, inner_blocks}
-use Rattle.flat_design.specs.Blocking.{DoesNotBlock, IsPlain, SetsNoTrigger, ActsAlone}
+use Rattle.flat_design.specs.Blocking.{DoesNotBlock, IsPlain, SetsNoTrigger}
 use Rattle.flat_design.specs.declared.value_types.ValueType.{ValueType}
 use Rattle.flat_design.specs.declared.value_types.ValueType.TheVariants as type
 use Rattle.flat_design.specs.declared.code.BodyKind.{BodyKind}
@@ -268,4 +268,3 @@ pub record SoundDesign (d : Design) : Type 0 where
   pub threads : EachReached d (λ f b. IsThreadBody (arena_of d.code) f b ⊎ IsAnyHandler d f) (λ home s. SetsNoTrigger s)
   pub waits : EachStatement d (λ f home b s. events_of s ≤ b.room)
   pub room : EachStatement d (λ f home b s. RoomSuffices d home b.room s)
-  pub alone : EachStatement d (λ f home b s. ActsAlone s)

@@ -122,6 +122,7 @@ module _ (k : Kernel) (s : Schedule Kept) (ds : List ℕ) (w : WakesThose ds k.s
         design = so.design;
         cycle = so.cycle;
         processes = record { each = so.processes.each; ready = so.processes.ready; stack = so.processes.stack; next = so.processes.next };
+        parents = so.parents;
         events = so.events;
         channels = so.channels;
         transactions = so.transactions;
@@ -154,6 +155,7 @@ module _ (k : Kernel) (test : Pending → Bool) (time : Deadline → Bool) (none
     design = h.design;
     cycle = h.cycle;
     processes = taken_stands (Shows (whole_design k) k.program) time none k.schedule s takes c.processes h.processes;
+    parents = h.parents;
     events = ap (map (without_pending test)) h.events ∙ sym left;
     channels = h.channels;
     transactions = h.transactions;

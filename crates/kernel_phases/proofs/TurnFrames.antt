@@ -12,9 +12,9 @@ use Rattle.kernel_state.specs.SimModel.Control.{begins}
 use Rattle.kernel_state.specs.SimModel.Steps.{turn_line, instance_taken}
 use Rattle.kernel_state.proofs.KernelBodies.Strips.{strip-entered}
 use Rattle.kernel_state.proofs.KernelProcesses.Wakes.{change-here}
-use Rattle.kernel_state.specs.ProcessState.Bodies as bodies
-use Rattle.kernel_state.specs.ProcessState.Bodies.{left_in}
-use Rattle.kernel_state.specs.ProcessState.declared.body.Body.{Body}
+use Rattle.kernel_state.specs.ProcessBodies.Bodies as bodies
+use Rattle.kernel_state.specs.ProcessBodies.Bodies.{left_in}
+use Rattle.kernel_state.specs.ProcessBodies.declared.body.Body.{Body}
 use Rattle.kernel_state.specs.KernelProcesses.Seen.{seen, shown_at, as_instance}
 use Rattle.kernel_state.specs.KernelProcesses.Seen.{body_at as kept_at}
 use Rattle.kernel_state.specs.KernelProcesses.Sound as schedules
@@ -62,12 +62,12 @@ module _ (k : Kernel) (p : ℕ) (x : Entry (Process Kept)) (at : map.get k.sched
 -- ---- the body
 
 module _ (k : Kernel) (p : ℕ) (x : Entry (Process Kept)) (b : Body) (at : map.get k.schedule.table.live p ≡ Some x) (keeps : bodies.Keeps x.body.body.body b) where
-  pub restarts_at : left_in k.program b ≡ begun (arena_of k.program.code) x.body.body.body.code x.body.body.body.arguments.items
+  pub restarts_at : left_in k.program b ≡ begun (arena_of k.program.code) x.body.body.body.calls.code x.body.body.body.calls.arguments.items
       → MovesAt k (record k { schedule = with_body k p x b at keeps }) p (λ c i. with_residual c p (begun (arena c) i.code i.arguments))
   restarts_at left c i h there =
       let s = shows_at k p x at c h i there in
       residual_moves k p x.body.body b (kept k p x at) (with_body k p x b at keeps) (puts_body k.schedule p x (record x.body.body { body = b }) at) keeps c h (begun (arena c) i.code i.arguments)
-      (strip-entered (arena c) i.code i.arguments None None ∙ ap (λ d. begun (arena_of d.code) i.code i.arguments) h.design ∙ ap (λ n. begun (arena_of k.program.code) n i.arguments) s.code ∙ ap (begun (arena_of k.program.code) x.body.body.body.code) s.arguments ∙ sym left)
+      (strip-entered (arena c) i.code i.arguments None None ∙ ap (λ d. begun (arena_of d.code) i.code i.arguments) h.design ∙ ap (λ n. begun (arena_of k.program.code) n i.arguments) s.code ∙ ap (begun (arena_of k.program.code) x.body.body.body.calls.code) s.arguments ∙ sym left)
 
 -- and it has begun
 module _ (k : Kernel) (p : ℕ) (s : Schedule Kept) (m : MovesOne p (started_as true) (set.contains k.schedule.ready.members p) same_stack k.schedule s) (lives : Lives k p) where

@@ -27,6 +27,7 @@ updates_moves k x es updated told law c h = subst (StandsFor (record k { channel
   design = h.design;
   cycle = h.cycle;
   processes = h.processes;
+  parents = h.parents;
   events = ap (λ d. told_by d c.channels c.events) h.design ∙ ap (λ y. told_by k.design y c.events) h.channels ∙ ap (told_by k.design k.channels) h.events ∙ sym told;
   channels = ap channels_updated h.channels ∙ sym updated;
   transactions = h.transactions;
@@ -71,6 +72,7 @@ module _ (k : Kernel) (x : Kept) where
     design = h.design;
     cycle = same;
     processes = h.processes;
+    parents = h.parents;
     events = h.events;
     channels = h.channels;
     transactions = h.transactions;

@@ -4,7 +4,7 @@ use Rattle.std.specs.Global.{Vec}
 use Rattle.kernel_state.specs.KernelEvents.Numbered.{fixed}
 use Rattle.kernel_state.specs.SimModel.Configuration.{Config}
 use Rattle.kernel_state.specs.SimModel.Waits.{fire_all, wake_all}
-use Rattle.kernel_state.specs.ProcessState.Bodies as bodies
+use Rattle.kernel_state.specs.ProcessBodies.Bodies as bodies
 use Rattle.kernel_state.specs.KernelProcesses.Seen.{is_on, body_at}
 use Rattle.kernel_state.specs.KernelProcesses.Sound as schedules
 use Rattle.kernel_state.specs.KernelTransactions.Board.{IsWithin}

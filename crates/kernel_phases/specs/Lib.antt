@@ -10,6 +10,6 @@ pub mod ReadySet
 pub mod InstanceTable
 pub mod SimModel
 pub mod KernelBodies
-pub mod ProcessState
+pub mod ProcessBodies
 pub mod KernelProcesses
 pub mod KernelState

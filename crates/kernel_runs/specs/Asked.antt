@@ -7,14 +7,12 @@ use Rattle.kernel_phases.specs.KernelState.declared.kernel.Kernel.{Kernel}
 use Rattle.kernel_phases.specs.Fresh.{IsFresh}
 use Rattle.kernel_steps.specs.ExecControl.Thrown.{OthersHaveNoGoal}
 use Rattle.kernel_steps.specs.ExecControl.Unwound.{ThrowsFreeNext}
-use Rattle.kernel_steps.specs.Alone.{ActsAloneNext}
 use Rattle.kernel_steps.specs.Ready.{Ready}
 
 -- In a run of a sound design all of it holds.
 pub record MayStep (k : Kernel) (program : Program) : Type 0 where
   pub ready : Ready k program
   pub throws : (p : ℕ) → IsOnTop k p → ThrowsFreeNext k p
-  pub alone : (p : ℕ) → IsOnTop k p → ActsAloneNext k p
   pub others : OthersHaveNoGoal k
   pub posts : All (λ v. v < 2 ^ 64 - 1) k.channels.semaphores
   pub fresh : k.cycle.phase ≡ phase.Start → IsFresh k

@@ -10,13 +10,15 @@ use Rattle.kernel_state.specs.InstanceTable.declared.instances.Instance.{Instanc
 use Rattle.kernel_state.specs.InstanceTable.declared.instances.Waiting.{Waiting}
 use Rattle.kernel_state.specs.InstanceTable.declared.instances.Waiting.TheVariants as waiting
 use Rattle.kernel_state.specs.FlatDesign.Code.{Arena, arena_of}
+use Rattle.kernel_state.specs.SimModel.Residual.{Residual}
 use Rattle.kernel_state.specs.KernelBodies.Room.{FitsBlocks, FitsStatement, FitsLayer, FitsAll, FitsIn, EachFitsIn, FitsLast, FitsFrames, kept_inside}
 use Rattle.kernel_state.specs.KernelBodies.declared.layers.Open.{Open}
 use Rattle.kernel_state.specs.KernelBodies.declared.layers.Open.TheVariants as layer
 use Rattle.kernel_state.specs.KernelBodies.declared.layers.Saved.{Saved}
 use Rattle.kernel_state.specs.KernelBodies.declared.program.Program.{Program}
-use Rattle.kernel_state.specs.ProcessState.Bodies as bodies
-use Rattle.kernel_state.specs.ProcessState.declared.body.Body.{Body}
+use Rattle.kernel_state.specs.ProcessBodies.Bodies as bodies
+use Rattle.kernel_state.specs.ProcessBodies.declared.body.Body.{Body}
+use Rattle.kernel_state.specs.ProcessBodies.declared.body.Owed.{Owed}
 use Rattle.kernel_state.specs.KernelProcesses.Seen.{Seen, seen}
 use Rattle.kernel_state.specs.KernelProcesses.Sound as schedules
 use Rattle.kernel_state.specs.KernelProcesses.declared.parts.Process.{Process}
@@ -26,12 +28,15 @@ use Rattle.kernel_state.specs.KernelTransactions.declared.TransactionBoard.{Tran
 use Rattle.kernel_state.specs.Kernel.{IsSound}
 use Rattle.kernel_state.specs.declared.kernel.Kernel.{Kernel}
 
--- two truth values, lists of numbers, waits, times are equal in one way at most
+-- two truth values, lists of numbers, statements that may be none, waits, times are equal in one way at most
 bool_prop : (a b : Bool) → IsProp (a ≡ b)
 bool_prop a b = Coded-set coded_bool a b
 
 list_prop : (a b : List ℕ) → IsProp (a ≡ b)
 list_prop a b = Coded-set (coded_list coded_ℕ) a b
+
+statement_in_prop : (a b : Option ℕ) → IsProp (a ≡ b)
+statement_in_prop a b = Coded-set (coded_option coded_ℕ) a b
 
 wait_prop : (a b : Option Wait) → IsProp (a ≡ b)
 wait_prop a b = Coded-set (coded_option wait_code) a b
@@ -149,12 +154,19 @@ room_prop a depths xs s x y = λ i. record {
   last = last_prop a depths xs s x.last y.last i;
 }
 
+owed_prop : (r : Residual) (o : Option Owed) → IsProp (bodies.Agrees r o)
+owed_prop r None = Unit-prop
+owed_prop r (Some o) = statement_in_prop _ _
+
 body_prop : (p : Program) (b : Body) → IsProp (bodies.IsSound p b)
 body_prop p b x y = λ i. record {
-  room = room_prop (arena_of p.code) _ b.frames.items b.statement x.room y.room i;
-  locals = le_prop x.locals y.locals i;
-  blocks = le_prop x.blocks y.blocks i;
-  first = le_prop x.first y.first i;
+  calls = record {
+    room = room_prop (arena_of p.code) _ b.calls.frames.items b.calls.statement x.calls.room y.calls.room i;
+    locals = le_prop x.calls.locals y.calls.locals i;
+    blocks = le_prop x.calls.blocks y.calls.blocks i;
+    first = le_prop x.calls.first y.calls.first i;
+  };
+  owed = owed_prop (bodies.left_in p (record b { owed = None })) b.owed x.owed y.owed i;
 }
 
 -- ---- the transactions, and all

@@ -13,9 +13,9 @@ use Rattle.kernel_state.specs.FlatDesign.declared.design.ProcessPart.{ProcessPar
 use Rattle.kernel_state.specs.SimModel.Residual.{skip}
 use Rattle.kernel_state.specs.SimModel.Configuration.{first_instance}
 use Rattle.kernel_state.specs.KernelBodies.declared.program.Program.{Program}
-use Rattle.kernel_state.specs.ProcessState.Bodies as bodies
-use Rattle.kernel_state.specs.ProcessState.Bodies.{left_in}
-use Rattle.kernel_state.specs.ProcessState.declared.body.Body.{Body}
+use Rattle.kernel_state.specs.ProcessBodies.Bodies as bodies
+use Rattle.kernel_state.specs.ProcessBodies.Bodies.{left_in}
+use Rattle.kernel_state.specs.ProcessBodies.declared.body.Body.{Body}
 use Rattle.kernel_state.specs.KernelProcesses.Seen.{seen, bare, as_instance, shown_at, kind_of}
 use Rattle.kernel_state.specs.KernelProcesses.Seen.{body_at as kept_at}
 use Rattle.kernel_state.specs.KernelProcesses.Sound as schedules
@@ -78,7 +78,7 @@ adds_more program parts n part s t all one at d parents same_design = subst (λ 
 
 module _ (program : Program) (part : ProcessPart) (s t : Schedule Kept) (made : IsMade program s) (n : ℕ) (b : Body) (kind : ProcessKind) (sensitive : List Ev)
     (same_kind : kind_of kind ≡ part.kind) (same_static : sensitive ≡ part.sensitive)
-    (same_code : b.code ≡ part.code) (no_arguments : b.arguments.items ≡ []) (nothing_left : left_in program b ≡ skip) (body_fine : bodies.IsSound program b) (fine : schedules.IsSound t)
+    (same_code : b.calls.code ≡ part.code) (no_arguments : b.calls.arguments.items ≡ []) (nothing_left : left_in program b ≡ skip) (body_fine : bodies.IsSound program b) (fine : schedules.IsSound t)
     (spawns : Spawns n (spawned_as kind sensitive true) (record { home = part.home; path = path_by.Object part.object; body = b; trigger = None }) false s t) where
   nobody_ready : set.contains s.ready.members n ≡ false
   nobody_ready = by (maps.get s.table.live n) refl

@@ -17,16 +17,17 @@ use Rattle.kernel_state.specs.Kernel.{Shows, StandsFor, IsSound, cycle_of}
 use Rattle.kernel_state.specs.declared.kernel.Cycle.{Cycle}
 use Rattle.kernel_state.specs.declared.kernel.Kept.{Kept}
 use Rattle.kernel_state.specs.declared.kernel.Kernel.{Kernel}
-use Rattle.kernel_start.specs.Made.{IsMade, AddsAll, first_cycle}
+use Rattle.kernel_start.specs.Made.{IsMade, AddsAll, first_cycle, no_parents}
 use Rattle.kernel_start.specs.declared.parts.First.{First}
 
 module _ (x : Design) (program : Program) (cycle : Cycle) (s : Schedule Kept) (f : First) where
   abbrev pub together : Kernel
-  together = record { design = x; program = program; cycle = cycle; schedule = s; events = f.events; channels = f.channels; transactions = f.transactions; variables = f.variables; memories = f.memories; made = 0 }
+  together = record { design = x; program = program; cycle = cycle; schedule = s; parents = f.parents; events = f.events; channels = f.channels; transactions = f.transactions; variables = f.variables; memories = f.memories; made = 0 }
 
   -- x is the design d with other code, and the program has the code of d
   module _ (d : Design) (parted : x ≡ record d { code = x.code }) (same : program.code ≡ d.code) (first : cycle_of cycle ≡ first_cycle)
       (ps : List ProcessPart) (processes : AddsAll program ps s) (listed : ps ≡ x.processes)
+      (parents : f.parents.items ≡ no_parents d.processes)
       (events : f.events ≡ replicate d.events pending.Nothing) (channels : f.channels ≡ first_channels d)
       (transactions : StandsForTransactions f.transactions (record { pool = []; hops = replicate (length d.hops) [] })) (quantum : StandsForQuantum f.transactions (record { keepers = replicate d.keepers at_start; global = 0 }))
       (variables : f.variables.items ≡ map (λ (p : VariablePart). p.initial) d.variables) (memories : f.memories.items ≡ map (λ (p : MemoryPart). replicate p.size 0) d.memories) where
@@ -47,6 +48,7 @@ module _ (x : Design) (program : Program) (cycle : Cycle) (s : Schedule Kept) (f
       design = sym whole;
       cycle = sym first;
       processes = first_ones;
+      parents = sym parents;
       events = sym events;
       channels = sym channels;
       transactions = transactions;

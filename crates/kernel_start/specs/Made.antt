@@ -5,7 +5,7 @@ use Rattle.kernel_state.specs.FlatDesign.declared.design.ProcessPart.{ProcessPar
 use Rattle.kernel_state.specs.SimModel.Configuration.{Cycle, Processes, first_instance}
 use Rattle.kernel_state.specs.SimModel.declared.plain.Phase.TheVariants as phase
 use Rattle.kernel_state.specs.KernelBodies.declared.program.Program.{Program}
-use Rattle.kernel_state.specs.ProcessState.Bodies as bodies
+use Rattle.kernel_state.specs.ProcessBodies.Bodies as bodies
 use Rattle.kernel_state.specs.KernelProcesses.Seen.{body_at as kept_at}
 use Rattle.kernel_state.specs.KernelProcesses.Sound as schedules
 use Rattle.kernel_state.specs.KernelProcesses.declared.parts.Schedule.{Schedule}
@@ -26,9 +26,13 @@ with_process d part x = record x { instances = x.instances ++ first_instance d p
 abbrev pub Adds : Program → ProcessPart → Schedule Kept → Schedule Kept → Type 0
 Adds program part old new = (d : Design) (x : Processes) → d.code ≡ program.code → StandsForProcesses (Shows d program) old x → StandsForProcesses (Shows d program) new (with_process d part x)
 
--- all of them are, and nobody runs; who brought them forth is read by no step of language 1
+-- all of them are, and nobody runs; a schedule does not know their parents
 abbrev pub AddsAll : Program → List ProcessPart → Schedule Kept → Type 0
 AddsAll program parts s = (d : Design) (parents : List (Option ℕ)) → d.code ≡ program.code → StandsForProcesses (Shows d program) s (record { runnable = []; stack = []; instances = map (first_instance d) parts; parents = parents })
+
+-- no process of a design was spawned
+abbrev pub no_parents : List ProcessPart → List (Option ℕ)
+no_parents parts = map (λ (p : ProcessPart). None) parts
 
 -- Idle at time 0, and no run has begun
 abbrev pub first_cycle : Cycle

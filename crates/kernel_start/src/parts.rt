@@ -4,10 +4,11 @@ ghost use Rattle.kernel_state.specs.QuantumKeeper.Keepers.{at_start};
 ghost use Rattle.kernel_state.specs.FlatDesign.declared.design.VariablePart.{VariablePart as Variable};
 ghost use Rattle.kernel_state.specs.FlatDesign.declared.design.MemoryPart.{MemoryPart as Memory};
 ghost use Rattle.kernel_state.specs.SimModel.Configuration.{first_channels};
+ghost use Rattle.kernel_start.specs.Made.{no_parents};
 ghost use Rattle.kernel_state.specs.KernelTransactions.Board.{StandsForTransactions, StandsForQuantum, IsWithin};
 
 use kernel_state::event_core_api::Pending;
-use kernel_state::flat_design_api::{Design, MemoryPart, VariablePart};
+use kernel_state::flat_design_api::{Design, MemoryPart, ProcessPart, VariablePart};
 use kernel_state::kernel_channels_api::ChannelBoard;
 use kernel_state::kernel_events_api::EventBoard;
 use kernel_state::kernel_transactions_api::TransactionBoard;
@@ -18,6 +19,8 @@ use std::alloc::{AllocError, Global};
 /// What there is beside the processes before the first command.
 #[derive(Drop)]
 pub(crate) struct First {
+    /// The parents of the processes, none of which was spawned.
+    pub parents: Vec<Option<u32>>,
     /// What is pending for each event.
     pub events: EventBoard,
     /// The channels.
@@ -28,6 +31,18 @@ pub(crate) struct First {
     pub variables: Vec<Value>,
     /// The bytes of memories.
     pub memories: Vec<Bytes>,
+}
+
+/// The parents of processes that none spawned.
+fn first_parents(alloc: Global, parts: &[ProcessPart]) -> Result<Vec<Option<u32>>, AllocError>
+    ensures { IfOk result (λ parents. parents.items ≡ no_parents parts.now) }
+{
+    let mut parents = Vec::new(alloc);
+    for part in parts {
+        let _ = part;
+        parents.push(None)?;
+    }
+    Ok(parents)
 }
 
 /// The first values of variables.
@@ -77,6 +92,7 @@ fn first_transactions(alloc: Global, design: &Design) -> Result<TransactionBoard
 
 /// Nothing pending, first values, and no transactions.
 pub(crate) fn first_parts(alloc: Global, design: &Design) -> Result<First, AllocError>
+    ensures parents { IfOk result (λ f. f.parents.items ≡ no_parents design.now.processes) }
     ensures events { IfOk result (λ f. f.events ≡ replicate design.now.events Pending.Nothing) }
     ensures channels { IfOk result (λ f. f.channels ≡ first_channels design.now) }
     ensures transactions { IfOk result (λ f. StandsForTransactions f.transactions (record { pool = []; hops = replicate (length design.now.hops) [] })) }
@@ -85,12 +101,14 @@ pub(crate) fn first_parts(alloc: Global, design: &Design) -> Result<First, Alloc
     ensures variables { IfOk result (λ f. f.variables.items ≡ map (λ (p : Variable). p.initial) design.now.variables) }
     ensures memories { IfOk result (λ f. f.memories.items ≡ map (λ (p : Memory). replicate p.size 0) design.now.memories) }
 {
+    let parents = first_parents(alloc, design.processes.as_slice())?;
     let variables = first_values(alloc, design.variables.as_slice())?;
     let memories = first_bytes(alloc, design.memories.as_slice())?;
     let events = EventBoard::new(alloc, design.events)?;
     let channels = ChannelBoard::new(alloc, design)?;
     let transactions = first_transactions(alloc, design)?;
     Ok(First {
+        parents,
         events,
         channels,
         transactions,

@@ -10,7 +10,7 @@ use kernel_state::kernel_bodies_api::Program;
 use kernel_state::kernel_processes_api::{Schedule, empty, spawn};
 use kernel_state::model_tree_api::ProcessKind as Kind;
 use kernel_state::plain_lists_api::Items;
-use kernel_state::process_state_api::Body;
+use kernel_state::process_bodies_api::Body;
 use kernel_state::{Kept, PathOf};
 use std::alloc::{AllocError, Global};
 

@@ -1,5 +1,6 @@
 -- A part moves, and the kernel stands for the configuration in which that part moved.
 use Rattle.std.proofs.Common.{◌≡◌, ◌≢◌, ◌≤◌, ◌+◌, ◌^◌, ◌==◌, ◌||◌, ℕ, zero, suc, Bool, true, false, List, [], ◌∷◌, ◌++◌, drop, length, slice_get, slice_set, Option, Some, None, option_map, refl, sym, ap, ◌∙◌, subst, arith, true≢false, ⊎_elim}
+use Rattle.std.specs.Global.{Vec}
 use Rattle.std.specs.Prelude.{is_some}
 use Rattle.std.proofs.lemmas.Bool.{cases_eq}
 use Rattle.std.specs.FinMap as map
@@ -17,16 +18,16 @@ use Rattle.kernel_processes.specs.SimModel.Configuration.{Config, Instance, Proc
 use Rattle.kernel_processes.specs.SimModel.Waits.{holds, fire, wake, waits, leaves_stack}
 use Rattle.kernel_processes.specs.SimModel.Statements.{settled_in}
 use Rattle.kernel_processes.specs.SimModel.Storing.{with_local, set_local}
-use Rattle.process_state.specs.KernelBodies.Strip.{strip}
-use Rattle.process_state.proofs.KernelBodies.Strips.{strip-settle, strip-in_innermost, strip-unw}
+use Rattle.process_bodies.specs.KernelBodies.Strip.{strip}
+use Rattle.process_bodies.proofs.KernelBodies.Strips.{strip-settle, strip-in_innermost, strip-unw}
 use Rattle.kernel_processes.specs.NumberedSlots.Numbered.{with_value}
 use Rattle.kernel_processes.specs.Woken.{after_wake, joins, after_event, joins_by, at_only, joins_only}
 use Rattle.kernel_processes.proofs.OtherBody.{puts_body, puts_sound}
 use Rattle.kernel_processes.proofs.Sounding.{on_top}
 use Rattle.kernel_processes.proofs.Wakes.{set-here, change-here, change-other, wake_rouses, fire_rouses}
-use Rattle.process_state.specs.Bodies as bodies
-use Rattle.process_state.specs.Bodies.{left_in}
-use Rattle.process_state.specs.declared.body.Body.{Body}
+use Rattle.process_bodies.specs.Bodies as bodies
+use Rattle.process_bodies.specs.Bodies.{left_in}
+use Rattle.process_bodies.specs.declared.body.Body.{Body}
 use Rattle.kernel_processes.specs.Seen.{seen, shown_at, is_on, as_instance, deadline_of}
 use Rattle.kernel_processes.specs.Seen.{body_at as kept_at}
 use Rattle.kernel_processes.specs.Sound as schedules
@@ -73,11 +74,28 @@ change-twice xs n f g = change-twice_by xs n f g (slice_get xs n) refl
 -- ---- one part
 
 module _ (k : Kernel) (c : Config) (h : StandsFor k c) where
-  pub processes_move : (s : Schedule Kept) (x : Processes) → StandsForProcesses (Shows (whole_design k) k.program) s x → StandsFor (record k { schedule = s }) (record c { processes = x })
+  -- the parents stay
+  pub processes_move : (s : Schedule Kept) (x : Processes) → StandsForProcesses (Shows (whole_design k) k.program) s x → StandsFor (record k { schedule = s }) (record c { processes = record x { parents = c.processes.parents } })
   processes_move s x stands = record {
     design = h.design;
     cycle = h.cycle;
-    processes = stands;
+    processes = record { each = stands.each; ready = stands.ready; stack = stands.stack; next = stands.next };
+    parents = h.parents;
+    events = h.events;
+    channels = h.channels;
+    transactions = h.transactions;
+    quantum = h.quantum;
+    variables = h.variables;
+    memories = h.memories;
+  }
+
+  -- the parents alone move
+  pub parents_move : (ps : Vec (Option ℕ)) → StandsFor (record k { parents = ps }) (record c { processes = record c.processes { parents = ps.items } })
+  parents_move ps = record {
+    design = h.design;
+    cycle = h.cycle;
+    processes = record { each = h.processes.each; ready = h.processes.ready; stack = h.processes.stack; next = h.processes.next };
+    parents = refl;
     events = h.events;
     channels = h.channels;
     transactions = h.transactions;
@@ -92,6 +110,7 @@ module _ (k : Kernel) (c : Config) (h : StandsFor k c) where
     design = h.design;
     cycle = h.cycle;
     processes = h.processes;
+    parents = h.parents;
     events = h.events;
     channels = h.channels;
     transactions = h.transactions;
@@ -106,6 +125,7 @@ module _ (k : Kernel) (c : Config) (h : StandsFor k c) where
     design = h.design;
     cycle = h.cycle;
     processes = h.processes;
+    parents = h.parents;
     events = h.events;
     channels = refl;
     transactions = h.transactions;
@@ -120,6 +140,7 @@ module _ (k : Kernel) (c : Config) (h : StandsFor k c) where
     design = h.design;
     cycle = h.cycle;
     processes = h.processes;
+    parents = h.parents;
     events = h.events;
     channels = h.channels;
     transactions = stands;
@@ -192,7 +213,7 @@ module _ (k : Kernel) (p : ℕ) (kept : Kept) (b : Body) (at : kept_at k.schedul
 -- ---- what a body stood for
 
 module _ (k : Kernel) (p : ℕ) (x : Entry (Process Kept)) (at : map.get k.schedule.table.live p ≡ Some x) where
-  was : kept_at k.schedule p ≡ Some x.body.body
+  pub was : kept_at k.schedule p ≡ Some x.body.body
   was = ap (option_map (λ (z : Entry (Process Kept)). z.body.body)) at
 
   pub old_body_sound : IsSound k → bodies.IsSound k.program x.body.body.body

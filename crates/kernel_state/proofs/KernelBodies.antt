@@ -1,1 +1,1 @@
-pub use Rattle.process_state.proofs.KernelBodies.Strips as Strips
+pub use Rattle.process_bodies.proofs.KernelBodies.Strips as Strips

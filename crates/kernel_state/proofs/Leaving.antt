@@ -4,12 +4,12 @@ use Rattle.std.specs.Prelude.{is_some, unwrap_or}
 use Rattle.std.specs.FinMap as map
 use Rattle.kernel_processes.specs.InstanceTable.declared.instances.Instance.{Instance as Entry}
 use Rattle.kernel_processes.specs.FlatDesign.Code.{Arena, arena_of}
-use Rattle.process_state.proofs.KernelBodies.Strips.{strip-left_by_unw}
+use Rattle.process_bodies.proofs.KernelBodies.Strips.{strip-left_by_unw}
 use Rattle.kernel_processes.specs.SimModel.Unwinding.{left_by_unw}
 use Rattle.kernel_processes.specs.SimModel.Configuration.{Config, Instance, instance_at}
 use Rattle.kernel_processes.specs.SimModel.Calls.{with_left}
 use Rattle.kernel_processes.specs.SimModel.declared.plain.Via.{Via}
-use Rattle.process_state.specs.Bodies.{left_of, left_in}
+use Rattle.process_bodies.specs.Bodies.{left_of, left_in}
 use Rattle.kernel_processes.specs.declared.parts.Process.{Process}
 use Rattle.kernel_transactions.specs.Board as board
 use Rattle.kernel_transactions.specs.Board.{StandsForTransactions, SameQuantum, left}

@@ -7,6 +7,8 @@ pub mod Uses
 pub mod Bytes
 pub mod Leaving
 pub mod Stacks
+pub mod Taken
+pub mod Reached
 pub mod Pushing
 pub mod Ending
 pub mod ReadySet

@@ -2,6 +2,7 @@
 use Rattle.std.proofs.Common.{◌≡◌, ◌≢◌, ◌≤◌, ◌<◌, ◌+◌, ◌^◌, ◌==◌, ◌||◌, not, ℕ, Bool, true, false, List, [], ◌∷◌, ◌++◌, length, slice_get, Option, Some, None, option_map, refl, sym, ap, ◌∙◌, subst, arith, true≢false, ⊎_elim, ne_eqb}
 use Rattle.std.specs.Prelude.{is_some, if◌then◌else◌}
 use Rattle.std.proofs.lemmas.Bool.{cases_eq}
+use Rattle.std.specs.Global.{Vec}
 use Rattle.std.specs.FinMap as map
 use Rattle.std.specs.FinSet as set
 use Rattle.kernel_processes.specs.InstanceTable.declared.instances.Instance.{Instance as Entry}
@@ -9,16 +10,16 @@ use Rattle.kernel_processes.specs.SimModel.Residual.{skip}
 use Rattle.kernel_processes.specs.SimModel.Configuration.{Config, Instance, Processes}
 use Rattle.kernel_processes.specs.SimModel.Waits.{holds}
 use Rattle.kernel_processes.specs.SimModel.Calls.{added, runnable_unless}
-use Rattle.process_state.specs.Bodies as bodies
-use Rattle.process_state.specs.Bodies.{left_in}
-use Rattle.process_state.specs.declared.body.Body.{Body}
+use Rattle.process_bodies.specs.Bodies as bodies
+use Rattle.process_bodies.specs.Bodies.{left_in}
+use Rattle.process_bodies.specs.declared.body.Body.{Body}
 use Rattle.kernel_processes.specs.Seen.{seen, is_on, shown_at, as_instance}
 use Rattle.kernel_processes.specs.Seen.{body_at as kept_at}
 use Rattle.kernel_processes.specs.Sound as schedules
 use Rattle.kernel_processes.specs.declared.parts.Process.{Process}
 use Rattle.kernel_processes.specs.declared.parts.Schedule.{Schedule}
 use Rattle.kernel_processes.proofs.Sounding.{on_last, on_top}
-use Rattle.kernel_processes.specs.Moved.{Spawns, spawned_as}
+use Rattle.kernel_processes.specs.Moved.{Spawns, Stays, spawned_as}
 use Rattle.kernel_state.specs.Processes.{beside, StandsForProcesses}
 use Rattle.kernel_state.specs.Kernel.{Shows, StandsFor, IsSound, whole_design, path_in}
 use Rattle.kernel_state.specs.Moves.{Moves}
@@ -27,8 +28,8 @@ use Rattle.kernel_state.specs.declared.kernel.PathOf.TheVariants as path_by
 use Rattle.kernel_state.specs.declared.kernel.Kept.{Kept}
 use Rattle.kernel_state.specs.declared.kernel.Kernel.{Kernel}
 use Rattle.kernel_state.specs.declared.kernel.Offspring.{Offspring}
-use Rattle.kernel_state.proofs.ProcessFrames.{spawned_stands}
-use Rattle.kernel_state.proofs.Frames.{processes_move, within_more}
+use Rattle.kernel_state.proofs.ProcessFrames.{spawned_stands, stays}
+use Rattle.kernel_state.proofs.Frames.{processes_move, parents_move, within_more}
 
 or-nothing : (b : Bool) → (b || false) ≡ b
 or-nothing true = refl
@@ -40,6 +41,7 @@ made_moves k n c h = record {
   design = h.design;
   cycle = h.cycle;
   processes = h.processes;
+  parents = h.parents;
   events = h.events;
   channels = h.channels;
   transactions = h.transactions;
@@ -58,7 +60,7 @@ with_runs_of n true rs = rs
 with_runs_of n false rs = rs ++ n ∷ []
 
 module _ (k : Kernel) (sound : IsSound k) (o : Offspring) (n : ℕ) (b : Body) (s : Schedule Kept) (fine : schedules.IsSound s)
-    (same_code : b.code ≡ o.code) (same_arguments : b.arguments.items ≡ o.arguments.items) (nothing_left : left_in k.program b ≡ skip) (body_fine : bodies.IsSound k.program b)
+    (same_code : b.calls.code ≡ o.code) (same_arguments : b.calls.arguments.items ≡ o.arguments.items) (nothing_left : left_in k.program b ≡ skip) (body_fine : bodies.IsSound k.program b)
     (spawns : Spawns n (spawned_as o.kind o.sensitive o.waits) (record { home = o.home; path = path_by.Spawned n; body = b; trigger = None }) (not o.waits) k.schedule s) where
   nobody_ready : set.contains k.schedule.ready.members n ≡ false
   nobody_ready = by (map.get k.schedule.table.live n) refl
@@ -93,17 +95,27 @@ module _ (k : Kernel) (sound : IsSound k) (o : Offspring) (n : ℕ) (b : Body) (
   offspring_as true c is = ap (λ w. runnable_unless w n (added c (offspring_in c.design n o))) is
   offspring_as false c is = ap (λ w. runnable_unless w n (added c (offspring_in c.design n o))) is
 
-  pub spawned_moves : Moves k (record k { schedule = s }) (λ c. with_offspring c n o)
-  spawned_moves c h = subst (StandsFor (record k { schedule = s })) (sym (offspring_as o.waits c refl))
-      (processes_move k c h s (record c.processes { runnable = with_runs_of n o.waits c.processes.runnable; instances = c.processes.instances ++ offspring_in c.design n o ∷ []; parents = c.processes.parents ++ slice_get c.processes.stack 0 ∷ [] })
-      (subst (λ d. StandsForProcesses (Shows (whole_design k) k.program) s (record c.processes { runnable = with_runs_of n o.waits c.processes.runnable; instances = c.processes.instances ++ offspring_in d n o ∷ []; parents = c.processes.parents ++ slice_get c.processes.stack 0 ∷ [] })) (sym h.design)
-      (spawned_stands (Shows (whole_design k) k.program) k.schedule s c.processes h.processes n (spawned_as o.kind o.sensitive o.waits) (offspring_in (whole_design k) n o)
-      (record { home = o.home; path = path_by.Spawned n; body = b; trigger = None }) (not o.waits) spawns refl refl shows
-      (record c.processes { runnable = with_runs_of n o.waits c.processes.runnable; instances = c.processes.instances ++ offspring_in (whole_design k) n o ∷ []; parents = c.processes.parents ++ slice_get c.processes.stack 0 ∷ [] })
-      refl (runs_by o.waits c (h.processes.ready n)) (others_by o.waits c) refl)))
+  -- the parents have the new one's at their end
+  module _ (ps : Vec (Option ℕ)) (parent : Option ℕ) (more : ps.items ≡ k.parents.items ++ parent ∷ []) (top : (c : Config) → StandsFor k c → parent ≡ slice_get c.processes.stack 0) where
+    abbrev pub more_parents : Kernel
+    more_parents = record k { schedule = s; parents = ps }
 
-  pub spawned_sound : IsSound (record k { schedule = s; made = k.made + 1 })
-  spawned_sound = record {
+    parents_are : (c : Config) → StandsFor k c → ps.items ≡ c.processes.parents ++ slice_get c.processes.stack 0 ∷ []
+    parents_are c h = more ∙ ap (λ xs. xs ++ parent ∷ []) (sym h.parents) ∙ ap (λ x. c.processes.parents ++ x ∷ []) (top c h)
+
+    pub spawned_moves : Moves k more_parents (λ c. with_offspring c n o)
+    spawned_moves c h = subst (StandsFor more_parents) (sym (offspring_as o.waits c refl))
+        (subst (λ xs. StandsFor more_parents (record c { processes = record c.processes { runnable = with_runs_of n o.waits c.processes.runnable; instances = c.processes.instances ++ offspring_in c.design n o ∷ []; parents = xs } })) (parents_are c h)
+        (parents_move (record k { schedule = s }) (record c { processes = record c.processes { runnable = with_runs_of n o.waits c.processes.runnable; instances = c.processes.instances ++ offspring_in c.design n o ∷ [] } })
+        (processes_move k c h s (record c.processes { runnable = with_runs_of n o.waits c.processes.runnable; instances = c.processes.instances ++ offspring_in c.design n o ∷ [] })
+        (subst (λ d. StandsForProcesses (Shows (whole_design k) k.program) s (record c.processes { runnable = with_runs_of n o.waits c.processes.runnable; instances = c.processes.instances ++ offspring_in d n o ∷ [] })) (sym h.design)
+        (spawned_stands (Shows (whole_design k) k.program) k.schedule s c.processes h.processes n (spawned_as o.kind o.sensitive o.waits) (offspring_in (whole_design k) n o)
+        (record { home = o.home; path = path_by.Spawned n; body = b; trigger = None }) (not o.waits) spawns refl refl shows
+        (record c.processes { runnable = with_runs_of n o.waits c.processes.runnable; instances = c.processes.instances ++ offspring_in (whole_design k) n o ∷ [] })
+        refl (runs_by o.waits c (h.processes.ready n)) (others_by o.waits c) refl))) ps))
+
+  pub spawned_sound : (ps : Vec (Option ℕ)) → IsSound (record k { schedule = s; parents = ps; made = k.made + 1 })
+  spawned_sound ps = record {
     schedule = fine;
     bodies = λ q other found. ⊎_elim
         (λ same. subst (λ v. bodies.IsSound k.program v.body) (ap (λ e. given e (record { home = o.home; path = path_by.Spawned n; body = b; trigger = None })) (sym spawns.body ∙ ap (kept_at s) (sym same) ∙ found)) body_fine)
@@ -113,3 +125,33 @@ module _ (k : Kernel) (sound : IsSound k) (o : Offspring) (n : ℕ) (b : Body) (
     serials = let next = spawns.next in let old = sound.serials in omega (arith, next, old);
     payloads = within_more k.made (k.made + 1) k.transactions (omega arith) sound.payloads;
   }
+
+-- ---- room for one more parent, where nobody is spawned
+
+module _ (k : Kernel) (ps : Vec (Option ℕ)) where
+  pub room_sound : IsSound k → IsSound (record k { parents = ps })
+  room_sound sound = record {
+    schedule = sound.schedule;
+    bodies = sound.bodies;
+    nobody_due = sound.nobody_due;
+    serials = sound.serials;
+    payloads = sound.payloads;
+  }
+
+  module _ (same : ps.items ≡ k.parents.items) where
+    pub room_stays : Moves k (record k { parents = ps }) (λ c. c)
+    room_stays c h = record {
+      design = h.design;
+      cycle = h.cycle;
+      processes = h.processes;
+      parents = h.parents ∙ sym same;
+      events = h.events;
+      channels = h.channels;
+      transactions = h.transactions;
+      quantum = h.quantum;
+      variables = h.variables;
+      memories = h.memories;
+    }
+
+    pub nobody_spawned : (s : Schedule Kept) → Stays k.schedule s → Moves k (record k { schedule = s; parents = ps }) (λ c. c)
+    nobody_spawned s st c h = processes_move (record k { parents = ps }) c (room_stays c h) s c.processes (stays (Shows (whole_design k) k.program) k.schedule s c.processes h.processes st)

@@ -1,5 +1,5 @@
 -- The stack of a kernel, whose top is last, beside that of a configuration, whose top is first.
-use Rattle.std.proofs.Common.{◌≡◌, ◌≢◌, ◌==◌, ◌||◌, ℕ, Bool, true, false, List, [], ◌∷◌, ◌++◌, drop, reverse, refl, sym, ap, ◌∙◌, subst, true≢false, eq-eqb, ne_eqb}
+use Rattle.std.proofs.Common.{◌≡◌, ◌≢◌, ◌==◌, ◌||◌, ℕ, Bool, true, false, List, [], ◌∷◌, ◌++◌, drop, reverse, slice_get, Option, Some, None, IfSome, IfNone, refl, sym, ap, ◌∙◌, subst, true≢false, eq-eqb, ne_eqb}
 use Rattle.std.proofs.lemmas.List.{reverse-append}
 use Rattle.kernel_processes.specs.SimModel.Configuration.{Config}
 use Rattle.kernel_processes.specs.SimModel.Waits.{holds}
@@ -38,6 +38,11 @@ module _ (k : Kernel) (c : Config) (h : StandsFor k c) where
 
   pub on_top_is : (q : ℕ) → IsTop q k.schedule.stack.items → is_top c q ≡ true
   on_top_is q top = ap (λ xs. holds (top_of xs) q) (stack_is top.0 q top.1) ∙ ap (λ b. b || false) (eq-eqb q q refl)
+
+  -- the instance on top, if one is active
+  pub top_is : (o : Option ℕ) → IfNone o (k.schedule.stack.items ≡ []) → IfSome o (λ p. IsTop p k.schedule.stack.items) → o ≡ slice_get c.processes.stack 0
+  top_is None none some = sym (ap (λ xs. slice_get xs 0) (h.processes.stack ∙ ap reverse none))
+  top_is (Some p) none some = sym (ap (λ xs. slice_get xs 0) (stack_is some.0 p some.1))
 
   pub off_stack_is : (q : ℕ) → is_on k.schedule.stack.items q ≡ false → is_top c q ≡ false
   off_stack_is q off = first_lacks c.processes.stack q (active_is q ∙ off)

@@ -7,10 +7,10 @@ use Rattle.kernel_processes.specs.FlatDesign.declared.design.Design.{Design}
 use Rattle.kernel_processes.specs.SimModel.Configuration as model
 use Rattle.kernel_processes.specs.SimModel.Configuration.{Config, path_of, below}
 use Rattle.kernel_processes.specs.SimModel.Calls.{body_name, home_path}
-use Rattle.process_state.specs.KernelBodies.Strip.{strip}
-use Rattle.process_state.specs.KernelBodies.declared.program.Program.{Program}
-use Rattle.process_state.specs.Bodies.{left_in}
-use Rattle.process_state.specs.Bodies as bodies
+use Rattle.process_bodies.specs.KernelBodies.Strip.{strip}
+use Rattle.process_bodies.specs.KernelBodies.declared.program.Program.{Program}
+use Rattle.process_bodies.specs.Bodies.{left_in}
+use Rattle.process_bodies.specs.Bodies as bodies
 use Rattle.kernel_processes.specs.Seen.{body_at as kept_at, deadline_of}
 use Rattle.kernel_processes.specs.Sound as schedules
 use Rattle.kernel_processes.specs.declared.parts.Trigger.{Trigger}
@@ -38,20 +38,22 @@ trigger_of t = record { wait = wait_as t.wait; deadline = deadline_of t.deadline
 -- what is kept of an instance beside its waits and marks shows the rest of it; the guards of a body have no numbers
 pub record Shows (d : Design) (program : Program) (kept : Kept) (i : Beside) : Type 0 where
   pub home : i.home ≡ kept.home
-  pub path : i.path ≡ path_in d kept.home kept.body.code kept.path
-  pub code : i.code ≡ kept.body.code
-  pub arguments : i.arguments ≡ kept.body.arguments.items
+  pub path : i.path ≡ path_in d kept.home kept.body.calls.code kept.path
+  pub code : i.code ≡ kept.body.calls.code
+  pub arguments : i.arguments ≡ kept.body.calls.arguments.items
   pub residual : strip i.residual ≡ left_in program kept.body
   pub trigger : i.trigger ≡ option_map trigger_of kept.trigger
 
 abbrev pub cycle_of : Cycle → model.Cycle
 cycle_of x = record { phase = x.phase; begun = x.begun; now = x.now.0; end = option_map (λ t. t.0) x.end; stop_asked = x.stop_asked; stopped = x.stopped }
 
--- The script and what was seen of the run, the trace, are not kept.
+-- The script and what was seen of the run, the trace, are not kept. Of each instance, also of one that has ended, it is kept which one
+-- spawned it.
 pub record StandsFor (k : Kernel) (c : Config) : Type 0 where
   pub design : c.design ≡ whole_design k
   pub cycle : c.cycle ≡ cycle_of k.cycle
   pub processes : StandsForProcesses (Shows (whole_design k) k.program) k.schedule c.processes
+  pub parents : c.processes.parents ≡ k.parents.items
   pub events : c.events ≡ k.events
   pub channels : c.channels ≡ k.channels
   pub transactions : StandsForTransactions k.transactions c.transactions

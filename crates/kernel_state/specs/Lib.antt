@@ -1,6 +1,8 @@
 pub mod Processes
 pub mod Kernel
 pub mod Moves
+pub mod Ways
+pub mod Added
 pub mod Stopping
 pub mod Spawned
 pub mod SimTime
@@ -14,7 +16,7 @@ pub mod QuantumKeeper
 pub mod FlatDesign
 pub mod SimModel
 pub mod KernelBodies
-pub mod ProcessState
+pub mod ProcessBodies
 pub mod KernelProcesses
 pub mod KernelEvents
 pub mod KernelChannels

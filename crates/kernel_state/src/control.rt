@@ -10,22 +10,22 @@ ghost use Rattle.kernel_processes.specs.SimModel.Configuration.{Config, Instance
 ghost use Rattle.kernel_processes.specs.SimModel.Calls.{with_left};
 ghost use Rattle.kernel_processes.specs.SimModel.Control as spec;
 ghost use Rattle.kernel_processes.specs.SimModel.Control.{is_top, pushed, unwinds, unless_ended, ends_or_restarts, control_call};
-ghost use Rattle.kernel_processes.specs.SimModel.Storing.{passes};
 ghost use Rattle.kernel_processes.specs.Seen.{is_on};
 ghost use Rattle.kernel_processes.specs.Moved.{IsTop};
-ghost use Rattle.process_state.specs.Bodies.{left_of};
+ghost use Rattle.process_bodies.specs.Bodies.{left_of};
 ghost use Rattle.kernel_transactions.specs.Board as board;
 ghost use Rattle.kernel_transactions.specs.Board.{StaysWithin, SameQuantum, left};
 ghost use Rattle.kernel_state.specs.Kernel.{StandsFor, IsSound};
-ghost use Rattle.kernel_state.specs.Moves.{Moves, MovesAt, Follows, Does, Lives, HasStatement};
+ghost use Rattle.kernel_state.specs.Moves.{Moves, MovesAt, Follows, Does, Lives};
+ghost use Rattle.kernel_state.specs.Ways.{moved_on, MayMoveOn};
 
 use crate::kernel::Kernel;
-use crate::moves::pass;
+use crate::ways::{Way, move_on};
 use kernel_processes::flat_design_api::RunFault;
 use kernel_processes::sim_model_api::Goal;
 use kernel_processes::{is_active, top};
 use kernel_transactions::{TransactionBoard, left_calls_end};
-use process_state::Body;
+use process_bodies::Body;
 
 /// The transport calls that an unwinding of a body leaves end their transactions on their hops.
 fn leave_calls(transactions: &mut TransactionBoard, body: &Body)
@@ -121,7 +121,7 @@ fn unwind(k: &mut Kernel, q: u32, end: Goal)
 }
 
 /// Whether there is an instance of this serial that has not ended.
-fn lives(k: &Kernel, q: u32) -> bool
+pub(crate) fn lives(k: &Kernel, q: u32) -> bool
     ensures { result ≡ map.contains_key k.now.schedule.table.live q }
 {
     match k.schedule.table.get(q) {
@@ -189,45 +189,45 @@ fn end_or_restart(k: &mut Kernel, q: u32, end: Goal)
     unwind(k, q, end);
 }
 
-/// The statement in place of an instance has another one unwound before this goal, or itself.
-fn unwind_other(k: &mut Kernel, p: u32, q: u32, end: Goal) -> Result<(), RunFault>
+/// An instance, which is past its call this way, has another one unwound before this goal, or itself.
+fn unwind_other(k: &mut Kernel, p: u32, q: u32, way: Way, end: Goal) -> Result<(), RunFault>
     requires sound { IsSound k.old }
     requires lives { Lives k.old p }
-    requires statement { HasStatement k.old p }
-    ensures does { Does k.old k.new result p (λ c s i r. unless_ended (passes c s r) (instance_at (passes c s r) q) (λ j. ends_or_restarts (passes c s r) q j end)) }
+    requires may { MayMoveOn way k.old p }
+    ensures does { Does k.old k.new result p (λ c s i r. unless_ended (moved_on way c s r) (instance_at (moved_on way c s r) q) (λ j. ends_or_restarts (moved_on way c s r) q j end)) }
     ensures sound { IsSound k.new }
     ensures made { k.new.made ≡ k.old.made }
 {
     if is_below_top(k, q) {
         return Err(RunFault::ControlOnActive { serial: q });
     }
-    pass(k, p);
+    move_on(k, p, way);
     end_or_restart(k, q, end);
     Ok(())
 }
 
 /// A kill (IEEE 1666-2011, 5.6.6.3): instance `q` is unwound, and ends. It is a fault where `q` is active below the top of the
 /// stack, and then nothing changes. It takes no memory.
-pub fn kill(k: &mut Kernel, p: u32, q: u32) -> Result<(), RunFault>
+pub fn kill(k: &mut Kernel, p: u32, q: u32, way: Way) -> Result<(), RunFault>
     requires sound { IsSound k.old }
     requires lives { Lives k.old p }
-    requires statement { HasStatement k.old p }
-    ensures does { Does k.old k.new result p (λ c s i r. control_call (passes c s r) q order.Kill) }
+    requires may { MayMoveOn way k.old p }
+    ensures does { Does k.old k.new result p (λ c s i r. control_call (moved_on way c s r) q order.Kill) }
     ensures sound { IsSound k.new }
     ensures made { k.new.made ≡ k.old.made }
 {
-    unwind_other(k, p, q, Goal::End)
+    unwind_other(k, p, q, way, Goal::End)
 }
 
 /// A reset (IEEE 1666-2011, 5.6.6.3): instance `q` is unwound, and begins again. It is a fault where `q` is active below the
 /// top of the stack, and then nothing changes. It takes no memory.
-pub fn reset(k: &mut Kernel, p: u32, q: u32) -> Result<(), RunFault>
+pub fn reset(k: &mut Kernel, p: u32, q: u32, way: Way) -> Result<(), RunFault>
     requires sound { IsSound k.old }
     requires lives { Lives k.old p }
-    requires statement { HasStatement k.old p }
-    ensures does { Does k.old k.new result p (λ c s i r. control_call (passes c s r) q order.Reset) }
+    requires may { MayMoveOn way k.old p }
+    ensures does { Does k.old k.new result p (λ c s i r. control_call (moved_on way c s r) q order.Reset) }
     ensures sound { IsSound k.new }
     ensures made { k.new.made ≡ k.old.made }
 {
-    unwind_other(k, p, q, Goal::Restart)
+    unwind_other(k, p, q, way, Goal::Restart)
 }

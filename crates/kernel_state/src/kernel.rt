@@ -10,8 +10,8 @@ use kernel_processes::sim_model_api::Phase;
 use kernel_processes::sim_time_api::Time;
 use kernel_processes::{Schedule, Trigger};
 use kernel_transactions::TransactionBoard;
-use process_state::Body;
-use process_state::kernel_bodies_api::Program;
+use process_bodies::Body;
+use process_bodies::kernel_bodies_api::Program;
 
 /// What the path of an instance is made of.
 #[derive(Clone, Copy, Debug, PartialEq, Eq)]
@@ -63,6 +63,8 @@ pub struct Kernel {
     pub cycle: Cycle,
     /// The processes.
     pub schedule: Schedule<Kept>,
+    /// Which instance spawned each, also one that has ended, by serial; none where it is a process of the design.
+    pub parents: Vec<Option<u32>>,
     /// What is pending for each event of the design's objects.
     pub events: EventBoard,
     /// The channels.

@@ -6,19 +6,23 @@ mod kernel;
 mod laws;
 mod moves;
 mod payloads;
+mod reaching;
 mod reading;
 mod spawning;
 mod statements;
 mod stops;
+mod ways;
 
 pub use control::{kill, reset};
 pub use kernel::{Cycle, Kept, Kernel, Offspring, PathOf};
 pub use laws::top_lives;
 pub use moves::{fire, notify, pass, set_local, set_variable, settle, wait, wake};
 pub use payloads::{acquire, make, release, set_byte, set_field};
+pub use reaching::targets;
 pub use spawning::spawn;
 pub use statements::{block, store_variable, wait_so, write_fifo};
 pub use stops::StatementStop;
+pub use ways::{Way, move_on};
 
 /// What is passed on of event_core.
 pub mod event_core_api {
@@ -39,7 +43,7 @@ pub mod instance_table_api {
 
 /// What is passed on of kernel_bodies.
 pub mod kernel_bodies_api {
-    pub use process_state::kernel_bodies_api::{Frame, Next, Program, locals_in, many_locals};
+    pub use process_bodies::kernel_bodies_api::{Frame, Next, Program, locals_in, many_locals};
 }
 
 /// What is passed on of kernel_channels.
@@ -85,9 +89,9 @@ pub mod plain_lists_api {
     pub use kernel_processes::plain_lists_api::{Bytes, Items};
 }
 
-/// What is passed on of process_state.
-pub mod process_state_api {
-    pub use process_state::{Body, EnterStop};
+/// What is passed on of process_bodies.
+pub mod process_bodies_api {
+    pub use process_bodies::{Body, EnterStop};
 }
 
 /// What is passed on of ready_set.

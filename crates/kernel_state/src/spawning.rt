@@ -9,12 +9,12 @@ ghost use Rattle.kernel_state.specs.Spawned.{AnswersMay, with_offspring};
 
 use crate::kernel::{Kept, Kernel, Offspring, PathOf};
 use kernel_processes::instance_table_api::SpawnStop;
-use kernel_processes::spawn as spawn_process;
-use process_state::Body;
+use kernel_processes::{spawn as spawn_process, top};
+use process_bodies::Body;
 use std::alloc::Global;
 
-/// A new instance is spawned, and its serial is answered (IEEE 1666-2011, 5.5). The bodies of the others stay, and so does the
-/// stack.
+/// A new instance is spawned, and its serial is answered (IEEE 1666-2011, 5.5). The instance on top of the stack is its parent. The
+/// bodies of the others stay, and so does the stack.
 ///
 /// # Errors
 /// As many instances live as may; there is no memory for it. Then nothing changes.
@@ -41,6 +41,11 @@ pub fn spawn(k: &mut Kernel, alloc: Global, o: Offspring) -> Result<u32, SpawnSt
         sensitive,
         waits,
     } = o;
+    match k.parents.reserve(1) {
+        Ok(()) => {}
+        Err(_) => return Err(SpawnStop::NoMemory),
+    }
+    let parent = top(&k.schedule);
     let body = match Body::start(alloc, &k.program, code, arguments) {
         Ok(body) => body,
         Err(_) => return Err(SpawnStop::NoMemory),
@@ -53,6 +58,7 @@ pub fn spawn(k: &mut Kernel, alloc: Global, o: Offspring) -> Result<u32, SpawnSt
     };
     match spawn_process(&mut k.schedule, kind, sensitive, kept, waits) {
         Ok(serial) => {
+            k.parents.push_reserved(parent);
             k.made += 1;
             Ok(serial)
         }

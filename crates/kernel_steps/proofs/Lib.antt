@@ -5,3 +5,4 @@ pub mod Answered
 pub mod Shows
 pub mod Returned
 pub mod Endings
+pub mod OwedCalls

@@ -7,24 +7,29 @@ use Rattle.flat_design.specs.Code.{arena_of, statement_at}
 use Rattle.exec_channels.specs.KernelBodies.Layers.{shown}
 use Rattle.exec_channels.specs.KernelBodies.declared.layers.Next.TheVariants as next
 use Rattle.exec_channels.proofs.KernelBodies.Strips.{strip-next}
-use Rattle.exec_channels.specs.ProcessState.Bodies as bodies
+use Rattle.exec_channels.specs.ProcessBodies.Bodies as bodies
 use Rattle.exec_channels.specs.KernelProcesses.declared.parts.Process.{Process}
 use Rattle.exec_channels.specs.KernelProcesses.Seen.{body_at as kept_at}
 use Rattle.exec_channels.specs.SimModel.Residual as residual
-use Rattle.exec_channels.specs.SimModel.Residual.{Frame, Next, next_of, settle}
-use Rattle.exec_channels.specs.SimModel.Configuration.{Config, Instance, instance_at, arena}
-use Rattle.exec_channels.specs.SimModel.Statements.{settled_in, on_statement, do_next, step_by, statement_step}
+use Rattle.exec_channels.specs.SimModel.Residual.{Frame, Next, next_of, settle, taken_off}
+use Rattle.exec_channels.specs.SimModel.Configuration.{Config, Instance, instance_at, with_residual, arena}
+use Rattle.exec_channels.specs.SimModel.Statements.{settled_in, on_statement, owed_by, do_next, step_by, statement_step}
 use Rattle.exec_channels.specs.KernelState.Moves.{KeptAt, HasStatement}
+use Rattle.exec_channels.specs.KernelState.Ways.{HasOwed}
 use Rattle.exec_channels.specs.KernelState.declared.kernel.Kept.{Kept}
 use Rattle.exec_channels.specs.KernelState.declared.kernel.Kernel.{Kernel}
 use Rattle.exec_channels.proofs.KernelState.Frames.{settled_before}
 use Rattle.exec_control.specs.ExecData.Entered.{Shows}
+use Rattle.kernel_steps.specs.Owing.{Owes}
 use Rattle.kernel_steps.specs.Shown.{ComesNext}
 use Rattle.kernel_steps.specs.Told.{TellsAll, MakesAll, MakesStep}
 use Rattle.kernel_steps.specs.declared.answers.StepAnswer.{StepAnswer}
 
 pub has_statement : (k : Kernel) (p s : ℕ) → Shows k p s → HasStatement k p
 has_statement k p s shows kept at = subst bodies.IsStatement (sym (ap shown (shows kept at))) tt
+
+pub has_owed : (k : Kernel) (p s q : ℕ) → Owes k p s q → HasOwed k p
+has_owed k p s q owes kept at = subst bodies.IsOwed (sym (ap shown (owes kept at))) tt
 
 -- the end of a call is shown by one that ends
 pub leave_is : (n : Next) → next.Leave ≡ shown n → (x : Frame) × (n ≡ residual.leaves x)
@@ -59,3 +64,7 @@ module _ (k new : Kernel) (a : StepAnswer) (p : ℕ) where
   pub statement_made : (s : ℕ) → ComesNext k p (residual.statement s) → MakesAll k new a p (λ c q i r. on_statement c q i r s (statement_at (arena_of k.program.code) s)) → MakesStep k new a p
   statement_made s comes makes = next_made (residual.statement s) comes (λ c i h there.
       subst (λ d. TellsAll new a c i (on_statement (settled_in c p i.residual) p (record i { residual = settle (arena c) i.residual }) (settle (arena c) i.residual) s (statement_at (arena_of d.code) s))) (sym h.design) (makes c i h there))
+
+  pub owed_made : (s q : ℕ) → ComesNext k p (residual.owes s q) → MakesAll k new a p (λ c t i r. owed_by (with_residual c t (taken_off r)) q (statement_at (arena_of k.program.code) s)) → MakesStep k new a p
+  owed_made s q comes makes = next_made (residual.owes s q) comes (λ c i h there.
+      subst (λ d. TellsAll new a c i (owed_by (with_residual (settled_in c p i.residual) p (taken_off (settle (arena c) i.residual))) q (statement_at (arena_of d.code) s))) (sym h.design) (makes c i h there))

@@ -36,7 +36,7 @@ use Rattle.flat_design.specs.declared.design.Denoted.TheVariants as denoted
 use Rattle.flat_design.specs.declared.design.ChannelId.{ChannelId}
 use Rattle.flat_design.specs.declared.design.ChannelId.TheVariants as channel
 use Rattle.exec_channels.specs.SimModel.Values.{on_ok, bits, cut_to, index_within, moment, signed, truth}
-use Rattle.exec_channels.specs.SimModel.Residual.{Residual, put, skip, innermost, goal, has_goal}
+use Rattle.exec_channels.specs.SimModel.Residual.{Residual, put, skip, innermost, goal, has_goal, taken_off}
 use Rattle.exec_channels.specs.SimModel.Unwinding.{returned, return_marks, unw, catches, left_by_unw, left_by_raise, raise}
 use Rattle.exec_channels.specs.SimModel.Configuration.{Config, Instance, Wait, waits_for_nothing, waits_statically, waits_for_any, waits_for_all, line, change_instance, with_residual, with_runnable, with_marks, with_told, instance_at, arena}
 use Rattle.exec_channels.specs.SimModel.Reading.{Here, denotes, val, val_if, place_in, payload_number, live_payload, memory_here, memory_number, keeper_at}
@@ -344,6 +344,17 @@ module _ (c : Config) where
       either_ok (is_below_top d q) (Err (fault.ControlOnActive q)) (if is_top d q then (if has_goal i.residual then Ok d else thrown d q i.residual e) else injected d q i e) tt
       (either_ok (is_top d q) (if has_goal i.residual then Ok d else thrown d q i.residual e) (injected d q i e)
       (either_ok (has_goal i.residual) (Ok d) (thrown d q i.residual e) k (thrown_quiet d q i.residual e k)) (injected_quiet d q i e k))
+
+  -- of a call that is owed
+  pub owed_control_quiet : (p : ℕ) (r : Residual) (q : ℕ) (o : Control) → QuietIfOk c (control_call (with_residual c p (taken_off r)) q o)
+  owed_control_quiet p r q o =
+      let d = with_residual c p (taken_off r) in
+      unless_ended_quiet d (instance_at d q) (λ i. controlled_by d q i o) refl (λ i. controlled_quiet d q i o refl)
+
+  pub owed_throw_quiet : (p : ℕ) (r : Residual) (q e : ℕ) → QuietIfOk c (throw_call (with_residual c p (taken_off r)) q e)
+  owed_throw_quiet p r q e =
+      let d = with_residual c p (taken_off r) in
+      unless_ended_quiet d (instance_at d q) (λ i. throws_at d q i e) refl (λ i. throws_at_quiet d q i e refl)
 
   module _ (p : ℕ) (r : Residual) (h : Here) where
     control_quiet : (s : ℕ) (o : Control) (who : Controlled) (all : Bool) → QuietIfOk c (do_control c p r h s o who all)

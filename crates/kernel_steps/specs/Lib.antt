@@ -3,5 +3,5 @@ pub mod Told
 pub mod Kept
 pub mod Shown
 pub mod Ready
-pub mod Alone
+pub mod Owing
 pub mod ExecControl

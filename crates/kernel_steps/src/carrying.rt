@@ -1,6 +1,5 @@
 //! A statement of any form, carried out.
 ghost use Rattle.std.specs.Prelude.{◌≡◌, ◌≤◌, ◌<◌, ◌+◌, ◌-◌, ◌^◌, All, Some};
-ghost use Rattle.flat_design.specs.Blocking.{ActsAlone};
 ghost use Rattle.flat_design.specs.declared.faults.RunFault.{RunFault};
 ghost use Rattle.flat_design.specs.Code.{arena_of, statement_at, statement_of};
 ghost use Rattle.exec_channels.specs.KernelState.Kernel.{IsSound, whole_design};
@@ -53,7 +52,6 @@ pub(crate) fn carry_out(
     requires next { Shows k.old p s }
     requires there { statement_at (arena_of k.old.program.code) s ≡ Some (statement_of statement.now) }
     requires free { ThrowsFree k.old p (statement_of statement.now) }
-    requires alone { ActsAlone (statement_of statement.now) }
     requires others { OthersHaveNoGoal k.old }
     ensures carries { CarriesAll k.old k.new result p s (statement_of statement.now) }
     ensures sound { IsSound k.new }
@@ -110,8 +108,12 @@ pub(crate) fn carry_out(
         Statement::QkSet(n, e) => plain(qk_set(k, p, *n, e)),
         Statement::QkReset(n) => plain(qk_reset(k, p, *n)),
         Statement::Spawn(form) => taking(spawn(k, alloc, p, form)),
-        Statement::Control(order, who, _) => plain(control(k, p, *order, *who)),
-        Statement::ThrowIt(who, e, _) => plain(throw_it(k, p, *who, *e)),
+        Statement::Control(order, who, descendants) => {
+            taking(control(k, alloc, p, s, *order, *who, *descendants))
+        }
+        Statement::ThrowIt(who, e, descendants) => {
+            taking(throw_it(k, alloc, p, s, *who, *e, *descendants))
+        }
         Statement::Throw(e) => plain(throw(k, p, *e)),
         Statement::Return(e) => plain(return_value(k, p, e)),
         Statement::Stop => {

@@ -5,6 +5,7 @@ mod answers;
 mod carrying;
 mod data;
 mod leaving;
+mod owing;
 mod stepping;
 
 pub use answers::StepAnswer;

@@ -13,7 +13,7 @@ ghost use Rattle.exec_control.specs.ExecData.Entered.{Shows};
 ghost use Rattle.exec_control.specs.Unwound.{Reaches, ThrowsFreeIf, ThrowsFreeNext};
 ghost use Rattle.exec_transactions.specs.ExecCalls.Calling.{Leaves};
 ghost use Rattle.exec_control.specs.Thrown.{OthersHaveNoGoal};
-ghost use Rattle.kernel_steps.specs.Alone.{ActsAloneIf, ActsAloneNext};
+ghost use Rattle.kernel_steps.specs.Owing.{Owes};
 ghost use Rattle.kernel_steps.specs.Ready.{Ready};
 ghost use Rattle.kernel_steps.specs.Shown.{ComesNext};
 ghost use Rattle.kernel_steps.specs.Told.{MakesAll, MakesStep};
@@ -21,6 +21,7 @@ ghost use Rattle.kernel_steps.specs.Told.{MakesAll, MakesStep};
 use crate::answers::{StepAnswer, plain};
 use crate::carrying::carry_out;
 use crate::leaving::leave;
+use crate::owing::on_owed;
 use exec_channels::kernel_bodies_api::{Next, Program};
 use exec_channels::kernel_state_api::{Kernel, pass, top_lives};
 use exec_channels::sim_model_api::Goal;
@@ -30,6 +31,7 @@ use std::alloc::Global;
 
 /// What comes next in the body of an instance, once finished parts have fallen away.
 fn next_at(k: &Kernel, p: u32) -> Next
+    requires sound { IsSound k.now }
     requires lives { Lives k.now p }
     ensures statement { (s : ℕ) → result ≡ Next.Statement s → Shows k.now p s }
     ensures goal { (g : Aim) → result ≡ Next.Goal g → Reaches k.now p g }
@@ -39,7 +41,8 @@ fn next_at(k: &Kernel, p: u32) -> Next
     ensures shows_nothing { result ≡ Next.Nothing → ComesNext k.now p residual.nothing }
     ensures leaves { result ≡ Next.Leave → Leaves k.now p }
     ensures shows_leave { result ≡ Next.Leave → (x : Frame) × ComesNext k.now p (residual.leaves x) }
-    ensures alone { (s q : ℕ) → result ≡ Next.Batch s q → ⊥ }
+    ensures owes { (s q : ℕ) → result ≡ Next.Batch s q → Owes k.now p s q }
+    ensures shows_owed { (s q : ℕ) → result ≡ Next.Batch s q → ComesNext k.now p (residual.owes s q) }
 {
     match k.schedule.table.get(p) {
         Some(x) => x.body.body.body.next(&k.program),
@@ -57,7 +60,6 @@ fn on_statement(k: &mut Kernel, program: &Program, alloc: Global, p: u32, s: Stm
     requires others { OthersHaveNoGoal k.old }
     requires next { Shows k.old p s }
     requires free { ThrowsFreeIf k.old p (statement_at (arena_of k.old.program.code) s) }
-    requires alone { ActsAloneIf (statement_at (arena_of k.old.program.code) s) }
     ensures makes { MakesAll k.old k.new result p (λ c q i r. statements.on_statement c q i r s (statement_at (arena_of k.old.program.code) s)) }
     ensures sound { IsSound k.new }
     ensures made { k.new.made ≤ k.old.made + 1 }
@@ -98,7 +100,6 @@ pub fn step_statement(k: &mut Kernel, program: &Program, alloc: Global, p: u32) 
     requires posts { All (λ v. v < 2 ^ 64 - 1) k.old.channels.semaphores }
     requires others { OthersHaveNoGoal k.old }
     requires free { ThrowsFreeNext k.old p }
-    requires alone { ActsAloneNext k.old p }
     ensures makes { MakesStep k.old k.new result p }
     ensures sound { IsSound k.new }
     ensures made { k.new.made ≤ k.old.made + 1 }
@@ -108,8 +109,7 @@ pub fn step_statement(k: &mut Kernel, program: &Program, alloc: Global, p: u32) 
     top_lives(k, p);
     match next_at(k, p) {
         Next::Statement(s) => on_statement(k, program, alloc, p, s),
-        // No body owes a call to several: no control call of the code reaches descendants.
-        Next::Batch(_, _) => StepAnswer::Went,
+        Next::Batch(s, q) => on_owed(k, program, p, s, q),
         Next::Leave => plain(leave(k, program, p)),
         Next::Done => end_body(k, p),
         Next::Goal(goal) => {

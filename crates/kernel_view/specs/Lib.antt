@@ -11,7 +11,7 @@ pub mod QuantumKeeper
 pub mod ModelTree
 pub mod SimModel
 pub mod KernelBodies
-pub mod ProcessState
+pub mod ProcessBodies
 pub mod KernelProcesses
 pub mod KernelChannels
 pub mod KernelTransactions

@@ -10,7 +10,7 @@ use Rattle.expr_eval.specs.SimModel.Reading.{Here, here, has_ended, locals_of, v
 use Rattle.expr_eval.specs.SimModel.Statements.{settled_in}
 use Rattle.flat_design.specs.Code.{Term}
 use Rattle.flat_design.specs.declared.faults.RunFault.{RunFault}
-use Rattle.kernel_state.specs.ProcessState.Bodies as bodies
+use Rattle.kernel_state.specs.ProcessBodies.Bodies as bodies
 use Rattle.kernel_state.specs.KernelTransactions.Board.{StandsForTransactions, StandsForQuantum}
 use Rattle.kernel_state.specs.Kernel.{StandsFor, whole_design}
 use Rattle.kernel_state.specs.declared.kernel.Kernel.{Kernel}

@@ -49,9 +49,9 @@ pub mod kernel_processes_api {
 /// What is passed on of kernel_state.
 pub mod kernel_state_api {
     pub use kernel_state::{
-        Kept, Kernel, Offspring, StatementStop, acquire, block, fire, kill, notify, pass, release,
-        reset, set_byte, set_field, set_local, set_variable, settle, spawn, store_variable,
-        top_lives, wait_so, write_fifo,
+        Kept, Kernel, Offspring, StatementStop, Way, acquire, block, fire, kill, move_on, notify,
+        pass, release, reset, set_byte, set_field, set_local, set_variable, settle, spawn,
+        store_variable, targets, top_lives, wait_so, write_fifo,
     };
 }
 
@@ -77,9 +77,9 @@ pub mod plain_lists_api {
     pub use expr_eval::plain_lists_api::{Bytes, Items};
 }
 
-/// What is passed on of process_state.
-pub mod process_state_api {
-    pub use kernel_state::process_state_api::{Body, EnterStop};
+/// What is passed on of process_bodies.
+pub mod process_bodies_api {
+    pub use kernel_state::process_bodies_api::{Body, EnterStop};
 }
 
 /// What is passed on of sim_model.

@@ -3,12 +3,12 @@ ghost use Rattle.std.specs.Prelude.{◌≡◌, None, IfSome, IfNone};
 ghost use Rattle.std.specs.FinMap as map;
 ghost use Rattle.expr_eval.specs.SimModel.Residual as residual;
 ghost use Rattle.expr_eval.specs.SimModel.Reading as reading;
-ghost use Rattle.kernel_state.specs.ProcessState.Bodies.{settled_in};
+ghost use Rattle.kernel_state.specs.ProcessBodies.Bodies.{settled_in};
 ghost use Rattle.kernel_view.specs.Standings.{is_gone, ShowsHere, Everywhere};
 
 use expr_eval::sim_model_api::Via;
 use flat_design::{Design, Hop};
-use kernel_state::process_state_api::Body;
+use kernel_state::process_bodies_api::Body;
 use kernel_state::{Kept, Kernel};
 
 /// Where the next statement of an instance stands in a kernel.

@@ -8,7 +8,7 @@ use Rattle.laws_rules.specs.ModelTree.declared.items.ProcessKind.TheVariants as 
 use Rattle.laws_rules.specs.FlatDesign.Code as code
 use Rattle.laws_rules.specs.FlatDesign.Code.{arena_of, body_at}
 use Rattle.laws_rules.specs.FlatDesign.Reach.{InBody, Reached}
-use Rattle.laws_rules.specs.FlatDesign.Blocking.{DoesNotBlock, IsPlain, SetsNoTrigger, ActsAlone}
+use Rattle.laws_rules.specs.FlatDesign.Blocking.{DoesNotBlock, IsPlain, SetsNoTrigger}
 use Rattle.laws_rules.specs.FlatDesign.Sound.{IsHomeOf, IsSpawnedAs, IsMethodBody, IsThreadBody, IsNonblockingHandler, IsAnyHandler, EachReached}
 use Rattle.laws_rules.specs.FlatDesign.declared.code.BodyKind.TheVariants as body_kind
 use Rattle.laws_rules.specs.FlatDesign.declared.code.CodeBody.{CodeBody}
@@ -20,11 +20,9 @@ use Rattle.laws_rules.specs.CodeRules.Bodies.{IsCodeOf}
 use Rattle.laws_rules.proofs.Coded.{same_some}
 use Rattle.laws_code.specs.Standing.{DesignStands}
 use Rattle.laws_code.specs.Bodies.{StatementsStand, IsNamedBy, HandlersStand}
-use Rattle.laws_code.specs.Reached.{IsOfLanguage1, StatementsActAlone}
 use Rattle.laws_code.proofs.Lists.{IsOf, of_any, or_right}
 use Rattle.laws_code.proofs.Marks.{IsFrom, root_from, from_along, kind_along, spawned_from, begins_method, begins_thread, spawn_begins, IsMethodMarked, IsThreadMarked, IsUnwindMarked, unwind_along}
 use Rattle.laws_code.proofs.Leaves.{NamesIn}
-use Rattle.laws_code.proofs.Alone.{calm_in}
 use Rattle.laws_code.proofs.ReachedBlocks.{IsCodeIn, held_in}
 use Rattle.laws_code.proofs.ReachedModels.{function_at, body_there}
 use Rattle.laws_code.proofs.Rules.{method_free, handler_free, thread_calm, unwind_plain}
@@ -35,12 +33,6 @@ clock_calm (code.wait w) k = tt
 clock_calm (code.write c t e) k = tt
 clock_calm (code.while_ e j) k = tt
 clock_calm other k = absurd k
-
-clock_alone : (f : code.Statement) → IsOfClock f → ActsAlone f
-clock_alone (code.wait w) k = tt
-clock_alone (code.write c t e) k = tt
-clock_alone (code.while_ e j) k = tt
-clock_alone other k = absurd k
 
 module _ (m : tree.Model) (d : Design) (none : first_fault m ≡ None) (read : IsCodeOf m d.code) where
   abbrev IsBodyOfTree : CodeBody → Type 0
@@ -193,14 +185,3 @@ module _ (m : tree.Model) (d : Design) (none : first_fault m ≡ None) (read : I
   pub unwinding : DesignStands m d → (f : ℕ) (b : CodeBody) (home body unwind : ℕ) (s : code.Statement) → body_at (arena_of d.code) f ≡ Some b → IsHomeOf d home b → InBody (arena_of d.code) b (code.guard body unwind)
       → Reached (arena_of d.code) unwind s → DoesNotBlock d home s × IsPlain s
   unwinding stands f b home body unwind s found home_of held k = unwind_or_clock stands b home body unwind s (origin f b found) home_of held k
-
-  -- what reaches descendants
-
-  alone_or_clock : IsOfLanguage1 m → (b : CodeBody) (s : code.Statement) → IsEither b → InBody (arena_of d.code) b s → ActsAlone s
-  alone_or_clock first b s (inl t) held =
-      let k = held_in t.home (arena_of d.code) t.module_around.items t.tree_body false b.block s t.is_body.good held in
-      k.shows.alone (calm_in m first t.place t.module_around t.at.there t.tree_body t.is_body.here k.statement k.scope.unwinding k.inside)
-  alone_or_clock first b s (inr c) held = clock_alone s (clock_holds (arena_of d.code) b s c held)
-
-  pub alone : IsOfLanguage1 m → StatementsActAlone d
-  alone first f b home s found home_of held = alone_or_clock first b s (origin f b found) held

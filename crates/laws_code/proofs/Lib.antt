@@ -14,7 +14,6 @@ pub mod TypedModels
 pub mod Lists
 pub mod Marks
 pub mod Leaves
-pub mod Alone
 pub mod ReachedBlocks
 pub mod ReachedModels
 pub mod Rooted

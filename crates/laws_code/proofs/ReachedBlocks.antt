@@ -154,7 +154,7 @@ module _ (h : Home) (a : Arena) (items : List tree.Item) (b : Body) where
       let f = code.if_ read.0 read.1 read.2 in
       firsts a (IsFine v) (f ∷ []) ids rest read.4 (
         (
-          code_in v s p (tree.if_ line e body other) line (inside (tree.if_ line e body other, s.unwinding) (inl refl)) kept.0.1 f (quiet h s (tree.if_ line e body other) f (λ d home. tt, tt, tt, tt, tt, tt)) tt,
+          code_in v s p (tree.if_ line e body other) line (inside (tree.if_ line e body other, s.unwinding) (inl refl)) kept.0.1 f (quiet h s (tree.if_ line e body other) f (λ d home. tt, tt, tt, tt, tt)) tt,
           (inner v body s read.1 p i.0 u.1 read.5, else_good v other (past (locals_in_block body) s) read.2 (past_place v (locals_in_block body) s p) i.1 k.1 read.6),
         ),
         tt,
@@ -164,7 +164,7 @@ module _ (h : Home) (a : Arena) (items : List tree.Item) (b : Body) where
       let f = code.while_ read.0 read.1 in
       firsts a (IsFine v) (f ∷ []) ids rest read.3 (
         (
-          code_in v s p (tree.while_ line e body) line (inside (tree.while_ line e body, s.unwinding) (inl refl)) kept.0.1 f (quiet h s (tree.while_ line e body) f (λ d home. tt, tt, tt, tt, tt, tt)) tt,
+          code_in v s p (tree.while_ line e body) line (inside (tree.while_ line e body, s.unwinding) (inl refl)) kept.0.1 f (quiet h s (tree.while_ line e body) f (λ d home. tt, tt, tt, tt, tt)) tt,
           (inner v body s read.1 p (λ y m. inside y (inr m)) u.1 read.4, tt),
         ),
         tt,
@@ -176,7 +176,7 @@ module _ (h : Home) (a : Arena) (items : List tree.Item) (b : Body) where
       let undone = λ (w : Bool). inner w undo (in_unwind (past (locals_in_block body) s)) read.1 (unwind_place v w (past (locals_in_block body) s) (past_place v (locals_in_block body) s p)) i.1 u.1 read.4 in
       firsts a (IsFine v) (f ∷ []) ids rest read.2 (
         (
-          code_in v s p (tree.guard line body undo) line (inside (tree.guard line body undo, s.unwinding) (inl refl)) kept.0.1 f (quiet h s (tree.guard line body undo) f (λ d home. tt, tt, tt, tt, tt, tt)) (undone true),
+          code_in v s p (tree.guard line body undo) line (inside (tree.guard line body undo, s.unwinding) (inl refl)) kept.0.1 f (quiet h s (tree.guard line body undo) f (λ d home. tt, tt, tt, tt, tt)) (undone true),
           (inner v body s read.0 p i.0 u.0 read.3, (undone v, tt)),
         ),
         tt,
@@ -187,7 +187,7 @@ module _ (h : Home) (a : Arena) (items : List tree.Item) (b : Body) where
       let f = code.try_ read.0 read.1 in
       firsts a (IsFine v) (f ∷ []) ids rest read.2 (
         (
-          code_in v s p (tree.try_ line body handlers) line (inside (tree.try_ line body handlers, s.unwinding) (inl refl)) kept.0.1 f (quiet h s (tree.try_ line body handlers) f (λ d home. tt, tt, tt, tt, tt, tt)) tt,
+          code_in v s p (tree.try_ line body handlers) line (inside (tree.try_ line body handlers, s.unwinding) (inl refl)) kept.0.1 f (quiet h s (tree.try_ line body handlers) f (λ d home. tt, tt, tt, tt, tt)) tt,
           (inner v body s read.0 p i.0 u.0 read.3, handlers_good v handlers (past (locals_in_block body) s) read.1 (past_place v (locals_in_block body) s p) i.1 u.1 read.4),
         ),
         tt,

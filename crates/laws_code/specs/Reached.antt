@@ -1,13 +1,10 @@
 -- What is reached in code, as a sound design has it.
-use Rattle.std.specs.Prelude.{◌≡◌, ◌⊎◌, ℕ, true, Some}
-use Rattle.model_tree.specs.Languages.{keeps_language}
-use Rattle.laws_rules.specs.ModelTree.Tree.{Model}
-use Rattle.laws_rules.specs.ModelTree.declared.items.Head.TheVariants as head
+use Rattle.std.specs.Prelude.{◌≡◌, ◌⊎◌, ℕ, Some}
 use Rattle.laws_rules.specs.FlatDesign.Code as code
 use Rattle.laws_rules.specs.FlatDesign.Code.{Statement, arena_of, body_at}
 use Rattle.laws_rules.specs.FlatDesign.Reach.{InBody, Reached}
-use Rattle.laws_rules.specs.FlatDesign.Blocking.{DoesNotBlock, IsPlain, SetsNoTrigger, ActsAlone}
-use Rattle.laws_rules.specs.FlatDesign.Sound.{IsHomeOf, IsMethodBody, IsThreadBody, IsNonblockingHandler, IsAnyHandler, EachReached, EachStatement}
+use Rattle.laws_rules.specs.FlatDesign.Blocking.{DoesNotBlock, IsPlain, SetsNoTrigger}
+use Rattle.laws_rules.specs.FlatDesign.Sound.{IsHomeOf, IsMethodBody, IsThreadBody, IsNonblockingHandler, IsAnyHandler, EachReached}
 use Rattle.laws_rules.specs.FlatDesign.declared.code.CodeBody.{CodeBody}
 use Rattle.laws_rules.specs.FlatDesign.declared.design.Design.{Design}
 
@@ -28,10 +25,3 @@ UnwindingIsPlain d =
 -- from a thread's body or a handler
 abbrev pub ThreadsSetNoTrigger : Design → Type 0
 ThreadsSetNoTrigger d = EachReached d (λ f b. IsThreadBody (arena_of d.code) f b ⊎ IsAnyHandler d f) (λ home s. SetsNoTrigger s)
-
--- a model of language 1, and code none of whose statements reaches the descendants of another
-abbrev pub IsOfLanguage1 : Model → Type 0
-IsOfLanguage1 m = keeps_language head.First m ≡ true
-
-abbrev pub StatementsActAlone : Design → Type 0
-StatementsActAlone d = EachStatement d (λ f home b s. ActsAlone s)

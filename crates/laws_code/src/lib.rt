@@ -13,8 +13,7 @@ mod standing_terms;
 mod typed_bodies;
 
 pub use reached_bodies::{
-    handlers_do_not_block, methods_do_not_block, statements_act_alone, threads_set_no_trigger,
-    unwinding_is_plain,
+    handlers_do_not_block, methods_do_not_block, threads_set_no_trigger, unwinding_is_plain,
 };
 pub use standing_statements::sound_statements_are_typed;
 pub use standing_terms::sound_terms_are_typed;

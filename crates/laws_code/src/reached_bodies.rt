@@ -6,7 +6,7 @@ ghost use Rattle.laws_rules.specs.ModelRules.Passes.{first_fault};
 ghost use Rattle.laws_rules.specs.CodeRules.Bodies.{IsCodeOf};
 ghost use Rattle.laws_code.specs.Standing.{DesignStands};
 ghost use Rattle.laws_code.specs.Bodies.{StatementsStand, HandlersStand};
-ghost use Rattle.laws_code.specs.Reached.{IsOfLanguage1, MethodsDoNotBlock, HandlersDoNotBlock, StatementsActAlone, UnwindingIsPlain, ThreadsSetNoTrigger};
+ghost use Rattle.laws_code.specs.Reached.{MethodsDoNotBlock, HandlersDoNotBlock, UnwindingIsPlain, ThreadsSetNoTrigger};
 
 /// Where a model has no first fault, each name stands in each instance for what it is declared as, code reads back as the
 /// model's, and no statement stands outside its bodies: nothing that is reached from a body that runs as a method blocks, be
@@ -30,9 +30,4 @@ pub fn unwinding_is_plain()
 /// clock's, or a function's that is spawned as a thread.
 pub fn threads_set_no_trigger()
     ensures { (m : Model) (d : Design) → first_fault m ≡ None → IsCodeOf m d.code → StatementsStand d → HandlersStand m d → ThreadsSetNoTrigger d }
-{}
-
-/// No statement of the code of a model of language 1 reaches the descendants of another.
-pub fn statements_act_alone()
-    ensures { (m : Model) (d : Design) → first_fault m ≡ None → IsCodeOf m d.code → IsOfLanguage1 m → StatementsActAlone d }
 {}

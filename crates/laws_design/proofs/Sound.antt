@@ -10,7 +10,7 @@ use Rattle.laws_design.proofs.Parts.{parents_before, signals_typed, variables_ty
 use Rattle.laws_code.specs.TypedCode.{IsTypedCode}
 use Rattle.laws_code.proofs.TypedModels.{model_typed}
 use Rattle.laws_code.specs.Bodies.{HandlersStand}
-use Rattle.laws_code.proofs.Fields.{methods, handlers, unwinding, threads, alone}
+use Rattle.laws_code.proofs.Fields.{methods, handlers, unwinding, threads}
 use Rattle.laws_design.proofs.Standing.{design_stands}
 use Rattle.laws_design.proofs.Handlers.{handlers_stand}
 use Rattle.laws_design.proofs.SocketHops.{sockets_have_hops}
@@ -54,5 +54,4 @@ module _ (m : tree.Model) (accepted : IsAccepted m) (d : Design) (design : IsDes
         threads = threads m d accepted.rules design.code laid.standing named;
         waits = waits d laid.rooms;
         room = calls d laid.rooms typed hops;
-        alone = alone m d accepted.rules design.code accepted.language;
       }

@@ -10,18 +10,15 @@ use Rattle.laws_objects.specs.DesignRules.ObjectFaults.{cycle_fault, limit_fault
 use Rattle.laws_objects.specs.DesignRules.BindingFaults as binding
 use Rattle.code_rooms.specs.Rooms.{HasRooms, IsNested}
 use Rattle.laws_code.specs.Bodies.{StatementsStand}
-use Rattle.laws_code.specs.Reached.{IsOfLanguage1}
 
 -- A model is accepted: it breaks no rule on single modules, no module has itself among its instances, its objects and the
--- bytes of its memories are not too many, no binding of its objects has a fault, it is within the limits of a text, and it is of
--- language 1.
+-- bytes of its memories are not too many, no binding of its objects has a fault, and it is within the limits of a text.
 pub record IsAccepted (m : tree.Model) : Type 0 where
   pub rules : first_fault m ≡ None
   pub acyclic : cycle_fault m ≡ None
   pub few : limit_fault m ≡ None
   pub bindings : binding.first_fault (objects_of m) ≡ None
   pub within_limits : is_sound m ≡ true
-  pub language : IsOfLanguage1 m
 
 -- Code is laid out as it is made: inner blocks have smaller numbers, no statement stands outside the bodies, and each body
 -- has the room of its waits.

@@ -1,6 +1,6 @@
 -- A statement that is past leaves the goals, the tries and the guards of a residual as they are.
 use Rattle.std.proofs.Common.{◌≡◌, ◌||◌, ℕ, false, cond, List, [], ◌∷◌, refl, ap, ◌∙◌, true≢false}
-use Rattle.laws_unwinding.specs.SimModel.Residual.{Residual, Frame, skip, one, batch, seq, owing, guard, try_, frame, shell, run, goal, followed, frame_or, goal_or, put, has_goal}
+use Rattle.laws_unwinding.specs.SimModel.Residual.{Residual, Frame, skip, one, batch, seq, owing, guard, try_, frame, shell, run, goal, followed, frame_or, goal_or, put, taken_off, has_goal}
 use Rattle.laws_unwinding.specs.SimModel.Unwinding.{catches, handles}
 use Rattle.laws_unwinding.specs.SimModel.Clean.{guards_of}
 use Rattle.laws_unwinding.specs.SimModel.declared.plain.Goal.{Goal}
@@ -101,3 +101,61 @@ module _ (e : ℕ) where
   in_try-past (shell r x) = in_try-past r
   in_try-past (run g r) = in_try-past r
   in_try-past (goal r k) = goal_in r k (put r skip) (in_try-past r)
+
+-- ---- and so does a call that is owed to one less
+
+pub goal-taken : (r : Residual) → has_goal (taken_off r) ≡ has_goal r
+goal-taken skip = refl
+goal-taken (one s) = refl
+goal-taken (batch s qs) = refl
+goal-taken (seq r ss) = goal-taken r
+goal-taken (owing r g u) = goal-taken r
+goal-taken (guard r g u) = goal-taken r
+goal-taken (try_ r handlers) = goal-taken r
+goal-taken (frame r x) = goal-taken r
+goal-taken (shell r x) = goal-taken r
+goal-taken (run g r) = goal-taken r
+goal-taken (goal r k) = refl
+
+guards-taken : (r : Residual) → guards_of (taken_off r) ≡ guards_of r
+guards-taken skip = refl
+guards-taken (one s) = refl
+guards-taken (batch s qs) = refl
+guards-taken (seq r ss) = guards-taken r
+guards-taken (owing r g u) = ap (λ gs. g ∷ gs) (guards-taken r)
+guards-taken (guard r g u) = ap (λ gs. g ∷ gs) (guards-taken r)
+guards-taken (try_ r handlers) = guards-taken r
+guards-taken (frame r x) = guards-taken r
+guards-taken (shell r x) = guards-taken r
+guards-taken (run g r) = ap (λ gs. g ∷ gs) (guards-taken r)
+guards-taken (goal r k) = guards-taken r
+
+module _ (e : ℕ) where
+  pub catches-taken : (r : Residual) → catches (taken_off r) e ≡ catches r e
+  catches-taken skip = refl
+  catches-taken (one s) = refl
+  catches-taken (batch s qs) = refl
+  catches-taken (seq r ss) = catches-taken r
+  catches-taken (owing r g u) = catches-taken r
+  catches-taken (guard r g u) = catches-taken r
+  catches-taken (try_ r handlers) = ap (λ b. b || handles handlers e) (catches-taken r)
+  catches-taken (frame r x) = catches-taken r
+  catches-taken (shell r x) = catches-taken r
+  catches-taken (run g r) = catches-taken r
+  catches-taken (goal r k) = catches-taken r
+
+  pub in_try-taken : (r : Residual) → guards_in_try (taken_off r) e ≡ guards_in_try r e
+  in_try-taken skip = refl
+  in_try-taken (one s) = refl
+  in_try-taken (batch s qs) = refl
+  in_try-taken (seq r ss) = in_try-taken r
+  in_try-taken (owing r g u) = in_try-taken r
+  in_try-taken (guard r g u) = in_try-taken r
+  in_try-taken (try_ r handlers) =
+      ap (λ b. cond b (guards_in_try (taken_off r) e) (cond (handles handlers e) (guards_of (taken_off r)) [])) (catches-taken r)
+      ∙ ap (λ gs. cond (catches r e) gs (cond (handles handlers e) (guards_of (taken_off r)) [])) (in_try-taken r)
+      ∙ ap (λ gs. cond (catches r e) (guards_in_try r e) (cond (handles handlers e) gs [])) (guards-taken r)
+  in_try-taken (frame r x) = in_try-taken r
+  in_try-taken (shell r x) = in_try-taken r
+  in_try-taken (run g r) = in_try-taken r
+  in_try-taken (goal r k) = in_try-taken r

@@ -13,14 +13,13 @@ use Rattle.laws_unwinding.specs.FlatDesign.declared.code.Controlled.{Controlled}
 use Rattle.laws_unwinding.specs.FlatDesign.declared.faults.RunFault.{RunFault}
 use Rattle.laws_unwinding.specs.FlatDesign.declared.faults.RunFault.TheVariants as fault
 use Rattle.laws_unwinding.specs.SimModel.Values.{on_ok}
-use Rattle.laws_unwinding.specs.SimModel.Residual.{Residual, skip, put, has_goal}
+use Rattle.laws_unwinding.specs.SimModel.Residual.{Residual, skip, next_of, put, taken_off, has_goal}
 use Rattle.laws_unwinding.specs.SimModel.Unwinding.{unw, catches}
-use Rattle.laws_unwinding.specs.SimModel.Configuration.{Config, Instance, arena, instance_at, start}
+use Rattle.laws_unwinding.specs.SimModel.Configuration.{Config, Instance, arena, instance_at, with_residual, start}
 use Rattle.laws_unwinding.specs.SimModel.Reading.{Here, here}
-use Rattle.laws_unwinding.specs.SimModel.Storing.{passes}
 use Rattle.laws_unwinding.specs.SimModel.Calls.{thrown}
-use Rattle.laws_unwinding.specs.SimModel.Control.{top_of, is_top, is_below_top, throw_call, throws_at, injected, unless_ended, target_of}
-use Rattle.laws_unwinding.specs.SimModel.Statements.{settled_in, do_statement, on_statement, do_next, step_by}
+use Rattle.laws_unwinding.specs.SimModel.Control.{top_of, is_top, is_below_top, control_call, throw_call, throws_at, injected, unless_ended, target_of}
+use Rattle.laws_unwinding.specs.SimModel.Statements.{settled_in, do_statement, owed_call, on_statement, owed_by, do_next, step_by}
 use Rattle.laws_unwinding.specs.SimModel.Steps.{as_outcome, ended, evaluate, step_in, went, step}
 use Rattle.laws_unwinding.specs.SimModel.Runs.{after}
 use Rattle.laws_unwinding.specs.SimModel.Waits.{holds}
@@ -28,6 +27,7 @@ use Rattle.laws_unwinding.specs.SimModel.Clean.{open_guards}
 use Rattle.laws_unwinding.specs.SimModel.declared.plain.Command.{Command}
 use Rattle.laws_unwinding.specs.SimModel.declared.plain.Goal.{Goal}
 use Rattle.laws_unwinding.specs.SimModel.declared.plain.Goal.TheVariants as goal_of
+use Rattle.laws_unwinding.specs.SimModel.declared.plain.Phase.TheVariants as phase
 use Rattle.laws_unwinding.proofs.LawsRuns.Changes.{change-here, change-other}
 use Rattle.laws_unwinding.proofs.LawsRuns.ShapeLemmas.{goalless-normal, settle-normal}
 use Rattle.laws_unwinding.proofs.Fine.{fine-at}
@@ -35,10 +35,10 @@ use Rattle.laws_unwinding.proofs.Shaped.{standing-shaped}
 use Rattle.laws_unwinding.proofs.KeptRuns.{sound-run}
 use Rattle.laws_guards.specs.Once.{IsOnTop, UnwindsAll}
 use Rattle.laws_guards.specs.Throws.{guards_in_try, UnwindsInTry}
-use Rattle.laws_guards.specs.Calls.{left_of, ComesTo, NamesTarget, Controls, Throws, throws, throws_at_itself, throws_at_another, MayBeUnwound, UnwindsOnTop}
+use Rattle.laws_guards.specs.Calls.{left_of, ComesTo, OwesTo, NamesTarget, Controls, of_one, of_several, Throws, throws, throws_at_itself, throws_at_another, owed_to_itself, owed_to_another, MayBeUnwound, UnwindsOnTop}
 use Rattle.laws_guards.proofs.Killing.{kill-unwinds, reset-unwinds}
 use Rattle.laws_guards.proofs.Throwing.{is-top, own-throw, other-throw}
-use Rattle.laws_guards.proofs.Pasts.{normal-goalless, goal-past, catches-past, in_try-past}
+use Rattle.laws_guards.proofs.Pasts.{normal-goalless, goal-past, catches-past, in_try-past, goal-taken, catches-taken, in_try-taken}
 use Rattle.laws_guards.proofs.Callers.{one-more_step, all-open}
 
 on_is : {A : Type 0} (m : Result A RunFault) (x : A) (f : A → Result Config RunFault) → m ≡ Ok x → on_ok m f ≡ f x
@@ -47,8 +47,24 @@ on_is m x f is = ap (λ z. on_ok z f) is
 apart_off : (p q : ℕ) → q ≢ p → (stack rest : List ℕ) → stack ≡ p ∷ rest → holds (top_of stack) q ≡ false
 apart_off p q apart stack rest top = ap (λ s. holds (top_of s) q) top ∙ ap (λ b. b || false) (ne_eqb p q (λ same. apart (sym same)))
 
+-- what is left of the caller once it is past its call has the goals, the tries and the guards that it had
+record Keeps (w : Residual → Residual) : Type 0 where
+  goal : (r : Residual) → has_goal r ≡ false → has_goal (w r) ≡ false
+  tries : (e : ℕ) (r : Residual) → catches (w r) e ≡ catches r e
+  guards : (e : ℕ) (r : Residual) → guards_in_try (w r) e ≡ guards_in_try r e
+
+abbrev moved_past : Residual → Residual
+moved_past r = put r skip
+
+keeps_past : Keeps moved_past
+keeps_past = record { goal = goal-past; tries = catches-past; guards = in_try-past }
+
+keeps_taken : Keeps taken_off
+keeps_taken = record { goal = λ r none. goal-taken r ∙ none; tries = catches-taken; guards = in_try-taken }
+
 module _ (design : Design) (script : List Command) (sound : SoundDesign design) (n : ℕ) (choices : List ℕ) (c : Config) (reached : after n choices (start design script) ≡ Some c) where
-  module _ (p : ℕ) (i : Instance) (s : Statement) (comes : ComesTo c p i s) where
+  -- p is i, and on top of the stack
+  module _ (p : ℕ) (i : Instance) (there : instance_at c p ≡ Some i) (rest : List ℕ) (on : c.processes.stack ≡ p ∷ rest) where
     abbrev before : Config
     before = settled_in c p i.residual
 
@@ -58,70 +74,87 @@ module _ (design : Design) (script : List Command) (sound : SoundDesign design) 
     abbrev place : Here
     place = here (settled_in c p i.residual) p (record i { residual = left_of c i }) (left_of c i)
 
-    abbrev past : Config
-    past = passes (settled_in c p i.residual) p (left_of c i)
-
-    step_is : step c ≡ as_outcome (do_statement before p caller (left_of c i) place comes.number s)
-    step_is =
-        ap (λ b. cond b ended (step_in c c.cycle.phase)) comes.runs ∙ ap (step_in c) comes.evaluates
-        ∙ ap (λ st. evaluate c st c.processes.runnable) comes.top ∙ ap (λ o. as_outcome (step_by c p o)) comes.at
-        ∙ ap as_outcome (ap (do_next before p caller (left_of c i)) comes.next ∙ ap (on_statement before p caller (left_of c i) comes.number) comes.is)
+    step_next : c.cycle.stopped ≡ false → c.cycle.phase ≡ phase.Evaluate → step c ≡ as_outcome (do_next before p caller (left_of c i) (next_of (left_of c i)))
+    step_next runs evaluates =
+        ap (λ b. cond b ended (step_in c c.cycle.phase)) runs ∙ ap (step_in c) evaluates
+        ∙ ap (λ st. evaluate c st c.processes.runnable) on ∙ ap (λ o. as_outcome (step_by c p o)) there
 
     caller_there : instance_at before p ≡ Some caller
-    caller_there = change-here c.processes.instances p _ i comes.at
+    caller_there = change-here c.processes.instances p _ i there
 
     settled_goalless : has_goal i.residual ≡ false → has_goal (left_of c i) ≡ false
     settled_goalless none =
         normal-goalless (left_of c i) (settle-normal (arena c) i.residual
-        (goalless-normal i.residual (standing-shaped c.design i.home i.residual (fine-at c.design c.processes p i comes.at (sound-run design script sound n choices c reached).1).standing) none))
+        (goalless-normal i.residual (standing-shaped c.design i.home i.residual (fine-at c.design c.processes p i there (sound-run design script sound n choices c reached).1).standing) none))
 
-    -- the target as it is once the caller is past its statement
-    record Target (q : ℕ) : Type 0 where
-      then : Instance
-      is : instance_at past q ≡ Some then
-      lives : then.ended ≡ false
-      goalless : has_goal then.residual ≡ false
+    on_top : (x : Config) → x.processes.stack ≡ c.processes.stack → IsOnTop p x
+    on_top x same = (rest, same ∙ on)
 
-    abbrev past_caller : Instance
-    past_caller = record i { residual = put (left_of c i) skip }
+    -- and past its call, this way
+    module _ (w : Residual → Residual) (keeps : Keeps w) where
+      abbrev past : Config
+      past = with_residual (settled_in c p i.residual) p (w (left_of c i))
 
-    past_there : instance_at past p ≡ Some past_caller
-    past_there = change-here before.processes.instances p _ caller caller_there
+      -- the target as it is then
+      record Target (q : ℕ) : Type 0 where
+        then : Instance
+        is : instance_at past q ≡ Some then
+        lives : then.ended ≡ false
+        goalless : has_goal then.residual ≡ false
 
-    past_lives : MayBeUnwound c p → i.ended ≡ false
-    past_lives m = ap (λ (x : Instance). x.ended) (same_Some i m.target (sym comes.at ∙ m.is)) ∙ m.lives
+      abbrev past_caller : Instance
+      past_caller = record i { residual = w (left_of c i) }
 
-    past_goalless : MayBeUnwound c p → has_goal (put (left_of c i) skip) ≡ false
-    past_goalless m = goal-past (left_of c i) (settled_goalless (ap (λ (x : Instance). has_goal x.residual) (same_Some i m.target (sym comes.at ∙ m.is)) ∙ m.goalless))
+      past_there : instance_at past p ≡ Some past_caller
+      past_there = change-here before.processes.instances p _ caller caller_there
 
-    itself : MayBeUnwound c p → Target p
-    itself m = record { then = past_caller; is = past_there; lives = past_lives m; goalless = past_goalless m }
+      past_lives : MayBeUnwound c p → i.ended ≡ false
+      past_lives m = ap (λ (x : Instance). x.ended) (same_Some i m.target (sym there ∙ m.is)) ∙ m.lives
 
-    another_is : (q : ℕ) → q ≢ p → instance_at past q ≡ instance_at c q
-    another_is q apart = change-other before.processes.instances p q _ apart ∙ change-other c.processes.instances p q _ apart
+      past_goalless : MayBeUnwound c p → has_goal (w (left_of c i)) ≡ false
+      past_goalless m = keeps.goal (left_of c i) (settled_goalless (ap (λ (x : Instance). has_goal x.residual) (same_Some i m.target (sym there ∙ m.is)) ∙ m.goalless))
 
-    target : (q : ℕ) → MayBeUnwound c q → Target q
-    target q m = ⊎_elim
-        (λ same. subst Target (sym same) (itself (subst (MayBeUnwound c) same m)))
-        (λ apart. record { then = m.target; is = another_is q apart ∙ m.is; lives = m.lives; goalless = m.goalless })
-        (cases_eq q p)
+      itself : MayBeUnwound c p → Target p
+      itself m = record { then = past_caller; is = past_there; lives = past_lives m; goalless = past_goalless m }
 
-    -- ---- a kill and a reset
+      another_is : (q : ℕ) → q ≢ p → instance_at past q ≡ instance_at c q
+      another_is q apart = change-other before.processes.instances p q _ apart ∙ change-other c.processes.instances p q _ apart
 
-    unwinds_all : (q : ℕ) → MayBeUnwound c q → (d : Config) → step c ≡ went d → (t : Instance) (k : Goal) → UnwindsAll past d q t k → UnwindsOnTop c d q (open_guards q d.trace.marks)
-    unwinds_all q m d now t k u = record {
-      begins = record {
-        went_on = now;
-        first = m.target;
-        was = m.is;
-        goalless = m.goalless;
-        then = u.then;
-        is = u.is;
-        has_one = ap has_goal u.unwound;
-        guards = all-open design script sound (n + 1) choices d (one-more_step n choices (start design script) c d reached now) q u.then (unw t.residual) k u.is u.unwound;
-      };
-      stack = u.stack;
-    }
+      target : (q : ℕ) → MayBeUnwound c q → Target q
+      target q m = ⊎_elim
+          (λ same. subst Target (sym same) (itself (subst (MayBeUnwound c) same m)))
+          (λ apart. record { then = m.target; is = another_is q apart ∙ m.is; lives = m.lives; goalless = m.goalless })
+          (cases_eq q p)
+
+      -- ---- a kill and a reset
+
+      unwinds_all : (q : ℕ) → MayBeUnwound c q → (d : Config) → step c ≡ went d → (t : Instance) (k : Goal) → UnwindsAll past d q t k → UnwindsOnTop c d q (open_guards q d.trace.marks)
+      unwinds_all q m d now t k u = record {
+        begins = record {
+          went_on = now;
+          first = m.target;
+          was = m.is;
+          goalless = m.goalless;
+          then = u.then;
+          is = u.is;
+          has_one = ap has_goal u.unwound;
+          guards = all-open design script sound (n + 1) choices d (one-more_step n choices (start design script) c d reached now) q u.then (unw t.residual) k u.is u.unwound;
+        };
+        stack = u.stack;
+      }
+
+      -- the step makes this call, of this target
+      kills : (q : ℕ) → step c ≡ as_outcome (control_call past q control.Kill) → MayBeUnwound c q → (d : Config) × UnwindsOnTop c d q (open_guards q d.trace.marks)
+      kills q now m =
+          let t = target q m in
+          let u = kill-unwinds past q t.then t.is t.lives m.not_below t.goalless in
+          (u.0, unwinds_all q m u.0 (now ∙ ap as_outcome u.1) t.then goal_of.End u.2)
+
+      resets : (q : ℕ) → step c ≡ as_outcome (control_call past q control.Reset) → MayBeUnwound c q → (d : Config) × UnwindsOnTop c d q (open_guards q d.trace.marks)
+      resets q now m =
+          let t = target q m in
+          let u = reset-unwinds past q t.then t.is t.lives m.not_below t.goalless in
+          (u.0, unwinds_all q m u.0 (now ∙ ap as_outcome u.1) t.then goal_of.Restart u.2)
 
     -- ---- an exception
 
@@ -140,33 +173,48 @@ module _ (design : Design) (script : List Command) (sound : SoundDesign design) 
       stack = u.stack ∙ ap (λ st. cond (holds (top_of st) q) st (q ∷ st)) stack;
     }
 
-    on_top : (x : Config) → x.processes.stack ≡ c.processes.stack → IsOnTop p x
-    on_top x same = (comes.rest, same ∙ comes.top)
+  -- ---- the step, by what comes next
 
-  kills : (p q : ℕ) (i : Instance) (who : Controlled) (comes : ComesTo c p i (code.control control.Kill who false)) → NamesTarget c p i who q → MayBeUnwound c q → (d : Config) × UnwindsOnTop c d q (open_guards q d.trace.marks)
-  kills p q i who comes names m =
-      let t = target p i _ comes q m in
-      let u = kill-unwinds (past p i _ comes) q t.then t.is t.lives m.not_below t.goalless in
-      (u.0, unwinds_all p i _ comes q m u.0 (step_is p i _ comes ∙ ap as_outcome (on_is (target_of (place p i _ comes) p who) q _ names ∙ u.1)) t.then goal_of.End u.2)
+  module _ (p : ℕ) (i : Instance) (s : Statement) (comes : ComesTo c p i s) where
+    statement_is : step c ≡ as_outcome (do_statement (before p i comes.at comes.rest comes.top) p (caller p i comes.at comes.rest comes.top) (left_of c i) (place p i comes.at comes.rest comes.top) comes.number s)
+    statement_is =
+        let x = settled_in c p i.residual in
+        let j = record i { residual = left_of c i } in
+        step_next p i comes.at comes.rest comes.top comes.runs comes.evaluates
+        ∙ ap as_outcome (ap (do_next x p j (left_of c i)) comes.next ∙ ap (on_statement x p j (left_of c i) comes.number) comes.is)
 
-  resets : (p q : ℕ) (i : Instance) (who : Controlled) (comes : ComesTo c p i (code.control control.Reset who false)) → NamesTarget c p i who q → MayBeUnwound c q → (d : Config) × UnwindsOnTop c d q (open_guards q d.trace.marks)
-  resets p q i who comes names m =
-      let t = target p i _ comes q m in
-      let u = reset-unwinds (past p i _ comes) q t.then t.is t.lives m.not_below t.goalless in
-      (u.0, unwinds_all p i _ comes q m u.0 (step_is p i _ comes ∙ ap as_outcome (on_is (target_of (place p i _ comes) p who) q _ names ∙ u.1)) t.then goal_of.Restart u.2)
+  module _ (p q : ℕ) (i : Instance) (s : Statement) (owes : OwesTo c p i q s) where
+    owed_is : step c ≡ as_outcome (owed_call (with_residual (settled_in c p i.residual) p (taken_off (left_of c i))) q s)
+    owed_is =
+        let x = settled_in c p i.residual in
+        let j = record i { residual = left_of c i } in
+        step_next p i owes.at owes.rest owes.top owes.runs owes.evaluates
+        ∙ ap as_outcome (ap (do_next x p j (left_of c i)) owes.next ∙ ap (owed_by (with_residual x p (taken_off (left_of c i))) q) owes.is)
+
+  -- ---- a kill and a reset
 
   pub kill-begins : (p q : ℕ) → Controls c control.Kill p q → MayBeUnwound c q → (d : Config) × UnwindsOnTop c d q (open_guards q d.trace.marks)
-  kill-begins p q x m = kills p q x.caller x.who x.comes x.names m
+  kill-begins p q (of_one i who comes names) m =
+      kills p i comes.at comes.rest comes.top moved_past keeps_past q
+      (statement_is p i _ comes ∙ ap as_outcome (on_is (target_of (here (settled_in c p i.residual) p (record i { residual = left_of c i }) (left_of c i)) p who) q _ names)) m
+  kill-begins p q (of_several i who all owes) m = kills p i owes.at owes.rest owes.top taken_off keeps_taken q (owed_is p q i _ owes) m
 
   pub reset-begins : (p q : ℕ) → Controls c control.Reset p q → MayBeUnwound c q → (d : Config) × UnwindsOnTop c d q (open_guards q d.trace.marks)
-  reset-begins p q x m = resets p q x.caller x.who x.comes x.names m
+  reset-begins p q (of_one i who comes names) m =
+      resets p i comes.at comes.rest comes.top moved_past keeps_past q
+      (statement_is p i _ comes ∙ ap as_outcome (on_is (target_of (here (settled_in c p i.residual) p (record i { residual = left_of c i }) (left_of c i)) p who) q _ names)) m
+  reset-begins p q (of_several i who all owes) m = resets p i owes.at owes.rest owes.top taken_off keeps_taken q (owed_is p q i _ owes) m
 
-  -- the exception of the instance itself
+  -- ---- an exception
+
+  -- of the instance itself
   throws_own : (e q : ℕ) (i : Instance) (comes : ComesTo c q i (code.throw e)) → catches (left_of c i) e ≡ true → MayBeUnwound c q → (d : Config) × UnwindsOnTop c d q (guards_in_try (left_of c i) e)
   throws_own e q i comes caught m =
-      let none = settled_goalless q i _ comes (ap (λ (x : Instance). has_goal x.residual) (same_Some i m.target (sym comes.at ∙ m.is)) ∙ m.goalless) in
-      let u = own-throw (before q i _ comes) q (caller q i _ comes) e (caller_there q i _ comes) caught none (on_top q i _ comes (before q i _ comes) refl) in
-      (u.0, unwinds_try q i _ comes q m (before q i _ comes) u.0 refl (step_is q i _ comes ∙ ap as_outcome u.1) (caller q i _ comes) e (guards_in_try (left_of c i) e) refl u.2)
+      let x = settled_in c q i.residual in
+      let j = record i { residual = left_of c i } in
+      let none = settled_goalless q i comes.at comes.rest comes.top (ap (λ (y : Instance). has_goal y.residual) (same_Some i m.target (sym comes.at ∙ m.is)) ∙ m.goalless) in
+      let u = own-throw x q j e (caller_there q i comes.at comes.rest comes.top) caught none (on_top q i comes.at comes.rest comes.top x refl) in
+      (u.0, unwinds_try q i comes.at comes.rest comes.top q m x u.0 refl (statement_is q i _ comes ∙ ap as_outcome u.1) j e (guards_in_try (left_of c i) e) refl u.2)
 
   throw_call_top : (x : Config) (q e : ℕ) (t : Instance) → instance_at x q ≡ Some t → t.ended ≡ false → is_below_top x q ≡ false → is_top x q ≡ true → has_goal t.residual ≡ false → throw_call x q e ≡ thrown x q t.residual e
   throw_call_top x q e t at lives below top none =
@@ -176,29 +224,41 @@ module _ (design : Design) (script : List Command) (sound : SoundDesign design) 
       ∙ ap (λ b. cond {A = Result Config RunFault} b (cond (has_goal t.residual) (Ok x) (thrown x q t.residual e)) (injected x q t e)) top
       ∙ ap (λ b. cond {A = Result Config RunFault} b (Ok x) (thrown x q t.residual e)) none
 
-  -- one that it throws at itself
-  throws_at_self : (e q : ℕ) (i : Instance) (who : Controlled) (comes : ComesTo c q i (code.throw_it who e false)) → NamesTarget c q i who q → catches (left_of c i) e ≡ true → MayBeUnwound c q → (d : Config) × UnwindsOnTop c d q (guards_in_try (left_of c i) e)
-  throws_at_self e q i who comes names caught m =
-      let t = past_caller q i _ comes in
-      let x = past q i _ comes in
-      let top = on_top q i _ comes x refl in
-      let u = own-throw x q t e (past_there q i _ comes) (catches-past e (left_of c i) ∙ caught) (past_goalless q i _ comes m) top in (
-        u.0,
-        unwinds_try q i _ comes q m x u.0 refl
-            (step_is q i _ comes ∙ ap as_outcome (on_is (target_of (place q i _ comes) q who) q _ names ∙ throw_call_top x q e t (past_there q i _ comes) (past_lives q i _ comes m) m.not_below (is-top x q top) (past_goalless q i _ comes m) ∙ u.1))
-            t e (guards_in_try (left_of c i) e) (in_try-past e (left_of c i)) u.2,
-      )
+  -- that it throws at itself, past its call this way
+  module _ (e q : ℕ) (i : Instance) (there : instance_at c q ≡ Some i) (rest : List ℕ) (on : c.processes.stack ≡ q ∷ rest) (w : Residual → Residual) (keeps : Keeps w)
+      (now : step c ≡ as_outcome (throw_call (past q i there rest on w keeps) q e)) where
+    throws_at_self : catches (left_of c i) e ≡ true → MayBeUnwound c q → (d : Config) × UnwindsOnTop c d q (guards_in_try (left_of c i) e)
+    throws_at_self caught m =
+        let t = record i { residual = w (left_of c i) } in
+        let x = past q i there rest on w keeps in
+        let top = on_top q i there rest on x refl in
+        let at = past_there q i there rest on w keeps in
+        let none = past_goalless q i there rest on w keeps m in
+        let u = own-throw x q t e at (keeps.tries e (left_of c i) ∙ caught) none top in (
+          u.0,
+          unwinds_try q i there rest on q m x u.0 refl (now ∙ ap as_outcome (throw_call_top x q e t at (past_lives q i there rest on w keeps m) m.not_below (is-top x q top) none ∙ u.1))
+              t e (guards_in_try (left_of c i) e) (keeps.guards e (left_of c i)) u.2,
+        )
 
-  -- and one that another throws
-  throws_other : (e p q : ℕ) (i t : Instance) (who : Controlled) (comes : ComesTo c p i (code.throw_it who e false)) → NamesTarget c p i who q → q ≢ p → instance_at c q ≡ Some t → t.kind ≡ process.Thread → t.started ≡ true
-      → catches t.residual e ≡ true → MayBeUnwound c q → (d : Config) × UnwindsOnTop c d q (guards_in_try t.residual e)
-  throws_other e p q i t who comes names apart at kind started caught m =
-      let x = past p i _ comes in
-      let same = same_Some t m.target (sym at ∙ m.is) in
-      let u = other-throw x q t e (another_is p i _ comes q apart ∙ at) caught (ap (λ (y : Instance). has_goal y.residual) same ∙ m.goalless) (ap (λ (y : Instance). y.ended) same ∙ m.lives) m.not_below (apart_off p q apart c.processes.stack comes.rest comes.top) kind started in
-      (u.0, unwinds_try p i _ comes q m x u.0 refl (step_is p i _ comes ∙ ap as_outcome (on_is (target_of (place p i _ comes) p who) q _ names ∙ u.1)) t e (guards_in_try t.residual e) refl u.2)
+  -- and that it throws at another
+  module _ (e p q : ℕ) (i t : Instance) (there : instance_at c p ≡ Some i) (rest : List ℕ) (on : c.processes.stack ≡ p ∷ rest) (w : Residual → Residual) (keeps : Keeps w)
+      (now : step c ≡ as_outcome (throw_call (past p i there rest on w keeps) q e)) (apart : q ≢ p) (at : instance_at c q ≡ Some t) (kind : t.kind ≡ process.Thread) (started : t.started ≡ true) where
+    throws_other : catches t.residual e ≡ true → MayBeUnwound c q → (d : Config) × UnwindsOnTop c d q (guards_in_try t.residual e)
+    throws_other caught m =
+        let x = past p i there rest on w keeps in
+        let same = same_Some t m.target (sym at ∙ m.is) in
+        let u = other-throw x q t e (another_is p i there rest on w keeps q apart ∙ at) caught (ap (λ (y : Instance). has_goal y.residual) same ∙ m.goalless) (ap (λ (y : Instance). y.ended) same ∙ m.lives) m.not_below (apart_off p q apart c.processes.stack rest on) kind started in
+        (u.0, unwinds_try p i there rest on q m x u.0 refl (now ∙ ap as_outcome u.1) t e (guards_in_try t.residual e) refl u.2)
+
+  thrown_is : (e p q : ℕ) (i : Instance) (who : Controlled) (comes : ComesTo c p i (code.throw_it who e false)) → NamesTarget c p i who q → step c ≡ as_outcome (throw_call (past p i comes.at comes.rest comes.top moved_past keeps_past) q e)
+  thrown_is e p q i who comes names =
+      statement_is p i _ comes ∙ ap as_outcome (on_is (target_of (here (settled_in c p i.residual) p (record i { residual = left_of c i }) (left_of c i)) p who) q _ names)
 
   pub throw-begins : (e q : ℕ) (r : Residual) → Throws c e q r → catches r e ≡ true → MayBeUnwound c q → (d : Config) × UnwindsOnTop c d q (guards_in_try r e)
   throw-begins e q r (throws q_ i comes) caught m = throws_own e q_ i comes caught m
-  throw-begins e q r (throws_at_itself q_ i who comes names) caught m = throws_at_self e q_ i who comes names caught m
-  throw-begins e q r (throws_at_another p q_ i t who comes names apart at kind started) caught m = throws_other e p q_ i t who comes names apart at kind started caught m
+  throw-begins e q r (throws_at_itself q_ i who comes names) caught m = throws_at_self e q_ i comes.at comes.rest comes.top moved_past keeps_past (thrown_is e q_ q_ i who comes names) caught m
+  throw-begins e q r (throws_at_another p q_ i t who comes names apart at kind started) caught m =
+      throws_other e p q_ i t comes.at comes.rest comes.top moved_past keeps_past (thrown_is e p q_ i who comes names) apart at kind started caught m
+  throw-begins e q r (owed_to_itself q_ i who all owes) caught m = throws_at_self e q_ i owes.at owes.rest owes.top taken_off keeps_taken (owed_is q_ q_ i _ owes) caught m
+  throw-begins e q r (owed_to_another p q_ i t who all owes apart at kind started) caught m =
+      throws_other e p q_ i t owes.at owes.rest owes.top taken_off keeps_taken (owed_is p q_ i _ owes) apart at kind started caught m

@@ -36,19 +36,31 @@ pub record ComesTo (c : Config) (p : ℕ) (i : Instance) (s : Statement) : Type 
 abbrev pub NamesTarget : Config → ℕ → Instance → Controlled → ℕ → Type 0
 NamesTarget c p i who q = target_of (here (settled_in c p i.residual) p (record i { residual = left_of c i }) (left_of c i)) p who ≡ Ok q
 
--- the next step is a control call of q alone by p, be that another instance or q itself
-pub record Controls (c : Config) (k : Control) (p q : ℕ) : Type 0 where
-  pub caller : Instance
-  pub who : Controlled
-  pub comes : ComesTo c p caller (code.control k who false)
-  pub names : NamesTarget c p caller who q
+-- the next step makes the call that this statement of p, which is i and on top of the stack, owes to q: one that reaches descendants
+pub record OwesTo (c : Config) (p : ℕ) (i : Instance) (q : ℕ) (s : Statement) : Type 0 where
+  pub runs : c.cycle.stopped ≡ false
+  pub evaluates : c.cycle.phase ≡ phase.Evaluate
+  pub rest : List ℕ
+  pub top : c.processes.stack ≡ p ∷ rest
+  pub at : instance_at c p ≡ Some i
+  pub number : ℕ
+  pub next : next_of (left_of c i) ≡ residual.owes number q
+  pub is : statement_at (arena c) number ≡ Some s
 
--- The next step throws the exception e in the body of q, of which this is left: q throws it, or throws it at itself alone; or p throws it
--- at q alone, another instance, which is a thread that has begun.
+-- the next step is a control call of q by p, be that another instance or q itself: of q alone, or one that is owed to q
+pub data Controls (c : Config) (k : Control) (p q : ℕ) : Type 0 where
+  of_one : (i : Instance) (who : Controlled) → ComesTo c p i (code.control k who false) → NamesTarget c p i who q → Controls c k p q
+  of_several : (i : Instance) (who : Controlled) (all : Bool) → OwesTo c p i q (code.control k who all) → Controls c k p q
+
+-- The next step throws the exception e in the body of q, of which this is left: q throws it, or throws it at itself; or p throws it
+-- at q, another instance, which is a thread that has begun: at q alone, or by a call that is owed to q.
 pub data Throws (c : Config) (e : ℕ) : (q : ℕ) → Residual → Type 0 where
   throws : (q : ℕ) (i : Instance) → ComesTo c q i (code.throw e) → Throws c e q (left_of c i)
   throws_at_itself : (q : ℕ) (i : Instance) (who : Controlled) → ComesTo c q i (code.throw_it who e false) → NamesTarget c q i who q → Throws c e q (left_of c i)
   throws_at_another : (p q : ℕ) (i target : Instance) (who : Controlled) → ComesTo c p i (code.throw_it who e false) → NamesTarget c p i who q → q ≢ p
+      → instance_at c q ≡ Some target → target.kind ≡ process.Thread → target.started ≡ true → Throws c e q target.residual
+  owed_to_itself : (q : ℕ) (i : Instance) (who : Controlled) (all : Bool) → OwesTo c q i q (code.throw_it who e all) → Throws c e q (left_of c i)
+  owed_to_another : (p q : ℕ) (i target : Instance) (who : Controlled) (all : Bool) → OwesTo c p i q (code.throw_it who e all) → q ≢ p
       → instance_at c q ≡ Some target → target.kind ≡ process.Thread → target.started ≡ true → Throws c e q target.residual
 
 -- q lives, is not below the top of the stack, and is not being unwound

@@ -13,11 +13,12 @@ ghost use Rattle.laws_guards.specs.Once.{guards_below};
 ghost use Rattle.laws_guards.specs.Throws.{guards_in_try};
 ghost use Rattle.laws_guards.specs.Calls.{Controls, Throws, MayBeUnwound, UnwindsOnTop, has_outer_goal};
 
-/// In every run of a sound design a kill and a reset, of another instance or of the caller itself, begin an unwinding of all
-/// guards that the target has entered and not left, by the marks of the run (`kill`, `reset`); and an exception that some try
-/// of the target catches begins one of all guards inside the innermost try that names it, and of no others, be it thrown by
-/// the instance itself or at another (`throw`). The target lives, is not below the top of the stack, and is not being unwound;
-/// it is on top of the stack then (IEEE 1666-2011, 5.6.6).
+/// In every run of a sound design a kill and a reset, of another instance or of the caller itself, alone or in the step of a call
+/// that reaches descendants in which it is made for this instance, begin an unwinding of all guards that the target has entered and
+/// not left, by the marks of the run (`kill`, `reset`); and an exception that some try of the target catches begins one of all guards
+/// inside the innermost try that names it, and of no others, be it thrown by the instance itself or at another, alone or as one of
+/// several (`throw`). The target lives, is not below the top of the stack, and is not being unwound; it is on top of the stack then
+/// (IEEE 1666-2011, 5.6.6).
 pub fn calls_unwind_what_is_entered()
     ensures kill { (design : Design) (script : List Command) → SoundDesign design
         → (n : ℕ) (choices : List ℕ) (c : Config) → after n choices (start design script) ≡ Some c

@@ -282,8 +282,9 @@ unit_calm unit.Fs f = refl
 unit_calm _ f = refl
 
 meant_descendants : (h : Head) → may_have h descending ≡ true → meant h behind_other (as_cut (word w.Descendants)) ≡ word w.Descendants
+unfolding later_word_of
 meant_descendants head.First k = cc
-meant_descendants (head.Second r) k = cc
+meant_descendants (head.Second r) k = refl
 
 -- words and symbols that a tree chooses
 

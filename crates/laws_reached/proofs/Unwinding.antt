@@ -1,22 +1,20 @@
 -- Who is being unwound, and what comes next there.
 use Rattle.std.proofs.Common.{◌≡◌, ℕ, Bool, true, false, Some, refl, sym, ap, ◌∙◌, arith}
 use Rattle.flat_design.specs.Code as code
-use Rattle.flat_design.specs.Code.{Statement, arena_of, statement_at}
-use Rattle.flat_design.specs.Blocking.{ActsAlone}
+use Rattle.flat_design.specs.Code.{arena_of, statement_at}
 use Rattle.flat_design.specs.Sound.{SoundDesign}
 use Rattle.flat_design.specs.declared.design.Design.{Design}
 use Rattle.laws_unwinding.specs.SimModel.Residual as residual
 use Rattle.laws_unwinding.specs.SimModel.Residual.{Residual, settle, next_of, has_goal}
 use Rattle.laws_unwinding.specs.SimModel.Configuration.{Config}
 use Rattle.kernel_phases.proofs.KernelBodies.Strips.{strip-settle, strip-next, strip-has_goal}
-use Rattle.kernel_phases.specs.ProcessState.Bodies.{left_in, settled_in}
+use Rattle.kernel_phases.specs.ProcessBodies.Bodies.{left_in, settled_in}
 use Rattle.kernel_phases.specs.KernelProcesses.Seen.{body_at as kept_at}
 use Rattle.laws_unwinding.specs.LawsRuns.Standing.{code_of, OfUnwindBlock, IsStanding, place_of}
 use Rattle.laws_unwinding.proofs.LawsRuns.Kept.{settle-standing}
 use Rattle.laws_unwinding.proofs.LawsRuns.Places.{next-standing}
 use Rattle.laws_unwinding.proofs.Fine.{fine-at}
 use Rattle.kernel_phases.specs.KernelState.Kernel.{StandsFor}
-use Rattle.kernel_phases.specs.KernelState.Moves.{IsOnTop}
 use Rattle.kernel_phases.specs.KernelState.declared.kernel.Kept.{Kept}
 use Rattle.kernel_phases.specs.KernelState.declared.kernel.Kernel.{Kernel}
 use Rattle.exec_control.specs.ExecData.Entered.{Shows}
@@ -24,8 +22,8 @@ use Rattle.exec_control.specs.Unwound.{HasNoGoal, ThrowsFreeNext}
 use Rattle.exec_control.proofs.Throwing.{settle_goal}
 use Rattle.exec_control.specs.Thrown.{OthersHaveNoGoal}
 use Rattle.laws_reached.specs.Reached.{IsReached}
-use Rattle.laws_reached.proofs.Reaching.{clean-reached, sound-reached, design-sound, goals-reached}
-use Rattle.laws_reached.proofs.Standing.{IsKeptFor, kept-for, kept-on-top, off-stack}
+use Rattle.laws_reached.proofs.Reaching.{sound-reached, design-sound, goals-reached}
+use Rattle.laws_reached.proofs.Standing.{IsKeptFor, kept-for, off-stack}
 
 -- ---- a throw stands in no unwind block, nor is it reached from one
 
@@ -70,19 +68,6 @@ module _ (k : Kernel) (c : Config) (h : StandsFor k c) (r : IsReached c) where
 
   pub throws-free-next : (p : ℕ) → ThrowsFreeNext k p
   throws-free-next p s next x there e is = throws-free p s e next (there ∙ ap Some is)
-
-  -- ---- what comes next reaches no descendants of another
-
-  pub acts-alone-next : (p : ℕ) → IsOnTop k p → (s : ℕ) → Shows k p s → (x : Statement) → statement_at (arena_of k.program.code) s ≡ Some x → ActsAlone x
-  acts-alone-next p top s next x there =
-      let kept = kept-on-top k c h (clean-reached c r) p top in
-      let i = here p kept.0 kept.1 in
-      let left = settle (code_of c.design) i.instance.residual in
-      let place = next-standing c.design i.instance.home left s
-      (settle-standing c.design i.instance.home i.instance.residual (fine-at c.design c.processes p i.instance i.there (sound-reached c r).1).standing)
-      (sym (next_here p kept.0 kept.1) ∙ next kept.0 kept.1) in
-      let b = place.of_body x (ap (λ a. statement_at a s) (sym (code_is p kept.0 kept.1)) ∙ there) in
-      (design-sound c r).alone b.function b.body (place_of c.design i.instance.home left) x b.found b.home_of b.stands
 
   -- ---- who is not active is not being unwound
 

@@ -1,14 +1,10 @@
 //! The design of a kernel in a run.
 ghost use Rattle.std.specs.Prelude.{◌≡◌, ◌<◌, ◌-◌, ◌^◌, ℕ, Some, false};
-ghost use Rattle.flat_design.specs.Blocking.{ActsAlone};
-ghost use Rattle.flat_design.specs.Code.{Statement, arena_of, statement_at};
 ghost use Rattle.flat_design.specs.Sound.{SoundDesign};
 ghost use Rattle.laws_unwinding.specs.SimModel.Configuration.{Config};
 ghost use Rattle.laws_unwinding.specs.SimModel.Steps.{step, went, takes, taking};
 ghost use Rattle.kernel_phases.specs.KernelState.Kernel.{StandsFor, whole_design};
-ghost use Rattle.kernel_phases.specs.KernelState.Moves.{IsOnTop};
 ghost use Rattle.kernel_phases.specs.KernelState.declared.kernel.Kernel.{Kernel};
-ghost use Rattle.exec_control.specs.ExecData.Entered.{Shows};
 ghost use Rattle.exec_control.specs.ExecData.Written.{NamesFit};
 ghost use Rattle.exec_events.specs.Numbers.{NumbersEvents};
 ghost use Rattle.laws_reached.specs.Reached.{IsReached};
@@ -22,10 +18,8 @@ pub fn designs_stay()
 {}
 
 /// The design of a kernel in a run is sound: its names stand for what is there, and its events, if they are few, have numbers.
-/// What comes next in the body of the instance on top reaches no descendants of another: nothing of its code does.
 pub fn reached_designs_are_sound()
     ensures sound { (k : Kernel) (c : Config) → StandsFor k c → IsReached c → SoundDesign (whole_design k) }
     ensures names { (k : Kernel) (c : Config) → StandsFor k c → IsReached c → NamesFit (whole_design k) }
     ensures numbers { (k : Kernel) (c : Config) → StandsFor k c → IsReached c → k.design.events < 2 ^ 32 - 1 → NumbersEvents (whole_design k) }
-    ensures alone { (k : Kernel) (c : Config) → StandsFor k c → IsReached c → (p : ℕ) → IsOnTop k p → (s : ℕ) → Shows k p s → (x : Statement) → statement_at (arena_of k.program.code) s ≡ Some x → ActsAlone x }
 {}

@@ -66,7 +66,6 @@ sound-tried w = record {
   threads = λ f b home s found root home_of h. absurd (no_reached w b.block s h);
   waits = λ f b home s found home_of h. absurd (no_statement w h.block s h.stands);
   room = λ f b home s found home_of h. absurd (no_statement w h.block s h.stands);
-  alone = λ f b home s found home_of h. absurd (no_statement w h.block s h.stands);
 }
 
 -- ---- a configuration that is reached, and is not typed

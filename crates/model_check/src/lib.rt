@@ -37,5 +37,5 @@ pub mod plain_lists_api {
 
 /// What is passed on of tick_rules.
 pub mod tick_rules_api {
-    pub use tick_rules::{resolution_of, ticks_act_alone};
+    pub use tick_rules::resolution_of;
 }

@@ -20,30 +20,21 @@ use Rattle.model_tree.specs.Limits.{is_sound, bracket_limit, fits_resolution, fi
 use Rattle.model_grammar.specs.Brackets.{brackets}
 use Rattle.model_grammar.specs.Tokens.{Token, Tokens, name, number, logic, quoted, word, symbol, each_is, is_limited, are_limited}
 use Rattle.model_grammar.proofs.SoundItems.{model_sound}
-use Rattle.model_grammar.specs.Languages.{Front, behind_number, behind_at, behind_other, behind, later_token, later_name, as_read, word_or_same, unit_or_name, in_second, in_language, says_language}
+use Rattle.model_grammar.specs.Languages.{Front, behind_number, behind_at, behind_other, behind, later_token, later_name, word_or_same, unit_or_name, in_second, in_language, says_language}
 use Rattle.model_grammar.specs.Versions.{is_plain, may_word, may_token}
 use Rattle.model_grammar.specs.Rules.{Maybe}
 use Rattle.model_grammar.specs.Items.{DerivesHead, DerivesResolution, DerivesSource, DerivesModel}
 use Rattle.model_grammar.proofs.Keeps.{KeepsBy, at, takes, nothing, ◌>>=◌, so, ends}
 use Rattle.model_grammar.proofs.Versions.{keeps}
 
--- a word of both languages
-
-plain_word : (a b c d : Bool) (x y : Bool) → not ((a || b) || (c || d)) ≡ true → (if d then x else (if c then y else true)) ≡ true
-plain_word true b c d x y h = absurd cc
-plain_word false true c d x y h = absurd cc
-plain_word false false true d x y h = absurd cc
-plain_word false false false true x y h = absurd cc
-plain_word false false false false x y h = refl
-
-word_in_each : (l : Head) (u : Word) → is_plain (word u) ≡ true → may_word l u ≡ true
-word_in_each l u h = plain_word (sameb the_word u w.Language) (sameb the_word u w.Resolution) (sameb the_word u w.Descendants) (sameb the_word u w.Fs) _ _ h
-
 -- language 2
 
-word_in_second : (r : Option ResolutionLine) (u : Word) → may_word (head.Second r) (as_read u) ≡ true
-word_in_second r w.Descendants = refl
-word_in_second r _ = refl
+either_way : (a : Bool) (x y : Bool) → x ≡ true → y ≡ true → (if a then x else y) ≡ true
+either_way true x y p q = p
+either_way false x y p q = q
+
+word_in_second : (r : Option ResolutionLine) (u : Word) → may_word (head.Second r) u ≡ true
+word_in_second r u = either_way (sameb the_word u w.Fs) true _ refl (either_way (sameb the_word u w.Descendants) true true refl refl)
 
 name_in_second : (r : Option ResolutionLine) (x : List ℕ) (o : Option Word) → later_word_of x ≡ o → may_token (head.Second r) (word_or_same o x) ≡ true
 name_in_second r x None is = rw is refl
@@ -61,28 +52,33 @@ named_fine r behind_number x = unit_fine r (bytes_eq x (codes "fs")) x
 named_fine r behind_at x = later_name_fine r x
 named_fine r behind_other x = later_name_fine r x
 
-token_in_second : (r : Option ResolutionLine) (f : Front) (t : Token) → is_plain t ≡ true → may_token (head.Second r) (later_token f t) ≡ true
-token_in_second r f (name x) h = named_fine r f x
-token_in_second r f (number n) h = refl
-token_in_second r f (logic ds) h = refl
-token_in_second r f (quoted x) h = refl
-token_in_second r f (word u) h = word_in_each (head.Second r) u h
-token_in_second r f (symbol u) h = refl
+token_in_second : (r : Option ResolutionLine) (f : Front) (t : Token) → may_token (head.Second r) (later_token f t) ≡ true
+token_in_second r f (name x) = named_fine r f x
+token_in_second r f (number n) = refl
+token_in_second r f (logic ds) = refl
+token_in_second r f (quoted x) = refl
+token_in_second r f (word u) = word_in_second r u
+token_in_second r f (symbol u) = refl
 
-tokens_in_second : (r : Option ResolutionLine) (f : Front) (ts : Tokens) → each_is is_plain ts ≡ true → each_is (may_token (head.Second r)) (in_second f ts) ≡ true
-tokens_in_second r f [] h = refl
-tokens_in_second r f (t ∷ ts) h =
-    let parts = and_parts (is_plain t.0) (each_is is_plain ts) h in
-    and_from (may_token (head.Second r) (later_token f t.0)) (each_is (may_token (head.Second r)) (in_second (behind f t.0) ts)) (token_in_second r f t.0 parts.0) (tokens_in_second r (behind f t.0) ts parts.1)
+tokens_in_second : (r : Option ResolutionLine) (f : Front) (ts : Tokens) → each_is (may_token (head.Second r)) (in_second f ts) ≡ true
+tokens_in_second r f [] = refl
+tokens_in_second r f (t ∷ ts) = and_from (may_token (head.Second r) (later_token f t.0)) (each_is (may_token (head.Second r)) (in_second (behind f t.0) ts)) (token_in_second r f t.0) (tokens_in_second r (behind f t.0) ts)
 
 -- language 1
+
+word_in_first : (a b c d : Bool) (x y : Bool) → not ((a || b) || (c || d)) ≡ true → (if d then x else (if c then y else true)) ≡ true
+word_in_first true b c d x y h = absurd cc
+word_in_first false true c d x y h = absurd cc
+word_in_first false false true d x y h = absurd cc
+word_in_first false false false true x y h = absurd cc
+word_in_first false false false false x y h = refl
 
 token_in_first : (t : Token) → is_plain t ≡ true → may_token head.First t ≡ true
 token_in_first (name x) h = refl
 token_in_first (number n) h = refl
 token_in_first (logic ds) h = refl
 token_in_first (quoted x) h = refl
-token_in_first (word u) h = word_in_each head.First u h
+token_in_first (word u) h = word_in_first (sameb the_word u w.Language) (sameb the_word u w.Resolution) (sameb the_word u w.Descendants) (sameb the_word u w.Fs) _ _ h
 token_in_first (symbol u) h = refl
 
 tokens_in_first : (ts : Tokens) → each_is is_plain ts ≡ true → each_is (may_token head.First) ts ≡ true
@@ -151,7 +147,7 @@ by_first : (x : tree.Source) (t : Token × ℕ) (ts : Tokens) (b : Bool) → say
 by_first x t ts true says plain derived =
     let named : (later_token behind_other t.0, t.1) ≡ (word w.Language, t.1) = ap (λ (y : Token). (y, t.1)) (language_word t.0 says) in
     let found = second_only x.head x.model t.1 (in_second (behind behind_other t.0) ts) (subst (λ (y : Token × ℕ). DerivesSource x (y ∷ in_second (behind behind_other t.0) ts) []) named derived) in
-    derived_keeps x (in_second behind_other (t ∷ ts)) derived (subst (λ (h : Head). each_is (may_token h) (in_second behind_other (t ∷ ts)) ≡ true) (sym found.1) (tokens_in_second found.0 behind_other (t ∷ ts) plain))
+    derived_keeps x (in_second behind_other (t ∷ ts)) derived (subst (λ (h : Head). each_is (may_token h) (in_second behind_other (t ∷ ts)) ≡ true) (sym found.1) (tokens_in_second found.0 behind_other (t ∷ ts)))
 by_first x t ts false says plain derived =
     let is = first_only x.head x.model t.0 t.1 ts (and_parts (is_plain t.0) (each_is is_plain ts) plain).0 derived in
     derived_keeps x (t ∷ ts) derived (subst (λ (h : Head). each_is (may_token h) (t ∷ ts) ≡ true) (sym is) (tokens_in_first (t ∷ ts) plain))

@@ -64,16 +64,10 @@ behind f (quoted x) = behind_other
 behind f (word u) = behind_other
 behind f (symbol u) = behind_symbol u
 
--- what a reserved word of language 2 is read as: itself, but that no form has `descendants` yet, which is read as `language`, the word
--- with which nothing goes on
-abbrev pub as_read : Word → Word
-as_read w.Descendants = w.Language
-as_read u = u
-
 -- a name in language 2: one of its reserved words, or a name
 abbrev pub word_or_same : Option Word → List ℕ → Token
 word_or_same None x = name x
-word_or_same (Some u) x = word (as_read u)
+word_or_same (Some u) x = word u
 
 abbrev pub later_name : List ℕ → Token
 later_name x = word_or_same (later_word_of x) x

@@ -50,21 +50,11 @@ fn behind(front: Front, kind: TokenKind<'_>) -> Front
     }
 }
 
-/// No form of language 2 has the word `descendants` yet: it is read as one with which nothing goes on.
-fn as_read(word: Word) -> Word
-    ensures { result ≡ spec.as_read word }
-{
-    match word {
-        Word::Descendants => Word::Language,
-        other => other,
-    }
-}
-
 fn later_name(bytes: &[u8]) -> TokenKind<'_>
     ensures { token_of result ≡ spec.later_name bytes.now }
 {
     match later_word_of(bytes) {
-        Some(word) => TokenKind::Word(as_read(word)),
+        Some(word) => TokenKind::Word(word),
         None => TokenKind::Name(bytes),
     }
 }

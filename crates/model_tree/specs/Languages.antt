@@ -227,14 +227,14 @@ is_femtoseconds unit.Us = false
 is_femtoseconds unit.Ms = false
 is_femtoseconds unit.S = false
 
--- whether a text with this head may have it; control that reaches descendants stands in no text yet
+-- whether a text with this head may have it
 abbrev pub may_have : Head → Leaf → Bool
 may_have head.First (named x) = true
 may_have head.First (in_unit u) = not (is_femtoseconds u)
 may_have head.First descending = false
 may_have (head.Second r) (named x) = not (is_reserved_later x)
 may_have (head.Second r) (in_unit u) = true
-may_have (head.Second r) descending = false
+may_have (head.Second r) descending = true
 
 -- a tree keeps to its language
 abbrev pub keeps_language : Head → tree.Model → Bool

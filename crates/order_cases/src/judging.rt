@@ -1,7 +1,6 @@
 //! What is answered of a text.
 use elaborate::model_check_api::check;
 use elaborate::sound_design;
-use elaborate::tick_rules_api::ticks_act_alone;
 use flat_design::Design;
 use model_parser::parse;
 use model_tree::{CheckStop, ParseStop, Tree};
@@ -25,7 +24,6 @@ fn tree_of(alloc: Global, text: &[u8]) -> Result<Option<Tree>, AllocError> {
 
 /// The design of a tree, if it breaks no rule.
 fn design_of(alloc: Global, tree: Tree) -> Result<Option<Design>, AllocError> {
-    ticks_act_alone();
     let checked = match check(alloc, tree) {
         Ok(checked) => checked,
         Err(CheckStop::Refused(_)) => return Ok(None),

@@ -16,7 +16,7 @@ use Rattle.kernel_state.specs.declared.kernel.Kernel.{Kernel}
 -- the path of an instance, by what is kept of it
 abbrev pub path_if : Design → Option Kept → List ℕ
 path_if d None = []
-path_if d (Some kept) = path_in d kept.home kept.body.code kept.path
+path_if d (Some kept) = path_in d kept.home kept.body.calls.code kept.path
 
 abbrev pub path_at : Kernel → ℕ → List ℕ
 path_at k p = path_if (whole_design k) (kept_at k.schedule p)

@@ -59,9 +59,9 @@ fn push_end(
         Stop::Fault(_) => text.extend_from_slice(b"end fault ")?,
         Stop::WriteFault | Stop::NoMemory => return Ok(()),
     }
-    push_number(alloc, text, now)?;
+    push_number(text, now)?;
     match stop {
-        Stop::Replay { place } => push_word_and_number(alloc, text, b"", place)?,
+        Stop::Replay { place } => push_word_and_number(text, b"", place)?,
         Stop::Fault(fault) => {
             text.extend_from_slice(b" ")?;
             push_fault(alloc, text, design, fault)?;

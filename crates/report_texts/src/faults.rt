@@ -28,16 +28,11 @@ fn push_hop(alloc: Global, text: &mut Vec<u8>, design: &Design, hop: u32) -> Res
     }
 }
 
-fn push_conflict(
-    alloc: Global,
-    text: &mut Vec<u8>,
-    first: u32,
-    second: u32,
-) -> Result<(), AllocError>
+fn push_conflict(text: &mut Vec<u8>, first: u32, second: u32) -> Result<(), AllocError>
     ensures { OnOk result (text.new.items ≡ text.old.items ++ spec.with_number (spec.with_number (codes "WriterConflict") first) second) }
 {
-    push_word_and_number(alloc, text, b"WriterConflict", u64::from(first))?;
-    push_word_and_number(alloc, text, b"", u64::from(second))
+    push_word_and_number(text, b"WriterConflict", u64::from(first))?;
+    push_word_and_number(text, b"", u64::from(second))
 }
 
 fn push_uncaught(text: &mut Vec<u8>, design: &Design, name: u32) -> Result<(), AllocError>
@@ -58,10 +53,10 @@ fn push_protocol(
     ensures { OnOk result (text.new.items ≡ text.old.items ++ spec.fault_text design.now (RunFault.Protocol rule hop serial)) }
 {
     text.extend_from_slice(b"Protocol P")?;
-    push_number(alloc, text, u64::from(rule))?;
+    push_number(text, u64::from(rule))?;
     text.extend_from_slice(b" ")?;
     push_hop(alloc, text, design, hop)?;
-    push_word_and_number(alloc, text, b"", u64::from(serial))
+    push_word_and_number(text, b"", u64::from(serial))
 }
 
 /// Adds a run fault and its fields.
@@ -74,19 +69,19 @@ pub(crate) fn push_fault(
     ensures { OnOk result (text.new.items ≡ text.old.items ++ spec.fault_text design.now fault) }
 {
     match fault {
-        RunFault::WriterConflict { first, second } => push_conflict(alloc, text, first, second),
+        RunFault::WriterConflict { first, second } => push_conflict(text, first, second),
         RunFault::DivideByZero => push_bytes(text, b"DivideByZero"),
         RunFault::IndexRange { index, size } => {
-            push_word_and_numbers(alloc, text, b"IndexRange", index, size)
+            push_word_and_numbers(text, b"IndexRange", index, size)
         }
         RunFault::TimeOverflow => push_bytes(text, b"TimeOverflow"),
         RunFault::Uncaught { name } => push_uncaught(text, design, name),
         RunFault::ControlOnActive { serial } => {
-            push_word_and_number(alloc, text, b"ControlOnActive", u64::from(serial))
+            push_word_and_number(text, b"ControlOnActive", u64::from(serial))
         }
         RunFault::EmptyHandle => push_bytes(text, b"EmptyHandle"),
         RunFault::PayloadFreed { serial } => {
-            push_word_and_number(alloc, text, b"PayloadFreed", u64::from(serial))
+            push_word_and_number(text, b"PayloadFreed", u64::from(serial))
         }
         RunFault::TooManyPayloads => push_bytes(text, b"TooManyPayloads"),
         RunFault::TooManyInstances => push_bytes(text, b"TooManyInstances"),

@@ -53,12 +53,12 @@ fn push_spawned(
     text.extend_from_slice(b".")?;
     push_body_name(text, &k.program, code)?;
     text.extend_from_slice(b"_")?;
-    push_number(alloc, text, u64::from(serial))
+    push_number(text, u64::from(serial))
 }
 
 /// Adds the path of an instance, by what is kept of it.
 fn push_kept(alloc: Global, text: &mut Vec<u8>, k: &Kernel, kept: &Kept) -> Result<(), AllocError>
-    ensures { OnOk result (text.new.items ≡ text.old.items ++ path_in (whole_design k.now) kept.now.home kept.now.body.code kept.now.path) }
+    ensures { OnOk result (text.new.items ≡ text.old.items ++ path_in (whole_design k.now) kept.now.home kept.now.body.calls.code kept.now.path) }
 {
     match kept.path {
         PathOf::Object(number) => push_object(alloc, text, k, number),

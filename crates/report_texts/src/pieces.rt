@@ -4,6 +4,7 @@ ghost use Rattle.std.specs.Fmt.{decimal};
 ghost use Rattle.kernel_state.specs.LogicValues.ValueText.{text_of};
 ghost use Rattle.kernel_state.specs.SimModel.Texts.{with_number};
 
+use itoa::Buffer;
 use kernel_state::logic_values_api::{Value, value_text};
 use std::alloc::{AllocError, Global};
 
@@ -15,11 +16,11 @@ pub(crate) fn push_bytes(text: &mut Vec<u8>, piece: &[u8]) -> Result<(), AllocEr
 }
 
 /// Adds a number in decimal.
-pub(crate) fn push_number(alloc: Global, text: &mut Vec<u8>, number: u64) -> Result<(), AllocError>
+pub(crate) fn push_number(text: &mut Vec<u8>, number: u64) -> Result<(), AllocError>
     ensures { OnOk result (text.new.items ≡ text.old.items ++ decimal number) }
 {
-    let digits = format!(in alloc; "{number}")?;
-    text.extend_from_slice(digits.as_bytes())
+    let mut digits = Buffer::new();
+    text.extend_from_slice(digits.format(number).as_bytes())
 }
 
 /// Adds the text of a value; a handle has none.
@@ -28,6 +29,8 @@ pub(crate) fn push_value(alloc: Global, text: &mut Vec<u8>, value: Value) -> Res
 {
     match value {
         Value::Handle(_) | Value::Pay(_) => Ok(()),
+        Value::Uint { bits, .. } => push_number(text, bits),
+        Value::Moment(picoseconds) => push_number(text, picoseconds),
         _ => {
             let shown = value_text(alloc, value)?;
             text.extend_from_slice(shown.as_slice())
@@ -37,7 +40,6 @@ pub(crate) fn push_value(alloc: Global, text: &mut Vec<u8>, value: Value) -> Res
 
 /// Adds a word and a number behind it.
 pub(crate) fn push_word_and_number(
-    alloc: Global,
     text: &mut Vec<u8>,
     word: &[u8],
     number: u64,
@@ -46,12 +48,11 @@ pub(crate) fn push_word_and_number(
 {
     text.extend_from_slice(word)?;
     text.extend_from_slice(b" ")?;
-    push_number(alloc, text, number)
+    push_number(text, number)
 }
 
 /// Adds a word and two numbers behind it.
 pub(crate) fn push_word_and_numbers(
-    alloc: Global,
     text: &mut Vec<u8>,
     word: &[u8],
     first: u64,
@@ -59,6 +60,6 @@ pub(crate) fn push_word_and_numbers(
 ) -> Result<(), AllocError>
     ensures { OnOk result (text.new.items ≡ text.old.items ++ with_number (with_number word.now first) second) }
 {
-    push_word_and_number(alloc, text, word, first)?;
-    push_word_and_number(alloc, text, b"", second)
+    push_word_and_number(text, word, first)?;
+    push_word_and_number(text, b"", second)
 }

@@ -13,6 +13,9 @@ use kernel_state::Kernel;
 use kernel_state::logic_values_api::Value;
 use std::alloc::{AllocError, Global};
 
+/// So many bytes have room in a line from the first: the line of most prints and takings.
+const USUAL: usize = 64;
+
 /// The text of a statement that is a print.
 fn print_text(statement: &Statement) -> &[u8]
     ensures { (text : List ℕ) (shown : Option Term) → statement_of statement.now ≡ code.print text shown → result.now ≡ text }
@@ -99,8 +102,8 @@ fn line_of_print(
 ) -> Result<Line, AllocError>
     ensures { IfOk result (λ line. line ≡ print_line k.now.cycle.now.0 (path_at k.now p) text.now value) }
 {
-    let mut line = Vec::new(alloc);
-    push_number(alloc, &mut line, k.cycle.now.0)?;
+    let mut line = Vec::with_capacity(alloc, USUAL)?;
+    push_number(&mut line, k.cycle.now.0)?;
     line.extend_from_slice(b" ")?;
     push_path_at(alloc, &mut line, k, p)?;
     line.extend_from_slice(b" ")?;
@@ -113,12 +116,12 @@ fn line_of_print(
 fn line_of_turn(alloc: Global, k: &Kernel, p: u32) -> Result<Line, AllocError>
     ensures { IfOk result (λ line. line ≡ step.turn_line k.now.cycle.now.0 (path_at k.now p) p) }
 {
-    let mut line = Vec::new(alloc);
-    push_number(alloc, &mut line, k.cycle.now.0)?;
+    let mut line = Vec::with_capacity(alloc, USUAL)?;
+    push_number(&mut line, k.cycle.now.0)?;
     line.extend_from_slice(b" ")?;
     push_path_at(alloc, &mut line, k, p)?;
     line.extend_from_slice(b" turn ")?;
-    push_number(alloc, &mut line, u64::from(p))?;
+    push_number(&mut line, u64::from(p))?;
     line.extend_from_slice(b"\n")?;
     Ok(Line::from_vec(line))
 }

@@ -42,7 +42,7 @@ fn push_show(
 ) -> Result<(), AllocError>
     ensures { OnOk result (text.new.items ≡ text.old.items ++ step.show_line k.now.cycle.now.0 (path_of k.now.design visible.object) (value_in k.now.channels visible.id)) }
 {
-    push_number(alloc, text, k.cycle.now.0)?;
+    push_number(text, k.cycle.now.0)?;
     text.extend_from_slice(b" script ")?;
     push_object(alloc, text, k, visible.object)?;
     text.extend_from_slice(b" ")?;

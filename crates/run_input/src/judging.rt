@@ -10,7 +10,6 @@ use super::loading::Texts;
 use elaborate::laws_design_api::{designs_are_few, semaphores_start_low};
 use elaborate::model_check_api::check;
 use elaborate::sound_design;
-use elaborate::tick_rules_api::ticks_act_alone;
 use flat_design::{Choices, Design};
 use model_parser::parse;
 use model_tree::{CheckStop, ParseStop, Tree};
@@ -83,7 +82,6 @@ pub(crate) fn judge_tree(alloc: Global, tree: Tree) -> Result<Design, ModelStop>
 {
     designs_are_few();
     semaphores_start_low();
-    ticks_act_alone();
     let checked = match check(alloc, tree) {
         Ok(checked) => checked,
         Err(CheckStop::Refused(fault)) => return Err(ModelStop::Fault(ModelFault::Rule(fault))),

@@ -8,7 +8,6 @@ use Rattle.model_tree.specs.SimTime.declared.moments.Unit.{Unit as TimeUnit}
 use Rattle.model_tree.specs.SimTime.declared.moments.Unit.TheVariants as unit
 use Rattle.model_tree.specs.SimTime.declared.moments.UnitStop.{UnitStop}
 use Rattle.model_tree.specs.SimTime.declared.moments.UnitStop.TheVariants as stop
-use Rattle.model_tree.specs.Languages.{keeps_language}
 use Rattle.model_tree.specs.Tree as tree
 use Rattle.model_tree.specs.declared.types.Span.{Span}
 use Rattle.model_tree.specs.declared.items.Head.{Head}
@@ -106,7 +105,3 @@ modules_fault r m = option_map (told_fault (first_unfit r m)) (first_fault (tick
 -- the first fault of a whole text, of the kinds 1 to 22, 29 and 30: that of its resolution comes before all others
 abbrev pub source_fault : tree.Source → Option Fault
 source_fault s = option_or (resolution_fault s.head) (modules_fault (resolution_of s.head) s.model)
-
--- the tree of ticks has nothing that language 1 lacks: it has no femtoseconds, so that this says that no control call reaches descendants
-abbrev pub acts_alone : tree.Source → Bool
-acts_alone s = keeps_language head.First (ticked s)

@@ -5,7 +5,7 @@ mod laws;
 mod resolutions;
 mod telling;
 
-pub use laws::{faultless_texts_have_faultless_ticks, ticks_act_alone};
+pub use laws::faultless_texts_have_faultless_ticks;
 pub use resolutions::{judge_resolution, resolution_of};
 pub use telling::told_fault;
 

@@ -6,9 +6,7 @@ use Rattle.std.proofs.lemmas.List.Folds.{list_all-append}
 use Rattle.model_tree.specs.Tree as tree
 use Rattle.tick_trees.specs.Retimed as retimed
 use Rattle.tick_trees.specs.Retimed.{span}
-use Rattle.model_tree.specs.declared.items.Head.{Head}
-use Rattle.model_tree.specs.declared.items.Head.TheVariants as head
-use Rattle.model_tree.specs.Languages.{may_have, keeps_language, Leaf, named, in_unit, descending, Leaves, name_if, in_expression, in_expression_if, in_expressions, in_place, in_channel, in_event, in_events, in_waiting, in_notification, in_target, in_operation, in_spawn, in_who, in_action, in_statement, in_block, in_else, in_handlers, in_form, in_constant, in_span, in_item, in_module, leaves_of, descending_if, in_parameter, in_initiator, in_socket, in_end}
+use Rattle.model_tree.specs.Languages.{Leaf, named, in_unit, descending, Leaves, name_if, in_expression, in_expression_if, in_expressions, in_place, in_channel, in_event, in_events, in_waiting, in_notification, in_target, in_operation, in_spawn, in_who, in_action, in_statement, in_block, in_else, in_handlers, in_form, in_constant, in_span, in_item, in_module, leaves_of, descending_if, in_parameter, in_initiator, in_socket, in_end}
 use Rattle.model_tree.specs.declared.types.Constant.{Constant}
 use Rattle.model_tree.specs.declared.types.ConstantForm.{ConstantForm}
 use Rattle.model_tree.specs.declared.types.ConstantForm.TheVariants as constant
@@ -275,20 +273,3 @@ module _ (p : Leaf → Bool) (f : Span → Span) (may : (s : Span) → p (in_uni
   -- a tree whose leaves pass keeps them so, where each unit that is written passes
   pub retimed_pass : (m : tree.Model) → list_all p (leaves_of m) ≡ true → list_all p (leaves_of (retimed.model f m)) ≡ true
   retimed_pass m h = of_model m ∙ all_wider p (leaves_of m) h
-
--- what stands in a text of either language stands in one of the first, but for units
-first_wider : (h : Head) (l : Leaf) → may_have h l ≡ true → any_unit (may_have head.First) l ≡ true
-first_wider h (named x) k = refl
-first_wider h (in_unit u) k = refl
-first_wider head.First descending k = cc
-first_wider (head.Second r) descending k = cc
-
-all_first : (h : Head) (ls : Leaves) → list_all (may_have h) ls ≡ true → list_all (any_unit (may_have head.First)) ls ≡ true
-all_first h [] k = refl
-all_first h (l ∷ ls) k =
-    let parts = and_parts (may_have h l) (list_all (may_have h) ls) k in
-    and_from (any_unit (may_have head.First) l) (list_all (any_unit (may_have head.First)) ls) (first_wider h l parts.0) (all_first h ls parts.1)
-
--- so that a tree of either language is one of the first where each unit that is written is
-pub retimed_first : (f : Span → Span) → ((s : Span) → may_have head.First (in_unit (f s).unit) ≡ true) → (h : Head) (m : tree.Model) → keeps_language h m ≡ true → keeps_language head.First (retimed.model f m) ≡ true
-retimed_first f may h m k = of_model (may_have head.First) f may m ∙ all_first h (leaves_of m) k

@@ -7,16 +7,13 @@ ghost use Rattle.tick_trees.specs.Ticks.{ticks, ticks_span};
 ghost use Rattle.tick_trees.specs.Times.{times_of};
 ghost use Rattle.model_tree.specs.Tree as tree;
 ghost use Rattle.model_tree.specs.declared.items.Head.{Head};
-ghost use Rattle.model_tree.specs.declared.items.Head.TheVariants as head;
 ghost use Rattle.model_tree.specs.declared.types.Span.{Span};
 ghost use Rattle.tick_trees.specs.Laws.{retimed_timed, seen, whole};
 
-/// The tree of ticks keeps the limits of the language, and the words and units of its version. It is also one of language 1: its
-/// times are plain, and no control call reaches descendants in either version yet.
+/// The tree of ticks keeps the limits of the language, and the words and units of its version.
 pub fn ticks_are_trees()
     ensures limits { (r : Resolution) (m : tree.Model) → IsTrue (is_sound m) → IsTrue (is_sound (ticks r m)) }
     ensures language { (r : Resolution) (h : Head) (m : tree.Model) → IsTrue (keeps_language h m) → IsTrue (keeps_language h (ticks r m)) }
-    ensures first { (r : Resolution) (h : Head) (m : tree.Model) → IsTrue (keeps_language h m) → IsTrue (keeps_language head.First (ticks r m)) }
 {}
 
 /// In the tree of ticks the same constructs have times, on the same lines and in the same order, and each of these times is the

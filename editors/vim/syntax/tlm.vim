@@ -17,7 +17,7 @@ syntax keyword tlmStatement notify delta after cancel wait next_trigger for any 
 syntax keyword tlmStatement lock trylock unlock sem_wait sem_trywait post
 syntax keyword tlmStatement make acquire release carry b_transport nb_transport
 syntax keyword tlmStatement qk_global qk_inc qk_set qk_reset qk_sync
-syntax keyword tlmStatement spawn suspend resume disable enable kill reset
+syntax keyword tlmStatement spawn suspend resume disable enable kill reset descendants
 syntax keyword tlmValue true false now self concat
 syntax keyword tlmConstant READ WRITE IGNORE
 syntax keyword tlmConstant OK INCOMPLETE GENERIC ADDRESS COMMAND BURST BYTE_ENABLE

@@ -1,4 +1,4 @@
-use Rattle.code_rooms.proofs.Designs.{processes, hops, typed, methods, handlers, unwinding, threads, alone}
+use Rattle.code_rooms.proofs.Designs.{processes, hops, typed, methods, handlers, unwinding, threads}
 use Rattle.code_rooms.proofs.raised_designs.fields_stay.Goals as goal
 
 pub returns : goal.returns
@@ -10,5 +10,4 @@ returns c = record {
   handlers = λ d after differs fit. handlers d after differs fit;
   unwinding = λ d after differs fit. unwinding d after differs fit;
   threads = λ d after differs fit. threads d after differs fit;
-  alone = λ d after differs fit. alone d after differs fit;
 }

@@ -10,4 +10,4 @@ returns-clause-sound c =
     let m = model_of c.args.checked.tree in
     let d = record c.in_ok-design.design { resolution = c.resolution_of-resolution.result } in
     let made = c.in_ok-design.ensures in
-    c.accepted_designs_are_sound.ensures m d (accepted m c.args.checked.accepted made.accepted c.requires.limits c.requires.alone) (at_resolution m c.in_ok-design.design c.resolution_of-resolution.result made.design) (laid_out d c.args.checked.code made.code c.args.checked.nested c.requires.stand c.requires.rooms)
+    c.accepted_designs_are_sound.ensures m d (accepted m c.args.checked.accepted made.accepted c.requires.limits) (at_resolution m c.in_ok-design.design c.resolution_of-resolution.result made.design) (laid_out d c.args.checked.code made.code c.args.checked.nested c.requires.stand c.requires.rooms)

@@ -3,7 +3,7 @@ use Rattle.std.specs.Prelude.{IsSomeAnd}
 use Rattle.std.specs.Option.{option_copied}
 use Rattle.flat_design.specs.Code.{arena_of}
 use Rattle.exec_data.specs.KernelBodies.Layers.{call_of}
-use Rattle.exec_data.specs.ProcessState.Bodies.{left_in, settled_in}
+use Rattle.exec_data.specs.ProcessBodies.Bodies.{left_in, settled_in}
 use Rattle.exec_data.specs.SimModel.Residual as residual
 use Rattle.exec_data.specs.SimModel.Residual.{Frame, next_of}
 use Rattle.exec_calls.specs.Calling.{EndsNext}

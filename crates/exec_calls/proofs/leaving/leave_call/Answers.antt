@@ -5,7 +5,7 @@ use Rattle.exec_data.proofs.KernelBodies.Strips.{strip-put}
 use Rattle.exec_data.specs.SimModel.Residual as residual
 use Rattle.exec_data.specs.SimModel.Residual.{settle, next_of, put, skip}
 use Rattle.exec_data.specs.SimModel.Configuration.{arena}
-use Rattle.exec_data.specs.ProcessState.Bodies.{settled_in}
+use Rattle.exec_data.specs.ProcessBodies.Bodies.{settled_in}
 use Rattle.exec_data.proofs.KernelState.Frames.{one_body_sound, old_body_sound, there_still, steps_to, settled_before}
 use Rattle.exec_calls.proofs.OneBody.{was, kept_is, comes_next, body_changes}
 use Rattle.exec_calls.proofs.leaving.leave_call.Goals as goal

@@ -2,7 +2,7 @@ use Rattle.std.proofs.Common.{◌≡◌, sym, ap, ◌∙◌}
 use Rattle.std.specs.Option.{option_copied_mut}
 use Rattle.flat_design.specs.Code.{arena_of}
 use Rattle.exec_data.specs.KernelBodies.Layers.{shown}
-use Rattle.exec_data.specs.ProcessState.Bodies as bodies
+use Rattle.exec_data.specs.ProcessBodies.Bodies as bodies
 use Rattle.exec_data.specs.SimModel.Residual as residual
 use Rattle.exec_data.specs.SimModel.Residual.{next_of, open_frames}
 use Rattle.exec_data.proofs.KernelState.Frames.{one_body_sound, old_body_sound, there_still}

@@ -4,8 +4,8 @@ use Rattle.flat_design.specs.Code.{arena_of}
 use Rattle.exec_data.specs.SimModel.Residual.{settle, put, skip, has_goal}
 use Rattle.exec_data.specs.SimModel.Configuration.{arena}
 use Rattle.exec_data.proofs.KernelBodies.Strips.{strip-put}
-use Rattle.exec_data.specs.ProcessState.Bodies as bodies
-use Rattle.exec_data.specs.ProcessState.Bodies.{left_in}
+use Rattle.exec_data.specs.ProcessBodies.Bodies as bodies
+use Rattle.exec_data.specs.ProcessBodies.Bodies.{left_in}
 use Rattle.exec_data.proofs.KernelState.Frames.{one_body_sound, old_body_sound, steps_to, settled_before, there_still}
 use Rattle.exec_control.proofs.OneInstance.{was, kept_now, others_kept}
 use Rattle.exec_control.proofs.Throwing.{settle_goal}

@@ -5,7 +5,7 @@ use Rattle.exec_data.proofs.KernelBodies.Strips.{strip-put}
 use Rattle.std.proofs.Common.{subst}
 use Rattle.exec_data.specs.SimModel.Residual.{settle, put, skip}
 use Rattle.exec_data.specs.SimModel.Configuration.{arena}
-use Rattle.exec_data.specs.ProcessState.Bodies as bodies
+use Rattle.exec_data.specs.ProcessBodies.Bodies as bodies
 use Rattle.exec_data.proofs.KernelState.Frames.{one_body_sound, old_body_sound, steps_to, settled_before}
 use Rattle.exec_control.proofs.OneInstance.{was}
 use Rattle.exec_control.proofs.goals.pass_goal.Goals as goal

@@ -3,7 +3,7 @@ use Rattle.std.specs.Option.{option_copied_mut}
 use Rattle.exec_data.specs.KernelBodies.declared.around.Around.TheVariants as around
 use Rattle.exec_data.specs.KernelBodies.Strip.{strip}
 use Rattle.exec_data.proofs.KernelBodies.Strips.{strip-block, strip-put}
-use Rattle.exec_data.specs.ProcessState.Bodies as bodies
+use Rattle.exec_data.specs.ProcessBodies.Bodies as bodies
 use Rattle.exec_data.specs.SimModel.Residual.{settle, put, block, guard, enter}
 use Rattle.exec_data.specs.SimModel.Configuration.{arena, with_residual, with_marks}
 use Rattle.exec_data.specs.SimModel.Statements.{settled_in}

@@ -5,7 +5,7 @@ use Rattle.exec_data.specs.KernelBodies.Depths.{handlers_of}
 use Rattle.exec_data.specs.KernelBodies.declared.around.Around.TheVariants as around
 use Rattle.exec_data.specs.KernelBodies.Strip.{strip}
 use Rattle.exec_data.proofs.KernelBodies.Strips.{strip-block, strip-put}
-use Rattle.exec_data.specs.ProcessState.Bodies as bodies
+use Rattle.exec_data.specs.ProcessBodies.Bodies as bodies
 use Rattle.exec_data.specs.SimModel.Residual.{settle, put, block, try_}
 use Rattle.exec_data.specs.SimModel.Configuration.{arena}
 use Rattle.exec_data.proofs.KernelState.Frames.{one_body_sound, old_body_sound, steps_to, settled_before}

@@ -3,7 +3,7 @@ use Rattle.std.specs.Prelude.{unwrap_or}
 use Rattle.std.specs.Option.{option_copied}
 use Rattle.flat_design.specs.Code.{arena_of}
 use Rattle.exec_data.specs.SimModel.Residual.{has_goal}
-use Rattle.exec_data.specs.ProcessState.Bodies.{left_in}
+use Rattle.exec_data.specs.ProcessBodies.Bodies.{left_in}
 use Rattle.exec_data.proofs.KernelBodies.Strips.{strip-has_goal}
 use Rattle.exec_data.proofs.KernelState.Frames.{left_before}
 use Rattle.exec_control.proofs.OneInstance.{was}

@@ -1,6 +1,6 @@
 use Rattle.std.proofs.Common.{take, sym, ap, ◌∙◌, subst, arith}
 use Rattle.exec_data.specs.SimModel.Unwinding.{left_by_raise}
-use Rattle.exec_data.specs.ProcessState.Bodies.{left_in}
+use Rattle.exec_data.specs.ProcessBodies.Bodies.{left_in}
 use Rattle.exec_data.specs.KernelTransactions.Board.{StandsForTransactions, left}
 use Rattle.exec_data.proofs.KernelTransactions.Histories.{left-more}
 use Rattle.exec_data.proofs.KernelState.Leaving.{here_below, one_more_taken, all_taken}

@@ -1,6 +1,6 @@
 use Rattle.std.proofs.Common.{◌-◌, length, take}
 use Rattle.exec_data.specs.SimModel.Unwinding.{left_by_raise}
-use Rattle.exec_data.specs.ProcessState.Bodies.{left_in}
+use Rattle.exec_data.specs.ProcessBodies.Bodies.{left_in}
 use Rattle.exec_data.specs.KernelTransactions.Board.{Moves, StaysWithin, SameQuantum, left}
 use Rattle.exec_control.proofs.throws.leave_calls.Given as goal
 

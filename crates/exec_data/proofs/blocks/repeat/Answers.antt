@@ -2,7 +2,7 @@ use Rattle.std.proofs.Common.{[], ◌∷◌, sym, ap, ◌∙◌}
 use Rattle.std.specs.Option.{option_copied_mut}
 use Rattle.kernel_view.specs.KernelBodies.declared.around.Around.TheVariants as around
 use Rattle.kernel_view.proofs.KernelBodies.Strips.{strip-block, strip-followed}
-use Rattle.kernel_view.specs.ProcessState.Bodies as bodies
+use Rattle.kernel_view.specs.ProcessBodies.Bodies as bodies
 use Rattle.kernel_view.specs.SimModel.Residual.{settle, put, block, followed}
 use Rattle.kernel_view.specs.SimModel.Configuration.{arena}
 use Rattle.kernel_view.proofs.KernelState.Frames.{one_body_sound, old_body_sound, steps_to}

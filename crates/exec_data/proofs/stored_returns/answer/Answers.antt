@@ -5,11 +5,14 @@ use Rattle.kernel_view.specs.SimModel.Unwinding.{returned, return_marks}
 use Rattle.kernel_view.specs.SimModel.Configuration.{arena, with_residual, with_marks}
 use Rattle.kernel_view.specs.SimModel.Statements.{settled_in}
 use Rattle.kernel_view.proofs.KernelBodies.Strips.{strip-returned}
-use Rattle.kernel_view.proofs.KernelState.Frames.{one_body_sound, old_body_sound, steps_to, settled_before, trace_moves}
+use Rattle.kernel_view.proofs.KernelState.Frames.{one_body_sound, old_body_sound, steps_to, settled_before, trace_moves, was}
 use Rattle.exec_data.proofs.stored_returns.answer.Goals as goal
 
-pub answer-requires : goal.answer-requires
-answer-requires c = old_body_sound c.args.k.now c.args.p c.in-Some.x.now (sym c.get_mut.ensures.value ∙ ap option_copied_mut c.in-Some.is) c.requires.sound
+pub answer-requires-clause-sound : goal.answer-requires-clause-sound
+answer-requires-clause-sound c = old_body_sound c.args.k.now c.args.p c.in-Some.x.now (sym c.get_mut.ensures.value ∙ ap option_copied_mut c.in-Some.is) c.requires.sound
+
+pub answer-requires-clause-statement : goal.answer-requires-clause-statement
+answer-requires-clause-statement c = c.requires.statement c.in-Some.x.now.body.body (was c.args.k.now c.args.p c.in-Some.x.now (sym c.get_mut.ensures.value ∙ ap option_copied_mut c.in-Some.is))
 
 pub returns-in-Some-clause-steps : goal.returns-in-Some-clause-steps
 returns-in-Some-clause-steps c d i h there =

@@ -1,7 +1,7 @@
-use Rattle.std.proofs.Common.{◌≡◌, Option, Some, None, refl, sym, ap, ◌∙◌}
+use Rattle.std.proofs.Common.{◌≡◌, Option, Some, None, option_map, refl, sym, ap, ◌∙◌}
 use Rattle.std.specs.Option.{option_copied}
 use Rattle.flat_design.specs.Code.{Arena, arena_of}
-use Rattle.kernel_view.specs.ProcessState.Bodies as bodies
+use Rattle.kernel_view.specs.ProcessBodies.Bodies as bodies
 use Rattle.kernel_view.specs.SimModel.Residual.{Frame, settle, innermost}
 use Rattle.kernel_view.specs.SimModel.Configuration.{arena}
 use Rattle.kernel_view.specs.SimModel.Calls.{answer_type}
@@ -10,7 +10,7 @@ use Rattle.kernel_view.proofs.KernelState.Frames.{settled_before}
 use Rattle.exec_data.specs.Answered.{type_of_answers}
 use Rattle.exec_data.proofs.stored_returns.answer_type.Goals as goal
 
-of_frame : (a : Arena) (x : Option Frame) → type_of_answers a (bodies.body_of x) ≡ answer_type a x
+of_frame : (a : Arena) (x : Option Frame) → type_of_answers a (option_map (λ (f : Frame). f.body) x) ≡ answer_type a x
 of_frame a None = refl
 of_frame a (Some x) = refl
 

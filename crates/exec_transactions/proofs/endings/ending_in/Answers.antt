@@ -4,7 +4,7 @@ use Rattle.std.proofs.Common.{Bor}
 use Rattle.flat_design.specs.Code.{arena_of}
 use Rattle.exec_calls.specs.KernelBodies.Layers.{call_of}
 use Rattle.exec_calls.specs.KernelBodies.declared.layers.Frame.{Frame}
-use Rattle.exec_calls.specs.ProcessState.Bodies.{left_in, settled_in}
+use Rattle.exec_calls.specs.ProcessBodies.Bodies.{left_in, settled_in}
 use Rattle.exec_calls.specs.SimModel.Residual.{next_of}
 use Rattle.exec_transactions.specs.Ending.{ending_of}
 use Rattle.exec_calls.proofs.Ends.{leaves_innermost}

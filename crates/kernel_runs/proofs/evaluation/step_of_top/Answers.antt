@@ -9,9 +9,6 @@ returns-clause-makes c =
     subst (λ m. Makes c.args.k.now c.step_statement.new.k m (λ d. evaluate d d.processes.stack d.processes.runnable)) (sym c.of_instance.ensures)
     (top_made c.args.k.now c.step_statement.new.k c.args.p c.requires.top c.step_statement.result c.requires.sound c.step_statement.ensures.makes)
 
-pub step_statement-requires-clause-alone : goal.step_statement-requires-clause-alone
-step_statement-requires-clause-alone c = c.requires.asked.alone c.args.p c.requires.top
-
 pub step_statement-requires-clause-posts : goal.step_statement-requires-clause-posts
 step_statement-requires-clause-posts c = c.requires.asked.posts
 

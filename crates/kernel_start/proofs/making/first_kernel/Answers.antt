@@ -19,7 +19,7 @@ pub returns-in-Ok-first_processes-clause-first : goal.returns-in-Ok-first_proces
 returns-in-Ok-first_processes-clause-first c script = subst (λ k. StandsFor k (start c.args.design script)) (sym c.assembled.ensures.parts)
     (first_stands c.without_code-design.result.design c.in-Ok-new.program c.assembled.result.cycle c.in-Ok-first_processes.schedule c.in-Ok.first c.args.design
     c.without_code-design.ensures.others (c.in-Ok-new.ensures ∙ c.without_code-design.ensures.code) c.assembled.ensures.cycle _ c.in-Ok-first_processes.ensures.adds c.as_slice.ensures
-    c.in-Ok.ensures.events c.in-Ok.ensures.channels c.in-Ok.ensures.transactions c.in-Ok.ensures.quantum c.in-Ok.ensures.variables c.in-Ok.ensures.memories script)
+    c.in-Ok.ensures.parents c.in-Ok.ensures.events c.in-Ok.ensures.channels c.in-Ok.ensures.transactions c.in-Ok.ensures.quantum c.in-Ok.ensures.variables c.in-Ok.ensures.memories script)
 
 pub invariant_of-result : goal.invariant_of-result
 invariant_of-result c = record {

@@ -2,7 +2,7 @@ use Rattle.std.proofs.Common.{sym, ap, ◌∙◌}
 use Rattle.std.specs.Option.{option_copied}
 use Rattle.kernel_processes.specs.FlatDesign.Code.{arena_of}
 use Rattle.kernel_processes.specs.SimModel.Residual.{has_goal}
-use Rattle.process_state.proofs.KernelBodies.Strips.{strip-has_goal}
+use Rattle.process_bodies.proofs.KernelBodies.Strips.{strip-has_goal}
 use Rattle.kernel_state.proofs.Frames.{left_before}
 use Rattle.kernel_state.proofs.control.has_goal.Goals as goal
 

@@ -1,7 +1,7 @@
 use Rattle.std.proofs.Common.{[], ◌-◌, length, take}
 use Rattle.kernel_processes.specs.FlatDesign.Code.{Arena}
 use Rattle.kernel_processes.specs.SimModel.Unwinding.{left_by_unw}
-use Rattle.process_state.specs.Bodies.{left_of}
+use Rattle.process_bodies.specs.Bodies.{left_of}
 use Rattle.kernel_transactions.specs.Board.{Moves, StaysWithin, SameQuantum, left}
 use Rattle.kernel_state.proofs.control.leave_calls.Given as goal
 

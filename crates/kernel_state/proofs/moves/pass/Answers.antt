@@ -2,7 +2,7 @@ use Rattle.std.proofs.Common.{sym, ap, ◌∙◌}
 use Rattle.std.specs.Option.{option_copied_mut}
 use Rattle.kernel_processes.specs.SimModel.Residual.{settle, put, skip}
 use Rattle.kernel_processes.specs.SimModel.Configuration.{arena}
-use Rattle.process_state.proofs.KernelBodies.Strips.{strip-put}
+use Rattle.process_bodies.proofs.KernelBodies.Strips.{strip-put}
 use Rattle.kernel_state.proofs.Frames.{one_body_sound, old_body_sound, steps_to, settled_before}
 use Rattle.kernel_state.proofs.moves.pass.Goals as goal
 

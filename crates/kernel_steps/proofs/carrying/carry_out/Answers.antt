@@ -1,11 +1,8 @@
 use Rattle.std.proofs.Common.{map, ◌∷◌, [], Some, refl, sym, ap, ◌∙◌, subst}
 use Rattle.std.specs.Prelude.{Contains}
-use Rattle.flat_design.specs.Blocking.{ActsAlone}
 use Rattle.flat_design.specs.Code.{statement_of, argument_term}
 use Rattle.exec_channels.specs.SimModel.Reading.{here}
 use Rattle.exec_channels.specs.SimModel.Calls.{do_call}
-use Rattle.exec_channels.specs.SimModel.Control.{do_control, do_throw_it}
-use Rattle.exec_channels.specs.KernelState.Moves.{Does}
 use Rattle.exec_channels.specs.KernelState.Stopping.{DoesOrStops}
 use Rattle.exec_channels.specs.KernelBodies.Around.{around_if}
 use Rattle.exec_channels.specs.KernelBodies.Depths.{blocks_in}
@@ -149,12 +146,10 @@ pub returns-in-QkReset-clause-carries : goal.returns-in-QkReset-clause-carries
 returns-in-QkReset-clause-carries c = plain_carried c.args.k.now c.qk_reset.new.k c.plain-in-QkReset.result c.args.p c.args.s c.args.statement.now _ c.in-QkReset.is refl c.qk_reset.result c.plain-in-QkReset.ensures c.qk_reset.ensures.does
 
 pub returns-in-Control-clause-carries : goal.returns-in-Control-clause-carries
-returns-in-Control-clause-carries c = plain_carried c.args.k.now c.control.new.k c.plain-in-Control.result c.args.p c.args.s c.args.statement.now _ c.in-Control.is refl c.control.result c.plain-in-Control.ensures
-    (subst (λ all. Does c.args.k.now c.control.new.k c.control.result c.args.p (λ d q i r. do_control d q r (here d q i r) c.args.s c.in-Control.order c.in-Control.who all)) (sym (subst (λ x. ActsAlone (statement_of x)) c.in-Control.is c.requires.alone)) c.control.ensures.does)
+returns-in-Control-clause-carries c = taking_carried c.args.k.now c.control.new.k c.taking-in-Control.result c.args.p c.args.s c.args.statement.now _ c.in-Control.is refl c.control.result c.taking-in-Control.ensures c.control.ensures.does
 
 pub returns-in-ThrowIt-clause-carries : goal.returns-in-ThrowIt-clause-carries
-returns-in-ThrowIt-clause-carries c = plain_carried c.args.k.now c.throw_it.new.k c.plain-in-ThrowIt.result c.args.p c.args.s c.args.statement.now _ c.in-ThrowIt.is refl c.throw_it.result c.plain-in-ThrowIt.ensures
-    (subst (λ all. Does c.args.k.now c.throw_it.new.k c.throw_it.result c.args.p (λ d q i r. do_throw_it d q r (here d q i r) c.args.s c.in-ThrowIt.who c.in-ThrowIt.e all)) (sym (subst (λ x. ActsAlone (statement_of x)) c.in-ThrowIt.is c.requires.alone)) c.throw_it.ensures.does)
+returns-in-ThrowIt-clause-carries c = taking_carried c.args.k.now c.throw_it.new.k c.taking-in-ThrowIt.result c.args.p c.args.s c.args.statement.now _ c.in-ThrowIt.is refl c.throw_it.result c.taking-in-ThrowIt.ensures c.throw_it.ensures.does
 
 pub returns-in-NbTransport-clause-carries : goal.returns-in-NbTransport-clause-carries
 returns-in-NbTransport-clause-carries c = sending_carried c.args.k.now c.nb_transport.new.k c.taking-in-NbTransport.result c.args.p c.args.s c.args.statement.now _ c.in-NbTransport.is refl c.nb_transport.result c.taking-in-NbTransport.ensures c.nb_transport.ensures.calls

@@ -1,9 +1,10 @@
 use Rattle.std.proofs.Common.{◌≡◌, sym, ap, ◌∙◌}
 use Rattle.std.specs.Option.{option_copied}
 use Rattle.exec_channels.specs.KernelBodies.declared.layers.Next.TheVariants as next
-use Rattle.exec_channels.specs.ProcessState.Bodies.{settled_in, next_in}
+use Rattle.exec_channels.specs.ProcessBodies.Bodies.{settled_in, next_in}
 use Rattle.exec_channels.specs.SimModel.Residual as residual
 use Rattle.exec_channels.specs.SimModel.Residual.{next_of}
+use Rattle.exec_channels.proofs.KernelState.Frames.{old_body_sound}
 use Rattle.kernel_steps.proofs.Shows.{kept_is, comes_next, leave_next}
 use Rattle.kernel_steps.proofs.stepping.next_at.Goals as goal
 
@@ -11,8 +12,16 @@ pub returns-in-Some-clause-statement : goal.returns-in-Some-clause-statement
 returns-in-Some-clause-statement c = λ s is.
     kept_is c.args.k.now c.args.p c.in-Some.x.now (sym c.get.ensures.value ∙ ap option_copied c.in-Some.is) (λ kept. next_of (settled_in c.args.k.now.program kept.body) ≡ residual.statement s) (c.next.ensures.statement s is)
 
-pub returns-in-Some-clause-alone : goal.returns-in-Some-clause-alone
-returns-in-Some-clause-alone c = c.next.ensures.alone
+pub next-requires : goal.next-requires
+next-requires c = old_body_sound c.args.k.now c.args.p c.in-Some.x.now (sym c.get.ensures.value ∙ ap option_copied c.in-Some.is) c.requires.sound
+
+pub returns-in-Some-clause-owes : goal.returns-in-Some-clause-owes
+returns-in-Some-clause-owes c = λ s q is.
+    kept_is c.args.k.now c.args.p c.in-Some.x.now (sym c.get.ensures.value ∙ ap option_copied c.in-Some.is) (λ kept. next_of (settled_in c.args.k.now.program kept.body) ≡ residual.owes s q) (c.next.ensures.owes s q is)
+
+pub returns-in-Some-clause-shows_owed : goal.returns-in-Some-clause-shows_owed
+returns-in-Some-clause-shows_owed c = λ s q is.
+    comes_next c.args.k.now c.args.p c.in-Some.x.now (sym c.get.ensures.value ∙ ap option_copied c.in-Some.is) (residual.owes s q) (c.next.ensures.owes s q is)
 
 pub returns-in-Some-clause-goal : goal.returns-in-Some-clause-goal
 returns-in-Some-clause-goal c = λ g is.

@@ -18,9 +18,6 @@ carry_out-requires-clause-there c = ap (λ a. statement_at a c.args.s) (sym c.re
 pub carry_out-requires-clause-free : goal.carry_out-requires-clause-free
 carry_out-requires-clause-free c = c.requires.free (statement_of c.in-Some.x.now) (carry_out-requires-clause-there c)
 
-pub carry_out-requires-clause-alone : goal.carry_out-requires-clause-alone
-carry_out-requires-clause-alone c = c.requires.alone (statement_of c.in-Some.x.now) (carry_out-requires-clause-there c)
-
 pub returns-in-Some-clause-makes : goal.returns-in-Some-clause-makes
 returns-in-Some-clause-makes c =
     subst (λ o. MakesAll c.args.k.now c.carry_out.new.k c.carry_out.result c.args.p (λ d q i r. on_statement d q i r c.args.s o))

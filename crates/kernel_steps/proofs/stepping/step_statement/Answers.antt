@@ -6,7 +6,7 @@ use Rattle.kernel_steps.specs.declared.answers.StepAnswer.TheVariants as answer
 use Rattle.kernel_steps.proofs.Silent.{goal_quiet}
 use Rattle.kernel_steps.proofs.Returned.{leaves_quiet}
 use Rattle.kernel_steps.proofs.Answered.{left}
-use Rattle.kernel_steps.proofs.Shows.{next_made, statement_made}
+use Rattle.kernel_steps.proofs.Shows.{next_made, owed_made, statement_made}
 use Rattle.kernel_steps.proofs.stepping.step_statement.Goals as goal
 
 pub on_statement-requires-clause-next : goal.on_statement-requires-clause-next
@@ -15,11 +15,15 @@ on_statement-requires-clause-next c = c.next_at.ensures.statement c.in-Statement
 pub on_statement-requires-clause-free : goal.on_statement-requires-clause-free
 on_statement-requires-clause-free c = c.requires.free c.in-Statement.s (c.next_at.ensures.statement c.in-Statement.s c.in-Statement.is)
 
-pub on_statement-requires-clause-alone : goal.on_statement-requires-clause-alone
-on_statement-requires-clause-alone c = c.requires.alone c.in-Statement.s (c.next_at.ensures.statement c.in-Statement.s c.in-Statement.is)
+pub on_owed-requires-clause-same : goal.on_owed-requires-clause-same
+on_owed-requires-clause-same c = c.requires.ready.same
+
+pub on_owed-requires-clause-owes : goal.on_owed-requires-clause-owes
+on_owed-requires-clause-owes c = c.next_at.ensures.owes c.in-Batch.s c.in-Batch.q c.in-Batch.is
 
 pub returns-in-Batch-clause-makes : goal.returns-in-Batch-clause-makes
-returns-in-Batch-clause-makes c = absurd (c.next_at.ensures.alone c.in-Batch.field-0 c.in-Batch.field-1 c.in-Batch.is)
+returns-in-Batch-clause-makes c =
+    owed_made c.args.k.now c.on_owed.new.k c.on_owed.result c.args.p c.in-Batch.s c.in-Batch.q (c.next_at.ensures.shows_owed c.in-Batch.s c.in-Batch.q c.in-Batch.is) c.on_owed.ensures.makes
 
 pub leave-requires-clause-leaves : goal.leave-requires-clause-leaves
 leave-requires-clause-leaves c = c.next_at.ensures.leaves c.in-Leave.is

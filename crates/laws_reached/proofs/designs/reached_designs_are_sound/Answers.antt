@@ -1,6 +1,5 @@
 use Rattle.laws_reached.proofs.Kernels.{kernel-design, kernel-names, kernel-numbers}
-use Rattle.laws_reached.proofs.Unwinding.{acts-alone-next}
 use Rattle.laws_reached.proofs.designs.reached_designs_are_sound.Goals as goal
 
 pub returns : goal.returns
-returns c = record { sound = kernel-design; names = kernel-names; numbers = kernel-numbers; alone = acts-alone-next }
+returns c = record { sound = kernel-design; names = kernel-names; numbers = kernel-numbers }

@@ -1,9 +1,7 @@
-use Rattle.std.proofs.Common.{◌≡◌, ◌∙◌, Some, None, ap, inl, inr, subst, sym, true}
-use Rattle.model_tree.specs.Languages.{keeps_language}
+use Rattle.std.proofs.Common.{◌≡◌, ◌∙◌, Some, None, ap, inl, inr, subst}
 use Rattle.model_tree.specs.Seen.{model_of, source_of}
 use Rattle.model_tree.specs.Tree as tree
 use Rattle.model_tree.specs.declared.items.Head.{Head}
-use Rattle.model_tree.specs.declared.items.Head.TheVariants as head
 use Rattle.elaborate.specs.TickRules.Sources.{resolution_of, source_fault, ticked}
 use Rattle.elaborate.specs.Elaborated.{elaboration_fault}
 use Rattle.elaborate.specs.DesignRules.Designs.{IsDesignOf}
@@ -13,9 +11,6 @@ use Rattle.run_input.proofs.judging.judge_tree.Goals as goal
 
 pub sound_design-requires-clause-limits : goal.sound_design-requires-clause-limits
 sound_design-requires-clause-limits c = c.in-Ok.checked.tree.sound
-
-pub sound_design-requires-clause-alone : goal.sound_design-requires-clause-alone
-sound_design-requires-clause-alone c = subst (λ (m : tree.Model). keeps_language head.First m ≡ true) (sym c.in-Ok.ensures.tree) (c.ticks_act_alone.ensures (source_of c.args.tree) c.args.tree.language)
 
 pub returns-in-Ok-sound_design-clause-accepted : goal.returns-in-Ok-sound_design-clause-accepted
 returns-in-Ok-sound_design-clause-accepted c = λ text reads.

@@ -12,7 +12,6 @@ returns c k program d h reached few starts steps same = record {
     same = same ∙ ap (λ (x : Design). arena_of x.code) h.design;
   };
   throws = λ p top. c.throws_are_free.ensures.next k d h reached p;
-  alone = λ p top. c.reached_designs_are_sound.ensures.alone k d h reached p top;
   others = c.others_have_no_goal.ensures k d h reached;
   posts = c.semaphores_are_within.ensures.room k d h reached (subst (λ (x : Design). All (λ (p : SemaphorePart). p.start < 2 ^ 31) x.semaphores) h.design starts) steps;
   fresh = λ begins. c.fresh_at_start.ensures.kernel k d h reached begins;

@@ -1,7 +1,6 @@
 use Rattle.model_tree.specs.Languages.{may_have}
-use Rattle.model_tree.specs.declared.items.Head.TheVariants as head
 use Rattle.tick_trees.specs.Ticks.{ticks_span}
-use Rattle.tick_trees.proofs.Languages.{retimed_pass, retimed_first}
+use Rattle.tick_trees.proofs.Languages.{retimed_pass}
 use Rattle.tick_trees.proofs.Limits.{retimed_are_sound}
 use Rattle.tick_trees.proofs.Spans.{ticks_are_numbers, ticks_may_stand}
 use Rattle.tick_trees.proofs.laws.ticks_are_trees.Goals as goal
@@ -11,6 +10,3 @@ returns-clause-limits c = λ r m h. retimed_are_sound (ticks_span r) (ticks_are_
 
 pub returns-clause-language : goal.returns-clause-language
 returns-clause-language c = λ r l m h. retimed_pass (may_have l) (ticks_span r) (ticks_may_stand l r) m h
-
-pub returns-clause-first : goal.returns-clause-first
-returns-clause-first c = λ r l m h. retimed_first (ticks_span r) (ticks_may_stand head.First r) l m h

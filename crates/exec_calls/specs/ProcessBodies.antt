@@ -1,0 +1,1 @@
+pub use Rattle.exec_data.specs.ProcessBodies.Bodies as Bodies

@@ -1,1 +1,0 @@
-pub use Rattle.kernel_view.specs.ProcessState.Bodies as Bodies

@@ -1,0 +1,1 @@
+pub use Rattle.kernel_state.specs.ProcessBodies.Bodies as Bodies

@@ -1,1 +1,0 @@
-pub use Rattle.kernel_state.specs.ProcessState.Bodies as Bodies

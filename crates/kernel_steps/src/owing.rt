@@ -1,0 +1,121 @@
+//! A control call that a statement owes, made for one instance.
+ghost use Rattle.std.specs.Prelude.{◌≡◌};
+ghost use Rattle.flat_design.specs.Code.{arena_of, statement_at, statement_of};
+ghost use Rattle.exec_channels.specs.SimModel.Residual.{taken_off};
+ghost use Rattle.exec_channels.specs.SimModel.Configuration.{with_residual};
+ghost use Rattle.exec_channels.specs.SimModel.Statements as statements;
+ghost use Rattle.exec_channels.specs.KernelState.Kernel.{IsSound};
+ghost use Rattle.exec_channels.specs.KernelState.Moves.{IsOnTop};
+ghost use Rattle.exec_channels.specs.KernelState.Ways.{HasOwed};
+ghost use Rattle.exec_control.specs.Thrown.{OthersHaveNoGoal};
+ghost use Rattle.kernel_steps.specs.Owing.{Owes, call_of};
+ghost use Rattle.kernel_steps.specs.Told.{MakesAll};
+
+use crate::answers::{StepAnswer, plain};
+use exec_channels::kernel_bodies_api::Program;
+use exec_channels::kernel_state_api::{Kernel, Way, move_on, top_lives};
+use exec_channels::model_tree_api::Control;
+use exec_control::{control_owed, throw_owed};
+use flat_design::{NameId, Statement, StmtId};
+
+/// Which call a statement owes.
+#[derive(Clone, Copy)]
+pub(crate) enum OwedCall {
+    /// None: it is no control call.
+    Nothing,
+    /// A suspend, resume, disable, enable, kill or reset.
+    Control(Control),
+    /// An exception.
+    Throw(NameId),
+}
+
+/// Which call a statement owes.
+fn call_of(statement: &Statement) -> OwedCall
+    ensures { result ≡ call_of (statement_of statement.now) }
+{
+    match statement {
+        Statement::Control(order, _, _) => OwedCall::Control(*order),
+        Statement::ThrowIt(_, e, _) => OwedCall::Throw(*e),
+        Statement::Var(_, _, _)
+        | Statement::Assign(_, _)
+        | Statement::Call(_, _, _)
+        | Statement::Read(_, _)
+        | Statement::NbRead(_, _, _)
+        | Statement::NbWrite(_, _, _, _)
+        | Statement::Trylock(_, _)
+        | Statement::Unlock(_, _)
+        | Statement::SemTrywait(_, _)
+        | Statement::NbTransport(_, _, _, _, _)
+        | Statement::Write(_, _, _)
+        | Statement::Print(_, _)
+        | Statement::Notify(_)
+        | Statement::NotifyDelta(_)
+        | Statement::NotifyAfter(_, _)
+        | Statement::Cancel(_)
+        | Statement::Wait(_)
+        | Statement::NextTrigger(_)
+        | Statement::Lock(_)
+        | Statement::SemWait(_)
+        | Statement::Post(_)
+        | Statement::Make(_, _, _)
+        | Statement::Acquire(_)
+        | Statement::Release(_)
+        | Statement::Carry(_, _)
+        | Statement::BTransport(_, _, _)
+        | Statement::QkGlobal(_)
+        | Statement::QkInc(_, _)
+        | Statement::QkSet(_, _)
+        | Statement::QkReset(_)
+        | Statement::Spawn(_)
+        | Statement::Throw(_)
+        | Statement::Return(_)
+        | Statement::Stop
+        | Statement::If(_, _, _)
+        | Statement::While(_, _)
+        | Statement::Guard(_, _)
+        | Statement::Try(_, _) => OwedCall::Nothing,
+    }
+}
+
+/// A call that is owed to instance `q` first is made for it.
+fn make_owed(k: &mut Kernel, p: u32, q: u32, statement: &Statement) -> StepAnswer
+    requires sound { IsSound k.old }
+    requires top { IsOnTop k.old p }
+    requires owes { HasOwed k.old p }
+    requires others { OthersHaveNoGoal k.old }
+    ensures makes { MakesAll k.old k.new result p (λ c t i r. statements.owed_call (with_residual c t (taken_off r)) q (statement_of statement.now)) }
+    ensures sound { IsSound k.new }
+    ensures made { k.new.made ≡ k.old.made }
+{
+    top_lives(k, p);
+    match call_of(statement) {
+        OwedCall::Control(order) => plain(control_owed(k, p, q, order)),
+        OwedCall::Throw(e) => plain(throw_owed(k, p, q, e)),
+        OwedCall::Nothing => {
+            move_on(k, p, Way::TakenOff);
+            StepAnswer::Went
+        }
+    }
+}
+
+/// The call that statement `s` owes to instance `q` comes next, and is made for it; the statement owes it to one less. It takes no
+/// memory.
+pub(crate) fn on_owed(k: &mut Kernel, program: &Program, p: u32, s: StmtId, q: u32) -> StepAnswer
+    requires sound { IsSound k.old }
+    requires top { IsOnTop k.old p }
+    requires same { arena_of program.now.code ≡ arena_of k.old.program.code }
+    requires owes { Owes k.old p s q }
+    requires others { OthersHaveNoGoal k.old }
+    ensures makes { MakesAll k.old k.new result p (λ c t i r. statements.owed_by (with_residual c t (taken_off r)) q (statement_at (arena_of k.old.program.code) s)) }
+    ensures sound { IsSound k.new }
+    ensures made { k.new.made ≡ k.old.made }
+{
+    top_lives(k, p);
+    match program.statement(s) {
+        Some(x) => make_owed(k, p, q, x),
+        None => {
+            move_on(k, p, Way::TakenOff);
+            StepAnswer::Went
+        }
+    }
+}

@@ -1,0 +1,3 @@
+pub use Rattle.kernel_state.specs.ProcessBodies.Bodies as Bodies
+pub use Rattle.kernel_state.specs.ProcessBodies.declared as declared
+pub use Rattle.kernel_state.specs.ProcessBodies.calls as calls

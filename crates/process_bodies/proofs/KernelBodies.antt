@@ -1,0 +1,1 @@
+pub use Rattle.kernel_bodies.proofs.Strips as Strips

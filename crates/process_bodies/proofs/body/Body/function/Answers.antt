@@ -1,0 +1,11 @@
+use Rattle.std.proofs.Common.{sym, ap, ◌∙◌, subst}
+use Rattle.kernel_bodies.specs.FlatDesign.Code.{arena_of}
+use Rattle.process_state.specs.Bodies.{body_of}
+use Rattle.kernel_bodies.specs.SimModel.Residual.{innermost}
+use Rattle.process_state.specs.Bodies as calls
+use Rattle.process_bodies.proofs.Places.{owed_innermost}
+use Rattle.process_bodies.proofs.Showing.{shows_settled}
+use Rattle.process_bodies.proofs.body.Body.function.Goals as goal
+
+pub returns : goal.returns
+returns c = c.function.ensures ∙ ap body_of (sym (shows_settled innermost owed_innermost (arena_of c.args.program.now.code) (calls.left_in c.args.program.now c.args.self.now.calls) c.args.self.now.owed))

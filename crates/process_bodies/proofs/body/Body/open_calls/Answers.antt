@@ -1,0 +1,10 @@
+use Rattle.std.proofs.Common.{sym, ap, ◌∙◌, subst}
+use Rattle.kernel_bodies.specs.FlatDesign.Code.{arena_of}
+use Rattle.kernel_bodies.specs.SimModel.Residual.{open_frames}
+use Rattle.process_state.specs.Bodies as calls
+use Rattle.process_bodies.proofs.Places.{owed_frames}
+use Rattle.process_bodies.proofs.Showing.{shows_settled}
+use Rattle.process_bodies.proofs.body.Body.open_calls.Goals as goal
+
+pub returns : goal.returns
+returns c = c.open_calls.ensures ∙ (sym (shows_settled open_frames owed_frames (arena_of c.args.program.now.code) (calls.left_in c.args.program.now c.args.self.now.calls) c.args.self.now.owed))

@@ -1,0 +1,10 @@
+use Rattle.std.proofs.Common.{sym, ap, ◌∙◌, subst}
+use Rattle.kernel_bodies.specs.FlatDesign.Code.{arena_of}
+use Rattle.kernel_bodies.specs.SimModel.Residual.{within}
+use Rattle.process_state.specs.Bodies as calls
+use Rattle.process_bodies.proofs.Places.{owed_within}
+use Rattle.process_bodies.proofs.Showing.{shows_now}
+use Rattle.process_bodies.proofs.body.Body.within_now.Goals as goal
+
+pub returns : goal.returns
+returns c = λ a. c.within_now.ensures a ∙ (sym (shows_now within owed_within (calls.left_of a c.args.self.now.calls) c.args.self.now.owed))

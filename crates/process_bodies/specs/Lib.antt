@@ -1,0 +1,3 @@
+pub mod Bodies
+pub mod KernelBodies
+pub mod ProcessState

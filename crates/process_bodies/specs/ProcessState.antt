@@ -1,0 +1,1 @@
+pub use Rattle.process_state.specs.declared as declared
