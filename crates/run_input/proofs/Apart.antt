@@ -1,5 +1,5 @@
 -- Causes that exclude each other, of one text.
-use Rattle.std.proofs.Common.{◌≡◌, ◌⊎◌, ⊎_elim, ℕ, List, Option, Some, None, IsSome, Ok, Err, subst, ◌∙◌}
+use Rattle.std.proofs.Common.{◌≡◌, ◌⊎◌, inl, inr, ⊎_elim, ℕ, List, Option, Some, None, IsSome, Ok, Err, subst, ◌∙◌}
 use Rattle.model_tree.specs.Tree as tree
 use Rattle.model_tree.specs.declared.faults.Fault.{Fault}
 use Rattle.script_text.specs.ModelLexer.Reads.{Reads}
@@ -11,12 +11,22 @@ use Rattle.script_text.specs.SimModel.declared.plain.Command.{Command}
 use Rattle.script_text.specs.ScriptText.{read_script}
 use Rattle.script_text.specs.NamedScript.{name_script}
 use Rattle.script_text.specs.declared.forms.TextCommand.{TextCommand}
-use Rattle.run_input.specs.Judged.{HasNoTree, BreaksRule, BreaksWhole, IsBrokenModel, AcceptsModel, BreaksScript, IsBrokenScript, Accepts, ReadsReplay, IsBrokenReplay, IsLayoutOf, IsDesignOfSource}
+use Rattle.expanded_text.specs.Becomes.{Becomes}
+use Rattle.run_input.specs.Judged.{IsRead, HasNoTree, BreaksRule, BreaksWhole, IsBrokenModel, AcceptsModel, BreaksScript, IsBrokenScript, Accepts, ReadsReplay, IsBrokenReplay, IsLayoutOf, IsDesignOfSource}
 use Rattle.run_input.proofs.Designs.{same_naming}
 
--- no text reads as two trees
+-- no model reads as two trees
 abbrev pub OneTree : Type 0
-OneTree = (text : List ℕ) (m n : tree.Source) → Reads text m → Reads text n → m ≡ n
+OneTree = (model : List ℕ) (m n : tree.Source) → IsRead model m → IsRead model n → m ≡ n
+
+-- neither as it stands, nor by what it becomes, nor by both
+pub one_read : ((text : List ℕ) (m n : tree.Source) → Reads text m → Reads text n → m ≡ n)
+    → ((text one other : List ℕ) (m : tree.Source) → Becomes text one → Becomes text other → Reads one m → Reads other m)
+    → ((text out : List ℕ) (m : tree.Source) → Becomes text out → Reads text m → ⊥) → OneTree
+one_read one same none model m n (inl r) (inl q) = one model m n r q
+one_read one same none model m n (inl r) (inr (out, becomes, q)) = absurd (none model out m becomes r)
+one_read one same none model m n (inr (out, becomes, r)) (inl q) = absurd (none model out n becomes q)
+one_read one same none model m n (inr (out, becomes, r)) (inr (out', becomes', q)) = one out' m n (same model out out' m becomes becomes' r) q
 
 -- nothing is found, and something is
 found_none : {T : Type 0} (found : Option T) → found ≡ None → IsSome found → ⊥

@@ -1,6 +1,6 @@
 -- Designs of one model: what a script names is the same in each of them, and a session can be run of one that is sound.
 use mathlib.Core.Path.{fun_ext}
-use Rattle.std.proofs.Common.{◌≡◌, ◌≤◌, ◌<◌, ◌*◌, ◌%◌, ◌^◌, ℕ, All, Bool, ◌&&◌, is_some, List, [], ◌∷◌, length, position, bytes_eq, slice_get, option_map, option_and_then, Option, Some, None, inr, refl, sym, ap, ap₂, ◌∙◌, arith}
+use Rattle.std.proofs.Common.{◌≡◌, ◌≤◌, ◌<◌, ◌*◌, ◌%◌, ◌^◌, ℕ, All, Bool, ◌&&◌, is_some, List, [], ◌∷◌, length, position, bytes_eq, slice_get, option_map, option_and_then, Option, Some, None, refl, sym, ap, ap₂, ◌∙◌, arith}
 use Rattle.std.specs.Option.{option_or}
 use Rattle.model_tree.specs.Tree as tree
 use Rattle.model_tree.specs.SimTime.Times.{femtoseconds_in, ticks_of, whole_ticks}

@@ -21,21 +21,30 @@ use Rattle.refusal_lines.specs.declared.refusals.ModelFault.{ModelFault}
 use Rattle.refusal_lines.specs.declared.refusals.ModelFault.TheVariants as model_fault
 use Rattle.refusal_lines.specs.declared.refusals.ScriptFault.{ScriptFault}
 use Rattle.refusal_lines.specs.declared.refusals.ScriptFault.TheVariants as script_fault
+use Rattle.expanded_text.specs.Becomes.{Becomes}
+
+-- the model has clocked threads, and the text that it becomes reads as this tree
+abbrev pub ReadsExpanded : List ℕ → tree.Source → Type 0
+ReadsExpanded model m = (out : List ℕ) × Becomes model out × Reads out m
+
+-- the model reads as this tree: as it stands; or, one of language 3, as what it becomes
+abbrev pub IsRead : List ℕ → tree.Source → Type 0
+IsRead model m = Reads model m ⊎ ReadsExpanded model m
 
 -- the model reads as no tree
 abbrev pub HasNoTree : List ℕ → Type 0
-HasNoTree model = (m : tree.Source) → Reads model m → ⊥
+HasNoTree model = (m : tree.Source) → IsRead model m → ⊥
 
 -- the model reads as a tree, and breaks the rule on its resolution, or one on single modules
 pub record BreaksRule (model : List ℕ) : Type 0 where
   pub m : tree.Source
-  pub reads : Reads model m
+  pub reads : IsRead model m
   pub fault : IsSome (source_fault m)
 
 -- the model reads as a tree that breaks no such rule, whose instances or whose bindings are at fault
 pub record BreaksWhole (model : List ℕ) : Type 0 where
   pub m : tree.Source
-  pub reads : Reads model m
+  pub reads : IsRead model m
   pub faultless : source_fault m ≡ None
   pub fault : IsSome (elaboration_fault (ticked m))
 
@@ -50,11 +59,11 @@ IsFirstFault m fault = (source_fault m ≡ Some fault) ⊎ ((source_fault m ≡ 
 -- what is said of a model that is refused is so: it reads as no tree; or as one of which this is the first fault
 abbrev pub HasModelFault : List ℕ → ModelFault → Type 0
 HasModelFault model (model_fault.Syntax line) = HasNoTree model
-HasModelFault model (model_fault.Rule fault) = (m : tree.Source) × Reads model m × IsFirstFault m fault
+HasModelFault model (model_fault.Rule fault) = (m : tree.Source) × IsRead model m × IsFirstFault m fault
 
 -- the model reads as this tree, which breaks no rule, and whose instances and bindings are not at fault
 pub record AcceptsModel (model : List ℕ) (m : tree.Source) : Type 0 where
-  pub reads : Reads model m
+  pub reads : IsRead model m
   pub faultless : source_fault m ≡ None
   pub elaborated : elaboration_fault (ticked m) ≡ None
 

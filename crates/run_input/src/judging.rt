@@ -2,14 +2,14 @@ ghost use Rattle.std.specs.Prelude.{◌≡◌, ◌<◌, ◌^◌, ℕ, List, None
 ghost use Rattle.model_tree.specs.Tree as tree;
 ghost use Rattle.model_tree.specs.Seen.{source_of};
 ghost use Rattle.model_tree.specs.Stops.{IfSyntax};
-ghost use Rattle.script_text.specs.ModelLexer.Reads.{Reads};
-ghost use Rattle.run_input.specs.Judged.{Accepts, AcceptsModel, CanRun, HasModelFault, HasReplayFault, HasScriptFault, IsDesignOfSource, IsDesignOfText, NamesScript, ReadsReplay};
+ghost use Rattle.run_input.specs.Judged.{Accepts, AcceptsModel, CanRun, HasModelFault, HasReplayFault, HasScriptFault, IsDesignOfSource, IsDesignOfText, IsRead, NamesScript, ReadsExpanded, ReadsReplay};
 ghost use Rattle.run_input.specs.Refused.{IfModelFault, IfScriptFault, HasTextFault};
 
 use super::loading::Texts;
 use elaborate::laws_design_api::{designs_are_few, semaphores_start_low};
 use elaborate::model_check_api::check;
 use elaborate::sound_design;
+use expanded_text::{expand_text, one_reading};
 use flat_design::{Choices, Design};
 use model_parser::parse;
 use model_tree::{CheckStop, ParseStop, Tree};
@@ -59,26 +59,53 @@ pub struct Judged {
     pub replay: Option<Choices>,
 }
 
-/// The tree of a model.
-pub(crate) fn read_model(alloc: Global, text: &[u8]) -> Result<Tree, ModelStop>
+/// The tree of what a model becomes that does not read as it stands. Where it has no clocked threads it is refused on this line.
+fn read_expanded(alloc: Global, text: &[u8], line: u32) -> Result<Tree, ParseStop>
     requires { length text.now < 2 ^ 32 }
-    ensures reads { IfOk result (λ t. Reads text.now (source_of t)) }
-    ensures fault { IfErr result (λ stop. IfModelFault stop (HasModelFault text.now)) }
+    ensures reads { IfOk result (λ t. ReadsExpanded text.now (source_of t)) }
+    ensures only { (m : tree.Source) → ReadsExpanded text.now m → IfErr result (λ e. e ≡ ParseStop.NoMemory) }
+{
+    one_reading();
+    match expand_text(alloc, text) {
+        Ok(Some(out)) => parse(alloc, out.as_slice()),
+        Ok(None) => Err(ParseStop::Syntax { line }),
+        Err(stop) => Err(stop),
+    }
+}
+
+/// The tree that a text reads as, as it stands, or as what it becomes. Syntax exactly where it reads as none.
+fn read_text(alloc: Global, text: &[u8]) -> Result<Tree, ParseStop>
+    requires { length text.now < 2 ^ 32 }
+    ensures reads { IfOk result (λ t. IsRead text.now (source_of t)) }
+    ensures only { (m : tree.Source) → IsRead text.now m → IfErr result (λ e. e ≡ ParseStop.NoMemory) }
 {
     match parse(alloc, text) {
+        Ok(tree) => Ok(tree),
+        Err(ParseStop::Syntax { line }) => read_expanded(alloc, text, line),
+        Err(ParseStop::NoMemory) => Err(ParseStop::NoMemory),
+    }
+}
+
+/// The tree of a model of any language: each mode that reads a model reads it here.
+pub(crate) fn read_model(alloc: Global, text: &[u8]) -> Result<Tree, ModelStop>
+    requires { length text.now < 2 ^ 32 }
+    ensures reads { IfOk result (λ t. IsRead text.now (source_of t)) }
+    ensures fault { IfErr result (λ stop. IfModelFault stop (HasModelFault text.now)) }
+{
+    match read_text(alloc, text) {
         Ok(tree) => Ok(tree),
         Err(ParseStop::Syntax { line }) => Err(ModelStop::Fault(ModelFault::Syntax(line))),
         Err(ParseStop::NoMemory) => Err(ModelStop::NoMemory),
     }
 }
 
-/// The design of a tree of either language: it is judged by its resolution and the rules on its modules, and then by those on its
+/// The design of a tree of any language: it is judged by its resolution and the rules on its modules, and then by those on its
 /// instances and bindings. What is said of it is so of each text that reads as this tree.
 pub(crate) fn judge_tree(alloc: Global, tree: Tree) -> Result<Design, ModelStop>
-    ensures accepted { OnOk result ((text : List ℕ) → Reads text (source_of tree) → AcceptsModel text (source_of tree)) }
+    ensures accepted { OnOk result ((text : List ℕ) → IsRead text (source_of tree) → AcceptsModel text (source_of tree)) }
     ensures design { IfOk result (IsDesignOfSource (source_of tree)) }
     ensures runs { IfOk result CanRun }
-    ensures fault { IfErr result (λ stop. (text : List ℕ) → Reads text (source_of tree) → IfModelFault stop (HasModelFault text)) }
+    ensures fault { IfErr result (λ stop. (text : List ℕ) → IsRead text (source_of tree) → IfModelFault stop (HasModelFault text)) }
 {
     designs_are_few();
     semaphores_start_low();

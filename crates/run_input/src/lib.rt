@@ -7,14 +7,9 @@ mod laying;
 mod loading;
 
 pub use judging::{JudgeStop, Judged, ModelStop, judge, judge_model, judge_text};
-pub use laws::one_cause;
+pub use laws::{one_cause, one_source};
 pub use laying::laid_out;
 pub use loading::{LoadStop, MODEL_LIMIT, REPLAY_LIMIT, SCRIPT_LIMIT, Texts, load, load_model};
-
-/// What is passed on of model_parser.
-pub mod model_parser_api {
-    pub use model_parser::one_tree;
-}
 
 /// What is passed on of refusal_lines.
 pub mod refusal_lines_api {

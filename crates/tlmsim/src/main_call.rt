@@ -10,7 +10,7 @@ use super::telling::{tell_refusal, tell_stop, try_line};
 use super::working::{WorkStop, work};
 use command_line::Words;
 use flat_design::Choices;
-use run_input::model_parser_api::one_tree;
+use run_input::one_source;
 use run_input::refusal_lines_api::memory_line;
 use session::sim_io_api::{Shelf, Sink};
 use std::alloc::Global;
@@ -67,7 +67,7 @@ pub fn sim_main<S: Shelf, O: Sink, E: Sink>(
     ensures silent { IsRunStatus result.status → err.new ≡ err.old }
     ensures no_more { result.status ≡ 10 → (file : List ℕ) × TookOnePast S.reading S.left shelf.new (S.files shelf.old) (S.files shelf.new) (IsLimitOf (line_of words.now)) file }
 {
-    one_tree();
+    one_source();
     let choices = Choices::new(alloc);
     match work(alloc, words, shelf, out) {
         Ok(outcome) => {

@@ -4,7 +4,7 @@ if exists("b:current_syntax")
 endif
 
 syntax keyword tlmItem language resolution descendants
-syntax keyword tlmItem module top inst bind to func thread method
+syntax keyword tlmItem module top inst bind to func thread method cthread async_reset sync_reset
 syntax keyword tlmItem signal buffer many resolved clock period high start fifo size mutex event keeper semaphore memory var
 syntax keyword tlmItem in out fifo_in fifo_out mutex_port semaphore_port export zero all_bound
 syntax keyword tlmItem initiator target pass bw bt fw inout sensitive dont_initialize
@@ -13,7 +13,7 @@ syntax keyword tlmConditional if else
 syntax keyword tlmRepeat while
 syntax keyword tlmException guard unwind try catch throw throw_it
 syntax keyword tlmStatement call return stop print write read nb_read nb_write
-syntax keyword tlmStatement notify delta after cancel wait next_trigger for any all
+syntax keyword tlmStatement notify delta after cancel wait tick next_trigger for any all
 syntax keyword tlmStatement lock trylock unlock sem_wait sem_trywait post
 syntax keyword tlmStatement make acquire release carry b_transport nb_transport
 syntax keyword tlmStatement qk_global qk_inc qk_set qk_reset qk_sync

@@ -6,10 +6,10 @@ pub returns-clause-some : goal.returns-clause-some
 returns-clause-some c = one_of
 
 pub returns-clause-accepted : goal.returns-clause-accepted
-returns-clause-accepted c = not_broken c.one_tree.ensures
+returns-clause-accepted c = not_broken c.one_source.ensures
 
 pub returns-clause-unread : goal.returns-clause-unread
 returns-clause-unread c = not_unread
 
 pub returns-clause-ruled : goal.returns-clause-ruled
-returns-clause-ruled c = not_ruled c.one_tree.ensures
+returns-clause-ruled c = not_ruled c.one_source.ensures

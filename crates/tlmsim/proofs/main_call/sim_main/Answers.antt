@@ -8,7 +8,7 @@ use Rattle.tlmsim.proofs.main_call.sim_main.Goals as goal
 pub returns-in-Ok-clause-answers : goal.returns-in-Ok-clause-answers
 returns-in-Ok-clause-answers g c =
     rw c.stop_status.ensures
-    (of_outcome c.one_tree.ensures _ c.in-Ok.outcome (c.in-Ok.ensures.works _ _ _ _) c.tell_stop.ensures.told (λ end. ap g.E.Sink.faults (c.tell_stop.ensures.silent end))
+    (of_outcome c.one_source.ensures _ c.in-Ok.outcome (c.in-Ok.ensures.works _ _ _ _) c.tell_stop.ensures.told (λ end. ap g.E.Sink.faults (c.tell_stop.ensures.silent end))
     (record {
       files = c.in-Ok.ensures.files;
       reads = c.in-Ok.ensures.reads;
@@ -23,7 +23,7 @@ returns-in-Ok-clause-silent g c = rw c.stop_status.ensures (λ h. c.tell_stop.en
 pub returns-in-Err-Refused-clause-answers : goal.returns-in-Err-Refused-clause-answers
 returns-in-Err-Refused-clause-answers g c =
     rw c.new-choices.ensures
-    (of_refusal c.one_tree.ensures _ _ _ _ _ _ c.in-Err-Refused.field-0-is (c.in-Err-Refused.ensures.works _ _ _ _)
+    (of_refusal c.one_source.ensures _ _ _ _ _ _ c.in-Err-Refused.field-0-is (c.in-Err-Refused.ensures.works _ _ _ _)
     (record { no_choices = refl; no_steps = refl }) c.tell_refusal.ensures.told
     (record {
       files = c.in-Err-Refused.ensures.files;

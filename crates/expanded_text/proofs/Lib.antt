@@ -1,0 +1,7 @@
+pub mod Blanks
+pub mod Spelled
+pub mod Reading
+pub mod Rising
+pub mod Kept
+pub mod Texts
+pub mod Putting
