@@ -13,3 +13,4 @@ pub mod Throwing
 pub mod Pasts
 pub mod Unwound
 pub mod Ending
+pub mod Descends

@@ -3,3 +3,4 @@ pub mod Once
 pub mod Nowhere
 pub mod Throws
 pub mod Calls
+pub mod Descendants

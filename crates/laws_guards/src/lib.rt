@@ -6,6 +6,7 @@
 #![tactic(auto)]
 
 mod calls;
+mod descendants;
 mod ended;
 mod kills;
 mod left;
@@ -13,6 +14,7 @@ mod once;
 mod throws;
 
 pub use calls::{all_guards_stand_below_an_end, calls_unwind_what_is_entered};
+pub use descendants::calls_reach_what_comes_of_their_targets;
 pub use ended::{nothing_names_what_has_ended, what_has_ended_never_runs_again};
 pub use kills::a_kill_unwinds_all_guards;
 pub use left::a_guard_that_was_left_never_runs_its_unwind_block;
