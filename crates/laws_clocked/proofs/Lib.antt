@@ -14,3 +14,8 @@ pub mod Carrying
 pub mod Ending
 pub mod Waking
 pub mod Throwing
+pub mod Catching
+pub mod Plain
+pub mod Beginning
+pub mod Owed
+pub mod Unwinding

@@ -51,7 +51,7 @@ shows_followed : (x r : Residual) (ss : List ℕ) → Shows x r → Shows x (fol
 shows_followed x r [] h = h
 shows_followed x r (s ∷ ss) h = followed_by r (s ∷ ss) h
 
-left_frame : (r : Residual) (y : Frame) (n inside : Residual) → IsLeft r → frame_or r y n inside ≡ frame inside y
+pub left_frame : (r : Residual) (y : Frame) (n inside : Residual) → IsLeft r → frame_or r y n inside ≡ frame inside y
 left_frame skip y n inside l = absurd l
 left_frame (one s) y n inside l = refl
 left_frame (batch s qs) y n inside l = refl
@@ -74,7 +74,7 @@ shows-put x _ n s (called r y h) is =
 
 -- ---- finished parts fall away
 
-left_then : (r : Residual) (ss : List ℕ) → IsLeft r → then_on r ss ≡ followed r ss
+pub left_then : (r : Residual) (ss : List ℕ) → IsLeft r → then_on r ss ≡ followed r ss
 left_then skip ss l = absurd l
 left_then (one s) ss l = refl
 left_then (batch s qs) ss l = refl
@@ -100,7 +100,7 @@ left_guard (shell r x) g u l = refl
 left_guard (run h r) g u l = refl
 left_guard (goal r k) g u l = refl
 
-left_try : (r : Residual) (hs : List Handler) → IsLeft r → in_try r hs ≡ try_ r hs
+pub left_try : (r : Residual) (hs : List Handler) → IsLeft r → in_try r hs ≡ try_ r hs
 left_try skip hs l = absurd l
 left_try (one s) hs l = refl
 left_try (batch s qs) hs l = refl

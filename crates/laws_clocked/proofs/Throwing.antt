@@ -52,13 +52,13 @@ module _ (p : ℕ) (t : Tick) (x0 : Config) (i0 : Instance) (at0 : instance_at x
     as_then : val (here old p own body) x.is_at_level ≡ val (here x0 p i0 (settle (arena x0) i0.residual)) x.is_at_level
     as_then = agrees-val x0 old (agrees_body x0 y p (λ j. record j { residual = body }) old.processes old.trace (λ j. refl) refl near.agrees) p i0 own (settle (arena x0) i0.residual) body near.home near.vias near.calls x.is_at_level
 
-    asked : (w : Value) → val (here x0 p i0 (settle (arena x0) i0.residual)) x.is_at_level ≡ Ok w → (b : Bool) → truth w ≡ b → step y ≡ went (with_residual old p (put body (chosen old b x.block None)))
+    pub asked : (w : Value) → val (here x0 p i0 (settle (arena x0) i0.residual)) x.is_at_level ≡ Ok w → (b : Bool) → truth w ≡ b → step y ≡ went (with_residual old p (put body (chosen old b x.block None)))
     asked w answers b is_b =
         step-top y p ct.rest ct.runs ct.evaluates ct.top
         ∙ ap as_outcome (chooses_by ∙ ap (λ (m : Result Value RunFault). on_ok m (λ u. Ok (with_residual old p (put body (chosen old (truth u) x.block None))))) (as_then ∙ answers)
         ∙ ap (λ z. Ok (with_residual old p (put body (chosen old z x.block None)))) is_b)
 
-    abbrev next_near : Near p t x0 i0 at0 (with_residual old p (put body skip)) (record ct.instance { residual = put body skip })
+    abbrev pub next_near : Near p t x0 i0 at0 (with_residual old p (put body skip)) (record ct.instance { residual = put body skip })
     next_near = record {
       agrees = agrees_body x0 old p (λ j. record j { residual = put body skip }) (with_residual old p (put body skip)).processes (with_residual old p (put body skip)).trace (λ j. refl) refl
           (agrees_body x0 y p (λ j. record j { residual = body }) old.processes old.trace (λ j. refl) refl near.agrees);
@@ -111,7 +111,7 @@ module _ (p : ℕ) (t : Tick) (x0 : Config) (i0 : Instance) (at0 : instance_at x
       (next_near x (xs ++ z ∷ zs) y v ct has fits.0 near) only began none.1 level)
 
 module _ (design : Design) (script : List Command) (sound : SoundDesign design) (p : ℕ) (t : Tick) where
-  goalless : (ss : List ℕ) → has_goal (seq (statements ss) (t.loops ∷ [])) ≡ false
+  pub goalless : (ss : List ℕ) → has_goal (seq (statements ss) (t.loops ∷ [])) ≡ false
   goalless [] = refl
   goalless (s ∷ []) = refl
   goalless (s ∷ u ∷ us) = refl

@@ -5,3 +5,4 @@ pub mod Levels
 pub mod Resets
 pub mod Fired
 pub mod Wakes
+pub mod Again
