@@ -1,0 +1,12 @@
+mod Lists
+mod Moves
+mod Waking
+mod Updating
+mod Shown
+mod Notifying
+mod Steps
+mod Permuting
+mod Driving
+mod Acting
+mod Relating
+mod Turning
