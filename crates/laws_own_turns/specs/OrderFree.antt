@@ -1,0 +1,1 @@
+pub use Rattle.order_free.specs.Free as Free

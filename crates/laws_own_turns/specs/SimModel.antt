@@ -1,0 +1,9 @@
+pub use Rattle.sim_model.specs.Clean as Clean
+pub use Rattle.sim_model.specs.Configuration as Configuration
+pub use Rattle.sim_model.specs.Phases as Phases
+pub use Rattle.sim_model.specs.Residual as Residual
+pub use Rattle.sim_model.specs.Runs as Runs
+pub use Rattle.sim_model.specs.Statements as Statements
+pub use Rattle.sim_model.specs.Steps as Steps
+pub use Rattle.sim_model.specs.Waits as Waits
+pub use Rattle.sim_model.specs.declared as declared
