@@ -1,5 +1,5 @@
 -- Behind the taking of a thread out of a tick's wait at which a reset is at its level, its own statements begin again.
-use Rattle.std.proofs.Common.{◌≡◌, ◌+◌, ℕ, suc, Bool, true, false, List, [], ◌∷◌, ◌++◌, length, slice_get, Some, refl, sym, ap, ◌∙◌, subst, arith}
+use Rattle.std.proofs.Common.{◌≡◌, ◌+◌, ℕ, suc, true, false, List, [], ◌∷◌, ◌++◌, length, slice_get, Some, refl, sym, ap, ◌∙◌, subst, arith}
 use Rattle.std.specs.Prelude.{Ok}
 use Rattle.std.proofs.lemmas.Option.{same_Some}
 use Rattle.laws_unwinding.specs.LogicValues.declared.kinds.Value.{Value}
@@ -16,9 +16,10 @@ use Rattle.laws_unwinding.specs.SimModel.Clean.{times}
 use Rattle.laws_unwinding.specs.SimModel.declared.plain.Command.{Command}
 use Rattle.laws_unwinding.proofs.MarkedRuns.{marked-after}
 use Rattle.laws_moves.proofs.RunSteps.{takes-empty}
-use Rattle.laws_clocked.specs.Spots.{IsLeft, Shows}
+use Rattle.laws_clocked.specs.Spots.{IsLeft}
 use Rattle.laws_clocked.specs.Ticks.{Test, Tick, behind, IsTest, AreTests, HasTick, left_at, checking}
-use Rattle.laws_clocked.specs.Turns.{ComesTo, IsBehindWait}
+use Rattle.laws_clocked.specs.Turns.{ComesTo}
+use Rattle.laws_clocked.proofs.Counted.{IsBehindCounted}
 use Rattle.laws_clocked.specs.Levels.{IsNotAtLevel, NoneAtLevel, IsAtLevel}
 use Rattle.laws_clocked.specs.Again.{Around, HasAround, trying, IsPlain, StandsAt, BeginsAgain}
 use Rattle.laws_clocked.proofs.Showing.{shows-left}
@@ -117,7 +118,7 @@ module _ (p : ℕ) (t : Tick) (x0 : Config) (i0 : Instance) (at0 : instance_at x
       (next_near p t x0 i0 at0 x (xs ++ z ∷ zs) y v ct has fits.0 near) only began around (next_within x (xs ++ z ∷ zs) y v ct has fits.0 near around in_ only) none.1 level)
 
 module _ (design : Design) (script : List Command) (sound : SoundDesign design) (p : ℕ) (t : Tick) where
-  pub begins-at : (x : Config) → IsReached design script x → HasTick (arena x) t → (v : Value) → (w : IsBehindWait x p t v) → step x ≡ takes → (d : Config) → taking x p ≡ Some d
+  pub begins-at : (x : Config) → IsReached design script x → HasTick (arena x) t → (v : Value) → (w : IsBehindCounted x p t v) → step x ≡ takes → (d : Config) → taking x p ≡ Some d
       → (xs : List Test) (z : Test) (zs : List Test) → t.tests ≡ xs ++ z ∷ zs → NoneAtLevel x p xs → IsAtLevel x p z
       → (b : Around) → HasAround (arena x) b z.exception → (f : Frame) (r : Residual) → settle (arena x) w.instance.residual ≡ trying b f r → IsPlain z.exception (left_at t (checking t.tests)) r
       → (u : Value) → slice_get f.locals b.again ≡ Some u → truth u ≡ true

@@ -1,5 +1,5 @@
 -- A step of another, or of a phase behind initialization, that fires no event of the static sensitivity of p leaves it waiting.
-use Rattle.std.proofs.Common.{◌≡◌, ◌≢◌, ◌⊎◌, ◌||◌, ℕ, suc, ◌==◌, Bool, true, false, cond, List, [], ◌∷◌, map, slice_get, Option, Some, None, refl, sym, ap, ◌∙◌, subst, inl, arith, ⊎_elim, true≢false}
+use Rattle.std.proofs.Common.{◌≡◌, ◌≢◌, ℕ, ◌==◌, Bool, true, false, cond, List, [], ◌∷◌, map, slice_get, Option, Some, None, refl, ap, subst, arith}
 use Rattle.std.specs.Prelude.{Result, Ok, Err, unwrap_or}
 use Rattle.std.specs.Result.{IfOk}
 use Rattle.std.proofs.lemmas.Option.{none-some, same_Some}
@@ -35,9 +35,9 @@ use Rattle.laws_unwinding.specs.SimModel.Waits.{fire, fire_all, leaves_stack}
 use Rattle.laws_unwinding.specs.SimModel.Storing.{passes, set_name, stored_if}
 use Rattle.laws_unwinding.specs.SimModel.Calls.{answer_of, final_value}
 use Rattle.laws_unwinding.specs.SimModel.Transport.{int_of, history, judged, judged_by, judged_return, for_freed, b_transport_ends, nb_transport_ends, complete_now}
-use Rattle.laws_unwinding.specs.SimModel.Control.{ended_instance, begins, stays_kept, restarts, reaches_goal, done_by}
-use Rattle.laws_unwinding.specs.SimModel.Statements.{via_ends, hands_back, handed_back, leaves_call, calling_statement, owed_call, owed_by, on_statement, do_next, settled_in, step_by, step_of, statement_step}
-use Rattle.laws_unwinding.specs.SimModel.Phases.{unchanged, notified_if, announced, announce_signals, announce_resolved, announce_fifos, resolved_change, was_some, update_phase, update_step, session_stopped, due_events, due_instances, without_pending, without_deadline, fire_due, is_delta, is_zero_timeout, is_at, is_due_at, is_past, delta_phase, delta_step, phase_after, phase_at, now_becomes, with_snapshot, run_over, fired_at, timed_at, timed_step, earliest}
+use Rattle.laws_unwinding.specs.SimModel.Control.{ended_instance, begins, stays_kept, reaches_goal, done_by}
+use Rattle.laws_unwinding.specs.SimModel.Statements.{via_ends, hands_back, handed_back, calling_statement, owed_call, owed_by, on_statement, do_next, settled_in, step_by, statement_step}
+use Rattle.laws_unwinding.specs.SimModel.Phases.{unchanged, notified_if, announced, announce_signals, announce_resolved, announce_fifos, was_some, update_phase, update_step, session_stopped, due_events, without_pending, without_deadline, fire_due, is_delta, is_zero_timeout, is_at, is_due_at, is_past, phase_at, now_becomes, with_snapshot, run_over, fired_at, timed_at, earliest}
 use Rattle.laws_unwinding.specs.SimModel.Steps.{Outcome, went, faulted, takes, ended, as_outcome, shows, sets, sets_visible, run_begun, begin_run, carry_out, next_command, evaluate, step_in, step, instance_taken, taken_if, taking}
 use Rattle.laws_unwinding.specs.SimModel.declared.plain.Command.{Command}
 use Rattle.laws_unwinding.specs.SimModel.declared.plain.Command.TheVariants as command
@@ -49,9 +49,9 @@ use Rattle.laws_unwinding.specs.SimModel.declared.plain.Via.{Via}
 use Rattle.laws_unwinding.specs.SimModel.Clean.{times}
 use Rattle.laws_unwinding.proofs.LawsRuns.Times.{times-here}
 use Rattle.laws_moves.specs.Moves.{IsLater}
-use Rattle.laws_clocked.specs.Fired.{by_statement_if, by_end, by_goal, by_next, in_turn_of, in_evaluation, at_time, in_phase, fired_by, fires_of}
-use Rattle.laws_clocked.proofs.Rousing.{IsStill, RestsIn, Rests, Quiet, rests_if, other, fire_one-rests, fire_all-rests, due-rests, freed-rests}
-use Rattle.laws_clocked.proofs.Carrying.{if-ok, if_went-ok, own, passed, placed, name_rests, stored_if_rests, call_ends_rests, control_rests, throw_rests, form_rests}
+use Rattle.laws_clocked.specs.Fired.{by_statement_if, by_end, by_goal, by_next, in_turn_of, in_evaluation, at_time, in_phase, fires_of}
+use Rattle.laws_clocked.proofs.Rousing.{IsStill, RestsIn, Rests, Quiet, rests_if, fire_one-rests, fire_all-rests, due-rests, freed-rests}
+use Rattle.laws_clocked.proofs.Carrying.{if_went-ok, own, passed, placed, name_rests, stored_if_rests, call_ends_rests, control_rests, throw_rests, form_rests}
 
 abbrev IfWent : Outcome → (Config → Type 0) → Type 0
 IfWent (went d) P = P d

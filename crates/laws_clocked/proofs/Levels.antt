@@ -20,7 +20,8 @@ use Rattle.laws_unwinding.specs.SimModel.declared.plain.Command.{Command}
 use Rattle.laws_moves.proofs.RunSteps.{takes-empty}
 use Rattle.laws_clocked.specs.Spots.{Shows}
 use Rattle.laws_clocked.specs.Ticks.{Test, Tick, behind, IsTest, AreTests, HasTick, left_at, checking}
-use Rattle.laws_clocked.specs.Turns.{ComesTo, IsLeaving, IsNotUnwound, LeavesNormally}
+use Rattle.laws_clocked.specs.Turns.{ComesTo, IsLeaving, IsNotUnwound}
+use Rattle.laws_clocked.proofs.Counted.{LeavesCounted}
 use Rattle.laws_clocked.specs.Levels.{NoneAtLevel}
 use Rattle.laws_clocked.proofs.Showing.{shows-put, within-put, within-settled}
 use Rattle.laws_clocked.proofs.Going.{goes, goes-left, goes-within, goes-next, test-goes, throw-goes}
@@ -179,7 +180,7 @@ module _ (design : Design) (script : List Command) (sound : SoundDesign design) 
   no_less : (k m : ℕ) → k < m → (j : ℕ) × (k + suc j ≡ m)
   no_less k m less = (m - suc k, omega (arith, less))
 
-  pub levels-at : (c e : Config) → IsReached design script c → HasTick (arena c) t → (n : ℕ) (choices : List ℕ) → LeavesNormally c e p t n choices
+  pub levels-at : (c e : Config) → IsReached design script c → HasTick (arena c) t → (n : ℕ) (choices : List ℕ) → LeavesCounted c e p t n choices
       → (k : ℕ) (own left : List ℕ) (x : Config) → k < n → choices ≡ own ++ p ∷ left → after k own c ≡ Some x → step x ≡ takes → NoneAtLevel x p t.tests
   levels-at c e r has n choices l k own left x less split there now = by (taking x p) refl at_x.ends.reached
     where

@@ -87,7 +87,7 @@ left_then (shell r x) ss l = refl
 left_then (run g r) ss l = refl
 left_then (goal r k) ss l = refl
 
-left_guard : (r : Residual) (g u : ℕ) → IsLeft r → in_guard r g u ≡ guard r g u
+pub left_guard : (r : Residual) (g u : ℕ) → IsLeft r → in_guard r g u ≡ guard r g u
 left_guard skip g u l = absurd l
 left_guard (one s) g u l = refl
 left_guard (batch s qs) g u l = refl

@@ -1,5 +1,5 @@
 -- Behind the taking of a thread out of a tick's wait, the step after the test of the first reset that is at its level throws.
-use Rattle.std.proofs.Common.{◌≡◌, ℕ, suc, Bool, true, false, List, [], ◌∷◌, ◌++◌, length, slice_get, Option, Some, None, refl, sym, ap, ◌∙◌, subst}
+use Rattle.std.proofs.Common.{◌≡◌, ℕ, suc, Bool, true, false, List, [], ◌∷◌, ◌++◌, length, Some, None, refl, sym, ap, ◌∙◌, subst}
 use Rattle.std.specs.Prelude.{Result, Ok}
 use Rattle.std.proofs.lemmas.Option.{same_Some}
 use Rattle.laws_unwinding.specs.LogicValues.declared.kinds.Value.{Value}
@@ -19,7 +19,8 @@ use Rattle.laws_unwinding.specs.SimModel.declared.plain.Command.{Command}
 use Rattle.laws_unwinding.proofs.MarkedRuns.{marked-after}
 use Rattle.laws_moves.proofs.RunSteps.{takes-empty}
 use Rattle.laws_clocked.specs.Ticks.{Test, Tick, behind, IsTest, AreTests, HasTick, left_at, checking}
-use Rattle.laws_clocked.specs.Turns.{ComesTo, IsBehindWait}
+use Rattle.laws_clocked.specs.Turns.{ComesTo}
+use Rattle.laws_clocked.proofs.Counted.{IsBehindCounted}
 use Rattle.laws_clocked.specs.Levels.{IsNotAtLevel, NoneAtLevel, IsAtLevel}
 use Rattle.laws_clocked.specs.Resets.{ThrowsAfter}
 use Rattle.laws_clocked.proofs.Going.{goes, goes-within, goes-next, test-goes, throw-goes, next-throw}
@@ -116,7 +117,7 @@ module _ (design : Design) (script : List Command) (sound : SoundDesign design) 
   goalless (s ∷ []) = refl
   goalless (s ∷ u ∷ us) = refl
 
-  pub throws-at : (x : Config) → IsReached design script x → HasTick (arena x) t → (v : Value) → IsBehindWait x p t v → step x ≡ takes → (d : Config) → taking x p ≡ Some d
+  pub throws-at : (x : Config) → IsReached design script x → HasTick (arena x) t → (v : Value) → IsBehindCounted x p t v → step x ≡ takes → (d : Config) → taking x p ≡ Some d
       → (xs : List Test) (z : Test) (zs : List Test) → t.tests ≡ xs ++ z ∷ zs → NoneAtLevel x p xs → IsAtLevel x p z → ThrowsAfter d p (suc (length xs)) z
   throws-at x r has v w now d to xs z zs split none level =
       let began = unbegun design script sound p t (left_at t (checking t.tests)) tt (goalless (behind t t.tests)) (arena x) w.instance.started w.instance.residual

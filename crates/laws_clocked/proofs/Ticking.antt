@@ -19,7 +19,8 @@ use Rattle.laws_unwinding.proofs.MarkedRuns.{marked-after}
 use Rattle.laws_moves.proofs.RunSteps.{step-moves, taking-moves}
 use Rattle.laws_clocked.specs.Spots.{IsLeft, Shows}
 use Rattle.laws_clocked.specs.Ticks.{Tick, HasTick, left_at, entering}
-use Rattle.laws_clocked.specs.Turns.{ComesTo, IsLeaving, IsNotUnwound, EachBefore, EachUpTo, LeavesNormally}
+use Rattle.laws_clocked.specs.Turns.{ComesTo, IsLeaving, IsNotUnwound, EachBefore, EachUpTo}
+use Rattle.laws_clocked.proofs.Counted.{LeavesCounted}
 use Rattle.laws_clocked.proofs.Showing.{shows-left, shows-goal}
 use Rattle.laws_clocked.proofs.SameDesign.{design-went, design-taken}
 use Rattle.laws_clocked.proofs.Passing.{State, comes, state-went, state-taken, state-own_taken, left-none}
@@ -156,7 +157,7 @@ module _ (design : Design) (script : List Command) where
     reach zero j left x e (q ∷ own) c b there = absurd (none-some x there)
     reach (suc k) j left x e own c b there = reach_on k j left x e (reach k j left x e) own c (subst (λ m. Between m (own ++ left) c e) (suc-sum k j) b) (step c) refl there
 
-    pub between-first : (c e : Config) → IsReached c → HasTick (arena c) t → (n : ℕ) (choices : List ℕ) → LeavesNormally c e p t n choices → Between n choices c e
+    pub between-first : (c e : Config) → IsReached c → HasTick (arena c) t → (n : ℕ) (choices : List ℕ) → LeavesCounted c e p t n choices → Between n choices c e
     between-first c e r has n choices l = record {
       takings = t.edges;
       is_reached = r;
@@ -207,7 +208,7 @@ module _ (design : Design) (script : List Command) where
     counts zero e leaves (q ∷ choices) c m r has s g = absurd (none-some e g.reached)
     counts (suc n) e leaves choices c m r has s g = count_on n e c r has m s (counts n e leaves) choices g (step c) refl g.reached
 
-    pub takings-counted : (c e : Config) → IsReached c → HasTick (arena c) t → (n : ℕ) (choices : List ℕ) → LeavesNormally c e p t n choices → times p choices ≡ t.edges
+    pub takings-counted : (c e : Config) → IsReached c → HasTick (arena c) t → (n : ℕ) (choices : List ℕ) → LeavesCounted c e p t n choices → times p choices ≡ t.edges
     takings-counted c e r has n choices l =
         counts n e l.leaves choices c t.edges r has (comes entering l.old tt l.enters (is-begun c r l.old l.enters) refl)
         (record { reached = l.reached; before = l.not_before; up_to = l.not_unwound })

@@ -1,5 +1,6 @@
 -- Whatever happens, the unwinding of a thread's own statements goes on with the thread on the stack, until all of it is over.
-use Rattle.std.proofs.Common.{◌≡◌, ◌≢◌, ◌⊎◌, ◌<◌, ℕ, zero, suc, Bool, true, false, cond, List, [], ◌∷◌, ◌++◌, length, map, slice_get, Option, Some, None, option_map, refl, sym, ap, ◌∙◌, subst, arith, inl, inr, ⊎_elim, true≢false}
+use Rattle.std.proofs.Common.{◌≡◌, ◌≢◌, ◌⊎◌, ◌<◌, ℕ, zero, suc, Bool, true, false, cond, List, [], ◌∷◌, ◌++◌, length, map, slice_get, Some, None, option_map, refl, sym, ap, ◌∙◌, subst, arith, inl, inr, ⊎_elim, true≢false}
+use Rattle.std.specs.Prelude.{Ok}
 use Rattle.std.proofs.lemmas.Bool.{cases_eq}
 use Rattle.std.proofs.lemmas.Option.{none-some, same_Some, slice_get-map}
 use Rattle.laws_unwinding.specs.TransportPhases.History.{Left}
@@ -15,9 +16,9 @@ use Rattle.laws_unwinding.specs.SimModel.Configuration.{Config, Instance, arena,
 use Rattle.laws_unwinding.specs.SimModel.Waits.{freed}
 use Rattle.laws_unwinding.specs.SimModel.Calls.{with_left, with_entry}
 use Rattle.laws_unwinding.specs.SimModel.Phases.{initialize_each}
-use Rattle.laws_unwinding.specs.SimModel.Statements.{settled_in}
-use Rattle.laws_unwinding.specs.SimModel.Steps.{Outcome, went, faulted, takes, ended, step, step_in, taking}
-use Rattle.laws_unwinding.specs.SimModel.Runs.{after, and_then, took}
+use Rattle.laws_unwinding.specs.SimModel.Statements.{settled_in, statement_step}
+use Rattle.laws_unwinding.specs.SimModel.Steps.{Outcome, went, faulted, takes, ended, step, step_in}
+use Rattle.laws_unwinding.specs.SimModel.Runs.{after, and_then}
 use Rattle.laws_unwinding.specs.SimModel.Clean.{times}
 use Rattle.laws_unwinding.specs.SimModel.declared.plain.Command.{Command}
 use Rattle.laws_unwinding.specs.SimModel.declared.plain.Phase.TheVariants as phase
@@ -25,7 +26,7 @@ use Rattle.laws_unwinding.specs.SimModel.declared.plain.Via.{Via}
 use Rattle.laws_unwinding.proofs.LawsRuns.Changes.{change-here, change-other, last-other, past-end}
 use Rattle.laws_unwinding.proofs.Moves.{Sound}
 use Rattle.laws_unwinding.proofs.Steps.{settled-sound}
-use Rattle.laws_unwinding.proofs.Parts.{Parts, parts, Kept, At, Alike, IsOver, IsKept, IsKeptBetween, changed_in, residual_in}
+use Rattle.laws_unwinding.proofs.Parts.{Parts, parts, Kept, At, Alike, IsOver, IsKept, IsKeptBetween}
 use Rattle.laws_unwinding.proofs.Kept.{Marked, marked-kept, marked-settled}
 use Rattle.laws_unwinding.proofs.KeptStatements.{moves-kept}
 use Rattle.laws_unwinding.proofs.KeptMoves.{each-between}
@@ -43,14 +44,22 @@ use Rattle.laws_clocked.proofs.Ticking.{IsReached, reached-went}
 use Rattle.laws_clocked.proofs.Catching.{throw_steps}
 use Rattle.laws_clocked.proofs.Owed.{IsOwed, owed-unw, skip-or_left, owed-settled, owed-put, left-put, owed-off, left-off, owed-returned, left-returned, owed-local, left-local, owed-exit, put-unwinding, returned-unwinding, next-unwinding}
 
+-- whatever is left, and whichever call
+abbrev pub Any : Residual → Type 0
+Any r = Unit {0}
+
+abbrev pub AnyCall : Frame → Type 0
+AnyCall y = Unit {0}
+
 module _ (p : ℕ) (b : Around) where
-  -- p is being unwound, and K is so of what is left of that
-  module _ (K : Residual → Type 0) where
+  -- p is being unwound, K is so of what is left of that, and F of its body's call
+  module _ (K : Residual → Type 0) (F : Frame → Type 0) where
     pub record Held (is : List Instance) : Type 0 where
       pub instance : Instance
       pub at : slice_get is p ≡ Some instance
       pub begun : instance.started ≡ true
       pub frame_ : Frame
+      pub framed : F frame_
       pub inner : Residual
       pub owed : IsOwed inner
       pub so : K inner
@@ -59,16 +68,16 @@ module _ (p : ℕ) (b : Around) where
     abbrev In : Parts → Type 0
     In x = Held x.instances
 
-    own : (is : List Instance) (f : Instance → Instance) (h : Held is) (y : Frame) (r : Residual) → IsOwed r → K r → (f h.instance).residual ≡ unwinding b y r → (f h.instance).started ≡ true → Held (change is p f)
-    own is f h y r owed so left begun = record { instance = f h.instance; at = change-here is p f h.instance h.at; begun = begun; frame_ = y; inner = r; owed = owed; so = so; left = left }
+    own : (is : List Instance) (f : Instance → Instance) (h : Held is) (y : Frame) (r : Residual) → F y → IsOwed r → K r → (f h.instance).residual ≡ unwinding b y r → (f h.instance).started ≡ true → Held (change is p f)
+    own is f h y r framed owed so left begun = record { instance = f h.instance; at = change-here is p f h.instance h.at; begun = begun; frame_ = y; framed = framed; inner = r; owed = owed; so = so; left = left }
 
     other : (is : List Instance) (q : ℕ) (f : Instance → Instance) → p ≢ q → Held is → Held (change is q f)
-    other is q f apart h = record { instance = h.instance; at = change-other is q p f apart ∙ h.at; begun = h.begun; frame_ = h.frame_; inner = h.inner; owed = h.owed; so = h.so; left = h.left }
+    other is q f apart h = record { instance = h.instance; at = change-other is q p f apart ∙ h.at; begun = h.begun; frame_ = h.frame_; framed = h.framed; inner = h.inner; owed = h.owed; so = h.so; left = h.left }
 
     -- what is changed of an instance is neither its body nor how far that is
     like : (is : List Instance) (q : ℕ) (f : Instance → Instance) → ((i : Instance) → Alike i (f i)) → Held is → Held (change is q f)
     like is q f alike h = ⊎_elim
-        (λ same. subst (λ n. Held (change is n f)) same (own is f h h.frame_ h.inner h.owed h.so ((alike h.instance).residual ∙ h.left) ((alike h.instance).started ∙ h.begun)))
+        (λ same. subst (λ n. Held (change is n f)) same (own is f h h.frame_ h.inner h.framed h.owed h.so ((alike h.instance).residual ∙ h.left) ((alike h.instance).started ∙ h.begun)))
         (λ apart. other is q f apart h)
         (cases_eq p q)
 
@@ -78,6 +87,7 @@ module _ (p : ℕ) (b : Around) where
       at = slice_get-map f is p ∙ ap (option_map f) h.at;
       begun = (alike h.instance).started ∙ h.begun;
       frame_ = h.frame_;
+      framed = h.framed;
       inner = h.inner;
       owed = h.owed;
       so = h.so;
@@ -90,6 +100,7 @@ module _ (p : ℕ) (b : Around) where
       at = ⊎_elim (λ e. absurd (none-some h.instance (sym (ap (slice_get is) e ∙ past-end is) ∙ h.at))) (λ apart. last-other is new p apart ∙ h.at) (cases_eq p (length is));
       begun = h.begun;
       frame_ = h.frame_;
+      framed = h.framed;
       inner = h.inner;
       owed = h.owed;
       so = h.so;
@@ -136,44 +147,44 @@ module _ (p : ℕ) (b : Around) where
 
   -- ---- in its own turn, where its unwinding is not over
 
-  bare_not : (y : Frame) (r q : Residual) → IsBare q → q ≡ unwinding b y r → ⊥
-  bare_not y r _ over_skip e = cc
-  bare_not y r _ (over_frame x) e = cc
-  bare_not y r _ (over_goal k) e = cc
+  pub bare-not : (y : Frame) (r q : Residual) → IsBare q → q ≡ unwinding b y r → ⊥
+  bare-not y r _ over_skip e = cc
+  bare-not y r _ (over_frame x) e = cc
+  bare-not y r _ (over_goal k) e = cc
 
   abbrev Own : Parts → Type 0
-  Own x = Marked x × Held IsLeft x.instances
+  Own x = Marked x × Held IsLeft AnyCall x.instances
 
-  module _ (x : Parts) (i : Instance) (r : Residual) (at : At x p i r) (h : Held IsLeft x.instances) where
+  module _ (x : Parts) (i : Instance) (r : Residual) (at : At x p i r) (h : Held IsLeft AnyCall x.instances) where
     left_as : r ≡ unwinding b h.frame_ h.inner
     left_as = sym at.is ∙ sym (ap (λ (j : Instance). j.residual) (same_Some h.instance i (sym h.at ∙ at.here))) ∙ h.left
 
-    put_own : (n : Residual) → Held IsLeft (change x.instances p (λ j. record j { residual = put r n }))
+    put_own : (n : Residual) → Held IsLeft AnyCall (change x.instances p (λ j. record j { residual = put r n }))
     put_own n =
-        own IsLeft x.instances (λ j. record j { residual = put r n }) h h.frame_ (put h.inner n) (owed-put h.inner n h.owed) (left-put h.inner n h.owed h.so)
+        own IsLeft AnyCall x.instances (λ j. record j { residual = put r n }) h h.frame_ (put h.inner n) tt (owed-put h.inner n h.owed) (left-put h.inner n h.owed h.so)
         (ap (λ z. put z n) left_as ∙ put-unwinding b h.frame_ h.inner n h.so) h.begun
 
-    off_own : Held IsLeft (change x.instances p (λ j. record j { residual = taken_off r }))
-    off_own = own IsLeft x.instances (λ j. record j { residual = taken_off r }) h h.frame_ (taken_off h.inner) (owed-off h.inner h.owed) (left-off h.inner h.owed h.so) (ap taken_off left_as) h.begun
+    off_own : Held IsLeft AnyCall (change x.instances p (λ j. record j { residual = taken_off r }))
+    off_own = own IsLeft AnyCall x.instances (λ j. record j { residual = taken_off r }) h h.frame_ (taken_off h.inner) tt (owed-off h.inner h.owed) (left-off h.inner h.owed h.so) (ap taken_off left_as) h.begun
 
-    returned_own : (n : ℕ) → next_of r ≡ statement n → (v : _) → Held IsLeft (change x.instances p (λ j. record j { residual = returned v r }))
+    returned_own : (n : ℕ) → next_of r ≡ statement n → (v : _) → Held IsLeft AnyCall (change x.instances p (λ j. record j { residual = returned v r }))
     returned_own n next v =
-        own IsLeft x.instances (λ j. record j { residual = returned v r }) h h.frame_ (returned v h.inner) (owed-returned v h.inner h.owed) (left-returned v h.inner h.owed h.so)
+        own IsLeft AnyCall x.instances (λ j. record j { residual = returned v r }) h h.frame_ (returned v h.inner) tt (owed-returned v h.inner h.owed) (left-returned v h.inner h.owed h.so)
         (ap (returned v) left_as ∙ returned-unwinding b h.frame_ h.inner v (owed-exit h.inner n h.owed (next-unwinding b h.frame_ h.inner n (sym (ap next_of left_as) ∙ next)))) h.begun
 
     not_over : Marked x → IsOver (next_of r) → ⊥
-    not_over m over = bare_not h.frame_ h.inner r (rooted-over i.started r (subst (IsRooted i.started) at.is (m.rooted p i at.here)) at.tight over) left_as
+    not_over m over = bare-not h.frame_ h.inner r (rooted-over i.started r (subst (IsRooted i.started) at.is (m.rooted p i at.here)) at.tight over) left_as
 
-  local_own : (x : Parts) (n : ℕ) (v : _) → (h : Held IsLeft x.instances) → Held IsLeft (change x.instances p (λ j. record j { residual = in_innermost (with_local n v) j.residual }))
+  local_own : (x : Parts) (n : ℕ) (v : _) → (h : Held IsLeft AnyCall x.instances) → Held IsLeft AnyCall (change x.instances p (λ j. record j { residual = in_innermost (with_local n v) j.residual }))
   local_own x n v h =
-      own IsLeft x.instances (λ j. record j { residual = in_innermost (with_local n v) j.residual }) h (changed_if (innermost h.inner) (with_local n v) h.frame_) (in_innermost (with_local n v) h.inner)
+      own IsLeft AnyCall x.instances (λ j. record j { residual = in_innermost (with_local n v) j.residual }) h (changed_if (innermost h.inner) (with_local n v) h.frame_) (in_innermost (with_local n v) h.inner) tt
       (owed-local (with_local n v) h.inner h.owed) (left-local (with_local n v) h.inner h.owed h.so) (ap (in_innermost (with_local n v)) h.left) h.begun
 
   kept_own : IsKept p Own
   kept_own =
       let m : IsKept p Marked = marked-kept p in
       record {
-        same = λ x q f alike h. (m.same x q f alike h.0, like IsLeft x.instances q f alike h.1);
+        same = λ x q f alike h. (m.same x q f alike h.0, like IsLeft AnyCall x.instances q f alike h.1);
         leaves = λ x rest top none h. (m.leaves x rest top none h.0, h.1);
         pushes = λ x q rest top off h. (m.pushes x q rest top off h.0, h.1);
         passes = λ x i r at may h. (m.passes x i r at may h.0, put_own x i r at h.1 skip);
@@ -182,11 +193,11 @@ module _ (p : ℕ) (b : Around) where
         guards = λ x i r n at next c u h. (m.guards x i r n at next c u h.0, put_own x i r at h.1 _);
         returns = λ x i r n at next v h. (m.returns x i r n at next v h.0, returned_own x i r at h.1 n next v);
         locals = λ x n v h. (m.locals x n v h.0, local_own x n v h.1);
-        raises = λ x q i r e k at is stands none caught inner h. (m.raises x q i r e k at is stands none caught inner h.0, raised IsLeft x q i r _ at is none h.1);
-        unwinds = λ x q i k at stands none outer h. (m.unwinds x q i k at stands none outer h.0, raised IsLeft x q i i.residual (goal (unw i.residual) k) at refl none h.1);
+        raises = λ x q i r e k at is stands none caught inner h. (m.raises x q i r e k at is stands none caught inner h.0, raised IsLeft AnyCall x q i r _ at is none h.1);
+        unwinds = λ x q i k at stands none outer h. (m.unwinds x q i k at stands none outer h.0, raised IsLeft AnyCall x q i i.residual (goal (unw i.residual) k) at refl none h.1);
         over = λ x i r at over f none stays h. absurd (not_over x i r at h.1 h.0 over);
-        begins = λ x q i f args at bare h. (m.begins x q i f args at bare h.0, other IsLeft x.instances q _ (apart_begun IsLeft x.instances h.1 q i at bare) h.1);
-        spawned = λ x new none begun lives h. (m.spawned x new none begun lives h.0, more IsLeft x.instances new h.1);
+        begins = λ x q i f args at bare h. (m.begins x q i f args at bare h.0, other IsLeft AnyCall x.instances q _ (apart_begun IsLeft AnyCall x.instances h.1 q i at bare) h.1);
+        spawned = λ x new none begun lives h. (m.spawned x new none begun lives h.0, more IsLeft AnyCall x.instances new h.1);
         tries_hop = λ x s hop t e blocking entry unbroken h. (m.tries_hop x s hop t e blocking entry unbroken h.0, h.1);
         calls_hop = λ x i r n at next via f args e hop entry unbroken h. (m.calls_hop x i r n at next via f args e hop entry unbroken h.0, put_own x i r at h.1 _);
         returns_hop = λ x i r y at next via e over entry unbroken h. (m.returns_hop x i r y at next via e over entry unbroken h.0, put_own x i r at h.1 skip);
@@ -194,32 +205,35 @@ module _ (p : ℕ) (b : Around) where
 
   -- ---- each step
 
-  abbrev Any : Residual → Type 0
-  Any r = Unit {0}
+  weaker : (is : List Instance) → Held IsLeft AnyCall is → Held Any AnyCall is
+  weaker is h = record { instance = h.instance; at = h.at; begun = h.begun; frame_ = h.frame_; framed = h.framed; inner = h.inner; owed = h.owed; so = tt; left = h.left }
 
-  weaker : (is : List Instance) → Held IsLeft is → Held Any is
-  weaker is h = record { instance = h.instance; at = h.at; begun = h.begun; frame_ = h.frame_; inner = h.inner; owed = h.owed; so = tt; left = h.left }
+  module _ (F : Frame → Type 0) where
+    -- p is on top, and all is unwound
+    pub record Over (c : Config) : Type 0 where
+      pub rest : List ℕ
+      pub frame_ : Frame
+      pub framed : F frame_
+      pub stands : StandsAt c p rest (unwinding b frame_ skip)
 
-  -- p is on top, and all is unwound
-  record Over (c : Config) : Type 0 where
-    rest : List ℕ
-    frame_ : Frame
-    stands : StandsAt c p rest (unwinding b frame_ skip)
+    held_if : (c : Bool) (x y : Config) → Held Any F x.processes.instances → Held Any F y.processes.instances → Held Any F (cond c x y).processes.instances
+    held_if true x y one_ two = one_
+    held_if false x y one_ two = two
 
-  held_if : (c : Bool) (x y : Config) → Held Any x.processes.instances → Held Any y.processes.instances → Held Any (cond c x y).processes.instances
-  held_if true x y one_ two = one_
-  held_if false x y one_ two = two
+    init_held : (n : ℕ) (xs : List ProcessPart) (x : Config) → Held Any F x.processes.instances → Held Any F (initialize_each n xs x).processes.instances
+    init_held n [] x h = h
+    init_held n (y ∷ ys) x h =
+        held_if y.dont_initialize (initialize_each (suc n) ys x) (initialize_each (suc n) ys (with_runnable (change_instance x n freed) (x.processes.runnable ++ n ∷ [])))
+        (init_held (suc n) ys x h)
+        (init_held (suc n) ys (with_runnable (change_instance x n freed) (x.processes.runnable ++ n ∷ []))
+        (like Any F x.processes.instances n freed (λ i. record { kind = refl; home = refl; code = refl; residual = refl; started = refl; ended = refl }) h))
 
-  init_held : (n : ℕ) (xs : List ProcessPart) (x : Config) → Held Any x.processes.instances → Held Any (initialize_each n xs x).processes.instances
-  init_held n [] x h = h
-  init_held n (y ∷ ys) x h =
-      held_if y.dont_initialize (initialize_each (suc n) ys x) (initialize_each (suc n) ys (with_runnable (change_instance x n freed) (x.processes.runnable ++ n ∷ [])))
-      (init_held (suc n) ys x h)
-      (init_held (suc n) ys (with_runnable (change_instance x n freed) (x.processes.runnable ++ n ∷ []))
-      (like Any x.processes.instances n freed (λ i. record { kind = refl; home = refl; code = refl; residual = refl; started = refl; ended = refl }) h))
+    between_kept : (c d : Config) → Moves None c d → Held Any F c.processes.instances → Held Any F d.processes.instances
+    between_kept c d ms h = moves-keep None (Kept (In Any F)) (each-between (In Any F) (kept-between Any F)) c d ms h
 
-  between_kept : (c d : Config) → Moves None c d → Held Any c.processes.instances → Held Any d.processes.instances
-  between_kept c d ms h = moves-keep None (Kept (In Any)) (each-between (In Any) (kept-between Any)) c d ms h
+    pub left-held : (vias : List Via) (x : Config) → Held Any F x.processes.instances → Held Any F (with_left x vias).processes.instances
+    left-held [] x h = h
+    left-held (via ∷ more_) x h = left-held more_ (with_entry x via.hop (Left via.payload)) h
 
   runs_on : (c d : Config) (s : Bool) → cond s ended (step_in c c.cycle.phase) ≡ went d → s ≡ false
   runs_on c d true e = absurd (no e)
@@ -228,58 +242,58 @@ module _ (p : ℕ) (b : Around) where
       no e = cc
   runs_on c d false e = refl
 
-  module _ (c : Config) (sound : Sound c) (marked : Marked (parts c)) (h : Held Any c.processes.instances) where
+  -- what the steps of p itself keep of its body's call is told
+  module _ (F : Frame → Type 0) (c : Config) (sound : Sound c) (marked : Marked (parts c)) (h : Held Any F c.processes.instances)
+      (keeps : (rest : List ℕ) (i : Instance) (d : Config) → c.processes.stack ≡ p ∷ rest → instance_at c p ≡ Some i → statement_step c p ≡ Ok d → IsLeft (settle (arena c) h.inner) → Held Any AnyCall d.processes.instances → Held Any F d.processes.instances) where
     abbrev On : Config → Type 0
-    On d = (Held Any d.processes.instances) ⊎ (Over c)
+    On d = (Held Any F d.processes.instances) ⊎ (Over F c)
 
     module _ (rest : List ℕ) (i : Instance) (d : Config) (runs : c.cycle.stopped ≡ false) (now : c.cycle.phase ≡ phase.Evaluate) (top : c.processes.stack ≡ p ∷ rest) (at : instance_at c p ≡ Some i) where
       left_is : settle (arena c) i.residual ≡ unwinding b h.frame_ (settle (arena c) h.inner)
       left_is = ap (λ (j : Instance). settle (arena c) j.residual) (same_Some i h.instance (sym at ∙ h.at)) ∙ ap (settle (arena c)) h.left
 
-      is_all : settle (arena c) h.inner ≡ skip → Over c
+      is_all : settle (arena c) h.inner ≡ skip → Over F c
       is_all bare = record {
         rest = rest;
         frame_ = h.frame_;
+        framed = h.framed;
         stands = record { runs = runs; evaluates = now; top = top; instance = i; at = at; left = left_is ∙ ap (λ z. unwinding b h.frame_ z) bare };
       }
 
-      settled_held : IsLeft (settle (arena c) h.inner) → Held IsLeft (settled_in c p i.residual).processes.instances
+      settled_held : IsLeft (settle (arena c) h.inner) → Held IsLeft AnyCall (settled_in c p i.residual).processes.instances
       settled_held l = record {
         instance = record h.instance { residual = settle (arena c) i.residual };
         at = change-here c.processes.instances p (λ j. record j { residual = settle (arena c) i.residual }) h.instance h.at;
         begun = h.begun;
         frame_ = h.frame_;
+        framed = tt;
         inner = settle (arena c) h.inner;
         owed = owed-settled (arena c) h.inner h.owed;
         so = l;
         left = left_is;
       }
 
-      own_step : Moves (Some p) (settled_in c p i.residual) d → On d
-      own_step ms = ⊎_elim
+      own_step : Moves (Some p) (settled_in c p i.residual) d → statement_step c p ≡ Ok d → On d
+      own_step ms is = ⊎_elim
           (λ bare. inr (is_all bare))
-          (λ l. inl (weaker d.processes.instances (moves-kept p Own kept_own (settled_in c p i.residual) d ms (settled-sound c sound p rest i top at) (marked-settled p (parts c) i at marked, settled_held l)).1))
+          (λ l. inl (keeps rest i d top at is l (weaker d.processes.instances (moves-kept p Own kept_own (settled_in c p i.residual) d ms (settled-sound c sound p rest i top at) (marked-settled p (parts c) i at marked, settled_held l)).1)))
           (skip-or_left (settle (arena c) h.inner))
 
     by_moves : (d : Config) → StepMoves c d → c.cycle.stopped ≡ false → On d
     by_moves _ (in_turn q rest i d now top at ms is) runs = ⊎_elim
-        (λ same. subst (λ n. c.processes.stack ≡ n ∷ rest → instance_at c n ≡ Some i → Moves (Some n) (settled_in c n i.residual) d → On d) same (λ top_ at_ ms_. own_step rest i d runs now top_ at_ ms_) top at ms)
+        (λ same. subst (λ n. c.processes.stack ≡ n ∷ rest → instance_at c n ≡ Some i → Moves (Some n) (settled_in c n i.residual) d → statement_step c n ≡ Ok d → On d) same (λ top_ at_ ms_ is_. own_step rest i d runs now top_ at_ ms_ is_) top at ms is)
         (λ apart.
-        inl (moves-kept q (In Any) (kept-other Any q apart) (settled_in c q i.residual) d ms (settled-sound c sound q rest i top at) (other Any c.processes.instances q (λ j. record j { residual = settle (arena c) i.residual }) apart h)))
+        inl (moves-kept q (In Any F) (kept-other Any F q apart) (settled_in c q i.residual) d ms (settled-sound c sound q rest i top at) (other Any F c.processes.instances q (λ j. record j { residual = settle (arena c) i.residual }) apart h)))
         (cases_eq p q)
-    by_moves _ (between d later ms) runs = inl (between_kept c d ms h)
+    by_moves _ (between d later ms) runs = inl (between_kept F c d ms h)
     by_moves _ (initializing d e now ms same cycle more_ after_) runs =
-        inl (between_kept (initialize_each 0 c.design.processes d) e more_ (init_held 0 c.design.processes d (between_kept c d ms h)))
-    by_moves _ (moving_now t d now apart ms same) runs = inl (between_kept (time_moved c t) d ms h)
+        inl (between_kept F (initialize_each 0 c.design.processes d) e more_ (init_held F 0 c.design.processes d (between_kept F c d ms h)))
+    by_moves _ (moving_now t d now apart ms same) runs = inl (between_kept F (time_moved c t) d ms h)
 
-    step_held : (d : Config) → step c ≡ went d → On d
-    step_held d now = by_moves d (step-moves c d now) (runs_on c d c.cycle.stopped now)
+    pub step-held : (d : Config) → step c ≡ went d → On d
+    step-held d now = by_moves d (step-moves c d now) (runs_on c d c.cycle.stopped now)
 
   -- ---- the step that throws
-
-  left_held : (vias : List Via) (x : Config) → Held Any x.processes.instances → Held Any (with_left x vias).processes.instances
-  left_held [] x h = h
-  left_held (via ∷ more_) x h = left_held more_ (with_entry x via.hop (Left via.payload)) h
 
   frame_begun : (a : Arena) (s : Bool) (r q : Residual) (y : Frame) → IsRooted s r → settle a r ≡ frame q y → s ≡ true
   frame_begun a true r q y rooted is = refl
@@ -293,12 +307,13 @@ module _ (p : ℕ) (b : Around) where
       no e = cc
   frame_begun a false other_ q y rooted is = absurd rooted
 
-  first_held : (c : Config) → Marked (parts c) → (rest : List ℕ) (x : Frame) (r : Residual) → (h : StandsAt c p rest (trying b x r)) → Held Any (with_residual (settled_in c p h.instance.residual) p (unwinding b x (unw r))).processes.instances
-  first_held c marked rest x r h = record {
+  pub first-held : (F : Frame → Type 0) (c : Config) → Marked (parts c) → (rest : List ℕ) (x : Frame) (r : Residual) → F x → (h : StandsAt c p rest (trying b x r)) → Held Any F (with_residual (settled_in c p h.instance.residual) p (unwinding b x (unw r))).processes.instances
+  first-held F c marked rest x r framed h = record {
     instance = record h.instance { residual = unwinding b x (unw r) };
     at = changed-at c p h.instance h.at (λ j. record j { residual = unwinding b x (unw r) });
     begun = frame_begun (arena c) h.instance.started h.instance.residual (seq (try_ r b.handlers) (b.loops ∷ [])) x (marked.rooted p h.instance h.at) h.left;
     frame_ = x;
+    framed = framed;
     inner = unw r;
     owed = owed-unw r;
     so = tt;
@@ -313,23 +328,23 @@ module _ (p : ℕ) (b : Around) where
     shift c e d n choices now (is_over k own left y rest x less split there stands) =
         is_over (suc k) own left y rest x (omega (arith, less)) split (ap (λ o. and_then o c own (after k)) now ∙ there) stands
 
-    on_stack : (c : Config) → IsReached design script c → Held Any c.processes.instances → 0 < times p c.processes.stack
-    on_stack c r h = (goals-after design script sound r.steps r.choices c r.reached).goal_is_active p h.instance h.at (ap has_goal h.left)
+    pub on-stack : (F : Frame → Type 0) (c : Config) → IsReached design script c → (h : Held Any F c.processes.instances) → 0 < times p c.processes.stack
+    on-stack F c r h = (goals-after design script sound r.steps r.choices c r.reached).goal_is_active p h.instance h.at (ap has_goal h.left)
 
     abbrev Later : ℕ → Config → Type 0
-    Later n d = (choices : List ℕ) (c : Config) → IsReached design script c → Held Any c.processes.instances → after n choices c ≡ Some d → Unwinds c d p b n choices
+    Later n d = (choices : List ℕ) (c : Config) → IsReached design script c → Held Any AnyCall c.processes.instances → after n choices c ≡ Some d → Unwinds c d p b n choices
 
-    unwinds_on : (n : ℕ) (d : Config) → Later n d → (choices : List ℕ) (c : Config) → IsReached design script c → Held Any c.processes.instances → (o : Outcome) → step c ≡ o → and_then o c choices (after n) ≡ Some d → Unwinds c d p b (suc n) choices
+    unwinds_on : (n : ℕ) (d : Config) → Later n d → (choices : List ℕ) (c : Config) → IsReached design script c → Held Any AnyCall c.processes.instances → (o : Outcome) → step c ≡ o → and_then o c choices (after n) ≡ Some d → Unwinds c d p b (suc n) choices
     unwinds_on n d later choices c r h (went e) now reached = ⊎_elim
         (λ k. shift c e d n choices now (later choices e (reached-went design script c e r now) k reached))
         (λ o. is_over 0 [] choices c o.rest o.frame_ (omega arith) refl refl o.stands)
-        (step_held c (sound-run design script sound r.steps r.choices c r.reached) (marked-after design script sound r.steps r.choices c r.reached) h e now)
+        (step-held AnyCall c (sound-run design script sound r.steps r.choices c r.reached) (marked-after design script sound r.steps r.choices c r.reached) h (λ rest i d top at is l z. z) e now)
     unwinds_on n d later choices c r h (faulted f) now reached = absurd (none-some d reached)
-    unwinds_on n d later choices c r h takes now reached = let on = on_stack c r h in let none = ap (times p) (takes-empty c now) in absurd (omega (arith, on, none))
+    unwinds_on n d later choices c r h takes now reached = let on = on-stack AnyCall c r h in let none = ap (times p) (takes-empty c now) in absurd (omega (arith, on, none))
     unwinds_on n d later choices c r h ended now reached = absurd (none-some d reached)
 
     unwinds : (n : ℕ) (d : Config) → Later n d
-    unwinds zero d [] c r h reached = subst (λ z. Unwinds c z p b 0 []) (same_Some c d reached) (goes_on h.instance h.frame_ h.inner h.at h.left (on_stack c r h))
+    unwinds zero d [] c r h reached = subst (λ z. Unwinds c z p b 0 []) (same_Some c d reached) (goes_on h.instance h.frame_ h.inner h.at h.left (on-stack AnyCall c r h))
     unwinds zero d (q ∷ choices) c r h reached = absurd (none-some d reached)
     unwinds (suc n) d choices c r h reached = unwinds_on n d (unwinds n d) choices c r h (step c) refl reached
 
@@ -340,5 +355,5 @@ module _ (p : ℕ) (b : Around) where
         let now = throw_steps c p rest b e has x r h s next throws none in
         shift c (with_left first (left_by_unw r)) d n choices now
         (unwinds n d choices (with_left first (left_by_unw r)) (reached-went design script c (with_left first (left_by_unw r)) k now)
-        (left_held (left_by_unw r) first (first_held c (marked-after design script sound k.steps k.choices c k.reached) rest x r h))
+        (left-held AnyCall (left_by_unw r) first (first-held AnyCall c (marked-after design script sound k.steps k.choices c k.reached) rest x r tt h))
         (sym (ap (λ o. and_then o c choices (after n)) now) ∙ reached))

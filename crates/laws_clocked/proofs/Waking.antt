@@ -7,7 +7,7 @@ use Rattle.laws_unwinding.specs.FlatDesign.Sound.{SoundDesign}
 use Rattle.laws_unwinding.specs.FlatDesign.declared.design.Design.{Design}
 use Rattle.laws_unwinding.specs.FlatDesign.declared.design.ProcessPart.{ProcessPart}
 use Rattle.laws_unwinding.specs.SimModel.Residual.{has_goal}
-use Rattle.laws_unwinding.specs.SimModel.Configuration.{Config, Instance, Processes, Wait, waits_for_nothing, waits_statically, waits_for_any, waits_for_all, Deadline, no_deadline, next_delta, at_time, arena, start, instance_at, first_instance}
+use Rattle.laws_unwinding.specs.SimModel.Configuration.{Config, Instance, Processes, Wait, waits_for_nothing, waits_statically, waits_for_any, waits_for_all, Deadline, no_deadline, next_delta, at_time, arena, instance_at, first_instance}
 use Rattle.laws_unwinding.specs.SimModel.Waits.{holds}
 use Rattle.laws_unwinding.specs.SimModel.Steps.{Outcome, went, faulted, takes, ended, step, taking, taken_if}
 use Rattle.laws_unwinding.specs.SimModel.Runs.{after, and_then, took}
@@ -17,16 +17,15 @@ use Rattle.laws_unwinding.specs.SimModel.declared.plain.Phase.{Phase}
 use Rattle.laws_unwinding.specs.SimModel.declared.plain.Phase.TheVariants as phase
 use Rattle.laws_unwinding.proofs.LawsRuns.CleanRuns.{clean-after, good-after}
 use Rattle.laws_unwinding.proofs.LawsRuns.Splits.{joined, suc-sum}
-use Rattle.laws_unwinding.proofs.LawsRuns.Start.{first_processes}
-use Rattle.laws_unwinding.proofs.LawsRuns.Steps.{FitsPhase, Good}
+use Rattle.laws_unwinding.proofs.LawsRuns.Steps.{FitsPhase}
 use Rattle.laws_unwinding.proofs.LawsRuns.Times.{times-here, times-holds, times-last_other}
 use Rattle.laws_moves.specs.Moves.{IsLater}
 use Rattle.laws_moves.proofs.RunSteps.{takes-empty}
 use Rattle.laws_clocked.specs.Fired.{fires_of}
 use Rattle.laws_clocked.specs.Ticks.{Tick, HasTick}
-use Rattle.laws_clocked.specs.Turns.{IsLeaving, IsNotUnwound, LeavesNormally}
+use Rattle.laws_clocked.specs.Turns.{IsLeaving, IsNotUnwound}
+use Rattle.laws_clocked.proofs.Counted.{LeavesCounted}
 use Rattle.laws_clocked.specs.Wakes.{WaitsStatically, FollowsWake}
-use Rattle.laws_clocked.proofs.Rousing.{Rests}
 use Rattle.laws_clocked.proofs.Ending.{quiet-step, taking-rests}
 use Rattle.laws_clocked.proofs.Passing.{State, comes, throws, away, own-off, throw-step, taken-is}
 use Rattle.laws_clocked.proofs.Ticking.{IsReached, Between, between-went, between-taken, between-first, goes-first, goes-here}
@@ -282,7 +281,7 @@ module _ (design : Design) (script : List Command) (sound : SoundDesign design) 
   no_less : (k m : ℕ) → k < m → (j : ℕ) × (k + suc j ≡ m)
   no_less k m less = (m - suc k, omega (arith, less))
 
-  pub follows-at : (c e : Config) → IsReached design script c → HasTick (arena c) t → (n : ℕ) (choices : List ℕ) → LeavesNormally c e p t n choices
+  pub follows-at : (c e : Config) → IsReached design script c → HasTick (arena c) t → (n : ℕ) (choices : List ℕ) → LeavesCounted c e p t n choices
       → (k : ℕ) (own left : List ℕ) (x : Config) → k < n → choices ≡ own ++ p ∷ left → after k own c ≡ Some x → step x ≡ takes → FollowsWake c p k own x
   follows-at c e r has n choices l k own left x less split there now = by (taking x p) refl at_x.between.ends.reached
     where

@@ -1,5 +1,5 @@
 -- What a clocked thread has around its own statements in the code, so that a reset begins them again; and what is left of the thread there.
-use Rattle.std.specs.Prelude.{◌≡◌, ◌<◌, ℕ, suc, false, List, [], ◌∷◌, ◌++◌, Some}
+use Rattle.std.specs.Prelude.{◌≡◌, ◌<◌, ◌≤◌, ℕ, suc, false, List, [], ◌∷◌, ◌++◌, Some}
 use Rattle.laws_unwinding.specs.FlatDesign.Code as code
 use Rattle.laws_unwinding.specs.FlatDesign.Code.{Arena, block_at, statement_at}
 use Rattle.laws_unwinding.specs.FlatDesign.declared.names.NameUse.TheVariants as name_use
@@ -88,3 +88,20 @@ pub record BeginsAgain (c : Config) (p : ℕ) (rest : List ℕ) (b : Around) (x 
 pub data Unwinds (c d : Config) (p : ℕ) (b : Around) (n : ℕ) (choices : List ℕ) : Type 0 where
   goes_on : (i : Instance) (x : Frame) (r : Residual) → instance_at d p ≡ Some i → i.residual ≡ unwinding b x r → 0 < times p d.processes.stack → Unwinds c d p b n choices
   is_over : (k : ℕ) (own left : List ℕ) (y : Config) (rest : List ℕ) (x : Frame) → k < n → choices ≡ own ++ left → after k own c ≡ Some y → StandsAt y p rest (unwinding b x skip) → Unwinds c d p b n choices
+
+-- all of the thread's own statements are left, and the next step, which is one of p, carries out the first
+pub record IsBegun (c : Config) (p : ℕ) (b : Around) : Type 0 where
+  pub rest : List ℕ
+  pub call : Frame
+  pub stands : StandsAt c p rest (trying b call (statements (b.first ∷ b.more)))
+  pub next : next_of (settle (arena c) stands.instance.residual) ≡ statement b.first
+
+-- Of n steps with these choices from c to d: p is on the stack behind them; or at one of the configurations up to there the thread's own
+-- statements began again.
+pub data StaysOrBegins (c d : Config) (p : ℕ) (b : Around) (n : ℕ) (choices : List ℕ) : Type 0 where
+  stays_on : 0 < times p d.processes.stack → StaysOrBegins c d p b n choices
+  begun_at : (k : ℕ) (own left : List ℕ) (y : Config) → k ≤ n → choices ≡ own ++ left → after k own c ≡ Some y → IsBegun y p b → StaysOrBegins c d p b n choices
+
+-- whatever comes behind c, before p leaves the stack the thread's own statements begin again
+abbrev pub BeginsFirst : Config → ℕ → Around → Type 0
+BeginsFirst c p b = (n : ℕ) (choices : List ℕ) (d : Config) → after n choices c ≡ Some d → StaysOrBegins c d p b n choices

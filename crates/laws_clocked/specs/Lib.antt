@@ -6,3 +6,5 @@ pub mod Resets
 pub mod Fired
 pub mod Wakes
 pub mod Again
+pub mod Stores
+pub mod Clocked

@@ -48,7 +48,7 @@ pub fn an_unwinding_goes_on()
 pub fn a_reset_at_its_level_begins_again()
     ensures { (design : Design) (script : List Command) → SoundDesign design
         → (steps : ℕ) (chosen : List ℕ) (x : Config) → after steps chosen (start design script) ≡ Some x
-        → (p : ℕ) (t : Tick) → HasTick (arena x) t → (v : Value) → (w : IsBehindWait x p t v) → step x ≡ takes → (d : Config) → taking x p ≡ Some d
+        → (p : ℕ) (t : Tick) → HasTick (arena x) t → (w : IsBehindWait x p t) → step x ≡ takes → (d : Config) → taking x p ≡ Some d
         → (before : List Test) (y : Test) (behind : List Test) → t.tests ≡ before ++ y ∷ behind → NoneAtLevel x p before → IsAtLevel x p y
         → (b : Around) → HasAround (arena x) b y.exception
         → (f : Frame) (r : Residual) → settle (arena x) w.instance.residual ≡ trying b f r → IsPlain y.exception (left_at t (checking t.tests)) r

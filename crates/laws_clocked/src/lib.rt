@@ -2,6 +2,7 @@
 #![tactic(auto)]
 
 mod again;
+mod first;
 mod resets;
 mod spots;
 mod ticks;
@@ -9,6 +10,7 @@ mod ticks;
 pub use again::{
     a_caught_exception_begins_again, a_reset_at_its_level_begins_again, an_unwinding_goes_on,
 };
+pub use first::{own_statements_begin_again_first, the_loop_would_go_on};
 pub use resets::{a_reset_at_its_level_throws, a_reset_begins_anew};
 pub use spots::{ticks_go_on, what_shows_stands_in_place};
 pub use ticks::ticks_take_their_takings;

@@ -1,6 +1,5 @@
 //! What a reset at its level does, and what a reset does, once it has unwound all.
 ghost use Rattle.std.specs.Prelude.{◌≡◌, ℕ, suc, false, List, ◌∷◌, ◌++◌, length, Some};
-ghost use Rattle.laws_unwinding.specs.LogicValues.declared.kinds.Value.{Value};
 ghost use Rattle.laws_unwinding.specs.FlatDesign.Sound.{SoundDesign};
 ghost use Rattle.laws_unwinding.specs.FlatDesign.declared.design.Design.{Design};
 ghost use Rattle.laws_unwinding.specs.SimModel.Residual.{settle, next_of, reaches};
@@ -27,7 +26,7 @@ pub fn a_reset_begins_anew()
 pub fn a_reset_at_its_level_throws()
     ensures { (design : Design) (script : List Command) → SoundDesign design
         → (steps : ℕ) (chosen : List ℕ) (x : Config) → after steps chosen (start design script) ≡ Some x
-        → (p : ℕ) (t : Tick) → HasTick (arena x) t → (v : Value) → IsBehindWait x p t v → step x ≡ takes → (d : Config) → taking x p ≡ Some d
+        → (p : ℕ) (t : Tick) → HasTick (arena x) t → IsBehindWait x p t → step x ≡ takes → (d : Config) → taking x p ≡ Some d
         → (before : List Test) (y : Test) (behind : List Test) → t.tests ≡ before ++ y ∷ behind → NoneAtLevel x p before → IsAtLevel x p y
         → ThrowsAfter d p (suc (length before)) y }
 {}
