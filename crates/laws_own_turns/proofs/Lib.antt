@@ -14,5 +14,5 @@ mod Owns
 mod WholeTurns
 pub mod WholeRuns
 mod Once
-mod WholePhases
-mod Reordered
+pub mod WholePhases
+pub mod Reordered

@@ -1,4 +1,4 @@
--- The turns of an evaluation phase may be taken in any order: each has as many steps, and all is left alike.
+-- The turns of an evaluation phase may be taken in any order: each has as many steps, and what turns keep is kept.
 use Rattle.std.proofs.Common.{◌≡◌, ◌≢◌, ◌<◌, ◌≤◌, ◌+◌, ◌==◌, ℕ, suc, Bool, true, false, cond, List, [], ◌∷◌, ◌++◌, Some, refl, sym, ap, ◌∙◌, subst, arith, eqb-true}
 use Rattle.std.specs.Prelude.{IsPermutation, Result, Ok, Err}
 use Rattle.std.proofs.lemmas.Option.{none-some, same_Some}
@@ -23,32 +23,23 @@ use Rattle.laws_own_turns.proofs.Steps.{first_if}
 use Rattle.laws_own_turns.proofs.Owns.{are-unheard}
 use Rattle.laws_own_turns.proofs.WholePhases.{IsAtRest, rest-fits, rests-behind, ready-behind, taken-held}
 
--- ---- what is left alike, by way of another one
-
-alike_self : (e : Config) → AreLeftAlike e e
-alike_self e = record { instances = λ p. refl; runnable = λ p. refl; stack = refl; values = λ n. refl; shared = refl }
-
-alike_on : (c d e : Config) → AreLeftAlike c d → AreLeftAlike d e → AreLeftAlike c e
-alike_on c d e h k = record {
-  instances = λ p. k.instances p ∙ h.instances p;
-  runnable = λ p. k.runnable p ∙ h.runnable p;
-  stack = k.stack ∙ h.stack;
-  values = λ n. k.values n ∙ h.values n;
-  shared = k.shared ∙ h.shared;
-}
-
 no_one : (p : ℕ) {ps : List ℕ} → [] ≡ p ∷ ps → ⊥
 no_one p is = none-some p (ap first_if is)
 
--- ---- the laws of two turns
+-- ---- what two configurations have in common, and turns keep
 
-abbrev pub GoesEitherWay : Type 0
-GoesEitherWay = (p q : ℕ) → p ≢ q → (n m : ℕ) (c d e : Config) → Free c.design → c.processes.stack ≡ [] → TakesTurn (Uses c.design p) p n c d → TakesTurn (Uses c.design q) q m d e
-    → AreUnheard q c → AreUnheard p c → AreUnheard p e
-    → (x : Config) × (y : Config) × TakesTurn (Uses c.design q) q m c x × TakesTurn (Uses c.design p) p n x y × AreLeftAlike e y
-
-abbrev pub LeavesAlike : Type 0
-LeavesAlike = (p n : ℕ) (e f y : Config) → Free e.design → AreLeftAlike e y → TakesTurn (Uses e.design p) p n e f → AreUnheard p y → (g : Config) × TakesTurn (Uses e.design p) p n y g × AreLeftAlike f g
+-- where it goes both ways and on, who is runnable, the cycle and the stack are the same; two turns may be taken in either order; and a
+-- turn of the one is a turn of the other
+pub record IsKept (R : Config → Config → Type 0) : Type 0 where
+  pub flipped : (c x : Config) → R c x → R x c
+  pub chained : (c x y : Config) → R c x → R x y → R c y
+  pub runnable : (c x : Config) → R c x → (p : ℕ) → holds x.processes.runnable p ≡ holds c.processes.runnable p
+  pub cycle : (c x : Config) → R c x → x.cycle ≡ c.cycle
+  pub stack : (c x : Config) → R c x → x.processes.stack ≡ c.processes.stack
+  pub either : (p q : ℕ) → p ≢ q → (n m : ℕ) (c e f : Config) → Free c.design → R c c → c.processes.stack ≡ [] → TakesTurn (Uses c.design p) p n c e → TakesTurn (Uses c.design q) q m e f
+      → AreUnheard q c → AreUnheard p c → AreUnheard p f
+      → (x : Config) × (y : Config) × TakesTurn (Uses c.design q) q m c x × TakesTurn (Uses c.design p) p n x y × R f y
+  pub goes_on : (p n : ℕ) (c e x : Config) → Free c.design → R c x → TakesTurn (Uses c.design p) p n c e → AreUnheard p x → (y : Config) × TakesTurn (Uses c.design p) p n x y × R e y
 
 -- ---- lists of turns
 
@@ -91,7 +82,13 @@ steps_moved : (as_ : List TurnOf) (u : TurnOf) (bs : List TurnOf) → steps_of (
 steps_moved [] u bs = refl
 steps_moved (a ∷ as_) u bs = let later = steps_moved as_ u bs in omega (arith, later)
 
-module _ (d : Design) (free : Free d) (either : GoesEitherWay) (alike : LeavesAlike) where
+steps_split : (ts as_ : List TurnOf) (u : TurnOf) (bs : List TurnOf) → ts ≡ as_ ++ u ∷ bs → steps_of ts ≡ steps_of (u ∷ (as_ ++ bs))
+steps_split ts as_ u bs is = ap steps_of is ∙ steps_moved as_ u bs
+
+cons_same : (n q : ℕ) (ns ps : List ℕ) → n ≡ q → ns ≡ ps → n ∷ ns ≡ q ∷ ps
+cons_same n q ns ps head tail = ap (λ m. m ∷ ns) head ∙ ap (λ (ms : List ℕ). q ∷ ms) tail
+
+module _ (d : Design) (free : Free d) (R : Config → Config → Type 0) (kept : IsKept R) where
   abbrev Rests : Config → Type 0
   Rests c = IsAtRest d free c
 
@@ -101,18 +98,27 @@ module _ (d : Design) (free : Free d) (either : GoesEitherWay) (alike : LeavesAl
   same_design : (c : Config) → Rests c → c.design ≡ d
   same_design c r = (rest-fits d free c r).design
 
-  -- ---- turns from what is left alike
+  itself : (c x : Config) → R c x → R c c
+  itself c x same = kept.chained c x c same (kept.flipped c x same)
 
-  one_alike : (c y e : Config) (p n : ℕ) → Rests c → Rests y → AreLeftAlike c y → TakesTurn (Uses d p) p n c e → (g : Config) × TakesTurn (Uses d p) p n y g × AreLeftAlike e g
+  -- ---- turns from two such configurations
+
+  one_alike : (c y e : Config) (p n : ℕ) → Rests c → Rests y → R c y → TakesTurn (Uses d p) p n c e → (g : Config) × TakesTurn (Uses d p) p n y g × R e g
   one_alike c y e p n r s same turn =
-      subst (λ (x : Design). Free x → AreLeftAlike c y → TakesTurn (Uses x p) p n c e → AreUnheard p y → (g : Config) × TakesTurn (Uses x p) p n y g × AreLeftAlike e g) (same_design c r) (alike p n c e y) free same turn (unheard y s p)
+      subst (λ (x : Design). Free x → R c y → TakesTurn (Uses x p) p n c e → AreUnheard p y → (g : Config) × TakesTurn (Uses x p) p n y g × R e g) (same_design c r) (kept.goes_on p n c e y) free same turn (unheard y s p)
 
-  pub turns-alike : (ts : List TurnOf) (c e y : Config) → TakesTurns d ts c e → Rests c → Rests y → AreLeftAlike c y → (g : Config) × TakesTurns d ts y g × AreLeftAlike e g
+  pub turns-alike : (ts : List TurnOf) (c e y : Config) → TakesTurns d ts c e → Rests c → Rests y → R c y → (g : Config) × TakesTurns d ts y g × R e g
   turns-alike _ _ _ y (no_turn c) r s same = (y, no_turn y, same)
   turns-alike _ _ _ y (turn_then t ts c e f turn more) r s same =
       let one_ = one_alike c y e t.serial t.steps r s same turn in
       let rest = turns-alike ts e f one_.0 more (rests-behind d free c t.serial t.steps e r turn) (rests-behind d free y t.serial t.steps one_.0 s one_.1) one_.2 in
       (rest.0, turn_then t ts y one_.0 rest.0 one_.1 rest.1, rest.2)
+
+  itself_behind : (c e : Config) (p n : ℕ) → Rests c → R c c → TakesTurn (Uses d p) p n c e → R e e
+  itself_behind c e p n r same turn = let o = one_alike c c e p n r r same turn in itself e o.0 o.2
+
+  itself_after : (ts : List TurnOf) (c e : Config) → TakesTurns d ts c e → Rests c → R c c → R e e
+  itself_after ts c e turns r same = let o = turns-alike ts c e c turns r r same in itself e o.0 o.2
 
   -- ---- the first of some turns
 
@@ -133,19 +139,19 @@ module _ (d : Design) (free : Free d) (either : GoesEitherWay) (alike : LeavesAl
       let none = ap (times q) ready ∙ subst (λ n. times n (without c.processes.runnable p) ≡ 0) same (times-cut_here p c.processes.runnable) in
       absurd (omega (arith, some, none))
 
-  pub swapped : (t u : TurnOf) (c e f : Config) → Rests c → TakesTurn (Uses d t.serial) t.serial t.steps c e → TakesTurn (Uses d u.serial) u.serial u.steps e f
-      → (x : Config) × (y : Config) × TakesTurn (Uses d u.serial) u.serial u.steps c x × TakesTurn (Uses d t.serial) t.serial t.steps x y × AreLeftAlike f y
-  swapped t u c e f r one_ two =
+  pub swapped : (t u : TurnOf) (c e f : Config) → Rests c → R c c → TakesTurn (Uses d t.serial) t.serial t.steps c e → TakesTurn (Uses d u.serial) u.serial u.steps e f
+      → (x : Config) × (y : Config) × TakesTurn (Uses d u.serial) u.serial u.steps c x × TakesTurn (Uses d t.serial) t.serial t.steps x y × R f y
+  swapped t u c e f r same one_ two =
       let s = rests-behind d free c t.serial t.steps e r one_ in
       let apart = not_again t.serial u.serial c e two.begun (ready-behind d free c t.serial t.steps e r one_) two.taken in
-      subst (λ (x : Design). Free x → c.processes.stack ≡ [] → TakesTurn (Uses x t.serial) t.serial t.steps c e → TakesTurn (Uses x u.serial) u.serial u.steps e f → AreUnheard u.serial c → AreUnheard t.serial c → AreUnheard t.serial f
-      → (z : Config) × (y : Config) × TakesTurn (Uses x u.serial) u.serial u.steps c z × TakesTurn (Uses x t.serial) t.serial t.steps z y × AreLeftAlike f y)
-      (same_design c r) (either t.serial u.serial apart t.steps u.steps c e f) free r.empty one_ two (unheard c r u.serial) (unheard c r t.serial) (unheard f (rests-behind d free e u.serial u.steps f s two) t.serial)
+      subst (λ (x : Design). Free x → R c c → c.processes.stack ≡ [] → TakesTurn (Uses x t.serial) t.serial t.steps c e → TakesTurn (Uses x u.serial) u.serial u.steps e f → AreUnheard u.serial c → AreUnheard t.serial c → AreUnheard t.serial f
+      → (z : Config) × (y : Config) × TakesTurn (Uses x u.serial) u.serial u.steps c z × TakesTurn (Uses x t.serial) t.serial t.steps z y × R f y)
+      (same_design c r) (kept.either t.serial u.serial apart t.steps u.steps c e f) free same r.empty one_ two (unheard c r u.serial) (unheard c r t.serial) (unheard f (rests-behind d free e u.serial u.steps f s two) t.serial)
 
-  swapped_first : (t u : TurnOf) (ts : List TurnOf) (c e f g : Config) → Rests c → TakesTurn (Uses d t.serial) t.serial t.steps c e → TakesTurn (Uses d u.serial) u.serial u.steps e f → TakesTurns d ts f g
-      → (y : Config) × TakesTurns d (u ∷ t ∷ ts) c y × AreLeftAlike g y
-  swapped_first t u ts c e f g r one_ two more =
-      let s = swapped t u c e f r one_ two in
+  swapped_first : (t u : TurnOf) (ts : List TurnOf) (c e f g : Config) → Rests c → R c c → TakesTurn (Uses d t.serial) t.serial t.steps c e → TakesTurn (Uses d u.serial) u.serial u.steps e f → TakesTurns d ts f g
+      → (y : Config) × TakesTurns d (u ∷ t ∷ ts) c y × R g y
+  swapped_first t u ts c e f g r same one_ two more =
+      let s = swapped t u c e f r same one_ two in
       let before = rests-behind d free c t.serial t.steps e r one_ in
       let here = rests-behind d free e u.serial u.steps f before two in
       let there = rests-behind d free s.0 t.serial t.steps s.1 (rests-behind d free c u.serial u.steps s.0 r s.2) s.3 in
@@ -154,14 +160,14 @@ module _ (d : Design) (free : Free d) (either : GoesEitherWay) (alike : LeavesAl
 
   -- ---- one turn comes to the front, and then all as they are wanted
 
-  pub front : (as_ : List TurnOf) (u : TurnOf) (bs : List TurnOf) (c e : Config) → Rests c → TakesTurns d (as_ ++ u ∷ bs) c e → (y : Config) × TakesTurns d (u ∷ (as_ ++ bs)) c y × AreLeftAlike e y
-  front [] u bs c e r turns = (e, turns, alike_self e)
-  front (a ∷ as_) u bs c e r turns =
+  pub front : (as_ : List TurnOf) (u : TurnOf) (bs : List TurnOf) (c e : Config) → Rests c → R c c → TakesTurns d (as_ ++ u ∷ bs) c e → (y : Config) × TakesTurns d (u ∷ (as_ ++ bs)) c y × R e y
+  front [] u bs c e r same turns = (e, turns, itself_after (u ∷ bs) c e turns r same)
+  front (a ∷ as_) u bs c e r same turns =
       let here = first_of a (as_ ++ u ∷ bs) c e turns in
-      let later = front as_ u bs here.on e (rests-behind d free c a.serial a.steps here.on r here.turn) here.more in
+      let later = front as_ u bs here.on e (rests-behind d free c a.serial a.steps here.on r here.turn) (itself_behind c here.on a.serial a.steps r same here.turn) here.more in
       let next = first_of u (as_ ++ bs) here.on later.0 later.1 in
-      let two = swapped_first a u (as_ ++ bs) c here.on next.on later.0 r here.turn next.turn next.more in
-      (two.0, two.1, alike_on e later.0 two.0 later.2 two.2)
+      let two = swapped_first a u (as_ ++ bs) c here.on next.on later.0 r same here.turn next.turn next.more in
+      (two.0, two.1, kept.chained e later.0 two.0 later.2 two.2)
 
   pub record Reordered (ts : List TurnOf) (ps : List ℕ) (c e : Config) : Type 0 where
     pub turns : List TurnOf
@@ -169,24 +175,24 @@ module _ (d : Design) (free : Free d) (either : GoesEitherWay) (alike : LeavesAl
     pub serials : serials_of turns ≡ ps
     pub steps : steps_of turns ≡ steps_of ts
     pub taken : TakesTurns d turns c end
-    pub left_alike : AreLeftAlike e end
+    pub like : R e end
 
-  module _ (q : ℕ) (ps : List ℕ) (ts : List TurnOf) (c e : Config) (r : Rests c) (turns : TakesTurns d ts c e) (same : same_serials (q ∷ ps) (serials_of ts)) (later : (us : List TurnOf) (x y : Config) → Rests x → TakesTurns d us x y → same_serials ps (serials_of us) → Reordered us ps x y) where
+  module _ (q : ℕ) (ps : List ℕ) (ts : List TurnOf) (c e : Config) (r : Rests c) (self : R c c) (turns : TakesTurns d ts c e) (same : same_serials (q ∷ ps) (serials_of ts)) (later : (us : List TurnOf) (x y : Config) → Rests x → R x x → TakesTurns d us x y → same_serials ps (serials_of us) → Reordered us ps x y) where
     one_first : HasTurn ts q → Reordered ts (q ∷ ps) c e
     one_first h =
         let others = h.before ++ h.behind in
-        let moved = front h.before h.turn h.behind c e r (subst (λ (us : List TurnOf). TakesTurns d us c e) h.is turns) in
+        let moved = front h.before h.turn h.behind c e r self (subst (λ (us : List TurnOf). TakesTurns d us c e) h.is turns) in
         let first = first_of h.turn others c moved.0 moved.1 in
-        let rest = later others first.on moved.0 (rests-behind d free c h.turn.serial h.turn.steps first.on r first.turn) first.more (same_others others) in
+        let rest = later others first.on moved.0 (rests-behind d free c h.turn.serial h.turn.steps first.on r first.turn) (itself_behind c first.on h.turn.serial h.turn.steps r self first.turn) first.more (same_others others) in
         let total = rest.steps in
-        let all = ap steps_of h.is ∙ steps_moved h.before h.turn h.behind in
+        let all = steps_split ts h.before h.turn h.behind h.is in
         record {
           turns = h.turn ∷ rest.turns;
           end = rest.end;
-          serials = ap (λ n. n ∷ serials_of rest.turns) h.own ∙ ap (λ (ns : List ℕ). q ∷ ns) rest.serials;
+          serials = cons_same h.turn.serial q (serials_of rest.turns) ps h.own rest.serials;
           steps = omega (arith, total, all);
           taken = turn_then h.turn rest.turns c first.on rest.end first.turn rest.taken;
-          left_alike = alike_on e moved.0 rest.end moved.2 rest.left_alike;
+          like = kept.chained e moved.0 rest.end moved.2 rest.like;
         }
       where
         same_others : (others : List TurnOf) → same_serials ps (serials_of (h.before ++ h.behind))
@@ -200,10 +206,10 @@ module _ (d : Design) (free : Free d) (either : GoesEitherWay) (alike : LeavesAl
     wanted_first : Reordered ts (q ∷ ps) c e
     wanted_first = let here = same q in let wanted = times-here q ps in one_first (found_turn ts q (omega (arith, here, wanted)))
 
-  pub reordered : (ps : List ℕ) (ts : List TurnOf) (c e : Config) → Rests c → TakesTurns d ts c e → same_serials ps (serials_of ts) → Reordered ts ps c e
-  reordered [] [] c e r turns same = record { turns = []; end = e; serials = refl; steps = refl; taken = turns; left_alike = alike_self e }
-  reordered [] (t ∷ ts) c e r turns same = let here = same t.serial in let some = times-here t.serial (serials_of ts) in absurd (omega (arith, here, some))
-  reordered (q ∷ ps) ts c e r turns same = wanted_first q ps ts c e r turns same (reordered ps)
+  pub reordered : (ps : List ℕ) (ts : List TurnOf) (c e : Config) → Rests c → R c c → TakesTurns d ts c e → same_serials ps (serials_of ts) → Reordered ts ps c e
+  reordered [] [] c e r self turns same = record { turns = []; end = e; serials = refl; steps = refl; taken = turns; like = itself_after [] c e turns r self }
+  reordered [] (t ∷ ts) c e r self turns same = let here = same t.serial in let some = times-here t.serial (serials_of ts) in absurd (omega (arith, here, some))
+  reordered (q ∷ ps) ts c e r self turns same = wanted_first q ps ts c e r self turns same (reordered ps)
 
   -- ---- turns are one where they are of the same processes
 
@@ -253,15 +259,15 @@ module _ (d : Design) (free : Free d) (either : GoesEitherWay) (alike : LeavesAl
   counts : (ps qs : List ℕ) → IsPermutation ps qs → same_serials qs ps
   counts ps qs h p = sum_by-IsPermutation (λ q. cond (q == p) 1 0) ps qs h
 
-  pub any-order : (ts : List TurnOf) (c e : Config) → Rests c → TakesTurns d ts c e → (ps : List ℕ) → IsPermutation (serials_of ts) ps → Reordered ts ps c e
-  any-order ts c e r turns ps h = reordered ps ts c e r turns (counts (serials_of ts) ps h)
+  pub any-order : (ts : List TurnOf) (c e : Config) → Rests c → R c c → TakesTurns d ts c e → (ps : List ℕ) → IsPermutation (serials_of ts) ps → Reordered ts ps c e
+  any-order ts c e r self turns ps h = reordered ps ts c e r self turns (counts (serials_of ts) ps h)
 
-  pub phases-alike : (ts us : List TurnOf) (c e x y : Config) → Rests c → Rests x → AreLeftAlike c x → TakesTurns d ts c e → TakesTurns d us x y → same_serials (serials_of us) (serials_of ts) → (steps_of us ≡ steps_of ts) × AreLeftAlike e y
+  pub phases-alike : (ts us : List TurnOf) (c e x y : Config) → Rests c → Rests x → R c x → TakesTurns d ts c e → TakesTurns d us x y → same_serials (serials_of us) (serials_of ts) → (steps_of us ≡ steps_of ts) × R e y
   phases-alike ts us c e x y r s same turns others h =
       let again = turns-alike ts c e x turns r s same in
-      let o = reordered (serials_of us) ts x again.0 s again.1 h in
+      let o = reordered (serials_of us) ts x again.0 s (itself x c (kept.flipped c x same)) again.1 h in
       let one_ = same_turns o.turns us x o.end y o.serials o.taken others in
-      (sym one_.0 ∙ o.steps, alike_on e again.0 y again.2 (subst (λ (z : Config). AreLeftAlike again.0 z) one_.1 o.left_alike))
+      (sym one_.0 ∙ o.steps, kept.chained e again.0 y again.2 (subst (λ (z : Config). R again.0 z) one_.1 o.like))
 
   -- who is runnable in both is so once in both
   as_often : (p : ℕ) (xs ys : List ℕ) (b : Bool) → holds xs p ≡ b → holds ys p ≡ b → times p xs ≤ 1 → times p ys ≤ 1 → times p ys ≡ times p xs
@@ -271,12 +277,54 @@ module _ (d : Design) (free : Free d) (either : GoesEitherWay) (alike : LeavesAl
   once_runnable : (c : Config) → Rests c → (p : ℕ) → times p c.processes.runnable ≤ 1
   once_runnable c r p = let most = (clean-after d r.script r.steps r.choices c r.run).once p in omega (arith, most)
 
-  pub same-turns : (c x : Config) → Rests c → Rests x → AreLeftAlike c x → (ts us : List TurnOf) → IsPermutation c.processes.runnable (serials_of ts) → IsPermutation x.processes.runnable (serials_of us) → same_serials (serials_of us) (serials_of ts)
+  pub same-turns : (c x : Config) → Rests c → Rests x → R c x → (ts us : List TurnOf) → IsPermutation c.processes.runnable (serials_of ts) → IsPermutation x.processes.runnable (serials_of us) → same_serials (serials_of us) (serials_of ts)
   same-turns c x r s same ts us h k p =
       let here = counts c.processes.runnable (serials_of ts) h p in
       let there = counts x.processes.runnable (serials_of us) k p in
-      let both = as_often p c.processes.runnable x.processes.runnable (holds c.processes.runnable p) refl (same.runnable p) (once_runnable c r p) (once_runnable x s p) in
+      let both = as_often p c.processes.runnable x.processes.runnable (holds c.processes.runnable p) refl (kept.runnable c x same p) (once_runnable c r p) (once_runnable x s p) in
       omega (arith, here, there, both)
+
+  -- from two such configurations, in both of which an evaluation phase begins
+  pub phases-kept : (c x : Config) → Rests c → Rests x → R c x → (k : ℕ) (own : List ℕ) (e : Config) (one_ : HasEvaluated d c k own e) (l : ℕ) (others : List ℕ) (y : Config) (two : HasEvaluated d x l others y)
+      → (steps_of two.turns ≡ steps_of one_.turns) × R one_.turned two.turned
+  phases-kept c x r s same k own e one_ l others y two =
+      phases-alike one_.turns two.turns c one_.turned x two.turned r s same one_.taken two.taken (same-turns c x r s same one_.turns two.turns one_.each two.each)
+
+-- ---- what is left alike
+
+abbrev pub GoesEitherWay : Type 0
+GoesEitherWay = (p q : ℕ) → p ≢ q → (n m : ℕ) (c d e : Config) → Free c.design → c.processes.stack ≡ [] → TakesTurn (Uses c.design p) p n c d → TakesTurn (Uses c.design q) q m d e
+    → AreUnheard q c → AreUnheard p c → AreUnheard p e
+    → (x : Config) × (y : Config) × TakesTurn (Uses c.design q) q m c x × TakesTurn (Uses c.design p) p n x y × AreLeftAlike e y
+
+abbrev pub LeavesAlike : Type 0
+LeavesAlike = (p n : ℕ) (e f y : Config) → Free e.design → AreLeftAlike e y → TakesTurn (Uses e.design p) p n e f → AreUnheard p y → (g : Config) × TakesTurn (Uses e.design p) p n y g × AreLeftAlike f g
+
+alike_self : (e : Config) → AreLeftAlike e e
+alike_self e = record { instances = λ p. refl; runnable = λ p. refl; stack = refl; values = λ n. refl; shared = refl }
+
+alike_on : (c d e : Config) → AreLeftAlike c d → AreLeftAlike d e → AreLeftAlike c e
+alike_on c d e h k = record {
+  instances = λ p. k.instances p ∙ h.instances p;
+  runnable = λ p. k.runnable p ∙ h.runnable p;
+  stack = k.stack ∙ h.stack;
+  values = λ n. k.values n ∙ h.values n;
+  shared = k.shared ∙ h.shared;
+}
+
+alike_back : (c d : Config) → AreLeftAlike c d → AreLeftAlike d c
+alike_back c d h = record { instances = λ p. sym (h.instances p); runnable = λ p. sym (h.runnable p); stack = sym h.stack; values = λ n. sym (h.values n); shared = sym h.shared }
+
+alike_kept : GoesEitherWay → LeavesAlike → IsKept AreLeftAlike
+alike_kept either alike = record {
+  flipped = alike_back;
+  chained = alike_on;
+  runnable = λ c x h. h.runnable;
+  cycle = λ c x h. ap (λ (z : Config). z.cycle) h.shared;
+  stack = λ c x h. h.stack;
+  either = λ p q apart n m c e f free self. either p q apart n m c e f free;
+  goes_on = alike;
+}
 
 module _ (either : GoesEitherWay) (alike : LeavesAlike) (d : Design) (script : List Command) (free : Free d) (n : ℕ) (choices : List ℕ) (c : Config) (run : after n choices (start d script) ≡ Some c) (evaluating : c.cycle.phase ≡ phase.Evaluate) (empty : c.processes.stack ≡ []) where
   at_rest : IsAtRest d free c
@@ -284,11 +332,11 @@ module _ (either : GoesEitherWay) (alike : LeavesAlike) (d : Design) (script : L
 
   pub in-any-order : (ts : List TurnOf) (e : Config) → TakesTurns d ts c e → (ps : List ℕ) → IsPermutation (serials_of ts) ps
       → (us : List TurnOf) × (y : Config) × (serials_of us ≡ ps) × (steps_of us ≡ steps_of ts) × TakesTurns d us c y × AreLeftAlike e y
-  in-any-order ts e turns ps h = let o = any-order d free either alike ts c e at_rest turns ps h in (o.turns, o.end, o.serials, o.steps, o.taken, o.left_alike)
+  in-any-order ts e turns ps h = let o = any-order d free AreLeftAlike (alike_kept either alike) ts c e at_rest (alike_self c) turns ps h in (o.turns, o.end, o.serials, o.steps, o.taken, o.like)
 
   pub phases-leave-alike : (other : List Command) (m : ℕ) (more : List ℕ) (x : Config) → after m more (start d other) ≡ Some x → AreLeftAlike c x
       → (k : ℕ) (own : List ℕ) (e : Config) (one_ : HasEvaluated d c k own e) (l : ℕ) (others : List ℕ) (y : Config) (two : HasEvaluated d x l others y)
       → (steps_of two.turns ≡ steps_of one_.turns) × AreLeftAlike one_.turned two.turned
   phases-leave-alike other m more x there same k own e one_ l others y two =
       let s : IsAtRest d free x = record { script = other; steps = m; choices = more; run = there; evaluating = ap (λ (z : Config). z.cycle.phase) same.shared ∙ evaluating; empty = same.stack ∙ empty } in
-      phases-alike d free either alike one_.turns two.turns c one_.turned x two.turned at_rest s same one_.taken two.taken (same-turns d free either alike c x at_rest s same one_.turns two.turns one_.each two.each)
+      phases-kept d free AreLeftAlike (alike_kept either alike) c x at_rest s same k own e one_ l others y two

@@ -2,6 +2,8 @@
 ghost use Rattle.std.specs.Prelude.{◌≡◌, ℕ, List, [], ◌∷◌, Some, Ok};
 ghost use Rattle.sim_model.specs.FlatDesign.declared.design.Design.{Design};
 ghost use Rattle.sim_model.specs.Configuration.{Config, Instance, instance_at, start};
+ghost use Rattle.sim_model.specs.EventCore.declared.event.Ev.TheVariants as ev;
+ghost use Rattle.sim_model.specs.Waits.{fire};
 ghost use Rattle.sim_model.specs.Statements.{statement_step};
 ghost use Rattle.sim_model.specs.Runs.{after};
 ghost use Rattle.sim_model.specs.declared.plain.Command.{Command};
@@ -23,6 +25,12 @@ pub fn runs_are_on_their_own()
         → (p : ℕ) (i : Instance) → instance_at c p ≡ Some i → IsOnItsOwn (Uses d p) p c }
     ensures unheard { (d : Design) (script : List Command) → Free d → (n : ℕ) (choices : List ℕ) (c : Config) → after n choices (start d script) ≡ Some c
         → (p : ℕ) → AreUnheard p c }
+{}
+
+/// So nothing changes when the end or the reset of a process fires.
+pub fn ends_change_nothing()
+    ensures { (d : Design) (script : List Command) → Free d → (n : ℕ) (choices : List ℕ) (c : Config) → after n choices (start d script) ≡ Some c
+        → (p : ℕ) → (fire c (ev.Terminated p) ≡ c) × (fire c (ev.Restarted p) ≡ c) }
 {}
 
 /// A step of a process makes nobody runnable, and moves neither the phase nor the time: so an evaluation phase takes those who were
