@@ -138,6 +138,35 @@ module _ (d : Design) (statics : StaticsFixed d) (may : (p : ℕ) → EachMayDo 
   pub step-fits : (c : Config) → Fits d c → IfWent (step c) (Fits d)
   step-fits c h = unless_stopped c.cycle.stopped (step_in c c.cycle.phase) (step_fits c c.cycle.phase refl h)
 
+  -- ---- a step that is none of a process leaves the stack empty
+
+  abbrev pub IsEmpty : Config → Type 0
+  IsEmpty e = e.processes.stack ≡ []
+
+  evaluate_empty : (c : Config) (stack runnable : List ℕ) → c.processes.stack ≡ stack → IsEmpty c → Fits d c → IfWent (evaluate c stack runnable) IsEmpty
+  evaluate_empty c (p ∷ stack) runnable is empty h = absurd (none-some p (ap first_if (sym empty ∙ is)))
+  evaluate_empty c [] (q ∷ runnable) is empty h = tt
+  evaluate_empty c [] [] is empty h = (update-between d c (between_of c h empty)).empty
+
+  command_empty : (c : Config) (ks : List Command) → IsBetween d c → IfWent (next_command c ks) IsEmpty
+  command_empty c [] h = tt
+  command_empty c (k ∷ ks) h =
+      outcome-went IsEmpty (carry_out (record c { script = ks }) k) (if_weaker (IsBetween d) IsEmpty (carry_out (record c { script = ks }) k) (λ e b. b.empty) (command-between d (record c { script = ks }) k h))
+
+  step_empty : (c : Config) (ph : Phase) → IsEmpty c → Fits d c → IfWent (step_in c ph) IsEmpty
+  step_empty c phase.Idle empty h = command_empty c c.script (between_of c h empty)
+  step_empty c phase.Start empty h = (initialization-between d c (between_of c h empty)).empty
+  step_empty c phase.Evaluate empty h = evaluate_empty c c.processes.stack c.processes.runnable refl empty h
+  step_empty c phase.Notify empty h = (delta-between d c (between_of c h empty)).empty
+  step_empty c phase.Timed empty h = (timed-between d c (between_of c h empty)).empty
+
+  unless_empty : (b : Bool) (o : Outcome) → IfWent o IsEmpty → IfWent (cond b ended o) IsEmpty
+  unless_empty true o h = tt
+  unless_empty false o h = h
+
+  pub step-empty : (c : Config) → IsEmpty c → Fits d c → IfWent (step c) IsEmpty
+  step-empty c empty h = unless_empty c.cycle.stopped (step_in c c.cycle.phase) (step_empty c c.cycle.phase empty h)
+
   -- ---- the taking of a process
 
   body_left : (p : ℕ) (i : Instance) → KeepsToItself d p i → (args : List Value) → IsLeftOf d p (begun (arena_of d.code) i.code args)

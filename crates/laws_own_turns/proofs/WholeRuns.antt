@@ -1,12 +1,12 @@
 -- The laws on whole runs.
-use Rattle.std.proofs.Common.{◌≡◌, ℕ, suc, List, [], ◌∷◌, Some, ◌∙◌, refl}
+use Rattle.std.proofs.Common.{◌≡◌, ℕ, suc, List, [], ◌∷◌, Some, ◌∙◌, refl, subst}
 use Rattle.std.specs.Prelude.{◌⊎◌, Ok}
 use Rattle.sim_model.specs.FlatDesign.declared.design.Design.{Design}
 use Rattle.sim_model.specs.Configuration.{Config, Instance, instance_at, start}
 use Rattle.sim_model.specs.EventCore.declared.event.Ev.TheVariants as ev
 use Rattle.sim_model.specs.Waits.{fire, without}
 use Rattle.sim_model.specs.Statements.{statement_step}
-use Rattle.sim_model.specs.Steps.{step, takes, taking}
+use Rattle.sim_model.specs.Steps.{Outcome, went, step, takes, taking}
 use Rattle.sim_model.specs.Runs.{after}
 use Rattle.sim_model.specs.declared.plain.Command.{Command}
 use Rattle.laws_runs.proofs.CleanRuns.{live-taken}
@@ -16,7 +16,7 @@ use Rattle.laws_order.specs.Turns.{IsOnItsOwn, TakesTurn}
 use Rattle.laws_own_turns.specs.Fits.{Fits}
 use Rattle.laws_own_turns.specs.Turned.{IsInTurn, HasTurned}
 use Rattle.laws_own_turns.proofs.Unheard.{fire-same}
-use Rattle.laws_own_turns.proofs.Steps.{alone-on}
+use Rattle.laws_own_turns.proofs.Steps.{IfWent, alone-on, step-empty}
 use Rattle.laws_own_turns.proofs.FitRuns.{fits-after}
 use Rattle.laws_own_turns.proofs.Ruled.{may-do, statics-fixed}
 use Rattle.laws_own_turns.proofs.Owns.{is-own, are-unheard}
@@ -34,6 +34,9 @@ module _ (d : Design) (script : List Command) (free : Free d) (n : ℕ) (choices
 
   pub ends-same : (p : ℕ) → (fire c (ev.Terminated p) ≡ c) × (fire c (ev.Restarted p) ≡ c)
   ends-same p = (fire-same (ev.Terminated p) (λ m. refl) d (statics-fixed d free) c fits.processes, fire-same (ev.Restarted p) (λ m. refl) d (statics-fixed d free) c fits.processes)
+
+  pub stays-empty : c.processes.stack ≡ [] → (e : Config) → step c ≡ went e → e.processes.stack ≡ []
+  stays-empty empty e is = subst (λ (o : Outcome). IfWent o (λ (x : Config). x.processes.stack ≡ [])) is (step-empty d (statics-fixed d free) (may-do d free) c empty fits)
 
   pub wakes-nobody : (p : ℕ) → c.processes.stack ≡ p ∷ [] → (e : Config) → statement_step c p ≡ Ok e → WakesNobody c e
   wakes-nobody p alone e is = let a = alone-on d (statics-fixed d free) (may-do d free) c p [] fits.stack alone in step-wakes-nobody d free p a.among c e fits alone is

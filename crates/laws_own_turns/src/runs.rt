@@ -5,6 +5,7 @@ ghost use Rattle.sim_model.specs.Configuration.{Config, Instance, instance_at, s
 ghost use Rattle.sim_model.specs.EventCore.declared.event.Ev.TheVariants as ev;
 ghost use Rattle.sim_model.specs.Waits.{fire};
 ghost use Rattle.sim_model.specs.Statements.{statement_step};
+ghost use Rattle.sim_model.specs.Steps.{step, went};
 ghost use Rattle.sim_model.specs.Runs.{after};
 ghost use Rattle.sim_model.specs.declared.plain.Command.{Command};
 ghost use Rattle.order_free.specs.Free.{Uses, Free};
@@ -39,4 +40,11 @@ pub fn steps_wake_nobody()
     ensures { (d : Design) (script : List Command) → Free d → (n : ℕ) (choices : List ℕ) (c : Config) → after n choices (start d script) ≡ Some c
         → (p : ℕ) → c.processes.stack ≡ p ∷ [] → (e : Config) → statement_step c p ≡ Ok e
         → (e.processes.runnable ≡ c.processes.runnable) × (e.cycle ≡ c.cycle) }
+{}
+
+/// A step that is none of a process, be it a command of the script or one of the scheduler, leaves nobody on the stack: only a taking
+/// brings a process there.
+pub fn the_stack_stays_empty_between_turns()
+    ensures { (d : Design) (script : List Command) → Free d → (n : ℕ) (choices : List ℕ) (c : Config) → after n choices (start d script) ≡ Some c
+        → c.processes.stack ≡ [] → (e : Config) → step c ≡ went e → e.processes.stack ≡ [] }
 {}
