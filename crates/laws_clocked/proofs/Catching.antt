@@ -147,8 +147,8 @@ module _ (p : ℕ) (rest : List ℕ) (b : Around) (e : ℕ) (x : Frame) (v : Val
       answers : Value → Result Value RunFault
       answers w = Ok w
 
-  loops : (c : Config) → HasAround (arena c) b e → StandsAt c p rest (frame (one b.loops) x) → Begins 2 c
-  loops c has h =
+  pub loop-begins : (c : Config) → HasAround (arena c) b e → StandsAt c p rest (frame (one b.loops) x) → Begins 2 c
+  loop-begins c has h =
       let r = frame (one b.loops) x in
       let before = old c p rest r h in
       let n = frame (seq (one b.tries) (b.loops ∷ [])) x in
@@ -170,7 +170,7 @@ module _ (p : ℕ) (rest : List ℕ) (b : Around) (e : ℕ) (x : Frame) (v : Val
       let r = unwinding b x skip in
       let n = frame (seq skip (b.loops ∷ [])) x in
       let d = with_residual (old c p rest r h) p n in
-      a-step 2 c d (steps_by c p rest r h) h.top (loops d has (stands_behind c p rest r h n (frame (one b.loops) x) refl))
+      a-step 2 c d (steps_by c p rest r h) h.top (loop-begins d has (stands_behind c p rest r h n (frame (one b.loops) x) refl))
 
 -- ---- with no unwind block that is owed
 

@@ -34,3 +34,4 @@ pub mod Rounds
 pub mod Looping
 pub mod Sparing
 pub mod Rounded
+pub mod Resetting

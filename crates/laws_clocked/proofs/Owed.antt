@@ -138,7 +138,7 @@ owed-exit other n h is = absurd h
 
 -- ---- in the whole of what is left of the thread
 
-left_goal : (r : Residual) (k : Goal) (n inside : Residual) → IsLeft r → goal_or r k n inside ≡ goal inside k
+pub left_goal : (r : Residual) (k : Goal) (n inside : Residual) → IsLeft r → goal_or r k n inside ≡ goal inside k
 left_goal skip k n inside l = absurd l
 left_goal (one s) k n inside l = refl
 left_goal (batch s qs) k n inside l = refl

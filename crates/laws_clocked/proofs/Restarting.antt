@@ -18,11 +18,11 @@ use Rattle.laws_clocked.specs.Resets.{BeginsAnew}
 -- ---- an event takes nobody away, and moves nobody on the stack
 
 module _ (p : ℕ) (design : Design) (stack : List ℕ) where
-  record There (x : Config) : Type 0 where
-    same : x.design ≡ design
-    active : x.processes.stack ≡ stack
-    instance : Instance
-    at : instance_at x p ≡ Some instance
+  pub record There (x : Config) : Type 0 where
+    pub same : x.design ≡ design
+    pub active : x.processes.stack ≡ stack
+    pub instance : Instance
+    pub at : instance_at x p ≡ Some instance
 
   changed : (is : List Instance) (q : ℕ) (f : Instance → Instance) (j : Instance) → slice_get is p ≡ Some j → (k : Instance) × (slice_get (change is q f) p ≡ Some k)
   changed is q f j at = ⊎_elim
@@ -40,19 +40,19 @@ module _ (p : ℕ) (design : Design) (stack : List ℕ) where
 -- ---- the step at the goal
 
 module _ (c : Config) (p : ℕ) (i : Instance) (at : instance_at c p ≡ Some i) (next : next_of (settle (arena c) i.residual) ≡ reaches goal_of.Restart) where
-  abbrev r : Residual
+  abbrev pub r : Residual
   r = settle (arena c) i.residual
 
-  abbrev settled : Config
+  abbrev pub settled : Config
   settled = settled_in c p i.residual
 
-  abbrev own : Instance
+  abbrev pub own : Instance
   own = record i { residual = r }
 
-  abbrev bare : Config
+  abbrev pub bare : Config
   bare = change_instance settled p (λ j. record j { residual = skip; started = false })
 
-  abbrev fired : Config
+  abbrev pub fired : Config
   fired = fire bare (ev.Restarted p)
 
   settled_at : instance_at settled p ≡ Some own
@@ -61,17 +61,17 @@ module _ (c : Config) (p : ℕ) (i : Instance) (at : instance_at c p ≡ Some i)
   bare_at : instance_at bare p ≡ Some (record own { residual = skip; started = false })
   bare_at = change-here settled.processes.instances p (λ j. record j { residual = skip; started = false }) own settled_at
 
-  there : There p c.design c.processes.stack fired
+  pub there : There p c.design c.processes.stack fired
   there = fire-keeps (There p c.design c.processes.stack) (there-wakes p c.design c.processes.stack) bare (ev.Restarted p)
       (record { same = refl; active = refl; instance = record own { residual = skip; started = false }; at = bare_at })
 
-  step_is : statement_step c p ≡ Ok (cond i.suspended (stays_kept fired p) (begins fired p own))
-  step_is = ap (step_by c p) at ∙ ap (do_next settled p own r) next
+  pub step-is : statement_step c p ≡ Ok (cond i.suspended (stays_kept fired p) (begins fired p own))
+  step-is = ap (step_by c p) at ∙ ap (do_next settled p own r) next
 
   pub begins-anew : i.suspended ≡ false → BeginsAnew c p i
   begins-anew on = record {
     then = begins fired p own;
-    steps = step_is ∙ ap (λ b. Ok (cond b (stays_kept fired p) (begins fired p own))) on;
+    steps = step-is ∙ ap (λ b. Ok (cond b (stays_kept fired p) (begins fired p own))) on;
     instance = record there.instance { residual = begun (arena fired) i.code i.arguments; started = true };
     is = change-here fired.processes.instances p _ there.instance there.at;
     anew = ap (λ (d : Design). begun (arena_of d.code) i.code i.arguments) there.same;

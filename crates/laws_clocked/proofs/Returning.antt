@@ -37,7 +37,7 @@ use Rattle.laws_clocked.proofs.SameDesign.{design-went}
 use Rattle.laws_clocked.proofs.Ticking.{IsReached, reached-went}
 use Rattle.laws_clocked.proofs.Catching.{throw_steps, begins-again}
 use Rattle.laws_clocked.proofs.Owed.{owed-settled}
-use Rattle.laws_clocked.proofs.Unwinding.{Any, AnyCall, Held, bare-not, step-held, left-held, first-held, on-stack}
+use Rattle.laws_clocked.proofs.Unwinding.{Any, AnyNumber, AnyCall, around-unwinding, Held, bare-not, step-held, left-held, first-held, on-stack}
 use Rattle.laws_clocked.proofs.Placed.{Placed, settle-placed}
 use Rattle.laws_clocked.proofs.PlacedMoves.{placed-after}
 use Rattle.laws_clocked.proofs.Keeping.{IsKeeping, Keeps, next-keeps}
@@ -51,7 +51,7 @@ module _ (p : ℕ) (b : Around) where
   pub on-top : (rest : List ℕ) (c : Config) → c.processes.stack ≡ p ∷ rest → 0 < times p c.processes.stack
   on-top rest c top = let here = times-here p rest in let on = ap (times p) top in omega (arith, here, on)
 
-  shift : (c e d : Config) (n : ℕ) (choices : List ℕ) → step c ≡ went e → StaysOrBegins e d p b n choices → StaysOrBegins c d p b (suc n) choices
+  pub shift : (c e d : Config) (n : ℕ) (choices : List ℕ) → step c ≡ went e → StaysOrBegins e d p b n choices → StaysOrBegins c d p b (suc n) choices
   shift c e d n choices now (stays_on on) = stays_on on
   shift c e d n choices now (begun_at k own left y less split there h) = begun_at (suc k) own left y (omega (arith, less)) split (ap (λ o. and_then o c own (after k)) now ∙ there) h
 
@@ -60,10 +60,10 @@ module _ (p : ℕ) (b : Around) where
   always-went c e on now later zero (q ∷ choices) d reached = absurd (none-some d reached)
   always-went c e on now later (suc n) choices d reached = shift c e d n choices now (later n choices d (sym (ap (λ o. and_then o c choices (after n)) now) ∙ reached))
 
-  always_begun : (c : Config) → IsBegun c p b → Always c
+  pub always_begun : (c : Config) → IsBegun c p b → Always c
   always_begun c h n choices d reached = begun_at 0 [] choices c (omega arith) refl refl h
 
-  always_stays : (rest : List ℕ) (n : ℕ) (c e : Config) → c.processes.stack ≡ p ∷ rest → Stays (p ∷ rest) n c e → Always e → Always c
+  pub always_stays : (rest : List ℕ) (n : ℕ) (c e : Config) → c.processes.stack ≡ p ∷ rest → Stays (p ∷ rest) n c e → Always e → Always c
   always_stays rest _ c _ top (no_step _) later = later
   always_stays rest _ c e top (one_more n _ d _ now same more) later = always-went c d (on-top rest c top) now (always_stays rest n d e same more later)
 
@@ -101,7 +101,7 @@ module _ (p : ℕ) (b : Around) where
 
     -- ---- a step of the thread itself, while it is unwound
 
-    module _ (c : Config) (r : IsReached design script c) (has : InCode (arena c)) (h : Held p b Any Slot c.processes.instances) (i : Instance) (at : instance_at c p ≡ Some i) where
+    module _ (c : Config) (r : IsReached design script c) (has : InCode (arena c)) (h : Held p AnyNumber (unwinding b) (around-unwinding b) Any Slot c.processes.instances) (i : Instance) (at : instance_at c p ≡ Some i) where
       abbrev inner : Residual
       inner = settle (arena c) h.inner
 
@@ -126,7 +126,7 @@ module _ (p : ℕ) (b : Around) where
       not_outer : (g : Goal) → next_of (frame body h.frame_) ≡ residual.reaches g → IsOver (residual.reaches g) → ⊥
       not_outer g next over =
           let rooted = settle-rooted (arena c) i.started i.residual ((marked-after design script sound r.steps r.choices c r.reached).rooted p i at) in
-          bare-not p b h.frame_ inner (frame body h.frame_)
+          bare-not b h.frame_ inner (frame body h.frame_)
           (rooted-over i.started (frame body h.frame_) (subst (IsRooted i.started) left_is rooted) (subst IsTight left_is (settle-tight (arena c) i.residual)) (subst IsOver (sym next) over)) refl
 
       inner_goal : (g : Goal) → next_of (frame body h.frame_) ≡ residual.reaches g → IsInner g
@@ -148,14 +148,15 @@ module _ (p : ℕ) (b : Around) where
           (spared-leaves c.design f b.again has.1 inner goal_of.Thrown b.loops [] owed placed z (ends_leaves (next_of inner) h.frame_ z next)))
           inner_goal))
 
-    keeps_held : (c : Config) (r : IsReached design script c) (has : InCode (arena c)) (h : Held p b Any Slot c.processes.instances) (rest : List ℕ) (i : Instance) (d : Config) → c.processes.stack ≡ p ∷ rest → instance_at c p ≡ Some i → statement_step c p ≡ Ok d
-        → IsLeft (settle (arena c) h.inner) → Held p b Any AnyCall d.processes.instances → Held p b Any Slot d.processes.instances
+    keeps_held : (c : Config) (r : IsReached design script c) (has : InCode (arena c)) (h : Held p AnyNumber (unwinding b) (around-unwinding b) Any Slot c.processes.instances) (rest : List ℕ) (i : Instance) (d : Config) → c.processes.stack ≡ p ∷ rest → instance_at c p ≡ Some i → statement_step c p ≡ Ok d
+        → IsLeft (settle (arena c) h.inner) → Held p AnyNumber (unwinding b) (around-unwinding b) Any AnyCall d.processes.instances → Held p AnyNumber (unwinding b) (around-unwinding b) Any Slot d.processes.instances
     keeps_held c r has h rest i d top at is l z =
         let all = subst (λ m. IfOk m (λ (x : Config). LeftSo p (Keeps b.again v f) x.processes.instances)) is (keeps c r has h i at) in
         record {
           instance = z.instance;
           at = z.at;
           begun = z.begun;
+          coded = z.coded;
           frame_ = z.frame_;
           framed = subst (Keeps b.again v f) z.left (all z.instance z.at);
           inner = z.inner;
@@ -167,13 +168,13 @@ module _ (p : ℕ) (b : Around) where
     -- ---- while it is unwound, and from there on
 
     abbrev Later : ℕ → Type 0
-    Later n = (choices : List ℕ) (c d : Config) → IsReached design script c → InCode (arena c) → Held p b Any Slot c.processes.instances → after n choices c ≡ Some d → StaysOrBegins c d p b n choices
+    Later n = (choices : List ℕ) (c d : Config) → IsReached design script c → InCode (arena c) → Held p AnyNumber (unwinding b) (around-unwinding b) Any Slot c.processes.instances → after n choices c ≡ Some d → StaysOrBegins c d p b n choices
 
-    unwound_on : (n : ℕ) → Later n → (choices : List ℕ) (c d : Config) → IsReached design script c → InCode (arena c) → Held p b Any Slot c.processes.instances → (o : Outcome) → step c ≡ o → and_then o c choices (after n) ≡ Some d → StaysOrBegins c d p b (suc n) choices
+    unwound_on : (n : ℕ) → Later n → (choices : List ℕ) (c d : Config) → IsReached design script c → InCode (arena c) → Held p AnyNumber (unwinding b) (around-unwinding b) Any Slot c.processes.instances → (o : Outcome) → step c ≡ o → and_then o c choices (after n) ≡ Some d → StaysOrBegins c d p b (suc n) choices
     unwound_on n later choices c d r has h (went x) now reached = ⊎_elim
         (λ z. shift c x d n choices now (later choices x d (reached-went design script c x r now) (in-code_went c x now has) z reached))
         (λ o. always_over c e has.0 o.rest o.frame_ o.stands v o.framed.0 is_true (suc n) choices d (ap (λ y. and_then y c choices (after n)) now ∙ reached))
-        (step-held p b Slot c (sound-run design script sound r.steps r.choices c r.reached) (marked-after design script sound r.steps r.choices c r.reached) h (keeps_held c r has h) x now)
+        (step-held p AnyNumber (unwinding b) (around-unwinding b) Slot c (sound-run design script sound r.steps r.choices c r.reached) (marked-after design script sound r.steps r.choices c r.reached) h (keeps_held c r has h) x now)
     unwound_on n later choices c d r has h (faulted x) now reached = absurd (none-some d reached)
     unwound_on n later choices c d r has h takes now reached = let on = on-stack p b design script sound Slot c r h in let none = ap (times p) (takes-empty c now) in absurd (omega (arith, on, none))
     unwound_on n later choices c d r has h ended now reached = absurd (none-some d reached)
@@ -193,4 +194,4 @@ module _ (p : ℕ) (b : Around) where
         let now = throw_steps c p rest b e has.0 x r h s next throws none in
         always-went c then (on-top rest c h.top) now
         (λ n choices d reached. unwound n choices then d (reached-went design script c then k now) (in-code_went c then now has)
-        (left-held p b Slot (left_by_unw r) first (first-held p b Slot c (marked-after design script sound k.steps k.choices c k.reached) rest x r slot h)) reached)
+        (left-held p AnyNumber (unwinding b) (around-unwinding b) Slot (left_by_unw r) first (first-held p b Slot c (marked-after design script sound k.steps k.choices c k.reached) rest x r slot h)) reached)

@@ -1,5 +1,5 @@
 -- What a clocked thread has around its own statements in the code, so that a reset begins them again; and what is left of the thread there.
-use Rattle.std.specs.Prelude.{◌≡◌, ◌<◌, ◌≤◌, ℕ, suc, false, List, [], ◌∷◌, ◌++◌, Some}
+use Rattle.std.specs.Prelude.{◌≡◌, ◌⊎◌, ◌<◌, ◌≤◌, ℕ, suc, true, false, List, [], ◌∷◌, ◌++◌, Some}
 use Rattle.laws_unwinding.specs.FlatDesign.Code as code
 use Rattle.laws_unwinding.specs.FlatDesign.Code.{Arena, block_at, statement_at}
 use Rattle.laws_unwinding.specs.FlatDesign.declared.names.NameUse.TheVariants as name_use
@@ -105,3 +105,20 @@ pub data StaysOrBegins (c d : Config) (p : ℕ) (b : Around) (n : ℕ) (choices 
 -- whatever comes behind c, before p leaves the stack the thread's own statements begin again
 abbrev pub BeginsFirst : Config → ℕ → Around → Type 0
 BeginsFirst c p b = (n : ℕ) (choices : List ℕ) (d : Config) → after n choices c ≡ Some d → StaysOrBegins c d p b n choices
+
+-- at one of the configurations before, a reset had unwound all of p, whose step came next, and p was suspended
+pub record IsHeldBack (c : Config) (p n : ℕ) (choices : List ℕ) : Type 0 where
+  pub before : ℕ
+  pub own : List ℕ
+  pub behind : List ℕ
+  pub then : Config
+  pub less : before < n
+  pub split : choices ≡ own ++ behind
+  pub reached : after before own c ≡ Some then
+  pub rest : List ℕ
+  pub stands : StandsAt then p rest (goal skip goal_of.Restart)
+  pub is_suspended : stands.instance.suspended ≡ true
+
+-- whatever comes behind c, before p leaves the stack the thread's own statements begin again, or it was held back
+abbrev pub BeginsUnlessHeldBack : Config → ℕ → Around → Type 0
+BeginsUnlessHeldBack c p b = (n : ℕ) (choices : List ℕ) (d : Config) → after n choices c ≡ Some d → StaysOrBegins c d p b n choices ⊎ IsHeldBack c p n choices

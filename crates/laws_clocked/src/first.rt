@@ -1,19 +1,20 @@
 //! A reset begins a clocked thread's own statements again before the thread leaves the stack.
-ghost use Rattle.std.specs.Prelude.{◌≡◌, ℕ, Bool, false, List, ◌∷◌, ◌++◌, Some};
+ghost use Rattle.std.specs.Prelude.{◌≡◌, ℕ, Bool, true, false, List, ◌∷◌, ◌++◌, Some};
 ghost use Rattle.laws_unwinding.specs.FlatDesign.Sound.{SoundDesign};
 ghost use Rattle.laws_unwinding.specs.FlatDesign.declared.design.Design.{Design};
 ghost use Rattle.laws_unwinding.specs.FlatDesign.Code as code;
 ghost use Rattle.laws_unwinding.specs.FlatDesign.Code.{statement_at};
-ghost use Rattle.laws_unwinding.specs.SimModel.Residual.{Residual, Frame, settle, next_of, statement};
+ghost use Rattle.laws_unwinding.specs.SimModel.Residual.{Residual, Frame, goal, settle, next_of, statement};
 ghost use Rattle.laws_unwinding.specs.SimModel.Unwinding.{catches};
 ghost use Rattle.laws_unwinding.specs.SimModel.Configuration.{Config, Instance, arena, instance_at, start};
 ghost use Rattle.laws_unwinding.specs.SimModel.Steps.{step, takes, taking};
 ghost use Rattle.laws_unwinding.specs.SimModel.Runs.{after};
 ghost use Rattle.laws_unwinding.specs.SimModel.declared.plain.Command.{Command};
+ghost use Rattle.laws_unwinding.specs.SimModel.declared.plain.Goal.TheVariants as goal_of;
 ghost use Rattle.laws_clocked.specs.Ticks.{Test, Tick, HasTick};
 ghost use Rattle.laws_clocked.specs.Turns.{IsBehindWait};
 ghost use Rattle.laws_clocked.specs.Levels.{NoneAtLevel, IsAtLevel};
-ghost use Rattle.laws_clocked.specs.Again.{Around, trying, unwinding, StandsAt, BeginsFirst};
+ghost use Rattle.laws_clocked.specs.Again.{Around, trying, unwinding, StandsAt, BeginsFirst, BeginsUnlessHeldBack};
 ghost use Rattle.laws_clocked.specs.Clocked.{HasClocked, AsksTrue};
 
 /// In every run of a sound design, whatever is chosen and whatever other processes do: wherever own statements of a clocked thread
@@ -47,4 +48,15 @@ pub fn own_statements_begin_again_first()
         → (before : List Test) (y : Test) (behind : List Test) → t.tests ≡ before ++ y ∷ behind → NoneAtLevel x p before → IsAtLevel x p y
         → (b : Around) (f : Frame) (r : Residual) → HasClocked (arena x) b y.exception f.body → settle (arena x) w.instance.residual ≡ trying b f r → catches r y.exception ≡ false
         → BeginsFirst d p b }
+{}
+
+/// In every run of a sound design, whatever is chosen and whatever other processes do: where a reset that was asked for, by another
+/// process or by the thread itself, unwinds all of a clocked thread, its own statements begin, from the first, before it leaves the
+/// stack; or it is suspended where that has unwound all of it (IEEE 1666-2011, 5.6.6).
+pub fn a_reset_begins_own_statements()
+    ensures { (design : Design) (script : List Command) → SoundDesign design
+        → (steps : ℕ) (chosen : List ℕ) (c : Config) → after steps chosen (start design script) ≡ Some c
+        → (p : ℕ) (i : Instance) → instance_at c p ≡ Some i → (b : Around) (e : ℕ) → HasClocked (arena c) b e i.code
+        → i.started ≡ true → (r : Residual) → i.residual ≡ goal r goal_of.Restart
+        → BeginsUnlessHeldBack c p b }
 {}

@@ -10,7 +10,9 @@ mod ticks;
 pub use again::{
     a_caught_exception_begins_again, a_reset_at_its_level_begins_again, an_unwinding_goes_on,
 };
-pub use first::{own_statements_begin_again_first, the_loop_would_go_on};
+pub use first::{
+    a_reset_begins_own_statements, own_statements_begin_again_first, the_loop_would_go_on,
+};
 pub use resets::{a_reset_at_its_level_throws, a_reset_begins_anew};
 pub use spots::{ticks_go_on, what_shows_stands_in_place};
 pub use ticks::ticks_take_their_takings;
