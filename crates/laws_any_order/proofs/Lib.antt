@@ -1,0 +1,6 @@
+mod Stepping
+mod Reached
+mod InOrder
+mod Ends
+mod Orders
+mod Dones

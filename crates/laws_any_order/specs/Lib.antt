@@ -1,0 +1,3 @@
+pub mod Evaluations
+pub mod AnyOrder
+pub mod Below
