@@ -15,6 +15,7 @@ ghost use Rattle.laws_unwinding.specs.SimModel.declared.plain.Command.{Command};
 ghost use Rattle.laws_clocked.specs.Ticks.{Test, Tick, HasTick, left_at, checking};
 ghost use Rattle.laws_clocked.specs.Turns.{IsBehindWait};
 ghost use Rattle.laws_clocked.specs.Levels.{NoneAtLevel, IsAtLevel};
+ghost use Rattle.laws_clocked.specs.Clocked.{HasClocked};
 ghost use Rattle.laws_clocked.specs.Again.{Around, HasAround, trying, unwinding, IsPlain, StandsAt, IsCaught, BeginsAgain, Unwinds};
 
 /// An exception that a clocked thread throws among its own statements, and that no try in them catches, comes to the try around them:
@@ -42,7 +43,7 @@ pub fn an_unwinding_goes_on()
 {}
 
 /// In every run of a sound design: where a thread is taken out of the wait of a tick, a reset of the tick is then at its level and
-/// none before it, and the tick stands among the thread's own statements with no guard around it and no try that catches the
+/// none before it, and the tick stands among a clocked thread's own statements with no guard around it and no try that catches the
 /// exception of the reset, these begin again: by the tests up to that of the reset, the throw and three more steps, the first of them
 /// comes next, and the thread was alone on the stack all along.
 pub fn a_reset_at_its_level_begins_again()
@@ -50,8 +51,6 @@ pub fn a_reset_at_its_level_begins_again()
         → (steps : ℕ) (chosen : List ℕ) (x : Config) → after steps chosen (start design script) ≡ Some x
         → (p : ℕ) (t : Tick) → HasTick (arena x) t → (w : IsBehindWait x p t) → step x ≡ takes → (d : Config) → taking x p ≡ Some d
         → (before : List Test) (y : Test) (behind : List Test) → t.tests ≡ before ++ y ∷ behind → NoneAtLevel x p before → IsAtLevel x p y
-        → (b : Around) → HasAround (arena x) b y.exception
-        → (f : Frame) (r : Residual) → settle (arena x) w.instance.residual ≡ trying b f r → IsPlain y.exception (left_at t (checking t.tests)) r
-        → (u : Value) → slice_get f.locals b.again ≡ Some u → truth u ≡ true
+        → (b : Around) (f : Frame) (r : Residual) → HasClocked (arena x) b y.exception f.body → settle (arena x) w.instance.residual ≡ trying b f r → IsPlain y.exception (left_at t (checking t.tests)) r
         → BeginsAgain d p [] b f (length before + 5) }
 {}
