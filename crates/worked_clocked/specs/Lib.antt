@@ -1,3 +1,4 @@
 pub mod Texts
 pub mod Models
 pub mod Trees
+pub mod Coded

@@ -1,0 +1,12 @@
+pub mod Lookups
+pub mod Reading
+pub mod Variables
+pub mod Tests
+pub mod Ticking
+pub mod Walk
+pub mod Around
+pub mod Bodies
+pub mod Retiming
+pub mod Storing
+pub mod Sparing
+pub mod InCode
