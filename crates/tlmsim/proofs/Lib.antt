@@ -6,3 +6,4 @@ pub mod Lines
 pub mod Apart
 pub mod Comes
 pub mod Answered
+mod Meaning

@@ -10,6 +10,7 @@ use Rattle.flat_design.specs.declared.design.Design.{Design}
 use Rattle.order_free.specs.Free.{Says}
 use Rattle.order_free.specs.declared.verdicts.Verdict.{Verdict}
 use Rattle.order_free.specs.declared.verdicts.Verdict.TheVariants as verdict
+use Rattle.laws_any_order.specs.AnyOrder.{OrderDoesNotMatter}
 use Rattle.command_line.specs.declared.modes.PageKind.{PageKind}
 use Rattle.command_line.specs.declared.modes.PageKind.TheVariants as page_kind
 use Rattle.run_input.specs.Judged.{AcceptsModel, IsBrokenModel, IsLayoutOf, IsDesignOfSource}
@@ -19,7 +20,12 @@ abbrev pub verdict_line : Verdict → List ℕ
 verdict_line verdict.Yes = codes "order free yes\n"
 verdict_line (verdict.No rule) = codes "order free no " ++ decimal rule ++ codes "\n"
 
--- the model is accepted, and this line is what the rule on the order of processes says of a design of it
+-- what it means for the runs of a design: under a yes the order of processes does not matter
+abbrev pub Means : Design → Verdict → Type 0
+Means d verdict.Yes = OrderDoesNotMatter d
+Means d (verdict.No rule) = ⊤
+
+-- the model is accepted, and this line is what the rule on the order of processes says of a design of it, with what that means
 pub record IsVerdictOf (model page : List ℕ) : Type 0 where
   pub m : tree.Source
   pub accepted : AcceptsModel model m
@@ -27,6 +33,7 @@ pub record IsVerdictOf (model page : List ℕ) : Type 0 where
   pub is_design : IsDesignOfSource m design
   pub verdict : Verdict
   pub says : Says design verdict
+  pub means : Means design verdict
   pub page_is : page ≡ verdict_line verdict
 
 -- a page of this kind of a text: a model, laid out; the verdict on a model; what comes of the traffic of a bus

@@ -2,13 +2,14 @@
 ghost use Rattle.std.specs.Prelude.{◌≡◌, ◌≤◌, ◌<◌, ◌^◌, ℕ, List, Option, Some, IfErr, IfOk, length};
 ghost use Rattle.session.specs.SimIo.Told.{AfterTold, Same};
 ghost use Rattle.command_line.specs.Line as line;
+ghost use Rattle.order_free.specs.Free.{Says};
 ghost use Rattle.run_input.specs.Judged.{HasModelFault};
 ghost use Rattle.run_input.specs.Loaded.{TookOnePast};
 ghost use Rattle.run_input.specs.Refused.{IfModelFault};
 ghost use Rattle.tlmsim.specs.Asked.{IsLimitIn};
 ghost use Rattle.tlmsim.specs.Call.{outside_of};
 ghost use Rattle.tlmsim.specs.Pages as spec;
-ghost use Rattle.tlmsim.specs.Pages.{IsPageOf, IsVerdictOf};
+ghost use Rattle.tlmsim.specs.Pages.{IsPageOf, IsVerdictOf, Means};
 ghost use Rattle.tlmsim.specs.Worked as worked;
 ghost use Rattle.tlmsim.specs.Worked.{HasNoPage, IfLarge, Works};
 
@@ -17,7 +18,8 @@ use super::working::WorkStop;
 use bus_runs::traffic_text;
 use command_line::PageKind;
 use command_line::sim_model_api::Stop;
-use flat_design::Choices;
+use flat_design::{Choices, Design};
+use laws_any_order::order_does_not_matter;
 use model_tree::logic_values_api::Text;
 use order_free::{Verdict, order_free};
 use run_input::refusal_lines_api::Refusal;
@@ -66,6 +68,15 @@ fn verdict_line(alloc: Global, verdict: Verdict) -> Result<Text, AllocError>
     }
 }
 
+/// The verdict on a design, and with it what it means for all runs of that.
+fn verdict_on(alloc: Global, design: &Design) -> Result<Verdict, AllocError>
+    ensures says { IfOk result (Says design.now) }
+    ensures means { IfOk result (Means design.now) }
+{
+    order_does_not_matter();
+    order_free(alloc, design)
+}
+
 /// The verdict on a model, which is judged as one that is to be run.
 fn verdict_page(alloc: Global, model: &[u8]) -> Result<Text, ModelStop>
     requires { length model.now < 2 ^ 32 }
@@ -76,7 +87,7 @@ fn verdict_page(alloc: Global, model: &[u8]) -> Result<Text, ModelStop>
         Ok(design) => design,
         Err(stop) => return Err(stop),
     };
-    let verdict = match order_free(alloc, &design) {
+    let verdict = match verdict_on(alloc, &design) {
         Ok(verdict) => verdict,
         Err(_) => return Err(ModelStop::NoMemory),
     };
