@@ -64,8 +64,8 @@ evaluation_ends c [] [] h = h
 pub done-outside : (c : Config) → IsDone c → c.cycle.phase ≡ phase.Evaluate → ⊥
 done-outside c done now = evaluation_ends c c.processes.stack c.processes.runnable (subst IsEnding (sym done.is_ended ∙ evaluated c done.not_stopped now) tt)
 
-went_on : (c d : Config) → step c ≡ went d → IsDone c → ⊥
-went_on c d is done = subst IsEnding (sym done.is_ended ∙ is) tt
+pub went-on : (c d : Config) → step c ≡ went d → IsDone c → ⊥
+went-on c d is done = subst IsEnding (sym done.is_ended ∙ is) tt
 
 -- ---- what is asked of two configurations that are alike, where I is always so
 
@@ -108,9 +108,9 @@ module _ (I : Config → Type 0) (Alike : Config → Config → Type 0) (Both : 
     -- both go on by a step that is no taking
     both_went : (n m : ℕ) (choices others : List ℕ) (c e x y d z : Config) → n < suc k → I c → I x → step c ≡ went d → step x ≡ went z → Alike d z → c.processes.stack ≡ [] → after n choices c ≡ Some e → after m others x ≡ Some y
         → IsDone e → IsDone y → (m ≡ n) × Alike e y
-    both_went zero m [] others c e x y d z below here there is too alike empty run other one two = absurd (went_on c d is (subst IsDone (sym (same_Some c e run)) one))
+    both_went zero m [] others c e x y d z below here there is too alike empty run other one two = absurd (went-on c d is (subst IsDone (sym (same_Some c e run)) one))
     both_went zero m (p ∷ choices) others c e x y d z below here there is too alike empty run other one two = absurd (none-some e run)
-    both_went (suc n) zero choices [] c e x y d z below here there is too alike empty run other one two = absurd (went_on x z too (subst IsDone (sym (same_Some x y other)) two))
+    both_went (suc n) zero choices [] c e x y d z below here there is too alike empty run other one two = absurd (went-on x z too (subst IsDone (sym (same_Some x y other)) two))
     both_went (suc n) zero choices (p ∷ others) c e x y d z below here there is too alike empty run other one two = absurd (none-some y other)
     both_went (suc n) (suc m) choices others c e x y d z below here there is too alike empty run other one two =
         let g =

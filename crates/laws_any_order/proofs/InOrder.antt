@@ -57,8 +57,8 @@ pub record IsBetween (D : Design) (c : Config) : Type 0 where
 
 module _ (D : Design) (the : OfTheSame) (runs : OfRuns D) where
   -- one turn, from two configurations that are the same
-  takes_too : (p n : ℕ) (c e x : Config) → ComesTo D c → ComesTo D x → Same c x → Takes D p n c e → (y : Config) × Takes D p n x y × Same e y
-  takes_too p n c e x here there same t =
+  pub takes-too : (p n : ℕ) (c e x : Config) → ComesTo D c → ComesTo D x → Same c x → Takes D p n c e → (y : Config) × Takes D p n x y × Same e y
+  takes-too p n c e x here there same t =
       let design = (fits-at D runs c here).design in
       let g = the.turns p n c e x (free-at D runs c here) same (subst (λ (z : Design). TakesTurn (Uses z p) p n c e) (sym design) t) (unheard-at D runs x there p) in
       (g.0, subst (λ (z : Design). TakesTurn (Uses z p) p n x g.0) design g.1, g.2)
@@ -81,7 +81,7 @@ module _ (D : Design) (the : OfTheSame) (runs : OfRuns D) where
   keeps : (p n : ℕ) (c e : Config) → IsBetween D c → Takes D p n c e → IsBetween D e
   keeps p n c e here t =
       let left = turn-leaves D runs p n c e here.comes here.evaluates t in
-      let g = takes_too p n c e c here.comes here.comes here.itself t in record { comes = left.comes; evaluates = left.evaluates; itself = the.itself e g.0 g.2 }
+      let g = takes-too p n c e c here.comes here.comes here.itself t in record { comes = left.comes; evaluates = left.evaluates; itself = the.itself e g.0 g.2 }
 
   -- ---- turns one after another
 
@@ -89,7 +89,7 @@ module _ (D : Design) (the : OfTheSame) (runs : OfRuns D) where
   lifted : (ts : List TurnOf) (c e x : Config) → IsBetween D c → IsBetween D x → Same c x → TakesTurns D ts c e → (y : Config) × TakesTurns D ts x y × Same e y
   lifted _ _ _ x here there same (no_turn c) = (x, no_turn x, same)
   lifted _ _ _ x here there same (turn_then t ts c d e first more) =
-      let g = takes_too t.serial t.steps c d x here.comes there.comes same first in
+      let g = takes-too t.serial t.steps c d x here.comes there.comes same first in
       let h = lifted ts d e g.0 (keeps t.serial t.steps c d here first) (keeps t.serial t.steps x g.0 there g.1) g.2 more in
       (h.0, turn_then t ts x g.0 h.0 g.1 h.1, h.2)
 
@@ -98,17 +98,17 @@ module _ (D : Design) (the : OfTheSame) (runs : OfRuns D) where
   behind _ _ _ here (turn_then t ts c d e first more) = behind ts d e (keeps t.serial t.steps c d here first) more
 
   -- the turn of this process comes first
-  record IsFronted (p : ℕ) (ts : List TurnOf) (c e : Config) : Type 0 where
-    n : ℕ
-    rest : List TurnOf
-    next : Config
-    end : Config
-    first : Takes D p n c next
-    more : TakesTurns D rest next end
-    same : Same e end
-    steps : suc n + steps_of rest ≡ steps_of ts
+  pub record IsFronted (p : ℕ) (ts : List TurnOf) (c e : Config) : Type 0 where
+    pub n : ℕ
+    pub rest : List TurnOf
+    pub next : Config
+    pub end : Config
+    pub first : Takes D p n c next
+    pub more : TakesTurns D rest next end
+    pub same : Same e end
+    pub steps : suc n + steps_of rest ≡ steps_of ts
 
-  fronted : (p : ℕ) (ts : List TurnOf) (c e : Config) → IsBetween D c → TakesTurns D ts c e → holds c.processes.runnable p ≡ true → holds e.processes.runnable p ≡ false → IsFronted p ts c e
+  pub fronted : (p : ℕ) (ts : List TurnOf) (c e : Config) → IsBetween D c → TakesTurns D ts c e → holds c.processes.runnable p ≡ true → holds e.processes.runnable p ≡ false → IsFronted p ts c e
   fronted p _ _ _ here (no_turn c) runs_here over_ = absurd (true≢false (sym runs_here ∙ over_))
   fronted p _ _ _ here (turn_then t ts c d e first more) runs_here over_ =
       by (t.serial == p) refl (λ runs_there. fronted p ts d e (keeps t.serial t.steps c d here first) more runs_there over_)
@@ -155,9 +155,43 @@ module _ (D : Design) (the : OfTheSame) (runs : OfRuns D) where
   same-turns _ ts c e _ _ here there same one (turn_then u us x z y first more) over_here over_there =
       let p = u.serial in
       let f = fronted p ts c e here one (sym (same.alike.runnable p) ∙ taken-runs x first.begun p first.taken) (over_here p) in
-      let g = takes_too p f.n c f.next x here.comes there.comes same f.first in
+      let g = takes-too p f.n c f.next x here.comes there.comes same f.first in
       let only = the_turn D p f.n u.steps x g.0 z g.1 first in
       let next = subst (λ (w : Config). Same f.next w) (sym only.1) g.2 in
       let rest =
       same-turns us f.rest f.next f.end z y (keeps p f.n c f.next here f.first) (keeps p u.steps x z there first) next f.more more (λ q. f.same.alike.runnable q ∙ over_here q) over_there in
       (let counts = only.0 in let sums = rest.0 in let sum = f.steps in omega (arith, counts, sums, sum), the.chained e f.end y f.same rest.1)
+
+  -- ---- some of the turns
+
+  -- these turns come first, and the rest behind them
+  pub record IsAhead (us ts : List TurnOf) (e z : Config) : Type 0 where
+    pub rest : List TurnOf
+    pub now : Config
+    pub end : Config
+    pub more : TakesTurns D rest now end
+    pub between : IsBetween D now
+    pub same_now : Same now z
+    pub same_end : Same e end
+    pub steps : steps_of us + steps_of rest ≡ steps_of ts
+
+  pub ahead : (us ts : List TurnOf) (c e x z : Config) → IsBetween D c → IsBetween D x → Same c x → TakesTurns D ts c e → TakesTurns D us x z → ((p : ℕ) → holds e.processes.runnable p ≡ false) → IsAhead us ts e z
+  ahead _ ts c e _ _ here there same one (no_turn x) over_ =
+      record { rest = ts; now = c; end = e; more = one; between = here; same_now = same; same_end = (behind ts c e here one).itself; steps = omega arith }
+  ahead _ ts c e _ _ here there same one (turn_then u us x z y first more) over_ =
+      let p = u.serial in
+      let f = fronted p ts c e here one (sym (same.alike.runnable p) ∙ taken-runs x first.begun p first.taken) (over_ p) in
+      let g = takes-too p f.n c f.next x here.comes there.comes same f.first in
+      let only = the_turn D p f.n u.steps x g.0 z g.1 first in
+      let next = subst (λ (w : Config). Same f.next w) (sym only.1) g.2 in
+      let a = ahead us f.rest f.next f.end z y (keeps p f.n c f.next here f.first) (keeps p u.steps x z there first) next f.more more (λ q. f.same.alike.runnable q ∙ over_ q) in
+      record {
+        rest = a.rest;
+        now = a.now;
+        end = a.end;
+        more = a.more;
+        between = a.between;
+        same_now = a.same_now;
+        same_end = the.chained e f.end a.end f.same a.same_end;
+        steps = let counts = only.0 in let sums = a.steps in let sum = f.steps in omega (arith, counts, sums, sum);
+      }

@@ -22,23 +22,23 @@ use Rattle.laws_any_order.proofs.Reached.{ComesTo, comes-by, comes-further, fits
 use Rattle.laws_any_order.proofs.InOrder.{IsBetween, same-turns}
 use Rattle.laws_any_order.proofs.Ends.{done-outside, AreThrough, AreInLockstep, ends-alike}
 
-went_to : (d : Config) (o : Outcome) → SameOutcome (went d) o → (z : Config) × (o ≡ went z) × Same d z
-went_to d (went y) h = (y, refl, h)
-went_to d (faulted f) h = absurd h
-went_to d takes h = absurd h
-went_to d ended h = absurd h
+pub went-to : (d : Config) (o : Outcome) → SameOutcome (went d) o → (z : Config) × (o ≡ went z) × Same d z
+went-to d (went y) h = (y, refl, h)
+went-to d (faulted f) h = absurd h
+went-to d takes h = absurd h
+went-to d ended h = absurd h
 
-takes_as : (o : Outcome) → SameOutcome takes o → o ≡ takes
-takes_as (went y) h = absurd h
-takes_as (faulted f) h = absurd h
-takes_as takes h = refl
-takes_as ended h = absurd h
+pub takes-as : (o : Outcome) → SameOutcome takes o → o ≡ takes
+takes-as (went y) h = absurd h
+takes-as (faulted f) h = absurd h
+takes-as takes h = refl
+takes-as ended h = absurd h
 
-ended_as : (o : Outcome) → SameOutcome ended o → o ≡ ended
-ended_as (went y) h = absurd h
-ended_as (faulted f) h = absurd h
-ended_as takes h = absurd h
-ended_as ended h = refl
+pub ended-as : (o : Outcome) → SameOutcome ended o → o ≡ ended
+ended-as (went y) h = absurd h
+ended-as (faulted f) h = absurd h
+ended-as takes h = absurd h
+ended-as ended h = refl
 
 append_nil : (xs : List ℕ) → xs ++ [] ≡ xs
 append_nil [] = refl
@@ -57,7 +57,7 @@ updated_elsewhere c goes now = subst IsEvaluation (sym now ∙ ap (λ b. (cond b
 
 module _ (D : Design) (runs : OfRuns D) where
   -- a run is through with an evaluation phase where it is in none, or in another one
-  through : (n : ℕ) (choices : List ℕ) (c e : Config) → ComesTo D c → Evaluates c → after n choices c ≡ Some e → (e.cycle.phase ≡ phase.Evaluate → ⊥) → HasEvaluated D c n choices e
+  pub through : (n : ℕ) (choices : List ℕ) (c e : Config) → ComesTo D c → Evaluates c → after n choices c ≡ Some e → (e.cycle.phase ≡ phase.Evaluate → ⊥) → HasEvaluated D c n choices e
   through n choices c e r now run elsewhere = by (runs.phases r.script r.n r.choices c r.is_run now.evaluation now.nobody n choices e run)
     where
       by : (e.cycle ≡ c.cycle) ⊎ HasEvaluated D c n choices e → HasEvaluated D c n choices e
@@ -65,14 +65,14 @@ module _ (D : Design) (runs : OfRuns D) where
       by (inr h) = h
 
   module _ (n : ℕ) (choices : List ℕ) (c e : Config) (r : ComesTo D c) (now : Evaluates c) (h : HasEvaluated D c n choices e) where
-    to_turned : after (steps_of h.turns) (serials_of h.turns) c ≡ Some h.turned
-    to_turned = runs.phases_run r.script r.n r.choices c r.is_run now.evaluation now.nobody h.turns h.turned h.taken
+    pub to-turned : after (steps_of h.turns) (serials_of h.turns) c ≡ Some h.turned
+    to-turned = runs.phases_run r.script r.n r.choices c r.is_run now.evaluation now.nobody h.turns h.turned h.taken
 
-    comes_to_turned : ComesTo D h.turned
-    comes_to_turned = comes-by D c h.turned (steps_of h.turns) (serials_of h.turns) r to_turned
+    pub comes-to-turned : ComesTo D h.turned
+    comes-to-turned = comes-by D c h.turned (steps_of h.turns) (serials_of h.turns) r to-turned
 
-    turned_at_update : IsAtUpdate h.turned
-    turned_at_update = record { evaluates = record { evaluation = ap (λ (y : Cycle). y.phase) h.cycle ∙ now.evaluation; nobody = h.empty }; none = h.nobody }
+    pub turned-at-update : IsAtUpdate h.turned
+    turned-at-update = record { evaluates = record { evaluation = ap (λ (y : Cycle). y.phase) h.cycle ∙ now.evaluation; nobody = h.empty }; none = h.nobody }
 
   -- so it comes to the update phase by turns
   pub record IsInTurns (k : ℕ) (c e : Config) : Type 0 where
@@ -86,12 +86,12 @@ module _ (D : Design) (runs : OfRuns D) where
     where
       at_once : (more : List ℕ) → h.left ≡ zero → after h.left more h.turned ≡ Some (update_step e) → (update_step e).cycle.phase ≡ phase.Evaluate
       at_once [] none run =
-          subst (λ (z : Config). z.cycle.phase ≡ phase.Evaluate) (same_Some h.turned (update_step e) (sym (ap (λ j. after j [] h.turned) none) ∙ run)) (turned_at_update (k + suc zero) (choices ++ []) c (update_step e) r now h).evaluates.evaluation
+          subst (λ (z : Config). z.cycle.phase ≡ phase.Evaluate) (same_Some h.turned (update_step e) (sym (ap (λ j. after j [] h.turned) none) ∙ run)) (turned-at-update (k + suc zero) (choices ++ []) c (update_step e) r now h).evaluates.evaluation
       at_once (p ∷ more) none run = absurd (none-some (update_step e) (sym (ap (λ j. after j (p ∷ more) h.turned) none) ∙ run))
   first_there k choices c e r now first h (suc j) is = by j is
     where
       reached : after (steps_of h.turns) (serials_of h.turns) c ≡ Some h.turned
-      reached = to_turned (k + suc zero) (choices ++ []) c (update_step e) r now h
+      reached = to-turned (k + suc zero) (choices ++ []) c (update_step e) r now h
 
       chosen : choices ≡ serials_of h.turns ++ h.more
       chosen = sym (h.chosen ∙ append_nil choices)
@@ -106,7 +106,7 @@ module _ (D : Design) (runs : OfRuns D) where
           record { ts = h.turns; are = subst (λ (z : Config). TakesTurns D h.turns c z) same h.taken; steps = even }
       by (suc i) many =
           let sum = h.counted in
-          absurd (first.none_before (steps_of h.turns) (serials_of h.turns) h.more h.turned (omega (arith, sum, many)) chosen reached (turned_at_update (k + suc zero) (choices ++ []) c (update_step e) r now h))
+          absurd (first.none_before (steps_of h.turns) (serials_of h.turns) h.more h.turned (omega (arith, sum, many)) chosen reached (turned-at-update (k + suc zero) (choices ++ []) c (update_step e) r now h))
 
   first-in-turns : (k : ℕ) (choices : List ℕ) (c e : Config) → ComesTo D c → Evaluates c → IsFirst IsAtUpdate k choices c e → IsInTurns k c e
   first-in-turns k choices c e r now first =
@@ -116,20 +116,20 @@ module _ (D : Design) (runs : OfRuns D) where
       let h = through (k + suc zero) (choices ++ []) c (update_step e) r now run (updated_elsewhere e fits.not_asked) in first_there k choices c e r now first h h.left refl
 
 module _ (D : Design) (the : OfTheSame) (runs : OfRuns D) where
-  between : (c x : Config) → ComesTo D c → Evaluates c → Same c x → IsBetween D c
-  between c x here now same = record { comes = here; evaluates = now; itself = the.itself c x same }
+  pub between-two : (c x : Config) → ComesTo D c → Evaluates c → Same c x → IsBetween D c
+  between-two c x here now same = record { comes = here; evaluates = now; itself = the.itself c x same }
 
-  turns_leave : (us ts : List TurnOf) (c e x y : Config) → ComesTo D c → ComesTo D x → Evaluates c → Evaluates x → Same c x → TakesTurns D ts c e → TakesTurns D us x y → e.processes.runnable ≡ [] → y.processes.runnable ≡ []
+  pub turns-leave : (us ts : List TurnOf) (c e x y : Config) → ComesTo D c → ComesTo D x → Evaluates c → Evaluates x → Same c x → TakesTurns D ts c e → TakesTurns D us x y → e.processes.runnable ≡ [] → y.processes.runnable ≡ []
       → (steps_of us ≡ steps_of ts) × Same e y
-  turns_leave us ts c e x y here there now then_ same one other over also =
-      same-turns D the runs us ts c e x y (between c x here now same) (between x c there then_ (the.flipped c x same)) same one other (λ p. ap (λ ps. holds ps p) over) (λ p. ap (λ ps. holds ps p) also)
+  turns-leave us ts c e x y here there now then_ same one other over also =
+      same-turns D the runs us ts c e x y (between-two c x here now same) (between-two x c there then_ (the.flipped c x same)) same one other (λ p. ap (λ ps. holds ps p) over) (λ p. ap (λ ps. holds ps p) also)
 
   both_through : (n m : ℕ) (choices others : List ℕ) (c e x y : Config) → ComesTo D c → ComesTo D x → Evaluates c → Evaluates x → Same c x → after n choices c ≡ Some e → after m others x ≡ Some y → IsDone e → IsDone y
       → AreThrough (ComesTo D) Same n m e y
   both_through n m choices others c e x y here there now then_ same run other one two =
       let f = through D runs n choices c e here now run (done-outside e one) in
       let g = through D runs m others x y there then_ other (done-outside y two) in
-      let t = turns_leave g.turns f.turns c f.turned x g.turned here there now then_ same f.taken g.taken f.nobody g.nobody in
+      let t = turns-leave g.turns f.turns c f.turned x g.turned here there now then_ same f.taken g.taken f.nobody g.nobody in
       record {
         k = steps_of f.turns;
         n_left = f.left;
@@ -138,9 +138,9 @@ module _ (D : Design) (the : OfTheSame) (runs : OfRuns D) where
         another = g.more;
         here = f.turned;
         there = g.turned;
-        always = comes_to_turned D runs n choices c e here now f;
-        always_too = comes_to_turned D runs m others x y there then_ g;
-        at_update = turned_at_update D runs n choices c e here now f;
+        always = comes-to-turned D runs n choices c e here now f;
+        always_too = comes-to-turned D runs m others x y there then_ g;
+        at_update = turned-at-update D runs n choices c e here now f;
         alike = t.1;
         is_run = f.goes_on;
         is_run_too = g.goes_on;
@@ -151,9 +151,9 @@ module _ (D : Design) (the : OfTheSame) (runs : OfRuns D) where
   in_lockstep : AreInLockstep (ComesTo D) Same SameOutcome
   in_lockstep = record {
     steps = λ c x same empty. the.steps c x same (λ now. empty);
-    went_too = went_to;
-    takes_too = takes_as;
-    ended_too = ended_as;
+    went_too = went-to;
+    takes_too = takes-as;
+    ended_too = ended-as;
     stack = λ c x same. same.alike.stack;
     goes = λ c here. (fits-at D runs c here).not_stopped;
     goes_on = λ c d here is. comes-further D c d here is;
@@ -174,4 +174,4 @@ module _ (D : Design) (the : OfTheSame) (runs : OfRuns D) where
       let then_ : Evaluates x = record { evaluation = ap (λ (z : Config). z.cycle.phase) same.alike.shared ∙ now.evaluation; nobody = same.alike.stack ∙ now.nobody } in
       let f = first-in-turns D runs k choices c e here now one in
       let g = first-in-turns D runs l others x y there then_ other in
-      let t = turns_leave g.ts f.ts c e x y here there now then_ same f.are g.are one.holds.none other.holds.none in (sym g.steps ∙ t.0 ∙ f.steps, t.1)
+      let t = turns-leave g.ts f.ts c e x y here there now then_ same f.are g.are one.holds.none other.holds.none in (sym g.steps ∙ t.0 ∙ f.steps, t.1)

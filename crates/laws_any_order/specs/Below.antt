@@ -4,7 +4,7 @@ use Rattle.sim_model.specs.FlatDesign.declared.design.Design.{Design}
 use Rattle.sim_model.specs.Configuration.{Config, start}
 use Rattle.sim_model.specs.Phases.{visible_values}
 use Rattle.sim_model.specs.Runs.{after}
-use Rattle.sim_model.specs.Steps.{step, went, takes}
+use Rattle.sim_model.specs.Steps.{step, went, takes, taking}
 use Rattle.sim_model.specs.Texts.{final_lines, closing}
 use Rattle.sim_model.specs.Trace.{trace_text}
 use Rattle.sim_model.specs.Waits.{without}
@@ -15,6 +15,7 @@ use Rattle.order_free.specs.Free.{Uses, Free}
 use Rattle.laws_order.specs.Alongside.{AreUnheard}
 use Rattle.laws_order.specs.Turns.{TakesTurn}
 use Rattle.laws_own_turns.specs.Fits.{Fits}
+use Rattle.laws_own_turns.specs.Turned.{IsInTurn, HasTurned}
 use Rattle.laws_own_turns.specs.Evaluated.{TurnOf, TakesTurns, serials_of, steps_of, HasEvaluated}
 use Rattle.laws_phases.specs.Same.{Same}
 use Rattle.laws_phases.specs.SameSteps.{SameOutcome, IsBetweenTurns}
@@ -39,6 +40,8 @@ pub record OfRuns (d : Design) : Type 0 where
   pub free : Free d
   pub fits : (script : List Command) (n : ℕ) (choices : List ℕ) (c : Config) → after n choices (start d script) ≡ Some c → Fits d c
   pub unheard : (script : List Command) (n : ℕ) (choices : List ℕ) (c : Config) → after n choices (start d script) ≡ Some c → (p : ℕ) → AreUnheard p c
+  pub take_turns : (script : List Command) (n : ℕ) (choices : List ℕ) (c : Config) → after n choices (start d script) ≡ Some c → step c ≡ takes → (p : ℕ) (b : Config) → taking c p ≡ Some b → (m : ℕ) (more : List ℕ) (e : Config)
+      → after m more b ≡ Some e → IsInTurn p b more e ⊎ HasTurned d p c m more e
   pub turns_run : (script : List Command) (n : ℕ) (choices : List ℕ) (c : Config) → after n choices (start d script) ≡ Some c → step c ≡ takes → (p m : ℕ) (e : Config) → TakesTurn (Uses d p) p m c e → after (suc m) (p ∷ []) c ≡ Some e
   pub wake_nobody : (script : List Command) (n : ℕ) (choices : List ℕ) (c : Config) → after n choices (start d script) ≡ Some c → step c ≡ takes → (p m : ℕ) (e : Config) → TakesTurn (Uses d p) p m c e
       → (e.processes.runnable ≡ without c.processes.runnable p) × (e.cycle ≡ c.cycle)

@@ -1,7 +1,7 @@
 -- Where an evaluation phase stands between turns, and the first configuration of a run in which something holds.
-use Rattle.std.specs.Prelude.{◌≡◌, ◌<◌, ◌++◌, ℕ, false, List, [], Some}
+use Rattle.std.specs.Prelude.{◌≡◌, ◌<◌, ◌++◌, ⊤, ℕ, false, List, [], Some}
 use Rattle.sim_model.specs.Configuration.{Config}
-use Rattle.sim_model.specs.Steps.{step, ended}
+use Rattle.sim_model.specs.Steps.{Outcome, went, faulted, takes, ended, step}
 use Rattle.sim_model.specs.Runs.{after}
 use Rattle.sim_model.specs.declared.plain.Phase.TheVariants as phase
 
@@ -25,3 +25,10 @@ pub record IsFirst (P : Config → Type 0) (n : ℕ) (choices : List ℕ) (c e :
 pub record IsDone (c : Config) : Type 0 where
   pub is_ended : step c ≡ ended
   pub not_stopped : c.cycle.stopped ≡ false
+
+-- the run goes on: by a step, or by taking a process
+abbrev pub GoesOn : Outcome → Type 0
+GoesOn (went d) = ⊤
+GoesOn (faulted f) = ⊥
+GoesOn takes = ⊤
+GoesOn ended = ⊥

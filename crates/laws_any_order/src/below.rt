@@ -5,8 +5,8 @@ ghost use Rattle.laws_any_order.specs.Below.{OfTheSame, OfRuns};
 
 use laws_own_turns::{
     evaluation_phases_are_turns, processes_keep_to_themselves, runs_are_on_their_own,
-    the_stack_stays_empty_between_turns, turns_are_runs, turns_of_a_phase_are_a_run,
-    turns_wake_nobody,
+    runs_take_turns, the_stack_stays_empty_between_turns, turns_are_runs,
+    turns_of_a_phase_are_a_run, turns_wake_nobody,
 };
 use laws_phases::{
     being_the_same_is_an_equivalence, runs_begin_the_same, steps_between_turns_go_on_the_same,
@@ -31,6 +31,7 @@ pub(crate) fn runs_keep_to_turns()
 {
     processes_keep_to_themselves();
     runs_are_on_their_own();
+    runs_take_turns();
     turns_are_runs();
     turns_wake_nobody();
     evaluation_phases_are_turns();

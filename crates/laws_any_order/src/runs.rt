@@ -12,7 +12,8 @@ ghost use Rattle.laws_any_order.specs.Evaluations.{IsDone};
 use crate::below::{runs_keep_to_turns, the_same_goes_on};
 
 /// In a design that keeps the rule on the order of processes it does not matter in which order they are taken, which IEEE 1666-2011,
-/// 4.2.1.2, leaves open: neither what an evaluation phase comes to depends on it, nor what a whole run shows that is done.
+/// 4.2.1.2, leaves open: neither what an evaluation phase comes to depends on it, nor how long a run is that ends with its script carried
+/// out, nor what it shows.
 pub fn order_does_not_matter()
     ensures { (d : Design) → Free d → OrderDoesNotMatter d }
 {

@@ -1,4 +1,5 @@
 use Rattle.sim_model.specs.declared.plain.Stop.TheVariants as stop
+use Rattle.laws_any_order.proofs.Ongoing.{runs-go-on}
 use Rattle.laws_any_order.proofs.Orders.{phases-end-alike, runs-end-alike}
 use Rattle.laws_any_order.proofs.runs.order_does_not_matter.Goals as goal
 
@@ -12,4 +13,5 @@ returns c = λ d free.
       runs = λ script n m choices others e y one two done done_too.
           let ends = runs-end-alike d the keeps script n m choices others e y one two done done_too in
           (ends.0, the.trace e y ends.1, the.values e y ends.1, the.finals e y ends.1, the.closing_lines e y ends.1 stop.Done);
+      ends = λ script n m choices others e y one done other. runs-go-on d the keeps script n m choices others e y one done other;
     }
