@@ -35,3 +35,4 @@ pub mod Looping
 pub mod Sparing
 pub mod Rounded
 pub mod Resetting
+pub mod Injecting

@@ -79,12 +79,12 @@ around-reset = record {
   bare = λ y r q l bare is. bare_left r q l bare is;
 }
 
-unwinding_owed : (d : Design) (home : ℕ) (r : Residual) → IsUnwinding d home r → IsOwed r
-unwinding_owed d home skip h = tt
-unwinding_owed d home (owing r g u) h = unwinding_owed d home r h.0
-unwinding_owed d home (shell r x) h = unwinding_owed d _ r h.1
-unwinding_owed d home (run g r) h = tt
-unwinding_owed d home other h = absurd h
+pub unwinding-owed : (d : Design) (home : ℕ) (r : Residual) → IsUnwinding d home r → IsOwed r
+unwinding-owed d home skip h = tt
+unwinding-owed d home (owing r g u) h = unwinding-owed d home r h.0
+unwinding-owed d home (shell r x) h = unwinding-owed d _ r h.1
+unwinding-owed d home (run g r) h = tt
+unwinding-owed d home other h = absurd h
 
 no_call : Frame
 no_call = record { body = 0; locals = []; answer = None; call = None; via = None }
@@ -184,8 +184,8 @@ module _ (design : Design) (script : List Command) (sound : SoundDesign design) 
   on_stack : (c : Config) → IsReached design script c → Reset c → 0 < times p c.processes.stack
   on_stack c r h = (goals-after design script sound r.steps r.choices c r.reached).goal_is_active p h.instance h.at (ap has_goal h.left)
 
-  shift_held : (c x : Config) (n : ℕ) (choices : List ℕ) → step c ≡ went x → IsHeldBack x p n choices → IsHeldBack c p (suc n) choices
-  shift_held c x n choices now w =
+  pub shift-held : (c x : Config) (n : ℕ) (choices : List ℕ) → step c ≡ went x → IsHeldBack x p n choices → IsHeldBack c p (suc n) choices
+  shift-held c x n choices now w =
       let less = w.less in
       record {
         before = suc w.before;
@@ -196,7 +196,10 @@ module _ (design : Design) (script : List Command) (sound : SoundDesign design) 
         split = w.split;
         reached = ap (λ o. and_then o c w.own (after w.before)) now ∙ w.reached;
         rest = w.rest;
+        left = w.left;
         stands = w.stands;
+        end = w.end;
+        comes = w.comes;
         is_suspended = w.is_suspended;
       }
 
@@ -208,12 +211,12 @@ module _ (design : Design) (script : List Command) (sound : SoundDesign design) 
 
   over_by : (n : ℕ) (choices : List ℕ) (c d : Config) → IsReached design script c → Code (arena c) → (o : Over p (λ n. n ≡ f) Resetting around-reset AnyCall c) → (s : Bool) → o.stands.instance.suspended ≡ s → after (suc n) choices c ≡ Some d → Ends (suc n) choices c d
   over_by n choices c d r has o true is reached =
-      inr (record { before = 0; own = []; behind = choices; then = c; less = omega arith; split = refl; reached = refl; rest = o.rest; stands = o.stands; is_suspended = is })
+      inr (record { before = 0; own = []; behind = choices; then = c; less = omega arith; split = refl; reached = refl; rest = o.rest; left = goal skip goal_of.Restart; stands = o.stands; end = goal_of.Restart; comes = refl; is_suspended = is })
   over_by n choices c d r has o false is reached = inl (anew-begins c r has o.rest o.stands o.coded is (suc n) choices d reached)
 
   reset_on : (n : ℕ) → Later n → (choices : List ℕ) (c d : Config) → IsReached design script c → Code (arena c) → Reset c → (o : Outcome) → step c ≡ o → and_then o c choices (after n) ≡ Some d → Ends (suc n) choices c d
   reset_on n later choices c d r has h (went x) now reached = ⊎_elim
-      (λ z. ⊎_elim (λ k. inl (shift p b c x d n choices now k)) (λ w. inr (shift_held c x n choices now w)) (later choices x d (reached-went design script c x r now) (code_went c x now has) z reached))
+      (λ z. ⊎_elim (λ k. inl (shift p b c x d n choices now k)) (λ w. inr (shift-held c x n choices now w)) (later choices x d (reached-went design script c x r now) (code_went c x now has) z reached))
       (λ o. over_by n choices c d r has o o.stands.instance.suspended refl (ap (λ y. and_then y c choices (after n)) now ∙ reached))
       (step-held p (λ n. n ≡ f) Resetting around-reset AnyCall c (sound-run design script sound r.steps r.choices c r.reached) (marked-after design script sound r.steps r.choices c r.reached) h (λ rest i d_ top at is l z. z) x now)
   reset_on n later choices c d r has h (faulted x) now reached = absurd (none-some d reached)
@@ -228,5 +231,5 @@ module _ (design : Design) (script : List Command) (sound : SoundDesign design) 
   pub reset-begins : (c : Config) → IsReached design script c → Code (arena c) → (i : Instance) → instance_at c p ≡ Some i → i.code ≡ f → i.started ≡ true → (r : Residual) → i.residual ≡ goal r goal_of.Restart → BeginsUnlessHeldBack c p b
   reset-begins c k has i at same begun_ r left n choices d reached =
       let s = sound-run design script sound k.steps k.choices c k.reached in
-      let owed = unwinding_owed c.design i.home r (subst (IsStanding c.design i.home) left (fine-at c.design c.processes p i at s.1).standing) in
+      let owed = unwinding-owed c.design i.home r (subst (IsStanding c.design i.home) left (fine-at c.design c.processes p i at s.1).standing) in
       resets n choices c d k has (record { instance = i; at = at; begun = begun_; coded = same; frame_ = no_call; framed = tt; inner = r; owed = owed; so = tt; left = left }) reached

@@ -82,9 +82,9 @@ module _ (p : ℕ) (b : Around) where
   ends_leaves (residual.reaches j) y z is = is
   ends_leaves residual.nothing y z is = is
 
-  same_call : (c : Config) (o : Option ℕ) → calling_statement c o ≡ at_call c.design o
-  same_call c None = refl
-  same_call c (Some s) = refl
+  pub same-call : (c : Config) (o : Option ℕ) → calling_statement c o ≡ at_call c.design o
+  same-call c None = refl
+  same-call c (Some s) = refl
 
   -- ---- a run
 
@@ -144,7 +144,7 @@ module _ (p : ℕ) (b : Around) where
           (spared-next c.design f b.again has.1 inner goal_of.Thrown b.loops [] owed placed)
           (λ z next. ⊎_elim
           (λ call. inl call)
-          (λ spares. inr (λ w there. spares w (sym (same_call settled z.call) ∙ there)))
+          (λ spares. inr (λ w there. spares w (sym (same-call settled z.call) ∙ there)))
           (spared-leaves c.design f b.again has.1 inner goal_of.Thrown b.loops [] owed placed z (ends_leaves (next_of inner) h.frame_ z next)))
           inner_goal))
 

@@ -36,7 +36,7 @@ use Rattle.laws_unwinding.proofs.Roots.{IsRooted, settle-rooted}
 use Rattle.laws_moves.specs.Moves.{Moves, StepMoves, in_turn, between, initializing, moving_now, time_moved}
 use Rattle.laws_moves.proofs.Kept.{moves-keep}
 use Rattle.laws_moves.proofs.RunSteps.{step-moves, taking-moves}
-use Rattle.laws_clocked.specs.Again.{Around, trying, unwinding}
+use Rattle.laws_clocked.specs.Again.{Around, trying, unwinding, injected_into}
 use Rattle.laws_clocked.specs.Clocked.{HasClocked, AsksTrue}
 use Rattle.laws_clocked.proofs.OwnSteps.{step-top, settled-at}
 use Rattle.laws_clocked.proofs.SameDesign.{design-went, design-taken}
@@ -314,4 +314,9 @@ module _ (design : Design) (script : List Command) (sound : SoundDesign design) 
     pub true-unwound : settle (arena c) i.residual ≡ unwinding b x r → AsksTrue b x
     true-unwound left =
         let t = in_goal b e x.body design script there p x r goal_of.Thrown (place-at b e x.body design script there p sound n choices c reached (seq (goal r goal_of.Thrown) (b.loops ∷ [])) x i at left refl (not_one (goal r goal_of.Thrown) (b.loops ∷ []) b.loops)) in
+        record { answer = t.0; has = t.1; is_true = t.2 }
+
+    pub true-injected : settle (arena c) i.residual ≡ injected_into b x r → AsksTrue b x
+    true-injected left =
+        let t = in_goal b e x.body design script there p x r goal_of.Injected (place-at b e x.body design script there p sound n choices c reached (seq (goal r goal_of.Injected) (b.loops ∷ [])) x i at left refl (not_one (goal r goal_of.Injected) (b.loops ∷ []) b.loops)) in
         record { answer = t.0; has = t.1; is_true = t.2 }

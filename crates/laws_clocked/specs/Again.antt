@@ -4,12 +4,13 @@ use Rattle.laws_unwinding.specs.FlatDesign.Code as code
 use Rattle.laws_unwinding.specs.FlatDesign.Code.{Arena, block_at, statement_at}
 use Rattle.laws_unwinding.specs.FlatDesign.declared.names.NameUse.TheVariants as name_use
 use Rattle.laws_unwinding.specs.FlatDesign.declared.code.Handler.{Handler}
-use Rattle.laws_unwinding.specs.SimModel.Residual.{Residual, Frame, skip, seq, try_, frame, goal, statements, settle, next_of, statement}
+use Rattle.laws_unwinding.specs.SimModel.Residual.{Residual, Frame, skip, seq, try_, frame, goal, statements, settle, next_of, statement, reaches}
 use Rattle.laws_unwinding.specs.SimModel.Unwinding.{handler_of, handles}
 use Rattle.laws_unwinding.specs.SimModel.Configuration.{Config, Instance, arena, instance_at}
 use Rattle.laws_unwinding.specs.SimModel.Steps.{step, went}
 use Rattle.laws_unwinding.specs.SimModel.Runs.{after}
 use Rattle.laws_unwinding.specs.SimModel.Clean.{times}
+use Rattle.laws_unwinding.specs.SimModel.declared.plain.Goal.{Goal}
 use Rattle.laws_unwinding.specs.SimModel.declared.plain.Goal.TheVariants as goal_of
 use Rattle.laws_unwinding.specs.SimModel.declared.plain.Phase.TheVariants as phase
 
@@ -45,6 +46,10 @@ trying b x r = frame (seq (try_ r b.handlers) (b.loops ∷ [])) x
 
 abbrev pub unwinding : Around → Frame → Residual → Residual
 unwinding b x r = frame (seq (goal r goal_of.Thrown) (b.loops ∷ [])) x
+
+-- or one that came from elsewhere does
+abbrev pub injected_into : Around → Frame → Residual → Residual
+injected_into b x r = frame (seq (goal r goal_of.Injected) (b.loops ∷ [])) x
 
 -- x is what is left, or is left inside it, and what stands around it is no guard, and no try that catches the exception e
 pub data IsPlain (e : ℕ) (x : Residual) : Residual → Type 0 where
@@ -106,7 +111,7 @@ pub data StaysOrBegins (c d : Config) (p : ℕ) (b : Around) (n : ℕ) (choices 
 abbrev pub BeginsFirst : Config → ℕ → Around → Type 0
 BeginsFirst c p b = (n : ℕ) (choices : List ℕ) (d : Config) → after n choices c ≡ Some d → StaysOrBegins c d p b n choices
 
--- at one of the configurations before, a reset had unwound all of p, whose step came next, and p was suspended
+-- at one of the configurations before, the end of an unwinding of p came next, and p was suspended
 pub record IsHeldBack (c : Config) (p n : ℕ) (choices : List ℕ) : Type 0 where
   pub before : ℕ
   pub own : List ℕ
@@ -116,7 +121,10 @@ pub record IsHeldBack (c : Config) (p n : ℕ) (choices : List ℕ) : Type 0 whe
   pub split : choices ≡ own ++ behind
   pub reached : after before own c ≡ Some then
   pub rest : List ℕ
-  pub stands : StandsAt then p rest (goal skip goal_of.Restart)
+  pub left : Residual
+  pub stands : StandsAt then p rest left
+  pub end : Goal
+  pub comes : next_of left ≡ reaches end
   pub is_suspended : stands.instance.suspended ≡ true
 
 -- whatever comes behind c, before p leaves the stack the thread's own statements begin again, or it was held back

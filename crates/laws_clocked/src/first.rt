@@ -14,7 +14,7 @@ ghost use Rattle.laws_unwinding.specs.SimModel.declared.plain.Goal.TheVariants a
 ghost use Rattle.laws_clocked.specs.Ticks.{Test, Tick, HasTick};
 ghost use Rattle.laws_clocked.specs.Turns.{IsBehindWait};
 ghost use Rattle.laws_clocked.specs.Levels.{NoneAtLevel, IsAtLevel};
-ghost use Rattle.laws_clocked.specs.Again.{Around, trying, unwinding, StandsAt, BeginsFirst, BeginsUnlessHeldBack};
+ghost use Rattle.laws_clocked.specs.Again.{Around, trying, unwinding, injected_into, StandsAt, BeginsFirst, BeginsUnlessHeldBack};
 ghost use Rattle.laws_clocked.specs.Clocked.{HasClocked, AsksTrue};
 
 /// In every run of a sound design, whatever is chosen and whatever other processes do: wherever own statements of a clocked thread
@@ -52,11 +52,17 @@ pub fn own_statements_begin_again_first()
 
 /// In every run of a sound design, whatever is chosen and whatever other processes do: where a reset that was asked for, by another
 /// process or by the thread itself, unwinds all of a clocked thread, its own statements begin, from the first, before it leaves the
-/// stack; or it is suspended where that has unwound all of it (IEEE 1666-2011, 5.6.6).
+/// stack, or it is suspended where that has unwound all of it (`reset`); and so it is where an exception that another process throws
+/// into the thread, and that its try has caught, unwinds them (`thrown_into`) (IEEE 1666-2011, 5.6.6).
 pub fn a_reset_begins_own_statements()
-    ensures { (design : Design) (script : List Command) → SoundDesign design
+    ensures reset { (design : Design) (script : List Command) → SoundDesign design
         → (steps : ℕ) (chosen : List ℕ) (c : Config) → after steps chosen (start design script) ≡ Some c
         → (p : ℕ) (i : Instance) → instance_at c p ≡ Some i → (b : Around) (e : ℕ) → HasClocked (arena c) b e i.code
         → i.started ≡ true → (r : Residual) → i.residual ≡ goal r goal_of.Restart
+        → BeginsUnlessHeldBack c p b }
+    ensures thrown_into { (design : Design) (script : List Command) → SoundDesign design
+        → (steps : ℕ) (chosen : List ℕ) (c : Config) → after steps chosen (start design script) ≡ Some c
+        → (p : ℕ) (i : Instance) → instance_at c p ≡ Some i → (b : Around) (e : ℕ) (x : Frame) (r : Residual) → HasClocked (arena c) b e x.body
+        → i.residual ≡ injected_into b x r
         → BeginsUnlessHeldBack c p b }
 {}
