@@ -46,7 +46,8 @@ impl Given {
     fn add_file(&mut self, alloc: Global, name: &str, bytes: &[u8]) -> Result<(), AllocError> {
         self.words.push(name)?;
         let bytes = Vec::from_slice(alloc, bytes)?;
-        self.files.push((String::from_str(alloc, name)?, bytes))
+        self.files.push((String::from_str(alloc, name)?, bytes))?;
+        Ok(())
     }
 }
 
