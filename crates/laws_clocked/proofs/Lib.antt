@@ -31,8 +31,10 @@ pub mod Returning
 pub mod Recurring
 pub mod Owned
 pub mod Rounds
+pub mod OwnTries
 pub mod Looping
 pub mod Sparing
 pub mod Rounded
 pub mod Resetting
 pub mod Injecting
+pub mod BegunByCode

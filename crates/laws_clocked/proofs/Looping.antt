@@ -1,8 +1,9 @@
 -- The steps of a clocked thread go from place to place of its body.
-use Rattle.std.proofs.Common.{◌≡◌, ◌⊎◌, ℕ, Bool, true, false, cond, List, [], ◌∷◌, ◌++◌, slice_get, unwrap_or, Option, Some, None, refl, sym, ap, ◌∙◌, subst, inl, inr, ⊎_elim, true≢false}
+use Rattle.std.proofs.Common.{◌≡◌, ◌⊎◌, ℕ, Bool, true, false, cond, List, [], ◌∷◌, ◌++◌, slice_get, unwrap_or, Contains, Option, Some, None, refl, sym, ap, ◌∙◌, subst, inl, inr, ⊎_elim, true≢false}
 use Rattle.std.specs.Prelude.{Result, Ok, Err}
 use Rattle.std.specs.Result.{IfOk}
 use Rattle.std.proofs.lemmas.Bool.{cases_eq}
+use Rattle.std.proofs.lemmas.List.Elements.{Contains-append_left}
 use Rattle.std.proofs.lemmas.Option.{none-some, same_Some}
 use Rattle.laws_unwinding.specs.LogicValues.declared.kinds.Value.{Value}
 use Rattle.laws_unwinding.specs.LogicValues.declared.kinds.Value.TheVariants as value
@@ -35,11 +36,11 @@ use Rattle.laws_unwinding.proofs.Parts.{IsInner}
 use Rattle.laws_moves.proofs.Wakes.{fire-keeps}
 use Rattle.laws_clocked.specs.Stores.{OnlyStores}
 use Rattle.laws_clocked.specs.Again.{Around}
-use Rattle.laws_clocked.specs.Clocked.{SparesIt, HasClocked}
+use Rattle.laws_clocked.specs.Clocked.{HasClocked}
 use Rattle.laws_clocked.proofs.Storing.{IsKeptUnwound, IsKeptSet, IsGiven, LeftSo, changed_here, flagged, becomes, if_held, fire-held, moved_held, control_held, throw_held, local_held, form-held}
 use Rattle.laws_clocked.proofs.Keeping.{HasCall, IsKeeping, put-call, set_call, any_stores, handed_held, set_other, set_call_keeps}
 use Rattle.laws_clocked.proofs.Undoing.{none_next, no_leaving, before_leaves, followed_call, goal_call}
-use Rattle.laws_clocked.proofs.Owned.{CallSo, next-own, leaves-own, put-own, past-own, off-own, local-own, returned-own, given-own}
+use Rattle.laws_clocked.proofs.Owned.{IsOwn, each-own, CallSo, next-own, leaves-own, put-own, past-own, off-own, local-own, returned-own, given-own}
 use Rattle.laws_clocked.proofs.Rounds.{Own, More, more_left, IsUnder, IsTrue, Place, at_start, at_loop, at_try, in_own, unwound, over, Rounds, Places, then-more, more-put, more-past, more-off, more-set, more-returned, rounds-unwound}
 
 -- ---- whatever is kept of what is left: at the end of a body, of an unwinding, of a call, and at a call that is owed
@@ -235,39 +236,39 @@ module _ (b : Around) (e f : ℕ) (c : Config) (has : HasClocked (arena c) b e f
   shape_place x q t (with_more z m is) = in_own z t (inr m) is
   shape_place x q t (with_goal z g inner own is) = unwound z g t inner own is
 
-  shape_next : (q : Residual) (n : ℕ) → next_of q ≡ residual.statement n → Shape q → HasCall q ⊎ SparesIt (arena c) b.again n
+  shape_next : (q : Residual) (n : ℕ) → next_of q ≡ residual.statement n → Shape q → HasCall q ⊎ IsOwn (arena c) b n
   shape_next q n next (with_more z (more_left r ss seq_ own spares) is) =
       let all = is ∙ ap (λ y. seq (try_ y b.handlers) (b.loops ∷ [])) seq_ in
-      ⊎_elim (λ (h : HasCall r). inl (subst HasCall (sym all) h)) (λ s. inr s) (next-own (arena c) (SparesIt (arena c) b.again) r n own (ap next_of (sym all) ∙ next))
+      ⊎_elim (λ (h : HasCall r). inl (subst HasCall (sym all) h)) (λ s. inr s) (next-own (arena c) (IsOwn (arena c) b) r n own (ap next_of (sym all) ∙ next))
   shape_next q n next (with_goal z g inner own is) =
-      ⊎_elim (λ (h : HasCall z). inl (subst HasCall (sym is) h)) (λ s. inr s) (next-own (arena c) (SparesIt (arena c) b.again) z n own (before_statement (next_of z) g n (ap next_of (sym is) ∙ next)))
+      ⊎_elim (λ (h : HasCall z). inl (subst HasCall (sym is) h)) (λ s. inr s) (next-own (arena c) (IsOwn (arena c) b) z n own (before_statement (next_of z) g n (ap next_of (sym is) ∙ next)))
 
-  shape_leaves : (q : Residual) (z : Frame) → next_of q ≡ residual.leaves z → Shape q → HasCall (put q skip) ⊎ CallSo (arena c) (SparesIt (arena c) b.again) z.call
+  shape_leaves : (q : Residual) (z : Frame) → next_of q ≡ residual.leaves z → Shape q → HasCall (put q skip) ⊎ CallSo (arena c) (IsOwn (arena c) b) z.call
   shape_leaves q w next (with_more z (more_left r ss seq_ own spares) is) =
       let all = is ∙ ap (λ y. seq (try_ y b.handlers) (b.loops ∷ [])) seq_ in
       ⊎_elim (λ (h : HasCall (put r skip)). inl (subst (λ y. HasCall (put y skip)) (sym all) (followed_call (put r skip) (ss ++ has.last ∷ []) h))) (λ s. inr s)
-      (leaves-own (arena c) (SparesIt (arena c) b.again) r w own (ap next_of (sym all) ∙ next))
+      (leaves-own (arena c) (IsOwn (arena c) b) r w own (ap next_of (sym all) ∙ next))
   shape_leaves q w next (with_goal z g inner own is) =
       let there = before_leaves (next_of z) g w (ap next_of (sym is) ∙ next) in
-      ⊎_elim (λ (h : HasCall (put z skip)). inl (subst (λ y. HasCall (put y skip)) (sym is) (goal_call z g (put z skip) w there h))) (λ s. inr s) (leaves-own (arena c) (SparesIt (arena c) b.again) z w own there)
+      ⊎_elim (λ (h : HasCall (put z skip)). inl (subst (λ y. HasCall (put y skip)) (sym is) (goal_call z g (put z skip) w there h))) (λ s. inr s) (leaves-own (arena c) (IsOwn (arena c) b) z w own there)
 
-  shape_put : (q n : Residual) (s : ℕ) → next_of q ≡ residual.statement s → (SparesIt (arena c) b.again s → Own (arena c) b e f has n) → Shape q → Shape (put q n)
+  shape_put : (q n : Residual) (s : ℕ) → next_of q ≡ residual.statement s → (IsOwn (arena c) b s → Own (arena c) b e f has n) → Shape q → Shape (put q n)
   shape_put q n s next new (with_more z m is) = with_more (put z n) (more-put (arena c) b e f has z n s new (ap next_of (sym is) ∙ next) m) (ap (λ y. put y n) is)
   shape_put q n s next new (with_goal z g inner own is) =
       let there = before_statement (next_of z) g s (ap next_of (sym is) ∙ next) in
-      with_goal (put z n) g inner (put-own (arena c) (SparesIt (arena c) b.again) n s new z there own) (ap (λ y. put y n) is ∙ ap (λ y. seq y (b.loops ∷ [])) (goal_left z g n (put z n) s there))
+      with_goal (put z n) g inner (put-own (arena c) (IsOwn (arena c) b) n s new z there own) (ap (λ y. put y n) is ∙ ap (λ y. seq y (b.loops ∷ [])) (goal_left z g n (put z n) s there))
 
   shape_off : (q : Residual) → Shape q → Shape (taken_off q)
   shape_off q (with_more z m is) = with_more (taken_off z) (more-off (arena c) b e f has z m) (ap taken_off is)
-  shape_off q (with_goal z g inner own is) = with_goal (taken_off z) g inner (off-own (arena c) (SparesIt (arena c) b.again) z own) (ap taken_off is)
+  shape_off q (with_goal z g inner own is) = with_goal (taken_off z) g inner (off-own (arena c) (IsOwn (arena c) b) z own) (ap taken_off is)
 
   shape_set : (n : ℕ) (v : Value) (q : Residual) → Shape q → Shape (in_innermost (with_local n v) q)
   shape_set n v q (with_more z m is) = with_more (in_innermost (with_local n v) z) (more-set (arena c) b e f has n v z m) (ap (in_innermost (with_local n v)) is)
-  shape_set n v q (with_goal z g inner own is) = with_goal (in_innermost (with_local n v) z) g inner (local-own (arena c) (SparesIt (arena c) b.again) n v z own) (ap (in_innermost (with_local n v)) is)
+  shape_set n v q (with_goal z g inner own is) = with_goal (in_innermost (with_local n v) z) g inner (local-own (arena c) (IsOwn (arena c) b) n v z own) (ap (in_innermost (with_local n v)) is)
 
   shape_returned : (v : Option Value) (q : Residual) → Shape q → Shape (returned v q)
   shape_returned v q (with_more z m is) = with_more (returned v z) (more-returned (arena c) b e f has v z m) (ap (returned v) is)
-  shape_returned v q (with_goal z g inner own is) = with_goal (returned v z) g inner (returned-own (arena c) (SparesIt (arena c) b.again) v z own) (ap (returned v) is)
+  shape_returned v q (with_goal z g inner own is) = with_goal (returned v z) g inner (returned-own (arena c) (IsOwn (arena c) b) v z own) (ap (returned v) is)
 
   -- what is past: its goal too
   shape_past : (x : Frame) (q : Residual) → IsTrue (arena c) b e f has x → Shape q → R (frame (put q skip) x)
@@ -276,16 +277,16 @@ module _ (b : Around) (e f : ℕ) (c : Config) (has : HasClocked (arena c) b e f
     where
       by : (y : Residual) → z ≡ y → Place (arena c) b e f has x (put q skip) ⊎ (put q skip ≡ seq skip (b.loops ∷ []))
       by skip bare = inr (ap (λ y. put y skip) is ∙ ap (λ y. seq (goal_or y g skip (put y skip)) (b.loops ∷ [])) bare)
-      by (one s) bare = inl (unwound (put z skip) g t inner (past-own (arena c) (SparesIt (arena c) b.again) z own) (ap (λ y. put y skip) is ∙ ap (λ y. seq (goal_or y g skip (put z skip)) (b.loops ∷ [])) bare))
-      by (batch s qs) bare = inl (unwound (put z skip) g t inner (past-own (arena c) (SparesIt (arena c) b.again) z own) (ap (λ y. put y skip) is ∙ ap (λ y. seq (goal_or y g skip (put z skip)) (b.loops ∷ [])) bare))
-      by (seq r ss) bare = inl (unwound (put z skip) g t inner (past-own (arena c) (SparesIt (arena c) b.again) z own) (ap (λ y. put y skip) is ∙ ap (λ y. seq (goal_or y g skip (put z skip)) (b.loops ∷ [])) bare))
-      by (owing r h u) bare = inl (unwound (put z skip) g t inner (past-own (arena c) (SparesIt (arena c) b.again) z own) (ap (λ y. put y skip) is ∙ ap (λ y. seq (goal_or y g skip (put z skip)) (b.loops ∷ [])) bare))
-      by (guard r h u) bare = inl (unwound (put z skip) g t inner (past-own (arena c) (SparesIt (arena c) b.again) z own) (ap (λ y. put y skip) is ∙ ap (λ y. seq (goal_or y g skip (put z skip)) (b.loops ∷ [])) bare))
-      by (try_ r hs) bare = inl (unwound (put z skip) g t inner (past-own (arena c) (SparesIt (arena c) b.again) z own) (ap (λ y. put y skip) is ∙ ap (λ y. seq (goal_or y g skip (put z skip)) (b.loops ∷ [])) bare))
-      by (frame r y) bare = inl (unwound (put z skip) g t inner (past-own (arena c) (SparesIt (arena c) b.again) z own) (ap (λ y. put y skip) is ∙ ap (λ y. seq (goal_or y g skip (put z skip)) (b.loops ∷ [])) bare))
-      by (shell r y) bare = inl (unwound (put z skip) g t inner (past-own (arena c) (SparesIt (arena c) b.again) z own) (ap (λ y. put y skip) is ∙ ap (λ y. seq (goal_or y g skip (put z skip)) (b.loops ∷ [])) bare))
-      by (run h r) bare = inl (unwound (put z skip) g t inner (past-own (arena c) (SparesIt (arena c) b.again) z own) (ap (λ y. put y skip) is ∙ ap (λ y. seq (goal_or y g skip (put z skip)) (b.loops ∷ [])) bare))
-      by (goal r h) bare = inl (unwound (put z skip) g t inner (past-own (arena c) (SparesIt (arena c) b.again) z own) (ap (λ y. put y skip) is ∙ ap (λ y. seq (goal_or y g skip (put z skip)) (b.loops ∷ [])) bare))
+      by (one s) bare = inl (unwound (put z skip) g t inner (past-own (arena c) (IsOwn (arena c) b) z own) (ap (λ y. put y skip) is ∙ ap (λ y. seq (goal_or y g skip (put z skip)) (b.loops ∷ [])) bare))
+      by (batch s qs) bare = inl (unwound (put z skip) g t inner (past-own (arena c) (IsOwn (arena c) b) z own) (ap (λ y. put y skip) is ∙ ap (λ y. seq (goal_or y g skip (put z skip)) (b.loops ∷ [])) bare))
+      by (seq r ss) bare = inl (unwound (put z skip) g t inner (past-own (arena c) (IsOwn (arena c) b) z own) (ap (λ y. put y skip) is ∙ ap (λ y. seq (goal_or y g skip (put z skip)) (b.loops ∷ [])) bare))
+      by (owing r h u) bare = inl (unwound (put z skip) g t inner (past-own (arena c) (IsOwn (arena c) b) z own) (ap (λ y. put y skip) is ∙ ap (λ y. seq (goal_or y g skip (put z skip)) (b.loops ∷ [])) bare))
+      by (guard r h u) bare = inl (unwound (put z skip) g t inner (past-own (arena c) (IsOwn (arena c) b) z own) (ap (λ y. put y skip) is ∙ ap (λ y. seq (goal_or y g skip (put z skip)) (b.loops ∷ [])) bare))
+      by (try_ r hs) bare = inl (unwound (put z skip) g t inner (past-own (arena c) (IsOwn (arena c) b) z own) (ap (λ y. put y skip) is ∙ ap (λ y. seq (goal_or y g skip (put z skip)) (b.loops ∷ [])) bare))
+      by (frame r y) bare = inl (unwound (put z skip) g t inner (past-own (arena c) (IsOwn (arena c) b) z own) (ap (λ y. put y skip) is ∙ ap (λ y. seq (goal_or y g skip (put z skip)) (b.loops ∷ [])) bare))
+      by (shell r y) bare = inl (unwound (put z skip) g t inner (past-own (arena c) (IsOwn (arena c) b) z own) (ap (λ y. put y skip) is ∙ ap (λ y. seq (goal_or y g skip (put z skip)) (b.loops ∷ [])) bare))
+      by (run h r) bare = inl (unwound (put z skip) g t inner (past-own (arena c) (IsOwn (arena c) b) z own) (ap (λ y. put y skip) is ∙ ap (λ y. seq (goal_or y g skip (put z skip)) (b.loops ∷ [])) bare))
+      by (goal r h) bare = inl (unwound (put z skip) g t inner (past-own (arena c) (IsOwn (arena c) b) z own) (ap (λ y. put y skip) is ∙ ap (λ y. seq (goal_or y g skip (put z skip)) (b.loops ∷ [])) bare))
 
   not_bare : (q : Residual) (x : Frame) (n : Residual) → Shape q → frame_or q x n (put q n) ≡ frame (put q n) x
   not_bare q x n (with_more z m is) = subst (λ y. frame_or y x n (put y n) ≡ frame (put y n) x) (sym is) refl
@@ -369,7 +370,7 @@ module _ (b : Around) (e f : ℕ) (c : Config) (has : HasClocked (arena c) b e f
           (subst R (sym (not_bare q x skip shape)) (shape_past x q t shape)) (λ is_. inl (shape_place x (taken_off q) t (shape_off q shape)))
           (λ n next y found.
           let inner = frame_statement (next_of q) x n next in
-          let new : (z : Statement) (m : Residual) → statement_at (arena c) n ≡ Some z → IsGiven c n z m → Shape (put q m) = λ z m there given. shape_put q m n inner (λ s. given-own c b.again n s z m there given) shape in
+          let new : (z : Statement) (m : Residual) → statement_at (arena c) n ≡ Some z → IsGiven c n z m → Shape (put q m) = λ z m there given. shape_put q m n inner (λ s. given-own c b n s z m there given) shape in
           let bare = shape_put q skip n inner (λ s. tt) shape in
           ⊎_elim
           (λ call.
@@ -381,7 +382,7 @@ module _ (b : Around) (e f : ℕ) (c : Config) (has : HasClocked (arena c) b e f
           form-held p (Held v) R (λ m. m ≡ b.again → ⊥) (held_set v) tt (arena c) k (held_rounds v is_true) c refl r (here c p i r) (all_so (Held v) (subst (Held v) (sym is) (keeping, shape))) n
           (subst (Held v) (sym (not_bare q x skip shape)) (keeping, bare))
           (λ z m there given. subst (Held v) (sym (not_bare q x m shape)) (keeping, new z m there given)) (keeping, shape)
-          (λ w. returned_rounds v slot is_true shape (has_exit q) w) i y found (spares.itself y found))
+          (λ w. returned_rounds v slot is_true shape (has_exit q) w) i y found (spares.spares.itself y found))
           (shape_next q n inner shape))
           (λ z next. leaves_by v slot is_true shape z (leaves_in (next_of q) z next))
         where
@@ -396,9 +397,9 @@ module _ (b : Around) (e f : ℕ) (c : Config) (has : HasClocked (arena c) b e f
           leaves_in (residual.reaches g) z next = next
           leaves_in residual.nothing z next = absurd (no_end z (sym (ap (λ o. residual.frame_end o x) root) ∙ next))
 
-          call_spares : (call : Option ℕ) → CallSo (arena c) (SparesIt (arena c) b.again) call → (w : Statement) → calling_statement c call ≡ Some w → OnlyStores (λ m. m ≡ b.again → ⊥) w
+          call_spares : (call : Option ℕ) → CallSo (arena c) (IsOwn (arena c) b) call → (w : Statement) → calling_statement c call ≡ Some w → OnlyStores (λ m. m ≡ b.again → ⊥) w
           call_spares None so w there = absurd (none-some w there)
-          call_spares (Some n) so w there = so.itself w there
+          call_spares (Some n) so w there = so.spares.itself w there
 
           leaves_by : (v : Value) → slice_get x.locals b.again ≡ Some v → truth v ≡ true → Shape q → (z : Frame) → next_of q ≡ residual.leaves z → IfOk (leaves_call c p i r z) Goes
           leaves_by v slot is_true shape z next = ⊎_elim
@@ -412,7 +413,7 @@ module _ (b : Around) (e f : ℕ) (c : Config) (has : HasClocked (arena c) b e f
               left_shape q (with_more y m is_) z next = with_more (put y skip) (more-past (arena c) b e f has y m) (ap (λ u. put u skip) is_)
               left_shape q (with_goal y g inner own is_) z next =
                   let there = before_leaves (next_of y) g z (ap next_of (sym is_) ∙ next) in
-                  with_goal (put y skip) g inner (past-own (arena c) (SparesIt (arena c) b.again) y own) (ap (λ u. put u skip) is_ ∙ ap (λ u. seq u (b.loops ∷ [])) (leaves_goal y g (put y skip) z there))
+                  with_goal (put y skip) g inner (past-own (arena c) (IsOwn (arena c) b) y own) (ap (λ u. put u skip) is_ ∙ ap (λ u. seq u (b.loops ∷ [])) (leaves_goal y g (put y skip) z there))
                 where
                   leaves_goal : (y : Residual) (g : Goal) (inside : Residual) (z : Frame) → next_of y ≡ residual.leaves z → goal_or y g skip inside ≡ goal inside g
                   leaves_goal skip g inside z next = absurd (no_leaving z next)
@@ -473,9 +474,14 @@ module _ (b : Around) (e f : ℕ) (c : Config) (has : HasClocked (arena c) b e f
         (loop_by x (all_so R (subst R (sym is) (λ body_is. inl (at_loop refl)))) (truth (widened (unwrap_or (slice_get x.locals b.again) (value.Bool false)))) refl)
 
     -- the try
-    under_statements : (ss : List ℕ) → EachOf (SparesIt (arena c) b.again) ss → IsUnder (arena c) b e f has (statements (ss ++ has.last ∷ []))
+    under_statements : (ss : List ℕ) → EachOf (IsOwn (arena c) b) ss → IsUnder (arena c) b e f has (statements (ss ++ has.last ∷ []))
     under_statements [] h = inl refl
     under_statements (s ∷ ss) h = inr (more_left (one s) ss (then-more (arena c) b e f has (one s) ss [] has.last) h.0 h.1)
+
+    own_front : EachOf (IsOwn (arena c) b) has.front
+    own_front =
+        each-own (arena c) b has.front
+        (λ s there. subst (λ ss. Contains ss s) (sym (has.around.inside ∙ has.own)) (Contains-append_left has.front (has.last ∷ []) s there)) has.spares
 
     try_step : (x : Frame) → IsTrue (arena c) b e f has x → i.residual ≡ frame (seq (one b.tries) (b.loops ∷ [])) x → IfOk (do_next c p i (frame (seq (one b.tries) (b.loops ∷ [])) x) (residual.statement b.tries)) Goes
     try_step x t is =
@@ -483,7 +489,7 @@ module _ (b : Around) (e f : ℕ) (c : Config) (has : HasClocked (arena c) b e f
         subst (λ o. IfOk (on_statement c p i r b.tries o) Goes) (sym has.around.tries)
         (moved_held p R c p (frame (seq (try_ (block (arena c) b.inside) b.handlers) (b.loops ∷ [])) x)
         (λ same_. λ body_is. inl (in_own (block (arena c) b.inside) t
-        (subst (λ ss. IsUnder (arena c) b e f has (statements ss)) (sym (has.around.inside ∙ has.own)) (under_statements has.front has.spares)) refl))
+        (subst (λ ss. IsUnder (arena c) b e f has (statements ss)) (sym (has.around.inside ∙ has.own)) (under_statements has.front own_front)) refl))
         (all_so R (subst R (sym is) (λ body_is. inl (at_try t refl)))))
 
     -- nothing

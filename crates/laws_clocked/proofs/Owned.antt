@@ -1,4 +1,5 @@
--- What each statement is that is left in the call in place of a body, not counting those of the calls that it made, while the body goes on.
+-- What each statement is that is left in the call in place of a body, not counting those of the calls that it made, while the body goes on;
+-- and each try that stands around what is left there.
 use Rattle.std.proofs.Common.{◌≡◌, ◌⊎◌, ◌==◌, ℕ, zero, suc, Bool, true, false, cond, List, [], ◌∷◌, map, Contains, Option, Some, None, refl, sym, ap, ◌∙◌, subst, arith, inl, inr, ⊎_elim}
 use Rattle.laws_unwinding.specs.LogicValues.declared.kinds.Value.{Value}
 use Rattle.laws_unwinding.specs.FlatDesign.Code as code
@@ -17,6 +18,7 @@ use Rattle.laws_unwinding.specs.SimModel.declared.plain.Via.{Via}
 use Rattle.laws_unwinding.proofs.LawsRuns.Blocks.{each-from}
 use Rattle.laws_unwinding.proofs.LawsRuns.MarkLemmas.{before_statement, frame_statement}
 use Rattle.laws_moves.specs.Moves.{Gives, chooses, loops, tries, calls, controls, throws}
+use Rattle.laws_clocked.specs.Again.{Around}
 use Rattle.laws_clocked.specs.Clocked.{SparesIt}
 use Rattle.laws_clocked.proofs.Storing.{IsGiven, gives, guards, hops}
 use Rattle.laws_clocked.proofs.Keeping.{HasCall}
@@ -27,6 +29,13 @@ module _ (a : Arena) (P : ℕ → Type 0) where
   CallSo None = Unit {0}
   CallSo (Some s) = P s
 
+  -- the handlers are those of such a try
+  pub record IsTriedBy (handlers : List Handler) : Type 0 where
+    pub number : ℕ
+    pub body : ℕ
+    pub so : P number
+    pub found : statement_at a number ≡ Some (code.try_ body handlers)
+
   abbrev pub EachOwn : Residual → Type 0
   EachOwn skip = Unit {0}
   EachOwn (one s) = P s
@@ -34,7 +43,7 @@ module _ (a : Arena) (P : ℕ → Type 0) where
   EachOwn (seq r ss) = EachOwn r × EachOf P ss
   EachOwn (owing r g u) = EachOwn r × EachInBlock P a u
   EachOwn (guard r g u) = EachOwn r × EachInBlock P a u
-  EachOwn (try_ r handlers) = EachOwn r × EachInHandlers P a handlers
+  EachOwn (try_ r handlers) = EachOwn r × EachInHandlers P a handlers × IsTriedBy handlers
   EachOwn (frame r x) = CallSo x.call
   EachOwn (shell r x) = Unit {0}
   EachOwn (run g r) = EachOwn r
@@ -66,9 +75,9 @@ module _ (a : Arena) (P : ℕ → Type 0) where
   guard_own skip g u h e = tt
   guard_own other g u h e = (h, e)
 
-  try_own : (r : Residual) (handlers : List Handler) → EachOwn r → EachInHandlers P a handlers → EachOwn (in_try r handlers)
-  try_own skip handlers h e = tt
-  try_own other handlers h e = (h, e)
+  try_own : (r : Residual) (handlers : List Handler) → EachOwn r → EachInHandlers P a handlers → IsTriedBy handlers → EachOwn (in_try r handlers)
+  try_own skip handlers h e t = tt
+  try_own other handlers h e t = (h, e, t)
 
   shell_own : (r : Residual) (x : Frame) → EachOwn (in_shell r x)
   shell_own skip x = tt
@@ -82,7 +91,7 @@ module _ (a : Arena) (P : ℕ → Type 0) where
   settle-own (seq r ss) h = then_own (settle a r) ss (settle-own r h.0) h.1
   settle-own (owing r g u) h = owed_own (settle a r) g u (settle-own r h.0) h.1
   settle-own (guard r g u) h = guard_own (settle a r) g u (settle-own r h.0) h.1
-  settle-own (try_ r handlers) h = try_own (settle a r) handlers (settle-own r h.0) h.1
+  settle-own (try_ r handlers) h = try_own (settle a r) handlers (settle-own r h.0) h.1 h.2
   settle-own (frame r x) h = h
   settle-own (shell r x) h = shell_own (settle a r) x
   settle-own (run g r) h = run_own g (settle a r) (settle-own r h)
@@ -107,7 +116,7 @@ module _ (a : Arena) (P : ℕ → Type 0) where
     put-own (seq r ss) is h = followed-own (put r n) ss (put-own r is h.0) h.1
     put-own (owing r g u) is h = (put-own r is h.0, h.1)
     put-own (guard r g u) is h = (put-own r is h.0, h.1)
-    put-own (try_ r handlers) is h = (put-own r is h.0, h.1)
+    put-own (try_ r handlers) is h = (put-own r is h.0, h.1, h.2)
     put-own (frame r x) is h = frame_own r x n (put r n) s (frame_statement (next_of r) x s is) h
     put-own (shell r x) is h = tt
     put-own (run g r) is h = put-own r is h
@@ -128,7 +137,7 @@ module _ (a : Arena) (P : ℕ → Type 0) where
   past-own (seq r ss) h = followed-own (put r skip) ss (past-own r h.0) h.1
   past-own (owing r g u) h = (past-own r h.0, h.1)
   past-own (guard r g u) h = (past-own r h.0, h.1)
-  past-own (try_ r handlers) h = (past-own r h.0, h.1)
+  past-own (try_ r handlers) h = (past-own r h.0, h.1, h.2)
   past-own (frame r x) h = past_frame r x (put r skip) h
   past-own (shell r x) h = tt
   past-own (run g r) h = past-own r h
@@ -141,7 +150,7 @@ module _ (a : Arena) (P : ℕ → Type 0) where
   off-own (seq r ss) h = (off-own r h.0, h.1)
   off-own (owing r g u) h = (off-own r h.0, h.1)
   off-own (guard r g u) h = (off-own r h.0, h.1)
-  off-own (try_ r handlers) h = (off-own r h.0, h.1)
+  off-own (try_ r handlers) h = (off-own r h.0, h.1, h.2)
   off-own (frame r x) h = h
   off-own (shell r x) h = tt
   off-own (run g r) h = off-own r h
@@ -160,7 +169,7 @@ module _ (a : Arena) (P : ℕ → Type 0) where
   local-own n v (seq r ss) h = (local-own n v r h.0, h.1)
   local-own n v (owing r g u) h = (local-own n v r h.0, h.1)
   local-own n v (guard r g u) h = (local-own n v r h.0, h.1)
-  local-own n v (try_ r handlers) h = (local-own n v r h.0, h.1)
+  local-own n v (try_ r handlers) h = (local-own n v r h.0, h.1, h.2)
   local-own n v (frame r x) h = set_own (innermost r) n v x h
   local-own n v (shell r x) h = tt
   local-own n v (run g r) h = local-own n v r h
@@ -181,7 +190,7 @@ module _ (a : Arena) (P : ℕ → Type 0) where
   returned-own v (seq r ss) h = (returned-own v r h.0, h.1)
   returned-own v (owing r g u) h = (returned-own v r h.0, h.1)
   returned-own v (guard r g u) h = (returned-own v r h.0, h.1)
-  returned-own v (try_ r handlers) h = (returned-own v r h.0, h.1)
+  returned-own v (try_ r handlers) h = (returned-own v r h.0, h.1, h.2)
   returned-own v (frame r x) h = frame_returned (has_exit r) v (returned v r) skip x h
   returned-own v (shell r x) h = tt
   returned-own v (run g r) h = run_returned (has_exit r) g (returned v r) (returned-own v r h)
@@ -211,10 +220,10 @@ module _ (a : Arena) (P : ℕ → Type 0) where
     handler_each [] h = tt
     handler_each (x ∷ xs) h = handler_either (x.exception == e) x (handler_of xs e) h.0 (handler_each xs h.1)
 
-    try_raised : (b c : Bool) (r : Residual) (handlers : List Handler) → EachOwn r → EachInHandlers P a handlers → EachOwn (raise a r e k) → EachOwn (cond b (try_ (raise a r e k) handlers) (cond c (handled a r handlers e k) (try_ r handlers)))
-    try_raised true c r handlers h each later = (later, each)
-    try_raised false true r handlers h each later = followed-own (goal (unw r) k) (handler_block a (handler_of handlers e)) (unw-own r h) (handler_each handlers each)
-    try_raised false false r handlers h each later = (h, each)
+    try_raised : (b c : Bool) (r : Residual) (handlers : List Handler) → EachOwn r → EachInHandlers P a handlers → IsTriedBy handlers → EachOwn (raise a r e k) → EachOwn (cond b (try_ (raise a r e k) handlers) (cond c (handled a r handlers e k) (try_ r handlers)))
+    try_raised true c r handlers h each t later = (later, each, t)
+    try_raised false true r handlers h each t later = followed-own (goal (unw r) k) (handler_block a (handler_of handlers e)) (unw-own r h) (handler_each handlers each)
+    try_raised false false r handlers h each t later = (h, each, t)
 
     pub raise-own : (r : Residual) → EachOwn r → EachOwn (raise a r e k)
     raise-own skip h = tt
@@ -223,7 +232,7 @@ module _ (a : Arena) (P : ℕ → Type 0) where
     raise-own (seq r ss) h = (raise-own r h.0, h.1)
     raise-own (owing r g u) h = (raise-own r h.0, h.1)
     raise-own (guard r g u) h = (raise-own r h.0, h.1)
-    raise-own (try_ r handlers) h = try_raised (catches r e) (handles handlers e) r handlers h.0 h.1 (raise-own r h.0)
+    raise-own (try_ r handlers) h = try_raised (catches r e) (handles handlers e) r handlers h.0 h.1 h.2 (raise-own r h.0)
     raise-own (frame r x) h = h
     raise-own (shell r x) h = tt
     raise-own (run g r) h = raise-own r h
@@ -262,36 +271,64 @@ module _ (a : Arena) (P : ℕ → Type 0) where
   leaves-own (run g r) z h is = leaves-own r z h is
   leaves-own (goal r k) z h is = let there = before_leaves (next_of r) k z is in ⊎_elim (λ c. inl (goal_call r k (put r skip) z there c)) (λ c. inr c) (leaves-own r z h there)
 
--- ---- a statement that spares a local variable, and what it puts in its place
+-- ---- one of a clocked thread's own statements, and what it puts in its place
 
 module _ (a : Arena) (k : ℕ) where
   inside_on : (b j i : ℕ) → Inside a b j → Inside a j i → Inside a b i
   inside_on b j _ h (itself _) = h
   inside_on b j i h (deeper _ m _ s l stands inner) = deeper b m i s (inside_on b j m h l) stands inner
 
+  spared : (s j : ℕ) (x : Statement) → SparesIt a k s → statement_at a s ≡ Some x → Contains (inner_blocks x) j → (m : ℕ) → Contains (block_at a j) m → SparesIt a k m
+  spared s j x h found inner m listed = record {
+    itself = λ y there. h.inside x j y found inner (record { block = j; inside = itself j; stands = record { number = m; listed_there = listed; found = there } });
+    inside = λ y i z there within held.
+        h.inside x j z found inner (record {
+          block = held.block;
+          inside = inside_on j i held.block (deeper j j i y (itself j) (record { number = m; listed_there = listed; found = there }) within) held.inside;
+          stands = held.stands;
+        });
+  }
+
   pub inner-spares : (s j : ℕ) (x : Statement) → SparesIt a k s → statement_at a s ≡ Some x → Contains (inner_blocks x) j → EachInBlock (SparesIt a k) a j
-  inner-spares s j x h found inner =
-      each-from (SparesIt a k) (block_at a j)
-      (λ m listed. record {
-        itself = λ y there. h.inside x j y found inner (record { block = j; inside = itself j; stands = record { number = m; listed_there = listed; found = there } });
-        inside = λ y i z there within held.
-            h.inside x j z found inner (record {
-              block = held.block;
-              inside = inside_on j i held.block (deeper j j i y (itself j) (record { number = m; listed_there = listed; found = there }) within) held.inside;
-              stands = held.stands;
-            });
-      })
+  inner-spares s j x h found inner = each-from (SparesIt a k) (block_at a j) (spared s j x h found inner)
+
+-- the statement of this number stands among them, at any depth, and spares the variable that the loop asks
+pub record IsOwn (a : Arena) (b : Around) (s : ℕ) : Type 0 where
+  pub spares : SparesIt a b.again s
+  pub block : ℕ
+  pub inside : Inside a b.inside block
+  pub listed : Contains (block_at a block) s
+
+inner_own : (a : Arena) (b : Around) (s j : ℕ) (x : Statement) → IsOwn a b s → statement_at a s ≡ Some x → Contains (inner_blocks x) j → EachInBlock (IsOwn a b) a j
+inner_own a b s j x h found inner =
+    each-from (IsOwn a b) (block_at a j)
+    (λ m listed. record {
+      spares = spared a b.again s j x h.spares found inner m listed;
+      block = j;
+      inside = deeper b.inside h.block j x h.inside (record { number = s; listed_there = h.listed; found = found }) inner;
+      listed = listed;
+    })
+
+pub each-own : (a : Arena) (b : Around) (ss : List ℕ) → ((s : ℕ) → Contains ss s → Contains (block_at a b.inside) s) → EachOf (SparesIt a b.again) ss → EachOf (IsOwn a b) ss
+each-own a b [] there h = tt
+each-own a b (s ∷ ss) there h = (
+  record { spares = h.0; block = b.inside; inside = itself b.inside; listed = there s (zero, omega arith, refl) },
+  each-own a b ss (λ n c. there n (let within = c.1 in (suc c.0, omega (arith, within), c.2))) h.1,
+)
 
 handlers_each : (Q : ℕ → Type 0) (a : Arena) (handlers : List Handler) → ((j : ℕ) → Contains (map (λ (h : Handler). h.block) handlers) j → EachInBlock Q a j) → EachInHandlers Q a handlers
 handlers_each Q a [] each = tt
 handlers_each Q a (x ∷ xs) each = (each x.block (zero, omega arith, refl), handlers_each Q a xs (λ j c. each j (let within = c.1 in (suc c.0, omega (arith, within), c.2))))
 
-module _ (c : Config) (k s : ℕ) (h : SparesIt (arena c) k s) where
+module _ (c : Config) (around : Around) (s : ℕ) (h : IsOwn (arena c) around s) where
+  abbrev Q : ℕ → Type 0
+  Q = IsOwn (arena c) around
+
   abbrev Own : Residual → Type 0
-  Own r = EachOwn (arena c) (SparesIt (arena c) k) r
+  Own r = EachOwn (arena c) Q r
 
   block_own : (b : ℕ) (x : Statement) → statement_at (arena c) s ≡ Some x → Contains (inner_blocks x) b → Own (block (arena c) b)
-  block_own b x found inner = statements-own (arena c) (SparesIt (arena c) k) (block_at (arena c) b) (inner-spares (arena c) k s b x h found inner)
+  block_own b x found inner = statements-own (arena c) Q (block_at (arena c) b) (inner_own (arena c) around s b x h found inner)
 
   entered_own : (f : ℕ) (args : List Value) (via : Option Via) (m : Option CodeBody) → Own (entered_in (arena c) f args (Some s) via m)
   entered_own f args via None = h
@@ -301,11 +338,12 @@ module _ (c : Config) (k s : ℕ) (h : SparesIt (arena c) k s) where
   gives_own _ _ found (chooses e b other true) = block_own b (code.if_ e b other) found (zero, omega arith, refl)
   gives_own _ _ found (chooses e b None false) = tt
   gives_own _ _ found (chooses e b (Some o) false) = block_own o (code.if_ e b (Some o)) found (suc zero, omega arith, refl)
-  gives_own _ _ found (loops e b true) = followed-own (arena c) (SparesIt (arena c) k) (block (arena c) b) (s ∷ []) (block_own b (code.while_ e b) found (zero, omega arith, refl)) (h, tt)
+  gives_own _ _ found (loops e b true) = followed-own (arena c) Q (block (arena c) b) (s ∷ []) (block_own b (code.while_ e b) found (zero, omega arith, refl)) (h, tt)
   gives_own _ _ found (loops e b false) = tt
   gives_own _ _ found (tries b handlers) = (
     block_own b (code.try_ b handlers) found (zero, omega arith, refl),
-    handlers_each (SparesIt (arena c) k) (arena c) handlers (λ j inner. inner-spares (arena c) k s j (code.try_ b handlers) h found (let within = inner.1 in (suc inner.0, omega (arith, within), inner.2))),
+    handlers_each Q (arena c) handlers (λ j inner. inner_own (arena c) around s j (code.try_ b handlers) h found (let within = inner.1 in (suc inner.0, omega (arith, within), inner.2))),
+    record { number = s; body = b; so = h; found = found },
   )
   gives_own _ _ found (calls y f arguments args) = entered_own f args None (body_at (arena c) f)
   gives_own _ _ found (controls m whom qs) = h
@@ -313,5 +351,5 @@ module _ (c : Config) (k s : ℕ) (h : SparesIt (arena c) k s) where
 
   pub given-own : (x : Statement) (new : Residual) → statement_at (arena c) s ≡ Some x → IsGiven c s x new → Own new
   given-own _ _ found (gives y new g) = gives_own y new found g
-  given-own _ _ found (guards b u g) = (block_own b (code.guard b u) found (zero, omega arith, refl), inner-spares (arena c) k s u (code.guard b u) h found (suc zero, omega arith, refl))
+  given-own _ _ found (guards b u g) = (block_own b (code.guard b u) found (zero, omega arith, refl), inner_own (arena c) around s u (code.guard b u) h found (suc zero, omega arith, refl))
   given-own _ _ found (hops y f args via) = entered_own f args (Some via) (body_at (arena c) f)

@@ -1,4 +1,5 @@
--- In every run of a sound design a clocked thread goes from place to place of its body, whatever others do.
+-- In every run of a sound design a clocked thread goes from place to place of its body, whatever others do; and each try among its own
+-- statements stands around them by a statement of these.
 use Rattle.std.proofs.Common.{◌≡◌, ◌≢◌, ◌⊎◌, ℕ, suc, Bool, true, false, cond, List, [], ◌∷◌, ◌++◌, map, slice_get, Option, Some, None, option_map, refl, sym, ap, ◌∙◌, subst, inl, inr, ⊎_elim}
 use Rattle.std.specs.Prelude.{Result, Ok, Err}
 use Rattle.std.specs.Result.{IfOk}
@@ -10,8 +11,8 @@ use Rattle.laws_unwinding.specs.FlatDesign.Sound.{SoundDesign}
 use Rattle.laws_unwinding.specs.FlatDesign.declared.design.Design.{Design}
 use Rattle.laws_unwinding.specs.FlatDesign.declared.design.ProcessPart.{ProcessPart}
 use Rattle.laws_unwinding.specs.FlatDesign.declared.faults.RunFault.{RunFault}
-use Rattle.laws_unwinding.specs.SimModel.Residual.{Residual, Frame, skip, one, seq, try_, frame, goal, settle, next_of, begun}
-use Rattle.laws_unwinding.specs.SimModel.Unwinding.{raise}
+use Rattle.laws_unwinding.specs.SimModel.Residual.{Residual, Frame, skip, one, seq, try_, frame, goal, settle, next_of, innermost, begun}
+use Rattle.laws_unwinding.specs.SimModel.Unwinding.{catches, raise}
 use Rattle.laws_unwinding.specs.SimModel.Configuration.{Config, Instance, arena, instance_at, change_instance, with_runnable, first_instance, start}
 use Rattle.laws_unwinding.specs.SimModel.Waits.{freed}
 use Rattle.laws_unwinding.specs.SimModel.Phases.{initialize_each}
@@ -29,20 +30,21 @@ use Rattle.laws_unwinding.proofs.KeptStatements.{moves-kept}
 use Rattle.laws_unwinding.proofs.KeptMoves.{each-between}
 use Rattle.laws_unwinding.proofs.KeptSteps.{taking-kept}
 use Rattle.laws_unwinding.proofs.Runs.{holds-after}
-use Rattle.laws_unwinding.proofs.Steps.{IfWent, goes-to, settled-sound, takes-empty}
+use Rattle.laws_unwinding.proofs.Steps.{IfWent, settled-sound, takes-empty}
 use Rattle.laws_unwinding.proofs.KeptRuns.{sound-run}
 use Rattle.laws_unwinding.proofs.MarkedRuns.{marked-after}
 use Rattle.laws_unwinding.proofs.Roots.{IsRooted, settle-rooted}
 use Rattle.laws_moves.specs.Moves.{Moves, StepMoves, in_turn, between, initializing, moving_now, time_moved}
 use Rattle.laws_moves.proofs.Kept.{moves-keep}
-use Rattle.laws_moves.proofs.RunSteps.{step-moves, taking-moves}
+use Rattle.laws_moves.proofs.RunSteps.{step-moves}
 use Rattle.laws_clocked.specs.Again.{Around, trying, unwinding, injected_into}
-use Rattle.laws_clocked.specs.Clocked.{HasClocked, AsksTrue}
+use Rattle.laws_clocked.specs.Clocked.{HasClocked, UncaughtIn, AsksTrue}
 use Rattle.laws_clocked.proofs.OwnSteps.{step-top, settled-at}
-use Rattle.laws_clocked.proofs.SameDesign.{design-went, design-taken}
+use Rattle.laws_clocked.proofs.SameDesign.{design-went, design-after}
 use Rattle.laws_clocked.proofs.Ticking.{IsReached, reached-went, reached-taken}
 use Rattle.laws_clocked.proofs.Storing.{IsKeptUnwound, LeftSo, changed, more_held}
-use Rattle.laws_clocked.proofs.Rounds.{IsTrue, Place, at_start, at_loop, at_try, in_own, unwound, over, Rounds, Places, rounds-unwound, settled-places}
+use Rattle.laws_clocked.proofs.Rounds.{IsTrue, IsUnder, Place, at_start, at_loop, at_try, in_own, unwound, over, Rounds, Places, rounds-unwound, settled-places}
+use Rattle.laws_clocked.proofs.OwnTries.{under-catches}
 use Rattle.laws_clocked.proofs.Looping.{anew-rounds, IsPast, places-step}
 
 no_outcome : (d : Config) (x : RunFault) → faulted x ≡ went d → ⊥
@@ -279,6 +281,17 @@ module _ (b : Around) (e f : ℕ) (d0 : Design) (script : List Command) (has : H
   in_goal x r g (unwound z h t inner own is) = t
   in_goal x r g (over is) = absurd cc
 
+  same_try : (z r : Residual) (ss : List ℕ) → seq (try_ r b.handlers) ss ≡ seq (try_ z b.handlers) ss → z ≡ r
+  same_try z r ss is = cc
+
+  left_under : (x : Frame) (r : Residual) → Place (code_of d0) b e f has x (seq (try_ r b.handlers) (b.loops ∷ [])) → IsUnder (code_of d0) b e f has r
+  left_under x r (at_start is) = absurd cc
+  left_under x r (at_loop is) = absurd cc
+  left_under x r (at_try t is) = absurd cc
+  left_under x r (in_own z t u is) = subst (IsUnder (code_of d0) b e f has) (same_try z r (b.loops ∷ []) is) u
+  left_under x r (unwound z g t inner own is) = absurd cc
+  left_under x r (over is) = absurd cc
+
   module _ (sound : SoundDesign d0) (n : ℕ) (choices : List ℕ) (c : Config) (reached : after n choices (start d0 script) ≡ Some c) (q : Residual) (x : Frame) (i : Instance) (at : instance_at c p ≡ Some i) (left_is : settle (arena c) i.residual ≡ frame q x) (same : x.body ≡ f) where
     pub place-at : (q ≡ one b.loops → ⊥) → Place (code_of d0) b e f has x q
     place-at not = ⊎_elim
@@ -293,11 +306,7 @@ module _ (b : Around) (e f : ℕ) (d0 : Design) (script : List Command) (has : H
 
 module _ (design : Design) (script : List Command) (sound : SoundDesign design) (n : ℕ) (choices : List ℕ) (c : Config) (reached : after n choices (start design script) ≡ Some c) (p : ℕ) (i : Instance) (at : instance_at c p ≡ Some i) where
   same_design : c.design ≡ design
-  same_design =
-      holds-after (λ (x : Config). x.design ≡ design)
-      (λ x h. goes-to x (λ (y : Config). y.design ≡ design) (λ y ms. design-went design x y ms h))
-      (λ x q y now h to. design-taken design x y q (taking-moves x y q now to) h)
-      n choices (start design script) c refl reached
+  same_design = design-after design script n choices c reached
 
   module _ (b : Around) (e : ℕ) (x : Frame) (r : Residual) (has : HasClocked (arena c) b e x.body) where
     there : HasClocked (code_of design) b e x.body
@@ -310,6 +319,11 @@ module _ (design : Design) (script : List Command) (sound : SoundDesign design) 
     true-among left =
         let t = in_try b e x.body design script there p x r (place-at b e x.body design script there p sound n choices c reached (seq (try_ r b.handlers) (b.loops ∷ [])) x i at left refl (not_one (try_ r b.handlers) (b.loops ∷ []) b.loops)) in
         record { answer = t.0; has = t.1; is_true = t.2 }
+
+    pub none-catches : (k : ℕ) → UncaughtIn (arena c) b k → settle (arena c) i.residual ≡ trying b x r → innermost r ≡ None → catches r k ≡ false
+    none-catches k none left bare =
+        under-catches (code_of design) b k (subst (λ (d : Design). UncaughtIn (code_of d) b k) same_design none) e x.body there r
+        (left_under b e x.body design script there p x r (place-at b e x.body design script there p sound n choices c reached (seq (try_ r b.handlers) (b.loops ∷ [])) x i at left refl (not_one (try_ r b.handlers) (b.loops ∷ []) b.loops))) bare
 
     pub true-unwound : settle (arena c) i.residual ≡ unwinding b x r → AsksTrue b x
     true-unwound left =

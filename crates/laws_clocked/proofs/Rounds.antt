@@ -1,5 +1,5 @@
 -- What is left of a clocked thread, at each place of its body: where it is among its own statements, and where an exception unwinds these,
--- the variable that its loop asks is true.
+-- each of them is such a one, and the variable that its loop asks is true.
 use Rattle.std.proofs.Common.{◌≡◌, ◌⊎◌, ◌==◌, ℕ, Bool, true, false, cond, List, [], ◌∷◌, ◌++◌, slice_get, Option, Some, None, refl, sym, ap, ◌∙◌, subst, inl, inr, ⊎_elim}
 use Rattle.laws_unwinding.specs.LogicValues.declared.kinds.Value.{Value}
 use Rattle.laws_unwinding.specs.FlatDesign.Code.{Arena}
@@ -11,18 +11,18 @@ use Rattle.laws_unwinding.specs.SimModel.Storing.{with_local}
 use Rattle.laws_unwinding.specs.SimModel.declared.plain.Goal.{Goal}
 use Rattle.laws_unwinding.proofs.Parts.{IsInner}
 use Rattle.laws_clocked.specs.Again.{Around}
-use Rattle.laws_clocked.specs.Clocked.{SparesIt, HasClocked}
+use Rattle.laws_clocked.specs.Clocked.{HasClocked}
 use Rattle.laws_clocked.proofs.Storing.{IsKeptUnwound}
-use Rattle.laws_clocked.proofs.Owned.{EachOwn, settle-own, put-own, past-own, off-own, local-own, returned-own, unw-own, raise-own}
+use Rattle.laws_clocked.proofs.Owned.{IsOwn, EachOwn, settle-own, put-own, past-own, off-own, local-own, returned-own, unw-own, raise-own}
 
 module _ (a : Arena) (b : Around) (e f : ℕ) (has : HasClocked a b e f) where
   abbrev pub Own : Residual → Type 0
-  Own r = EachOwn a (SparesIt a b.again) r
+  Own r = EachOwn a (IsOwn a b) r
 
   -- ---- of the thread's own statements some are left, the last at the end
 
   pub data More (z : Residual) : Type 0 where
-    more_left : (r : Residual) (ss : List ℕ) → z ≡ seq r (ss ++ has.last ∷ []) → Own r → EachOf (SparesIt a b.again) ss → More z
+    more_left : (r : Residual) (ss : List ℕ) → z ≡ seq r (ss ++ has.last ∷ []) → Own r → EachOf (IsOwn a b) ss → More z
 
   -- the last alone, or more
   abbrev pub IsUnder : Residual → Type 0
@@ -63,9 +63,9 @@ module _ (a : Arena) (b : Around) (e f : ℕ) (has : HasClocked a b e f) where
 
   under_settled : (z : Residual) → IsUnder z → IsUnder (settle a z)
   under_settled z (inl is) = inl (ap (settle a) is)
-  under_settled z (inr (more_left r ss is own spares)) = subst (λ y. IsUnder (settle a y)) (sym is) (by (settle a r) (settle-own a (SparesIt a b.again) r own) ss spares)
+  under_settled z (inr (more_left r ss is own spares)) = subst (λ y. IsUnder (settle a y)) (sym is) (by (settle a r) (settle-own a (IsOwn a b) r own) ss spares)
     where
-      by : (q : Residual) → Own q → (us : List ℕ) → EachOf (SparesIt a b.again) us → IsUnder (then_on q (us ++ has.last ∷ []))
+      by : (q : Residual) → Own q → (us : List ℕ) → EachOf (IsOwn a b) us → IsUnder (then_on q (us ++ has.last ∷ []))
       by skip o [] s = inl refl
       by skip o (u ∷ []) s = inr (more_left (one u) [] refl s.0 tt)
       by skip o (u ∷ w ∷ us) s = inr (more_left (one u) (w ∷ us) refl s.0 s.1)
@@ -95,29 +95,29 @@ module _ (a : Arena) (b : Around) (e f : ℕ) (has : HasClocked a b e f) where
   then-more r (s ∷ ss) us t = refl
 
   -- what is more than the last stays so
-  pub more-put : (z n : Residual) (s : ℕ) → (SparesIt a b.again s → Own n) → next_of z ≡ statement s → More z → More (put z n)
+  pub more-put : (z n : Residual) (s : ℕ) → (IsOwn a b s → Own n) → next_of z ≡ statement s → More z → More (put z n)
   more-put z n s new next (more_left r ss is own spares) =
-      more_left (put r n) ss (ap (λ y. put y n) is ∙ then-more (put r n) ss [] has.last) (put-own a (SparesIt a b.again) n s new r (ap next_of (sym is) ∙ next) own) spares
+      more_left (put r n) ss (ap (λ y. put y n) is ∙ then-more (put r n) ss [] has.last) (put-own a (IsOwn a b) n s new r (ap next_of (sym is) ∙ next) own) spares
 
   pub more-past : (z : Residual) → More z → More (put z skip)
-  more-past z (more_left r ss is own spares) = more_left (put r skip) ss (ap (λ y. put y skip) is ∙ then-more (put r skip) ss [] has.last) (past-own a (SparesIt a b.again) r own) spares
+  more-past z (more_left r ss is own spares) = more_left (put r skip) ss (ap (λ y. put y skip) is ∙ then-more (put r skip) ss [] has.last) (past-own a (IsOwn a b) r own) spares
 
   pub more-off : (z : Residual) → More z → More (taken_off z)
-  more-off z (more_left r ss is own spares) = more_left (taken_off r) ss (ap taken_off is) (off-own a (SparesIt a b.again) r own) spares
+  more-off z (more_left r ss is own spares) = more_left (taken_off r) ss (ap taken_off is) (off-own a (IsOwn a b) r own) spares
 
   pub more-set : (n : ℕ) (v : Value) (z : Residual) → More z → More (in_innermost (with_local n v) z)
-  more-set n v z (more_left r ss is own spares) = more_left (in_innermost (with_local n v) r) ss (ap (in_innermost (with_local n v)) is) (local-own a (SparesIt a b.again) n v r own) spares
+  more-set n v z (more_left r ss is own spares) = more_left (in_innermost (with_local n v) r) ss (ap (in_innermost (with_local n v)) is) (local-own a (IsOwn a b) n v r own) spares
 
   pub more-returned : (v : Option Value) (z : Residual) → More z → More (returned v z)
-  more-returned v z (more_left r ss is own spares) = more_left (returned v r) ss (ap (returned v) is) (returned-own a (SparesIt a b.again) v r own) spares
+  more-returned v z (more_left r ss is own spares) = more_left (returned v r) ss (ap (returned v) is) (returned-own a (IsOwn a b) v r own) spares
 
   raised_under : (n : ℕ) (k : Goal) (z : Residual) → IsUnder z → IsUnder (raise a z n k)
   raised_under n k z (inl is) = inl (ap (λ y. raise a y n k) is)
-  raised_under n k z (inr (more_left r ss is own spares)) = inr (more_left (raise a r n k) ss (ap (λ y. raise a y n k) is) (raise-own a (SparesIt a b.again) n k r own) spares)
+  raised_under n k z (inr (more_left r ss is own spares)) = inr (more_left (raise a r n k) ss (ap (λ y. raise a y n k) is) (raise-own a (IsOwn a b) n k r own) spares)
 
   under_own : (z : Residual) → IsUnder z → Own (unw z)
   under_own z (inl is) = subst (λ y. Own (unw y)) (sym is) tt
-  under_own z (inr (more_left r ss is own spares)) = subst (λ y. Own (unw y)) (sym is) (unw-own a (SparesIt a b.again) r own)
+  under_own z (inr (more_left r ss is own spares)) = subst (λ y. Own (unw y)) (sym is) (unw-own a (IsOwn a b) r own)
 
   -- the handler of the try does nothing
   one_handler : (n : ℕ) → handler_block a (handler_of b.handlers n) ≡ []
@@ -138,7 +138,7 @@ module _ (a : Arena) (b : Around) (e f : ℕ) (has : HasClocked a b e f) where
   raised_place x q n k inner (at_loop is) = at_loop (ap (λ y. raise a y n k) is)
   raised_place x q n k inner (at_try t is) = at_try t (ap (λ y. raise a y n k) is)
   raised_place x q n k inner (in_own z t u is) = subst (λ y. Place x (raise a y n k)) (sym is) (raised_try x z n k t u inner (catches z n) (handles b.handlers n))
-  raised_place x q n k inner (unwound z j t outer own is) = unwound (raise a z n k) j t outer (raise-own a (SparesIt a b.again) n k z own) (ap (λ y. raise a y n k) is)
+  raised_place x q n k inner (unwound z j t outer own is) = unwound (raise a z n k) j t outer (raise-own a (IsOwn a b) n k z own) (ap (λ y. raise a y n k) is)
   raised_place x q n k inner (over is) = over (ap (λ y. raise a y n k) is)
 
   pub rounds-unwound : IsKeptUnwound a Rounds
@@ -161,7 +161,7 @@ module _ (a : Arena) (b : Around) (e f : ℕ) (has : HasClocked a b e f) where
       by : (y : Residual) → IsUnder y → Place x (then_on (in_try y b.handlers) (b.loops ∷ []))
       by y (inl one_) = subst (λ w. Place x (then_on (in_try w b.handlers) (b.loops ∷ []))) (sym one_) (in_own (one has.last) t (inl refl) refl)
       by y (inr (more_left r ss seq_ own spares)) = subst (λ w. Place x (then_on (in_try w b.handlers) (b.loops ∷ []))) (sym seq_) (in_own (seq r (ss ++ has.last ∷ [])) t (inr (more_left r ss refl own spares)) refl)
-  settled_place x q (unwound z k t inner own is) = unwound (settle a z) k t inner (settle-own a (SparesIt a b.again) z own) (ap (settle a) is)
+  settled_place x q (unwound z k t inner own is) = unwound (settle a z) k t inner (settle-own a (IsOwn a b) z own) (ap (settle a) is)
   settled_place x q (over is) = over (ap (settle a) is)
 
   pub settled-places : (r : Residual) → Rounds r → Places (settle a r)

@@ -13,6 +13,7 @@ use Rattle.laws_unwinding.specs.FlatDesign.declared.code.CodeBody.{CodeBody}
 use Rattle.laws_unwinding.specs.FlatDesign.declared.code.Handler.{Handler}
 use Rattle.laws_unwinding.specs.SimModel.Values.{truth}
 use Rattle.laws_unwinding.specs.SimModel.Residual.{Frame}
+use Rattle.laws_unwinding.specs.SimModel.Unwinding.{handles}
 use Rattle.laws_clocked.specs.Again.{Around, HasAround}
 use Rattle.laws_clocked.specs.Stores.{OnlyStores}
 
@@ -37,6 +38,10 @@ pub record HasClocked (a : Arena) (b : Around) (e f : ℕ) : Type 0 where
   pub handler : Handler
   pub only : b.handlers ≡ handler ∷ []
   pub does_nothing : block_at a handler.block ≡ []
+
+-- no try among the thread's own statements, at any depth, has a handler for the exception e
+abbrev pub UncaughtIn : Arena → Around → ℕ → Type 0
+UncaughtIn a b e = (body : ℕ) (handlers : List Handler) → Holds a b.inside (code.try_ body handlers) → handles handlers e ≡ false
 
 -- in this call of the body the variable that the loop asks is true
 pub record AsksTrue (b : Around) (x : Frame) : Type 0 where

@@ -6,6 +6,7 @@ mod first;
 mod resets;
 mod spots;
 mod ticks;
+mod tries;
 
 pub use again::{
     a_caught_exception_begins_again, a_reset_at_its_level_begins_again, an_unwinding_goes_on,
@@ -16,3 +17,4 @@ pub use first::{
 pub use resets::{a_reset_at_its_level_throws, a_reset_begins_anew};
 pub use spots::{ticks_go_on, what_shows_stands_in_place};
 pub use ticks::ticks_take_their_takings;
+pub use tries::{no_try_of_its_own_catches, own_statements_begin_again_by_the_code};
