@@ -25,7 +25,7 @@ use Rattle.laws_ticked.proofs.Reading.{block_is, behind_head}
 use Rattle.laws_ticked.proofs.Around.{threads}
 use Rattle.laws_ticked.proofs.Walk.{all_parts, all_joined, block_ticks}
 use Rattle.laws_ticked.proofs.Storing.{Fits}
-use Rattle.laws_ticked.proofs.Sparing.{block_shuns, block_fine, each_spared}
+use Rattle.laws_ticked.proofs.Sparing.{block_shuns, block_fine, none_caught, each_spared}
 use Rattle.laws_ticked.proofs.Retiming.{mapped_at, clocked_still}
 use Rattle.laws_ticked.proofs.Bodies.{at_place, both_lengths, process_body, module_bodies}
 
@@ -102,6 +102,7 @@ module _ (m : tree.Model) (c : Code) (place n : ℕ) (x : tree.Module) (p : tree
       let Other : ℕ → Type 0 = λ k. k ≡ thread.around.again → ⊥ in
       let fits : Fits Other (own_scope the_scope) =
       ((λ apart at. let none : true ≡ false = apart in cc, tt), λ k late at. let low : 1 ≤ k = late in absurd (omega arith)) in
+      let fine = block_fine Other home the_arena thread.exception thread.is.exception block (own_scope the_scope) own fits (block_shuns block ticks clocked.only) thread.is.reads in
       record {
         function = length pre;
         number = number;
@@ -117,12 +118,13 @@ module _ (m : tree.Model) (c : Code) (place n : ℕ) (x : tree.Module) (p : tree
           front = own;
           last = thread.is.ends;
           own = thread.is.inside;
-          spares = each_spared thread.around.again home the_arena own (block_fine Other home the_arena block (own_scope the_scope) own fits (block_shuns block ticks clocked.only) thread.is.reads);
+          spares = each_spared thread.around.again home the_arena thread.exception thread.is.exception own fine;
           last_false = thread.is.stops;
           handler = thread.is.has.handler;
           only = thread.is.alone;
           does_nothing = thread.is.has.does_nothing;
         };
+        uncaught = none_caught Other home the_arena thread.exception thread.is.exception own thread.is.ends thread.around _ _ fine thread.is.stops thread.whole;
         kind = is.kind ∙ ap process_kind clocked.thread;
         in_module = is.in_module ∙ same;
         name = is.name;

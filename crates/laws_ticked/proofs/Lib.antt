@@ -10,3 +10,4 @@ pub mod Retiming
 pub mod Storing
 pub mod Sparing
 pub mod InCode
+pub mod Running

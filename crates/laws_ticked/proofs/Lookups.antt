@@ -9,7 +9,7 @@ use Rattle.code_rules.specs.FlatDesign.declared.names.NameUse.TheVariants as nam
 use Rattle.code_rules.specs.ModelRules.Meanings.{Declared, declarations, variable_type}
 use Rattle.code_rules.specs.ModelRules.Scopes.{Scope, Local, is_local, is_declared, local_named, meaning_of, use_of, with_local}
 use Rattle.code_rules.specs.ModelRules.declared.meanings.Meaning.TheVariants as meaning
-use Rattle.clocked_form.specs.Clocked.{count_name, again_name, is_kept}
+use Rattle.clocked_form.specs.Clocked.{count_name, again_name, reset_name, is_kept}
 
 -- ---- names that are none of the three
 
@@ -24,10 +24,13 @@ none_right false c e = e
 pub not_count : (x : List ℕ) → is_kept x ≡ false → bytes_eq x count_name ≡ false
 not_count x e = none_left (bytes_eq x count_name) _ e
 
+pub not_reset : (x : List ℕ) → is_kept x ≡ false → bytes_eq x reset_name ≡ false
+not_reset x e = none_right (bytes_eq x again_name) _ (none_right (bytes_eq x count_name) _ e)
+
 pub not_again : (x : List ℕ) → is_kept x ≡ false → bytes_eq x again_name ≡ false
 not_again x e = none_left (bytes_eq x again_name) _ (none_right (bytes_eq x count_name) _ e)
 
-not_so : (b : Bool) → (b ≡ true → ⊥) → b ≡ false
+pub not_so : (b : Bool) → (b ≡ true → ⊥) → b ≡ false
 not_so true h = absurd (h refl)
 not_so false h = refl
 

@@ -1,29 +1,34 @@
--- No statement of a block that leaves `tick_again` alone stores to the variable of that name, at any depth.
-use Rattle.std.proofs.Common.{◌≡◌, ℕ, false, inl, inr, List, [], ◌∷◌, ◌++◌, map, Option, Some, refl, sym, ◌∙◌, subst, arith}
-use Rattle.std.specs.Prelude.{slice_get, bytes_eq, Contains, ⊤}
+-- No statement of a block that leaves the names of clocked threads alone stores to the variable `tick_again`, and no try of it has a
+-- handler for `tick_reset`, at any depth.
+use Rattle.std.proofs.Common.{◌≡◌, ◌==◌, ℕ, true, false, cond, inl, inr, List, [], ◌∷◌, ◌++◌, map, Option, Some, refl, sym, ap, ◌∙◌, subst, arith}
+use Rattle.std.specs.Prelude.{slice_get, find, is_some, bytes_eq, Contains, ⊤}
 use Rattle.std.specs.List.{AllByRecursion}
+use Rattle.std.proofs.lemmas.Bool.Decides.{Decides-eqb}
 use Rattle.std.proofs.lemmas.List.Elements.{All-from_recursion, All-contains}
+use Rattle.std.proofs.lemmas.List.Quantifiers.{position-Some}
+use Rattle.std.proofs.lemmas.Slice.Eq.{bytes_eq-Decides}
 use Rattle.code_rules.specs.ModelTree.Tree as tree
 use Rattle.code_rules.specs.FlatDesign.Code as code
-use Rattle.code_rules.specs.FlatDesign.Code.{Arena, block_at, statement_at}
+use Rattle.code_rules.specs.FlatDesign.Code.{Arena, Term, DestinationTerm, block_at, statement_at}
 use Rattle.code_rules.specs.FlatDesign.Reach.{Inside, Holds, itself, deeper, listed, inner_blocks}
 use Rattle.code_rules.specs.FlatDesign.Typed.{EachOf}
 use Rattle.code_rules.specs.FlatDesign.declared.code.Handler.{Handler}
 use Rattle.code_rules.specs.ModelRules.Meanings.{variable_type}
 use Rattle.code_rules.specs.ModelRules.Scopes.{Scope, Local, locals_in, locals_in_block, past, behind, in_unwind}
-use Rattle.code_rules.specs.Deeds.{Home, if_written, store, action_code}
+use Rattle.code_rules.specs.Deeds.{Home, if_written, store, action_code, exception_number}
 use Rattle.code_rules.specs.Numbered.{AtBlock, AreFirst, IsCoded, IsStatement, IsBlock, IsElse, AreHandlers, var_code, assign_code, operate_code}
 use Rattle.clocked_form.specs.Named.{name_if, in_expression, in_target, in_operation, in_action}
 use Rattle.clocked_form.specs.Clocked as form
-use Rattle.clocked_form.specs.Clocked.{Reset, Tick, IsTick, Ticks, HasTicks, ElseTicks, HandlerTicks, again_name, is_kept, has_kept, test_form, tests_form, count_form, tick_form}
+use Rattle.clocked_form.specs.Clocked.{Reset, Tick, IsTick, Ticks, HasTicks, ElseTicks, HandlerTicks, again_name, reset_name, is_kept, has_kept, test_form, tests_form, count_form, tick_form}
 use Rattle.laws_clocked.specs.Stores.{OnlyStores}
-use Rattle.laws_clocked.specs.Clocked.{SparesIt}
-use Rattle.laws_ticked.proofs.Lookups.{declared_as}
+use Rattle.laws_clocked.specs.Again.{Around}
+use Rattle.laws_clocked.specs.Clocked.{SparesIt, UncaughtIn}
+use Rattle.laws_ticked.proofs.Lookups.{none_left, not_reset, not_so, declared_as}
 use Rattle.laws_ticked.proofs.Reading.{block_is}
 use Rattle.laws_ticked.proofs.Walk.{all_joined}
 use Rattle.laws_ticked.proofs.Storing.{NotAgain, avoids_again, Fits, Leaf, var_fits, assign_fits, operate_fits, action_fits}
 
--- ---- blocks that leave the name alone
+-- ---- blocks that leave the names alone
 
 abbrev mutual
   pub Shuns : tree.Statement → Type 0
@@ -46,7 +51,7 @@ abbrev mutual
 
   pub ShunsHandlers : tree.Handlers → Type 0
   ShunsHandlers tree.no_more = ⊤
-  ShunsHandlers (tree.handler x body more) = ShunsBlock body × ShunsHandlers more
+  ShunsHandlers (tree.handler x body more) = (bytes_eq x reset_name ≡ false) × ShunsBlock body × ShunsHandlers more
 
 tests_shun : (at last : ℕ → ℕ) (rs : List Reset) → ShunsBlock (tests_form at rs (count_form last))
 tests_shun at last [] = (refl, tt)
@@ -77,11 +82,18 @@ mutual
 
   handlers_shun : (x : tree.Handlers) (ts : List Tick) → HandlerTicks x ts → ShunsHandlers x
   handlers_shun tree.no_more ts h = tt
-  handlers_shun (tree.handler x body more) ts h = (block_shuns body h.1.0 h.1.3, handlers_shun more h.1.1 h.1.4)
+  handlers_shun (tree.handler x body more) ts h = (not_reset x (none_left (is_kept x) (has_kept []) h.0), block_shuns body h.1.0 h.1.3, handlers_shun more h.1.1 h.1.4)
 
 -- ---- their code
 
-module _ (P : ℕ → Type 0) (h : Home) (a : Arena) where
+-- exceptions of the same number have the same name
+same_name : (h : Home) (x y : List ℕ) (e : ℕ) → exception_number h x ≡ Some e → exception_number h y ≡ Some e → x ≡ y
+same_name h x y e k l =
+    let first = (position-Some (λ z. bytes_eq z x) h.exceptions e [] k).1 in
+    let other = (position-Some (λ z. bytes_eq z y) h.exceptions e [] l).1 in
+    sym ((bytes_eq-Decides _ x).0 first) ∙ (bytes_eq-Decides _ y).0 other
+
+module _ (P : ℕ → Type 0) (h : Home) (a : Arena) (e : ℕ) (numbered : exception_number h reset_name ≡ Some e) where
   past_fits : (n : ℕ) (s : Scope) → Fits P s → Fits P (past n s)
   past_fits n s fits = (fits.0, λ k l. fits.1 k (omega arith))
 
@@ -108,8 +120,13 @@ module _ (P : ℕ → Type 0) (h : Home) (a : Arena) where
   abbrev pub IsGood : ℕ → Type 0
   IsGood j = (ids : List ℕ) × (slice_get a.blocks j ≡ Some ids) × GoodBlock ids
 
+  -- where it is a try, it has no handler for the exception e
+  abbrev pub Lets : code.Statement → Type 0
+  Lets (code.try_ b hs) = is_some (find (λ (y : Handler). y.exception == e) hs) ≡ false
+  Lets other = ⊤
+
   abbrev pub IsFine : code.Statement → Type 0
-  IsFine f = OnlyStores P f × AllByRecursion IsGood (inner_blocks f)
+  IsFine f = OnlyStores P f × AllByRecursion IsGood (inner_blocks f) × Lets f
 
   abbrev pub AllFine : List ℕ → Type 0
   AllFine ids = AllByRecursion (λ i. (f : code.Statement) → statement_at a i ≡ Some f → IsFine f) ids
@@ -122,9 +139,13 @@ module _ (P : ℕ → Type 0) (h : Home) (a : Arena) where
   firsts (f ∷ fs) ids rest k each l =
       subst AllFine (sym k.2) ((λ g e. subst IsFine (same_statement f g (sym k.3 ∙ e)) each.0), firsts fs k.1 rest k.4 each.1 l)
 
+  leaf_lets : (f : code.Statement) → inner_blocks f ≡ [] → Lets f
+  leaf_lets (code.try_ b hs) k = cc
+  leaf_lets other k = tt
+
   leaves : (fs : List code.Statement) → AllByRecursion (Leaf P) fs → AllByRecursion IsFine fs
   leaves [] k = tt
-  leaves (f ∷ fs) k = ((k.0.0, subst (AllByRecursion IsGood) (sym k.0.1) tt), leaves fs k.1)
+  leaves (f ∷ fs) k = ((k.0.0, subst (AllByRecursion IsGood) (sym k.0.1) tt, leaf_lets f k.0.1), leaves fs k.1)
 
   coded : (o : Option (List code.Statement)) (ids rest : List ℕ) → ((fs : List code.Statement) → o ≡ Some fs → AllByRecursion (Leaf P) fs) → IsCoded a o ids rest → AllFine rest → AllFine ids
   coded o ids rest each r l = firsts r.0 ids rest r.2 (leaves r.0 (each r.0 r.1)) l
@@ -140,7 +161,26 @@ module _ (P : ℕ → Type 0) (h : Home) (a : Arena) where
   handlers_good tree.no_more s js fits shuns read = subst (λ xs. AllByRecursion IsGood (map (λ (x : Handler). x.block) xs)) (sym read) tt
   handlers_good (tree.handler name body more) s js fits shuns read =
       subst (λ xs. AllByRecursion IsGood (map (λ (x : Handler). x.block) xs)) (sym read.3)
-      (inner body s read.1 fits shuns.0 read.5, handlers_good more (past (locals_in_block body) s) read.2 (past_fits (locals_in_block body) s fits) shuns.1 read.6)
+      (inner body s read.1 fits shuns.1 read.5, handlers_good more (past (locals_in_block body) s) read.2 (past_fits (locals_in_block body) s fits) shuns.2 read.6)
+
+  -- another name has another number
+  another : (name : List ℕ) (n : ℕ) → bytes_eq name reset_name ≡ false → exception_number h name ≡ Some n → (n == e) ≡ false
+  another name n shuns number =
+      not_so (n == e)
+      (λ same.
+      let is : n ≡ e = (Decides-eqb n e).0 same in
+      let named : name ≡ reset_name = same_name h name reset_name e (number ∙ ap (λ k. Some k) is) numbered in
+      let apart : true ≡ false = sym ((bytes_eq-Decides name reset_name).1 named) ∙ shuns in
+      cc)
+
+  handlers_let : (hs : tree.Handlers) (s : Scope) (js : List Handler) → ShunsHandlers hs → AreHandlers hs h a s js → is_some (find (λ (y : Handler). y.exception == e) js) ≡ false
+  handlers_let tree.no_more s js shuns read = ap (λ (xs : List Handler). is_some (find (λ (y : Handler). y.exception == e) xs)) read
+  handlers_let (tree.handler name body more) s js shuns read =
+      let first : Handler = record { exception = read.0; block = read.1 } in
+      let others : Option Handler = find (λ (y : Handler). y.exception == e) read.2 in
+      ap (λ (xs : List Handler). is_some (find (λ (y : Handler). y.exception == e) xs)) read.3
+      ∙ ap (λ c. is_some (cond c (Some first) others)) (another name read.0 shuns.0 read.4)
+      ∙ handlers_let more (past (locals_in_block body) s) read.2 shuns.2 read.6
 
   statement_fine : (x : tree.Statement) (s : Scope) (ids rest : List ℕ) → Fits P s → Shuns x → IsStatement x h a s ids rest → AllFine rest → AllFine ids
   statement_fine (tree.var line t x e) s ids rest fits shuns read l = coded (var_code s (variable_type t) e) ids rest (var_fits P s fits (variable_type t) e) read l
@@ -150,15 +190,15 @@ module _ (P : ℕ → Type 0) (h : Home) (a : Arena) where
   statement_fine (tree.act line y) s ids rest fits shuns read l = coded (action_code h s y) ids rest (λ fs k. action_fits P s fits h y fs shuns k) read l
   statement_fine (tree.if_ line e body other) s ids rest fits shuns read l =
       firsts (code.if_ read.0 read.1 read.2 ∷ []) ids rest read.4
-      ((tt, (inner body s read.1 fits shuns.0 read.5, else_good other (past (locals_in_block body) s) read.2 (past_fits (locals_in_block body) s fits) shuns.1 read.6)), tt) l
+      ((tt, (inner body s read.1 fits shuns.0 read.5, else_good other (past (locals_in_block body) s) read.2 (past_fits (locals_in_block body) s fits) shuns.1 read.6), tt), tt) l
   statement_fine (tree.while_ line e body) s ids rest fits shuns read l =
-      firsts (code.while_ read.0 read.1 ∷ []) ids rest read.3 ((tt, (inner body s read.1 fits shuns read.4, tt)), tt) l
+      firsts (code.while_ read.0 read.1 ∷ []) ids rest read.3 ((tt, (inner body s read.1 fits shuns read.4, tt), tt), tt) l
   statement_fine (tree.guard line body undo) s ids rest fits shuns read l =
       firsts (code.guard read.0 read.1 ∷ []) ids rest read.2
-      ((tt, (inner body s read.0 fits shuns.0 read.3, (inner undo (in_unwind (past (locals_in_block body) s)) read.1 (past_fits (locals_in_block body) s fits) shuns.1 read.4, tt))), tt) l
+      ((tt, (inner body s read.0 fits shuns.0 read.3, (inner undo (in_unwind (past (locals_in_block body) s)) read.1 (past_fits (locals_in_block body) s fits) shuns.1 read.4, tt)), tt), tt) l
   statement_fine (tree.try_ line body hs) s ids rest fits shuns read l =
       firsts (code.try_ read.0 read.1 ∷ []) ids rest read.2
-      ((tt, (inner body s read.0 fits shuns.0 read.3, handlers_good hs (past (locals_in_block body) s) read.1 (past_fits (locals_in_block body) s fits) shuns.1 read.4)), tt) l
+      ((tt, (inner body s read.0 fits shuns.0 read.3, handlers_good hs (past (locals_in_block body) s) read.1 (past_fits (locals_in_block body) s fits) shuns.1 read.4), handlers_let hs (past (locals_in_block body) s) read.1 shuns.1 read.4), tt) l
 
   pub block_fine : (b : tree.Block) (s : Scope) (ids : List ℕ) → Fits P s → ShunsBlock b → IsBlock b h a s ids → AllFine ids
   block_fine tree.over s ids fits shuns read = subst AllFine (sym read) tt
@@ -183,12 +223,37 @@ module _ (P : ℕ → Type 0) (h : Home) (a : Arena) where
   held_fine : (b : ℕ) (y : code.Statement) → IsGood b → Holds a b y → OnlyStores P y
   held_fine b y g k = (in_fine (block_at a k.block) k.stands.number (good_fine k.block (inside_good b k.block g k.inside)) k.stands.listed_there y k.stands.found).0
 
-pub each_spared : (k : ℕ) (h : Home) (a : Arena) (ids : List ℕ) → AllFine (λ n. n ≡ k → ⊥) h a ids → EachOf (SparesIt a k) ids
-each_spared k h a [] all = tt
-each_spared k h a (i ∷ ids) all = (
+  -- ---- no try inside a block of such statements, and of one behind them, has a handler for the exception
+
+  abbrev IsLetting : code.Statement → Type 0
+  IsLetting f = AllByRecursion IsGood (inner_blocks f) × Lets f
+
+  abbrev Letting : ℕ → Type 0
+  Letting i = (f : code.Statement) → statement_at a i ≡ Some f → IsLetting f
+
+  fine_let : (ids : List ℕ) → AllFine ids → AllByRecursion Letting ids
+  fine_let [] all = tt
+  fine_let (i ∷ ids) all = ((λ f is. let k = all.0 f is in (k.1, k.2)), fine_let ids all.1)
+
+  in_let : (ids : List ℕ) (i : ℕ) → AllByRecursion Letting ids → Contains ids i → Letting i
+  in_let ids i all there = All-contains Letting ids i (All-from_recursion Letting ids all) there
+
+  inside_let : (b j : ℕ) → AllByRecursion Letting (block_at a b) → Inside a b j → AllByRecursion Letting (block_at a j)
+  inside_let b _ all (itself _) = all
+  inside_let b _ all (deeper _ k j s inside is there) =
+      fine_let (block_at a j) (good_fine j (good_in (inner_blocks s) j (in_let (block_at a k) is.number (inside_let b k all inside) is.listed_there s is.found).0 there))
+
+  pub none_caught : (own : List ℕ) (last : ℕ) (b : Around) (d : DestinationTerm) (t : Term) → AllFine own → statement_at a last ≡ Some (code.assign d t) → block_at a b.inside ≡ own ++ last ∷ [] → UncaughtIn a b e
+  none_caught own last b d t all found whole body hs k =
+      let each = subst (AllByRecursion Letting) (sym whole) (all_joined Letting own (last ∷ []) (fine_let own all) ((λ f is. subst IsLetting (same_statement (code.assign d t) f (sym found ∙ is)) (tt, tt)), tt)) in
+      (in_let (block_at a k.block) k.stands.number (inside_let b.inside k.block each k.inside) k.stands.listed_there (code.try_ body hs) k.stands.found).1
+
+pub each_spared : (k : ℕ) (h : Home) (a : Arena) (e : ℕ) (numbered : exception_number h reset_name ≡ Some e) (ids : List ℕ) → AllFine (λ n. n ≡ k → ⊥) h a e numbered ids → EachOf (SparesIt a k) ids
+each_spared k h a e numbered [] all = tt
+each_spared k h a e numbered (i ∷ ids) all = (
   record {
-    itself = λ x e. (all.0 x e).0;
-    inside = λ x j y e within holds. held_fine (λ n. n ≡ k → ⊥) h a j y (good_in (λ n. n ≡ k → ⊥) h a (inner_blocks x) j (all.0 x e).1 within) holds;
+    itself = λ x is. (all.0 x is).0;
+    inside = λ x j y is within holds. held_fine (λ n. n ≡ k → ⊥) h a e numbered j y (good_in (λ n. n ≡ k → ⊥) h a e numbered (inner_blocks x) j (all.0 x is).1 within) holds;
   },
-  each_spared k h a ids all.1,
+  each_spared k h a e numbered ids all.1,
 )

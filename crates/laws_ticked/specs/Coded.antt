@@ -21,7 +21,7 @@ use Rattle.clocked_form.specs.Clocked.{Reset, Tick, IsTick, again_name, reset_na
 use Rattle.laws_clocked.specs.Ticks as coded
 use Rattle.laws_clocked.specs.Ticks.{Test, HasTick}
 use Rattle.laws_clocked.specs.Again.{Around}
-use Rattle.laws_clocked.specs.Clocked.{HasClocked}
+use Rattle.laws_clocked.specs.Clocked.{HasClocked, UncaughtIn}
 
 -- ---- a tick
 
@@ -71,13 +71,15 @@ abbrev pub bodies_in : List tree.Module → ℕ
 bodies_in ms = sum_by (λ (m : tree.Module). body_count m.items) ms
 
 -- In the code a clocked thread, the item n of the module at this place, has the body of a clocked one. Its number tells how many bodies
--- there are before it in the text. Among its own statements those of its block are read, and its ticks, in text order, stand in its try.
+-- there are before it in the text. Among its own statements those of its block are read, and its ticks, in text order, stand in its try; and
+-- no try among them has a handler for the exception of its resets.
 pub record HasThread (m : tree.Model) (items : List tree.Item) (place n : ℕ) (p : tree.ProcessItem) (block : tree.Block) (ticks : List Tick) (c : Code) : Type 0 where
   pub function : ℕ
   pub number : function ≡ bodies_in (take place m.modules) + body_count (take n items)
   pub around : Around
   pub exception : ℕ
   pub has : HasClocked (arena_of c) around exception function
+  pub uncaught : UncaughtIn (arena_of c) around exception
   pub kind : has.body.kind ≡ body_kind.Thread
   pub in_module : has.body.module_place ≡ place
   pub name : has.body.name ≡ p.name
