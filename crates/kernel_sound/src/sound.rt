@@ -8,8 +8,8 @@ use kernel_state::Kernel;
 /// clean configuration, of one in which nothing that has ended is named (`parts_are_clean` says what that comes to), and each
 /// body has the room that it may need. Whatever changes the kernel leaves it so.
 #[derive(Drop)]
-pub struct SoundKernel<'d> {
+pub struct SoundKernel {
     /// The kernel.
-    pub kernel: Kernel<'d>,
+    pub kernel: Kernel,
     ghost sound: { IsSound kernel } by { sound_prop kernel },
 }

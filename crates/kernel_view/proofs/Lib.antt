@@ -4,4 +4,3 @@ pub mod KernelBodies
 pub mod KernelProcesses
 pub mod KernelTransactions
 pub mod KernelState
-pub mod Within
