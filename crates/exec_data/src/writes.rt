@@ -5,19 +5,19 @@ ghost use Rattle.flat_design.specs.Sound.{ChannelFits};
 ghost use Rattle.flat_design.specs.declared.design.ChannelId.TheVariants as channel_id;
 ghost use Rattle.kernel_view.specs.SimModel.Channels as channels;
 ghost use Rattle.kernel_view.specs.SimModel.Channels.{do_write};
-ghost use Rattle.kernel_view.specs.SimModel.Reading.{here};
+ghost use Rattle.kernel_view.specs.SimModel.Reading.{Here, here};
 ghost use Rattle.kernel_view.specs.KernelState.Kernel.{IsSound, whole_design};
 ghost use Rattle.kernel_view.specs.KernelState.Moves.{Moves, Steps, Lives, HasStatement, IsOnTop};
 ghost use Rattle.kernel_view.specs.KernelState.Stopping.{DoesOrStops};
-ghost use Rattle.kernel_view.specs.Standings.{Everywhere};
+ghost use Rattle.kernel_view.specs.Standings.{Everywhere, ShowsHere};
 ghost use Rattle.exec_data.specs.Written.{NamesFit, to_write};
 
 use crate::updates::{drive, write_signal};
 use flat_design::{ChannelId, ChannelUse, Expr, RunFault, ValueType};
-use kernel_view::expr_eval_api::cut_to;
+use kernel_view::expr_eval_api::{cut_to, eval, eval_place};
 use kernel_view::kernel_state_api::{Kernel, StatementStop, pass, top_lives, write_fifo};
 use kernel_view::logic_values_api::Value;
-use kernel_view::{channel_at, eval_at, eval_place_at};
+use kernel_view::{Standing, standing_at};
 use std::alloc::{AllocError, Global};
 
 /// What a write is for, and what it writes.
@@ -27,6 +27,24 @@ pub(crate) struct Transfer {
     pub channel: ChannelId,
     /// The value, cut to the channel's type.
     pub value: Value,
+}
+
+/// What a write statement is for, and what it writes, where it stands.
+///
+/// # Errors
+/// The fault of its place, and then that of its expression; a place past the last channel of a port.
+fn written_from(x: &Standing, to: &ChannelUse, t: ValueType, e: &Expr) -> Result<Transfer, RunFault>
+    ensures { (h : Here) → ShowsHere x.now h → result ≡ to_write h (channel_term to.now) t (term_of e.now) }
+{
+    let place = eval_place(x, &to.place)?;
+    let value = eval(x, e)?;
+    match x.channel_here(to.name, place) {
+        Ok(channel) => Ok(Transfer {
+            channel,
+            value: cut_to(t, value),
+        }),
+        Err(fault) => Err(fault),
+    }
 }
 
 /// What a write statement is for, and what it writes.
@@ -43,14 +61,9 @@ fn what_is_written(
     requires { Lives k.now p }
     ensures { Everywhere k.now p (λ h. result ≡ to_write h (channel_term to.now) t (term_of e.now)) }
 {
-    let place = eval_place_at(k, p, &to.place)?;
-    let value = eval_at(k, p, e)?;
-    match channel_at(k, p, to.name, place) {
-        Ok(channel) => Ok(Transfer {
-            channel,
-            value: cut_to(t, value),
-        }),
-        Err(fault) => Err(fault),
+    match standing_at(k, p) {
+        Some(x) => written_from(&x, to, t, e),
+        None => Err(RunFault::IndexRange { index: 0, size: 0 }),
     }
 }
 

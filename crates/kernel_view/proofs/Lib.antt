@@ -4,3 +4,4 @@ pub mod KernelBodies
 pub mod KernelProcesses
 pub mod KernelTransactions
 pub mod KernelState
+pub mod Within

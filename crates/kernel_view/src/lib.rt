@@ -11,7 +11,7 @@ pub use channels::denoted_in;
 pub use evaluating::{
     channel_at, denoted_at, eval_at, eval_if_at, eval_place_at, home_at, named_at, payload_at,
 };
-pub use standings::{Standing, home_within};
+pub use standings::{Standing, home_within, standing_at};
 
 /// What is passed on of event_core.
 pub mod event_core_api {
@@ -20,7 +20,7 @@ pub mod event_core_api {
 
 /// What is passed on of expr_eval.
 pub mod expr_eval_api {
-    pub use expr_eval::{bits, cut_to, moment, process_handle, truth};
+    pub use expr_eval::{bits, cut_to, eval, eval_place, moment, process_handle, truth};
 }
 
 /// What is passed on of instance_table.

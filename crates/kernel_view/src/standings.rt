@@ -52,11 +52,15 @@ pub fn home_within(design: &Design, home: u32, within: Option<Via>) -> u32
 fn home_of(k: &Kernel, kept: &Kept) -> u32
     ensures { result ≡ reading.home_of_via k.now.design kept.now.home (residual.within (settled_in k.now.program kept.now.body)) }
 {
-    home_within(&k.design, kept.home, kept.body.within(&k.program))
+    // Within no transport call nothing has to fall away to know that.
+    match kept.body.within_now() {
+        None => kept.home,
+        Some(_) => home_within(&k.design, kept.home, kept.body.within(&k.program)),
+    }
 }
 
 /// Where the next statement of an instance stands, where the instance has not ended.
-pub(crate) fn standing_at<'a>(k: &'a Kernel, p: u32) -> Option<Standing<'a>>
+pub fn standing_at<'a>(k: &'a Kernel, p: u32) -> Option<Standing<'a>>
     ensures shows { IfSome result (λ x. Everywhere k.now p (ShowsHere x)) }
     ensures ended { IfNone result (map.get k.now.schedule.table.live p ≡ None) }
 {

@@ -1,5 +1,5 @@
 -- Paths, one step up at a time.
-use Rattle.std.proofs.Common.{◌≡◌, ◌-◌, ◌<◌, ◌⊎◌, inl, inr, ◌++◌, ℕ, zero, suc, true, false, List, [], ◌∷◌, refl, ap, ◌∙◌, arith}
+use Rattle.std.proofs.Common.{◌≡◌, ◌-◌, ◌<◌, ◌⊎◌, inl, inr, ◌++◌, ℕ, zero, suc, true, false, List, [], ◌∷◌, refl, sym, ap, ◌∙◌, append_assoc, arith}
 use Rattle.std.specs.Prelude.{slice_get}
 use Rattle.flat_design.specs.declared.objects.Object.{Object}
 use Rattle.kernel_state.specs.SimModel.Configuration.{below, path_up, name_of, is_own_parent, parent_of}
@@ -33,3 +33,13 @@ path_above n objects i h =
 pub through-push : (objects : List Object) (path up : List ℕ) (i : ℕ) → path_through objects path (up ++ i ∷ []) ≡ path_through objects (below path (name_of (slice_get objects i))) up
 through-push objects path [] i = refl
 through-push objects path (j ∷ up) i = ap (λ p. below p (name_of (slice_get objects j))) (through-push objects path up i)
+
+-- a text behind which the path of what an object is in was put, and then its name
+pub path_grown : (objects : List Object) (most i : ℕ) (text higher whole name : List ℕ) (up : ℕ) → (0 < most) × (is_own_parent i (slice_get objects i) ≡ false)
+    → higher ≡ text ++ path_up (most - 1) objects up → up ≡ parent_of (slice_get objects i) → whole ≡ higher ++ 46 ∷ name → name ≡ name_of (slice_get objects i) → whole ≡ text ++ path_up most objects i
+path_grown objects most i text higher whole name up climbs above at adds named =
+    adds ∙ ap (λ (t : List ℕ). t ++ 46 ∷ name) above ∙ append_assoc text (path_up (most - 1) objects up) (46 ∷ name)
+    ∙ ap (λ (p : List ℕ). text ++ p)
+    (ap (λ (u : ℕ). below (path_up (most - 1) objects u) name) at
+    ∙ ap (λ (n : List ℕ). below (path_up (most - 1) objects (parent_of (slice_get objects i))) n) named
+    ∙ sym (path_above most objects i climbs))

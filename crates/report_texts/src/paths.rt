@@ -1,11 +1,14 @@
 //! Paths of objects: the names from the top instance down, joined by dots.
-ghost use Rattle.std.specs.Prelude.{◌≡◌, ◌<◌, ◌⊎◌, ◌++◌, true, false, OnOk, IsTrue, slice_get};
+ghost use Rattle.std.specs.Prelude.{◌≡◌, ◌<◌, ◌⊎◌, ◌∷◌, ◌++◌, true, false, OnOk, IsTrue, slice_get};
 ghost use Rattle.kernel_state.specs.SimModel.Configuration.{name_of, is_own_parent, parent_of, path_up};
 ghost use Rattle.report_texts.specs.Climbs.{path_through};
 
 use crate::pieces::push_bytes;
 use flat_design::Object;
 use std::alloc::{AllocError, Global};
+
+/// So many steps up are made with no list.
+const NEAR: u32 = 16;
 
 /// The own name of an object.
 fn name_of(objects: &[Object], number: u32) -> &[u8]
@@ -65,6 +68,60 @@ fn push_names(
     Ok(())
 }
 
+/// Adds the path of an object from which at most so many steps up are made, over a list of what stands below.
+fn push_path_by_list(
+    alloc: Global,
+    text: &mut Vec<u8>,
+    objects: &[Object],
+    most: u32,
+    number: u32,
+) -> Result<(), AllocError>
+    ensures { OnOk result (text.new.items ≡ text.old.items ++ path_up most objects.now number) }
+{
+    let mut below = Vec::new(alloc);
+    let mut steps = most;
+    let mut at = number;
+    'above: while !is_top(objects, steps, at) {
+        below.push(at)?;
+        at = parent_of(objects, at);
+        steps -= 1;
+    }
+    push_names(text, objects, at, below.as_slice())
+}
+
+/// Adds a dot and a name.
+fn push_below(text: &mut Vec<u8>, name: &[u8]) -> Result<(), AllocError>
+    ensures { OnOk result (text.new.items ≡ text.old.items ++ 46 ∷ name.now) }
+{
+    push_bytes(text, b".")?;
+    push_bytes(text, name)
+}
+
+/// Adds the path of an object from which at most so many steps up are made. So many of them are made with no list, and then the
+/// others with one.
+fn push_path_from(
+    alloc: Global,
+    text: &mut Vec<u8>,
+    objects: &[Object],
+    most: u32,
+    number: u32,
+    near: u32,
+) -> Result<(), AllocError>
+    ensures { OnOk result (text.new.items ≡ text.old.items ++ path_up most objects.now number) }
+{
+    let name = name_of(objects, number);
+    if is_top(objects, most, number) {
+        return push_bytes(text, name);
+    }
+    if near == 0 {
+        return push_path_by_list(alloc, text, objects, most, number);
+    }
+    let more = most - 1;
+    let up = parent_of(objects, number);
+    push_path_from(alloc, text, objects, more, up, near - 1)?;
+    push_below(text, name)
+}
+
 /// Adds the path of an object.
 pub(crate) fn push_path(
     alloc: Global,
@@ -74,13 +131,5 @@ pub(crate) fn push_path(
 ) -> Result<(), AllocError>
     ensures { OnOk result (text.new.items ≡ text.old.items ++ path_up number objects.now number) }
 {
-    let mut below = Vec::new(alloc);
-    let mut steps = number;
-    let mut at = number;
-    'above: while !is_top(objects, steps, at) {
-        below.push(at)?;
-        at = parent_of(objects, at);
-        steps -= 1;
-    }
-    push_names(text, objects, at, below.as_slice())
+    push_path_from(alloc, text, objects, number, number, NEAR)
 }

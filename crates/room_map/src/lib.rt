@@ -186,8 +186,8 @@ impl<K: Ord + Copy, V: Copy> RoomMap<K, V> {
 }
 
 impl<K: Ord + Copy + Default, V: Copy + Default> RoomMap<K, V> {
-    /// Makes room for at least `n` entries more, or runs out of memory, as it also does where there would be 2^32 places or more.
-    pub fn reserve(&mut self, n: u32) -> Result<(), AllocError>
+    // Makes room where there is less than for `n` entries more.
+    fn make_room(&mut self, n: u32) -> Result<(), AllocError>
         ensures ok { OnOk result (n ≤ self.new.spare) }
         ensures exact { OnOk result (self.new.spare ≡ max self.old.spare n) }
         ensures grows { self.old.spare ≤ self.new.spare }
@@ -208,5 +208,19 @@ impl<K: Ord + Copy + Default, V: Copy + Default> RoomMap<K, V> {
                 }
             },
         }
+    }
+
+    /// Makes room for at least `n` entries more, or runs out of memory, as it also does where there would be 2^32 places or more.
+    pub fn reserve(&mut self, n: u32) -> Result<(), AllocError>
+        ensures ok { OnOk result (n ≤ self.new.spare) }
+        ensures exact { OnOk result (self.new.spare ≡ max self.old.spare n) }
+        ensures grows { self.old.spare ≤ self.new.spare }
+        ensures kept { self.new.entries ≡ self.old.entries }
+        ensures err { OnErr result (self.new ≡ self.old) }
+    {
+        if n <= self.spare {
+            return Ok(());
+        }
+        self.make_room(n)
     }
 }

@@ -90,6 +90,9 @@ part_moved T due text taken left (Err trouble.NoMemory) is ((count, short, part)
 pub told_into : (T : List ℕ → Type 0) (text : List ℕ) (old new : Option (List ℕ)) (due left : List ℕ) (result : Result Unit Trouble) → T text → SinkTook old new due text left result → Into T (Grew old new) due left result
 told_into T text old new due left result is (taken, grew, moved) = (taken, part_moved T due text taken left result is moved, grew)
 
+pub none_told : (T : List ℕ → Type 0) (old : Option (List ℕ)) (due : List ℕ) → T [] → Into T (Grew old old) due due (Ok tt)
+none_told T old due none = ([], ([], none, sym (append-nil due)), grew_none old)
+
 pub none_into : (T : List ℕ → Type 0) (old : Option (List ℕ)) (due : List ℕ) → Into T (Grew old old) due due (Err trouble.NoMemory)
 none_into T old due = ([], inl ([], sym (append-nil due)), grew_none old)
 

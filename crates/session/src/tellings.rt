@@ -69,6 +69,9 @@ pub(crate) fn tell<O: Sink>(
     ensures tells { Into (TextOf k.now told) (Grew (O.holds out.old) (O.holds out.new)) held.old held.new result }
     ensures cause { RoseIf (O.faults out.old) (O.faults out.new) (result ≡ Err Trouble.Failed) }
 {
+    if let Telling::Nothing = told {
+        return Ok(());
+    }
     match text_of(alloc, k, told) {
         Ok(text) => write_text(held, out, &text),
         Err(_) => Err(Trouble::NoMemory),
@@ -87,6 +90,9 @@ pub(crate) fn tell_turn<O: Sink>(
     ensures tells { Into (TextOfTurn k.now log p) (Grew (O.holds out.old) (O.holds out.new)) held.old held.new result }
     ensures cause { RoseIf (O.faults out.old) (O.faults out.new) (result ≡ Err Trouble.Failed) }
 {
+    if let Log::Prints = log {
+        return Ok(());
+    }
     match text_of_turn(alloc, k, log, p) {
         Ok(text) => write_text(held, out, &text),
         Err(_) => Err(Trouble::NoMemory),

@@ -82,8 +82,8 @@ impl TimedQueue {
         self.len() == 0
     }
 
-    /// Makes room for at least `n` names more.
-    pub fn reserve(&mut self, n: u32) -> Result<(), AllocError>
+    // Makes room where there is less than for `n` names more.
+    fn make_room(&mut self, n: u32) -> Result<(), AllocError>
         ensures ok { OnOk result (n ≤ self.new.spare) }
         ensures grows { self.old.spare ≤ self.new.spare }
         ensures kept { self.new.times ≡ self.old.times }
@@ -97,6 +97,19 @@ impl TimedQueue {
             }
             Err(error) => Err(error),
         }
+    }
+
+    /// Makes room for at least `n` names more.
+    pub fn reserve(&mut self, n: u32) -> Result<(), AllocError>
+        ensures ok { OnOk result (n ≤ self.new.spare) }
+        ensures grows { self.old.spare ≤ self.new.spare }
+        ensures kept { self.new.times ≡ self.old.times }
+        ensures err { OnErr result (self.new ≡ self.old) }
+    {
+        if n <= self.wheel.room {
+            return Ok(());
+        }
+        self.make_room(n)
     }
 
     /// Gives the name this time, in place of the one that it had.

@@ -1,19 +1,9 @@
-use Rattle.std.proofs.Common.{Ok, sym, ap, ◌∙◌}
-use Rattle.flat_design.specs.Code.{term_of, channel_term}
-use Rattle.kernel_view.specs.SimModel.Values.{on_ok, cut_to}
-use Rattle.kernel_view.specs.Standings.{next_here}
-use Rattle.exec_data.proofs.Fitting.{write_given}
+use Rattle.std.proofs.Common.{sym, ap, ◌∙◌, true≢false}
+use Rattle.std.specs.Prelude.{is_some}
 use Rattle.exec_data.proofs.writes.what_is_written.Goals as goal
 
-pub returns-in-Ok : goal.returns-in-Ok
-returns-in-Ok c = λ d i h there.
-    ap (λ y. Ok (record { channel = c.in-Ok.channel; value = y })) c.cut_to.ensures
-    ∙ ap (λ o. on_ok o (λ x. Ok (record { channel = x; value = cut_to c.args.t c.in_ok-value.value }))) (sym c.in-Ok.is ∙ c.channel_at.ensures d i h there)
-    ∙ sym (write_given (next_here d c.args.p i) (channel_term c.args.to.now) c.args.t (term_of c.args.e.now) c.in_ok-place.place c.in_ok-value.value
-    (sym (sym c.in_ok-place.was ∙ c.eval_place_at.ensures d i h there)) (sym (sym c.in_ok-value.was ∙ c.eval_at.ensures d i h there)))
+pub returns-in-Some : goal.returns-in-Some
+returns-in-Some c = λ d i h there. c.written_from.ensures _ (c.in-Some.ensures.shows d i h there)
 
-pub returns-in-Err : goal.returns-in-Err
-returns-in-Err c = λ d i h there.
-    ap (λ o. on_ok o (λ x. Ok (record { channel = x; value = cut_to c.args.t c.in_ok-value.value }))) (sym c.in-Err.is ∙ c.channel_at.ensures d i h there)
-    ∙ sym (write_given (next_here d c.args.p i) (channel_term c.args.to.now) c.args.t (term_of c.args.e.now) c.in_ok-place.place c.in_ok-value.value
-    (sym (sym c.in_ok-place.was ∙ c.eval_place_at.ensures d i h there)) (sym (sym c.in_ok-value.was ∙ c.eval_at.ensures d i h there)))
+pub returns-in-None : goal.returns-in-None
+returns-in-None c = absurd (true≢false (sym c.requires ∙ ap is_some c.in-None.ensures.ended))

@@ -3,7 +3,7 @@ use Rattle.std.specs.Prelude.{slice_get}
 use Rattle.kernel_state.specs.SimModel.Configuration.{path_up, name_of, parent_of}
 use Rattle.report_texts.specs.Climbs.{path_through}
 use Rattle.report_texts.proofs.Upward.{path_at_top, path_above, through-push}
-use Rattle.report_texts.proofs.paths.push_path.Goals as goal
+use Rattle.report_texts.proofs.paths.push_path_by_list.Goals as goal
 
 pub above-preserved : goal.above-preserved
 above-preserved c =

@@ -4,7 +4,7 @@ use Rattle.room_map.specs.Shape.{entries}
 use Rattle.room_map.specs.Kept.{among, falling, IsChain}
 use Rattle.room_map.proofs.Chains.{chain_grown}
 use Rattle.room_map.proofs.Kept.{kept_as, kept_tree, written, kept_in, kept_grown, front_stays}
-use Rattle.room_map.proofs.RoomMap.reserve.Goals as goal
+use Rattle.room_map.proofs.RoomMap.make_room.Goals as goal
 
 pub invariant_of-self-in-Ok : goal.invariant_of-self-in-Ok
 invariant_of-self-in-Ok g c =
