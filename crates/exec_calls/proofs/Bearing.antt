@@ -7,7 +7,7 @@ use Rattle.exec_data.specs.KernelState.Moves.{HasStatement, IsOnTop}
 use Rattle.exec_data.specs.KernelState.declared.kernel.Kernel.{Kernel}
 
 module _ (old new : Kernel) (p : ℕ) where
-  pub statement_still : new.program ≡ old.program → kept_at new.schedule p ≡ kept_at old.schedule p → HasStatement old p → HasStatement new p
+  pub statement_still : new.program.now ≡ old.program.now → kept_at new.schedule p ≡ kept_at old.schedule p → HasStatement old p → HasStatement new p
   statement_still program body shows kept at = subst (λ q. bodies.IsStatement (bodies.next_in q kept.body)) (sym program) (shows kept (sym body ∙ at))
 
   pub top_still : new.schedule.stack.items ≡ old.schedule.stack.items → IsOnTop old p → IsOnTop new p

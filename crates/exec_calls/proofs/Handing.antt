@@ -54,7 +54,7 @@ there_is None is = absurd (true≢false (sym is))
 there_is (Some x) is = (x, refl)
 
 -- over the configuration in which finished parts fell away
-pub calling_in : (k : Kernel) (p : ℕ) (c : Config) (i : Instance) → StandsFor k c → (o : Option ℕ) → calling_statement (settled_in c p i.residual) o ≡ statement_if (arena_of k.program.code) o
+pub calling_in : (k : Kernel) (p : ℕ) (c : Config) (i : Instance) → StandsFor k c → (o : Option ℕ) → calling_statement (settled_in c p i.residual) o ≡ statement_if (arena_of k.program.now.code) o
 calling_in k p c i h o = calling_is (settled_in c p i.residual) o ∙ ap (λ d. statement_if (arena_of d.code) o) h.design
 
 module _ (k : Kernel) (p : ℕ) (lives : Lives k p) (P : Option Statement → Type 0) (called : CalledBy k p P) (x : Frame) where
@@ -64,11 +64,11 @@ module _ (k : Kernel) (p : ℕ) (lives : Lives k p) (P : Option Statement → Ty
   kept : kept_at k.schedule p ≡ Some entry.0.body.body
   kept = ap (option_map (λ (z : Entry (Process Kept)). z.body.body)) entry.1
 
-  pub called_kept : EndsNext k p x → P (statement_if (arena_of k.program.code) x.call)
+  pub called_kept : EndsNext k p x → P (statement_if (arena_of k.program.now.code) x.call)
   called_kept ends = called entry.0.body.body kept x (ends entry.0.body.body kept)
 
   module _ (c : Config) (i : Instance) (h : StandsFor k c) (there : instance_at c p ≡ Some i) (leaves : next_of (settle (arena c) i.residual) ≡ residual.leaves x) where
-    shows : next_of (bodies.settled_in k.program entry.0.body.body.body) ≡ residual.leaves x
+    shows : next_of (bodies.settled_in k.program.now entry.0.body.body.body) ≡ residual.leaves x
     shows = ap next_of (sym (settled_before k p entry.0 entry.1 c i h there)) ∙ strip-next (settle (arena c) i.residual) ∙ leaves
 
     pub called_by : P (calling_statement (settled_in c p i.residual) x.call)

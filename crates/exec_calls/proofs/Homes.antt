@@ -22,15 +22,15 @@ module _ (k : Kernel) (p : ℕ) (x : Entry (Process Kept)) (at : map.get k.sched
   shown : shown_at k.schedule p ≡ Some (as_instance x (seen k.schedule p).wait)
   shown = ap (option_map (λ (z : Entry (Process Kept)). as_instance z (seen k.schedule p).wait)) at
 
-  shows_by : (i : Instance) (e : Bool) → TellsBy (Shows (whole_design k) k.program) e (shown_at k.schedule p) (kept_at k.schedule p) i → Shows (whole_design k) k.program x.body.body (beside i)
+  shows_by : (i : Instance) (e : Bool) → TellsBy (Shows (whole_design k) k.program.now) e (shown_at k.schedule p) (kept_at k.schedule p) i → Shows (whole_design k) k.program.now x.body.body (beside i)
   shows_by i true gone = absurd (true≢false (sym (ap is_some shown) ∙ ap is_some gone.0))
-  shows_by i false lives = subst (λ v. Shows (whole_design k) k.program v (beside i)) (ap (λ o. unwrap_or o x.body.body) (sym lives.kept.1.0 ∙ was k p x at)) lives.kept.1.1
+  shows_by i false lives = subst (λ v. Shows (whole_design k) k.program.now v (beside i)) (ap (λ o. unwrap_or o x.body.body) (sym lives.kept.1.0 ∙ was k p x at)) lives.kept.1.1
 
   module _ (c : Config) (i : Instance) (h : StandsFor k c) (there : instance_at c p ≡ Some i) where
-    shows_at : Shows (whole_design k) k.program x.body.body (beside i)
-    shows_at = shows_by i i.ended (subst (Tells (Shows (whole_design k) k.program) (shown_at k.schedule p) (kept_at k.schedule p)) there (h.processes.each p))
+    shows_at : Shows (whole_design k) k.program.now x.body.body (beside i)
+    shows_at = shows_by i i.ended (subst (Tells (Shows (whole_design k) k.program.now) (shown_at k.schedule p) (kept_at k.schedule p)) there (h.processes.each p))
 
-    pub home_there : (here c p i i.residual).home ≡ home_of_via k.design x.body.body.home (within (bodies.left_in k.program x.body.body.body))
+    pub home_there : (here c p i i.residual).home ≡ home_of_via k.design x.body.body.home (within (bodies.left_in k.program.now x.body.body.body))
     home_there = ap (λ d. home_of_via d i.home (within i.residual)) h.design
         ∙ ap (λ n. home_of_via (whole_design k) n (within i.residual)) shows_at.home
         ∙ ap (home_of_via (whole_design k) x.body.body.home) (sym (strip-within i.residual) ∙ ap within (left_before k p x at c i h there))

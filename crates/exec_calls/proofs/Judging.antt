@@ -78,14 +78,14 @@ module _ (k : Kernel) (p s f : ℕ) (arguments : List ArgumentTerm) where
           (may_call c i h there) (stays c h)
 
       -- it is entered with these values
-      pub enters_it : (m : Kernel) (values : List Value) → AreValues l p values (locals_at (arena_of l.program.code) f) arguments → Steps l m p (λ c q i r. enters c q r s f values None) → DoesOrStops k m (Ok tt) p calls_it
+      pub enters_it : (m : Kernel) (values : List Value) → AreValues l p values (locals_at (arena_of l.program.now.code) f) arguments → Steps l m p (λ c q i r. enters c q r s f values None) → DoesOrStops k m (Ok tt) p calls_it
       enters_it m values are steps c i h there =
           let d = settled_in c p i.residual in
           let r = settle (arena c) i.residual in
           let vs = given c i h there in
           let on = stays c h in
           let same : values ≡ vs.0 = are c i on there vs.0
-          (ap (λ ls. argument_values (next_here c p i) ls 0 arguments) (same_locals (body_at (arena_of l.program.code) f))
+          (ap (λ ls. argument_values (next_here c p i) ls 0 arguments) (same_locals (body_at (arena_of l.program.now.code) f))
           ∙ ap (λ y. argument_values (next_here c p i) (locals_in (body_at (arena_of y.code) f)) 0 arguments) (sym on.design)
           ∙ vs.1) in
           subst (FollowsBut NoFault m (Ok tt) c) (sym (may_call c i h there))

@@ -54,11 +54,11 @@ module _ (k : Kernel) (p : ℕ) (x : Entry (Process Kept)) (at : map.get k.sched
   pub kept_is : (P : Kept → Type 0) → P x.body.body → KeptAt k p P
   kept_is P holds kept is = subst P (ap (λ o. unwrap_or o kept) (sym was ∙ is)) holds
 
-  pub comes_next : (n : Next) → next_of (bodies.settled_in k.program x.body.body.body) ≡ n → ComesNext k p n
+  pub comes_next : (n : Next) → next_of (bodies.settled_in k.program.now x.body.body.body) ≡ n → ComesNext k p n
   comes_next n is c i h there = sym (strip-next (settle (arena c) i.residual)) ∙ ap next_of (settled_before k p x at c i h there) ∙ is
 
   -- the calls that are open
-  opened : (c : Config) (i : Instance) → StandsFor k c → instance_at c p ≡ Some i → open_frames (settle (arena c) i.residual) ≡ open_frames (bodies.settled_in k.program x.body.body.body)
+  opened : (c : Config) (i : Instance) → StandsFor k c → instance_at c p ≡ Some i → open_frames (settle (arena c) i.residual) ≡ open_frames (bodies.settled_in k.program.now x.body.body.body)
   opened c i h there = sym (strip-open_frames (settle (arena c) i.residual)) ∙ ap open_frames (settled_before k p x at c i h there)
 
 -- ---- another body
@@ -74,21 +74,21 @@ module _ (k : Kernel) (p : ℕ) (x : Entry (Process Kept)) (b : Body) (at : map.
   kept_now P holds kept found = subst P (ap (λ o. unwrap_or o kept) (sym puts.body ∙ found)) holds
 
   -- what is left stays
-  module _ (left : bodies.left_in k.program b ≡ bodies.left_in k.program x.body.body.body) where
+  module _ (left : bodies.left_in k.program.now b ≡ bodies.left_in k.program.now x.body.body.body) where
     pub same_left : KeepsLeft p k (record k { schedule = with_body k p x b at keeps })
     same_left = λ old new is now.
-        ap (λ o. bodies.left_in k.program (unwrap_or o new).body) (sym now ∙ puts.body) ∙ left ∙ ap (λ o. bodies.left_in k.program (unwrap_or o old).body) (sym (was k p x at) ∙ is)
+        ap (λ o. bodies.left_in k.program.now (unwrap_or o new).body) (sym now ∙ puts.body) ∙ left ∙ ap (λ o. bodies.left_in k.program.now (unwrap_or o old).body) (sym (was k p x at) ∙ is)
 
     pub same_moves : Moves k (record k { schedule = with_body k p x b at keeps }) (λ c. c)
     same_moves c h = subst (λ is. StandsFor (record k { schedule = with_body k p x b at keeps }) (record c { processes = record c.processes { instances = is } }))
         (change_none c.processes.instances p)
         (processes_move k c h (with_body k p x b at keeps) (record c.processes { instances = change c.processes.instances p (λ i. i) })
-        (put_stands (Shows (whole_design k) k.program) k.schedule (with_body k p x b at keeps) c.processes h.processes p (record x.body.body { body = b }) (λ i. i) puts (λ i. refl) (λ i. refl) (λ i none. none) shows))
+        (put_stands (Shows (whole_design k) k.program.now) k.schedule (with_body k p x b at keeps) c.processes h.processes p (record x.body.body { body = b }) (λ i. i) puts (λ i. refl) (λ i. refl) (λ i none. none) shows))
       where
-        shows : (a : Kept) (i : Instance) → kept_at k.schedule p ≡ Some a → slice_get c.processes.instances p ≡ Some i → Shows (whole_design k) k.program a (beside i)
-            → Shows (whole_design k) k.program (record x.body.body { body = b }) (beside i)
+        shows : (a : Kept) (i : Instance) → kept_at k.schedule p ≡ Some a → slice_get c.processes.instances p ≡ Some i → Shows (whole_design k) k.program.now a (beside i)
+            → Shows (whole_design k) k.program.now (record x.body.body { body = b }) (beside i)
         shows a i found there old =
-            let o = subst (λ w. Shows (whole_design k) k.program w (beside i)) (ap (λ o. unwrap_or o x.body.body) (sym found ∙ was k p x at)) old in
+            let o = subst (λ w. Shows (whole_design k) k.program.now w (beside i)) (ap (λ o. unwrap_or o x.body.body) (sym found ∙ was k p x at)) old in
             record {
               home = o.home;
               path = subst (λ f. i.path ≡ path_in (whole_design k) x.body.body.home f x.body.body.path) (sym keeps.code) o.path;
@@ -99,31 +99,31 @@ module _ (k : Kernel) (p : ℕ) (x : Entry (Process Kept)) (b : Body) (at : map.
             }
 
     -- and so does what it settles to
-    pub same_settled : bodies.settled_in k.program b ≡ bodies.settled_in k.program x.body.body.body
-    same_settled = ap (settle (arena_of k.program.code)) left
+    pub same_settled : bodies.settled_in k.program.now b ≡ bodies.settled_in k.program.now x.body.body.body
+    same_settled = ap (settle (arena_of k.program.now.code)) left
 
-    pub still_next : (P : Residual → Type 0) → KeptAt k p (λ kept. P (bodies.settled_in k.program kept.body)) → KeptAt (record k { schedule = with_body k p x b at keeps }) p (λ kept. P (bodies.settled_in k.program kept.body))
-    still_next P holds = kept_now (λ kept. P (bodies.settled_in k.program kept.body)) (subst P (sym same_settled) (holds x.body.body (was k p x at)))
+    pub still_next : (P : Residual → Type 0) → KeptAt k p (λ kept. P (bodies.settled_in k.program.now kept.body)) → KeptAt (record k { schedule = with_body k p x b at keeps }) p (λ kept. P (bodies.settled_in k.program.now kept.body))
+    still_next P holds = kept_now (λ kept. P (bodies.settled_in k.program.now kept.body)) (subst P (sym same_settled) (holds x.body.body (was k p x at)))
 
     -- there is room for a call of this code
-    pub ready_if : (f : ℕ) (answer : Result Unit EnterStop) → OnOk answer (bodies.HasRoomFor k.program b f) → OnOk answer (open_frames (bodies.settled_in k.program x.body.body.body) < frame_limit)
+    pub ready_if : (f : ℕ) (answer : Result Unit EnterStop) → OnOk answer (bodies.HasRoomFor k.program.now b f) → OnOk answer (open_frames (bodies.settled_in k.program.now x.body.body.body) < frame_limit)
         → OnOk answer (ReadyFor (record k { schedule = with_body k p x b at keeps }) p f)
     ready_if f (Ok u) room shallow = record {
-      room = kept_now (λ kept. bodies.HasRoomFor k.program kept.body f) room;
-      shallow = kept_now (λ kept. open_frames (bodies.settled_in k.program kept.body) < frame_limit) (subst (λ r. open_frames r < frame_limit) (sym same_settled) shallow);
+      room = kept_now (λ kept. bodies.HasRoomFor k.program.now kept.body f) room;
+      shallow = kept_now (λ kept. open_frames (bodies.settled_in k.program.now kept.body) < frame_limit) (subst (λ r. open_frames r < frame_limit) (sym same_settled) shallow);
     }
     ready_if f (Err e) room shallow = tt
 
   -- a call is entered in place of a statement
   pub entered_steps : (s f : ℕ) (arguments : List Value) (via : Option Via)
-      → bodies.left_in k.program b ≡ put (bodies.settled_in k.program x.body.body.body) (entered (arena_of k.program.code) f arguments (Some s) via)
+      → bodies.left_in k.program.now b ≡ put (bodies.settled_in k.program.now x.body.body.body) (entered (arena_of k.program.now.code) f arguments (Some s) via)
       → Steps k (record k { schedule = with_body k p x b at keeps }) p (λ c q i r. enters c q r s f arguments via)
   entered_steps s f arguments via left c i h there =
       steps_to k p x b at keeps c i h there (put (settle (arena c) i.residual) (entered (arena c) f arguments (Some s) via))
       (strip-put (settle (arena c) i.residual) (entered (arena c) f arguments (Some s) via)
       ∙ ap (put (strip (settle (arena c) i.residual))) (strip-entered (arena c) f arguments (Some s) via)
       ∙ ap (λ r. put r (entered (arena c) f arguments (Some s) via)) (settled_before k p x at c i h there)
-      ∙ ap (λ d. put (bodies.settled_in k.program x.body.body.body) (entered (arena_of d.code) f arguments (Some s) via)) h.design
+      ∙ ap (λ d. put (bodies.settled_in k.program.now x.body.body.body) (entered (arena_of d.code) f arguments (Some s) via)) h.design
       ∙ sym left)
 
 -- ---- whether one more call may be entered
@@ -150,10 +150,10 @@ told_at n (Err stop.NoMemory) shallow deep only = below_limit n few
     few = grind (arith, not_deep)
 
 module _ (k : Kernel) (p : ℕ) (x : Entry (Process Kept)) (at : map.get k.schedule.table.live p ≡ Some x) (answer : Result Unit EnterStop) where
-  pub depth_told : OnOk answer (open_frames (bodies.settled_in k.program x.body.body.body) < frame_limit)
-      → (answer ≡ Err stop.TooDeep → frame_limit ≤ open_frames (bodies.settled_in k.program x.body.body.body))
-      → (frame_limit ≤ open_frames (bodies.settled_in k.program x.body.body.body) → answer ≡ Err stop.TooDeep)
+  pub depth_told : OnOk answer (open_frames (bodies.settled_in k.program.now x.body.body.body) < frame_limit)
+      → (answer ≡ Err stop.TooDeep → frame_limit ≤ open_frames (bodies.settled_in k.program.now x.body.body.body))
+      → (frame_limit ≤ open_frames (bodies.settled_in k.program.now x.body.body.body) → answer ≡ Err stop.TooDeep)
       → JudgesDepth k p answer
   depth_told shallow deep only c i h there =
       subst (λ n. TellsDepth answer (entered_if (nat_lt n frame_limit))) (sym (opened k p x at c i h there))
-      (told_at (open_frames (bodies.settled_in k.program x.body.body.body)) answer shallow deep only)
+      (told_at (open_frames (bodies.settled_in k.program.now x.body.body.body)) answer shallow deep only)

@@ -28,17 +28,17 @@ ComesNext k p x = (c : Config) (i : Instance) → StandsFor k c → instance_at 
 
 -- the end of a call comes next in it
 abbrev pub Leaves : Kernel → ℕ → Type 0
-Leaves k p = KeptAt k p (λ kept. next_in k.program kept.body ≡ next.Leave)
+Leaves k p = KeptAt k p (λ kept. next_in k.program.now kept.body ≡ next.Leave)
 
 -- and this is the call that ends
 abbrev pub EndsNext : Kernel → ℕ → Frame → Type 0
-EndsNext k p x = KeptAt k p (λ kept. next_of (settled_in k.program kept.body) ≡ residual.leaves x)
+EndsNext k p x = KeptAt k p (λ kept. next_of (settled_in k.program.now kept.body) ≡ residual.leaves x)
 
 -- A call of code f can be entered in the body of instance p, and takes no memory but for its local variables: there is room for
 -- its layers, and fewer calls are open than may be.
 pub record ReadyFor (k : Kernel) (p f : ℕ) : Type 0 where
-  pub room : KeptAt k p (λ kept. HasRoomFor k.program kept.body f)
-  pub shallow : KeptAt k p (λ kept. open_frames (settled_in k.program kept.body) < frame_limit)
+  pub room : KeptAt k p (λ kept. HasRoomFor k.program.now kept.body f)
+  pub shallow : KeptAt k p (λ kept. open_frames (settled_in k.program.now kept.body) < frame_limit)
 
 -- the arguments have room for all local variables of code f
 abbrev pub HasRoomIn : Program → ℕ → Vec Value → Type 0
@@ -62,4 +62,4 @@ pub record ChangesBody (p : ℕ) (old new : Kernel) : Type 0 where
 
 -- what is left of the body of instance p stays
 abbrev pub KeepsLeft : ℕ → Kernel → Kernel → Type 0
-KeepsLeft p old new = (a b : Kept) → kept_at old.schedule p ≡ Some a → kept_at new.schedule p ≡ Some b → left_in new.program b.body ≡ left_in old.program a.body
+KeepsLeft p old new = (a b : Kept) → kept_at old.schedule p ≡ Some a → kept_at new.schedule p ≡ Some b → left_in new.program.now b.body ≡ left_in old.program.now a.body

@@ -31,7 +31,7 @@ statement_if a (Some s) = statement_at a s
 
 -- where a call of instance p ends next, this is true of the statement that called, if there was one
 abbrev pub CalledBy : Kernel → ℕ → (Option Statement → Type 0) → Type 0
-CalledBy k p P = KeptAt k p (λ kept. (x : Frame) → next_of (bodies.settled_in k.program kept.body) ≡ residual.leaves x → P (statement_if (arena_of k.program.code) x.call))
+CalledBy k p P = KeptAt k p (λ kept. (x : Frame) → next_of (bodies.settled_in k.program.now kept.body) ≡ residual.leaves x → P (statement_if (arena_of k.program.now.code) x.call))
 
 -- no transport call
 pub record IsNoTransport (s : Option Statement) : Type 0 where

@@ -111,10 +111,10 @@ pub(crate) fn argument_values(
     arguments: &[Argument],
 ) -> Result<Vec<Value>, AllocError>
     requires { Lives k.now p }
-    ensures values { IfOk result (λ values. AreValues k.now p values.items (locals_at (arena_of k.now.program.code) f) (map argument_term arguments.now)) }
-    ensures room { IfOk result (HasRoomIn k.now.program f) }
+    ensures values { IfOk result (λ values. AreValues k.now p values.items (locals_at (arena_of k.now.program.now.code) f) (map argument_term arguments.now)) }
+    ensures room { IfOk result (HasRoomIn k.now.program.now f) }
 {
-    let locals = locals_in(&k.program, f);
+    let locals = locals_in(k.program, f);
     let mut values = match Vec::with_capacity(alloc, locals.len().max(arguments.len())) {
         Ok(values) => values,
         Err(_) => return Err(AllocError),
@@ -123,7 +123,7 @@ pub(crate) fn argument_values(
         Ok(()) => {}
         Err(_) => return Err(AllocError),
     }
-    match reserve_locals(&k.program, f, &mut values) {
+    match reserve_locals(k.program, f, &mut values) {
         Ok(()) => Ok(values),
         Err(_) => Err(AllocError),
     }

@@ -31,14 +31,14 @@ pub fn enter_call(
     ensures stays { OnErr result (Moves k.old k.new (λ c. c)) }
     ensures left { OnErr result (KeepsLeft p k.old k.new) }
     ensures depth { JudgesDepth k.old p result }
-    ensures succeeds { ReadyFor k.old p f → HasRoomIn k.old.program f arguments → IsOk result }
+    ensures succeeds { ReadyFor k.old p f → HasRoomIn k.old.program.now f arguments → IsOk result }
     ensures others { ChangesBody p k.old k.new }
     ensures lives { Lives k.new p }
     ensures sound { IsSound k.new }
     ensures made { k.new.made ≡ k.old.made }
 {
     match k.schedule.table.get_mut(p) {
-        Some(x) => x.body.body.body.enter(&k.program, f, arguments, via),
+        Some(x) => x.body.body.body.enter(k.program, f, arguments, via),
         None => unreachable!(),
     }
 }
@@ -49,7 +49,7 @@ pub fn enter_ready_call(k: &mut Kernel, p: u32, f: CodeId, arguments: Vec<Value>
     requires lives { Lives k.old p }
     requires statement { HasStatement k.old p }
     requires ready { ReadyFor k.old p f }
-    requires room { HasRoomIn k.old.program f arguments }
+    requires room { HasRoomIn k.old.program.now f arguments }
     ensures enters { (s : ℕ) → Shows k.old p s → Steps k.old k.new p (λ c q i r. enters c q r s f arguments.items via) }
     ensures others { ChangesBody p k.old k.new }
     ensures lives { Lives k.new p }

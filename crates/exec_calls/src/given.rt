@@ -88,7 +88,7 @@ pub(crate) fn first_arguments(
     requires { Lives k.now p }
     ensures { IfOk result (λ values. AreFirst k.now p values function (map term_of arguments.now)) }
 {
-    let locals = locals_of(&k.program, function);
+    let locals = locals_of(k.program, function);
     let mut values = Items::new(alloc);
     for (place, argument) in arguments.iter().enumerate() {
         match add_argument(&mut values, locals, place, eval_at(k, p, argument)) {

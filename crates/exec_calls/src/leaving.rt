@@ -16,7 +16,7 @@ pub fn ending_call(k: &Kernel, p: u32) -> Option<&Frame>
     ensures { Leaves k.now p → IsSomeAnd result (λ x. EndsNext k.now p (call_of x.now)) }
 {
     match k.schedule.table.get(p) {
-        Some(x) => x.body.body.body.innermost(&k.program),
+        Some(x) => x.body.body.body.innermost(k.program),
         None => None,
     }
 }
@@ -35,7 +35,7 @@ pub fn leave_call(k: &mut Kernel, p: u32) -> Frame
     ensures made { k.new.made ≡ k.old.made }
 {
     match k.schedule.table.get_mut(p) {
-        Some(x) => x.body.body.body.leave(&k.program),
+        Some(x) => x.body.body.body.leave(k.program),
         None => unreachable!(),
     }
 }

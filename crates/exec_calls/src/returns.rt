@@ -57,7 +57,7 @@ fn hand_back(k: &mut Kernel, p: u32, frame: &Frame, target: Option<Store>, argum
     ensures made { k.new.made ≡ k.old.made }
 {
     let home = home_at(k, p);
-    let answer = answer_of(&k.program, frame);
+    let answer = answer_of(k.program, frame);
     give_back(k, p, home, frame, arguments);
     store_if_in(k, p, home, target, answer);
 }
@@ -134,7 +134,7 @@ pub fn leave_plain_call(k: &mut Kernel, program: &Program, p: u32)
     requires sound { IsSound k.old }
     requires lives { Lives k.old p }
     requires leaves { Leaves k.old p }
-    requires same { arena_of program.now.code ≡ arena_of k.old.program.code }
+    requires same { arena_of program.now.code ≡ arena_of k.old.program.now.code }
     requires called { CalledBy k.old p IsNoTransport }
     ensures does { LeavesBy k.old k.new (Ok tt) p }
     ensures lives { Lives k.new p }

@@ -32,7 +32,7 @@ pub fn reserve_call(k: &mut Kernel, p: u32, f: CodeId) -> Result<(), EnterStop>
     ensures made { k.new.made ≡ k.old.made }
 {
     match k.schedule.table.get_mut(p) {
-        Some(x) => x.body.body.body.reserve(&k.program, f),
+        Some(x) => x.body.body.body.reserve(k.program, f),
         None => unreachable!(),
     }
 }

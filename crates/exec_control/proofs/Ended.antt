@@ -53,7 +53,7 @@ module _ (k : Kernel) (p : ℕ) (s : Schedule Kept) (e : Ends p k.schedule s) wh
       (sym (change-twice c.processes.instances p (λ j. record j { residual = settle (arena c) i.residual }) ended_instance))
       (trace_moves (record k { schedule = s }) (record c { processes = record c.processes { instances = change c.processes.instances p ended_instance; stack = drop 1 c.processes.stack } })
       (processes_move k c h s (record c.processes { instances = change c.processes.instances p ended_instance; stack = drop 1 c.processes.stack })
-      (ended_stands (Shows (whole_design k) k.program) k.schedule s c.processes h.processes p ended_instance e (λ i. (refl, (refl, refl, refl)))))
+      (ended_stands (Shows (whole_design k) k.program.now) k.schedule s c.processes h.processes p ended_instance e (λ i. (refl, (refl, refl, refl)))))
       (settled_in c p i.residual).trace)
 
 -- ---- a method returns

@@ -32,7 +32,7 @@ module _ (w : Way) (k : Kernel) (c : Config) (p : ℕ) (i : Instance) (e : ℕ) 
   is_statement : HasStatement k p → bodies.IsStatement (shown (next_of (settle (arena c) i.residual)))
   is_statement shows =
       let entry = live_entry k p (lives_on_top k p sound top) in
-      statement_in (settle (arena c) i.residual) (bodies.settled_in k.program entry.0.body.body.body) (settled_before k p entry.0 entry.1 c i h there) (shows entry.0.body.body (was k p entry.0 entry.1))
+      statement_in (settle (arena c) i.residual) (bodies.settled_in k.program.now entry.0.body.body.body) (settled_before k p entry.0 entry.1 c i h there) (shows entry.0.body.body (was k p entry.0 entry.1))
 
   goal_past : has_goal r ≡ has_goal i.residual
   goal_past = moved_goal w state ∙ settle_goal (arena c) i.residual

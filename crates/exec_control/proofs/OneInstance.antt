@@ -44,19 +44,19 @@ module _ (k : Kernel) (p : ℕ) (x : Entry (Process Kept)) (at : map.get k.sched
   pub was : kept_at k.schedule p ≡ Some x.body.body
   was = ap (option_map (λ (z : Entry (Process Kept)). z.body.body)) at
 
-  shows_by : (i : Instance) (e : Bool) → TellsBy (Shows (whole_design k) k.program) e (shown_at k.schedule p) (kept_at k.schedule p) i → Shows (whole_design k) k.program x.body.body (beside i)
+  shows_by : (i : Instance) (e : Bool) → TellsBy (Shows (whole_design k) k.program.now) e (shown_at k.schedule p) (kept_at k.schedule p) i → Shows (whole_design k) k.program.now x.body.body (beside i)
   shows_by i true gone = absurd (true≢false (sym (ap is_some shown) ∙ ap is_some gone.0))
-  shows_by i false lives = subst (λ v. Shows (whole_design k) k.program v (beside i)) (ap (λ o. unwrap_or o x.body.body) (sym lives.kept.1.0 ∙ was)) lives.kept.1.1
+  shows_by i false lives = subst (λ v. Shows (whole_design k) k.program.now v (beside i)) (ap (λ o. unwrap_or o x.body.body) (sym lives.kept.1.0 ∙ was)) lives.kept.1.1
 
-  entry_by : (i : Instance) (e : Bool) → TellsBy (Shows (whole_design k) k.program) e (shown_at k.schedule p) (kept_at k.schedule p) i → as_instance x (seen k.schedule p).wait ≡ bare i
+  entry_by : (i : Instance) (e : Bool) → TellsBy (Shows (whole_design k) k.program.now) e (shown_at k.schedule p) (kept_at k.schedule p) i → as_instance x (seen k.schedule p).wait ≡ bare i
   entry_by i true gone = absurd (true≢false (sym (ap is_some shown) ∙ ap is_some gone.0))
   entry_by i false lives = ap (λ o. unwrap_or o (bare i)) (sym shown ∙ lives.shown)
 
   module _ (c : Config) (i : Instance) (h : StandsFor k c) (there : instance_at c p ≡ Some i) where
-    tells : TellsBy (Shows (whole_design k) k.program) i.ended (shown_at k.schedule p) (kept_at k.schedule p) i
-    tells = subst (Tells (Shows (whole_design k) k.program) (shown_at k.schedule p) (kept_at k.schedule p)) there (h.processes.each p)
+    tells : TellsBy (Shows (whole_design k) k.program.now) i.ended (shown_at k.schedule p) (kept_at k.schedule p) i
+    tells = subst (Tells (Shows (whole_design k) k.program.now) (shown_at k.schedule p) (kept_at k.schedule p)) there (h.processes.each p)
 
-    pub shows_at : Shows (whole_design k) k.program x.body.body (beside i)
+    pub shows_at : Shows (whole_design k) k.program.now x.body.body (beside i)
     shows_at = shows_by i i.ended tells
 
     pub entry_at : as_instance x (seen k.schedule p).wait ≡ bare i
@@ -69,21 +69,21 @@ module _ (k : Kernel) (p : ℕ) (x : Entry (Process Kept)) (b : Body) (at : map.
   puts = puts_body k.schedule p x (record x.body.body { body = b }) at
 
   -- what it stands for is known of each instance
-  pub body_moves : (f : Config → Instance → Residual) → ((c : Config) (i : Instance) → StandsFor k c → instance_at c p ≡ Some i → strip (f c i) ≡ left_in k.program b)
+  pub body_moves : (f : Config → Instance → Residual) → ((c : Config) (i : Instance) → StandsFor k c → instance_at c p ≡ Some i → strip (f c i) ≡ left_in k.program.now b)
       → MovesAt k (record k { schedule = with_body k p x b at keeps }) p (λ c i. with_residual c p (f c i))
   body_moves f is c i h there = residual_moves k p x.body.body b (was k p x at) (with_body k p x b at keeps) puts keeps c h (f c i) (is c i h there)
 
   -- nothing is left
-  pub body_cleared : left_in k.program b ≡ skip → Moves k (record k { schedule = with_body k p x b at keeps }) (λ c. with_residual c p skip)
+  pub body_cleared : left_in k.program.now b ≡ skip → Moves k (record k { schedule = with_body k p x b at keeps }) (λ c. with_residual c p skip)
   body_cleared left c h = residual_moves k p x.body.body b (was k p x at) (with_body k p x b at keeps) puts keeps c h skip (sym left)
 
   -- it is at its first statement
-  pub body_begun : left_in k.program b ≡ begun (arena_of k.program.code) x.body.body.body.calls.code x.body.body.body.calls.arguments.items
+  pub body_begun : left_in k.program.now b ≡ begun (arena_of k.program.now.code) x.body.body.body.calls.code x.body.body.body.calls.arguments.items
       → MovesAt k (record k { schedule = with_body k p x b at keeps }) p (λ c i. with_residual c p (begun (arena c) i.code i.arguments))
   body_begun left = body_moves (λ c i. begun (arena c) i.code i.arguments) (λ c i h there.
       let s = shows_at k p x at c i h there in
-      strip-entered (arena c) i.code i.arguments None None ∙ ap (λ d. begun (arena_of d.code) i.code i.arguments) h.design ∙ ap (λ n. begun (arena_of k.program.code) n i.arguments) s.code
-      ∙ ap (begun (arena_of k.program.code) x.body.body.body.calls.code) s.arguments ∙ sym left)
+      strip-entered (arena c) i.code i.arguments None None ∙ ap (λ d. begun (arena_of d.code) i.code i.arguments) h.design ∙ ap (λ n. begun (arena_of k.program.now.code) n i.arguments) s.code
+      ∙ ap (begun (arena_of k.program.now.code) x.body.body.body.calls.code) s.arguments ∙ sym left)
 
   pub others_kept : KeepsOthers p k (record k { schedule = with_body k p x b at keeps })
   others_kept = record { bodies = puts.bodies; program = refl }
@@ -112,9 +112,9 @@ module _ (k : Kernel) (p : ℕ) (x : Entry (Process Kept)) (t : Option Trigger) 
 
   pub trigger_moves : Moves k (record k { schedule = with_trigger }) (λ c. change_instance c p (λ i. record i { trigger = option_map trigger_of t }))
   trigger_moves c h = processes_move k c h with_trigger (record c.processes { instances = change c.processes.instances p (λ i. record i { trigger = option_map trigger_of t }) })
-      (put_stands (Shows (whole_design k) k.program) k.schedule with_trigger c.processes h.processes p (record x.body.body { trigger = t }) (λ i. record i { trigger = option_map trigger_of t }) puts_trigger (λ i. refl) (λ i. refl) (λ i none. none)
+      (put_stands (Shows (whole_design k) k.program.now) k.schedule with_trigger c.processes h.processes p (record x.body.body { trigger = t }) (λ i. record i { trigger = option_map trigger_of t }) puts_trigger (λ i. refl) (λ i. refl) (λ i none. none)
       (λ a i found there old.
-      let o = subst (λ w. Shows (whole_design k) k.program w (beside i)) (ap (λ o. unwrap_or o x.body.body) (sym found ∙ was k p x at)) old in
+      let o = subst (λ w. Shows (whole_design k) k.program.now w (beside i)) (ap (λ o. unwrap_or o x.body.body) (sym found ∙ was k p x at)) old in
       record {
         home = o.home;
         path = o.path;
@@ -126,14 +126,14 @@ module _ (k : Kernel) (p : ℕ) (x : Entry (Process Kept)) (t : Option Trigger) 
 
 -- ---- a mark of an instance
 
-module _ (k : Kernel) (p : ℕ) (lives : Lives k p) (s : Schedule Kept) (f : Instance → Instance) (agrees : Agrees (Shows (whole_design k) k.program) f f)
+module _ (k : Kernel) (p : ℕ) (lives : Lives k p) (s : Schedule Kept) (f : Instance → Instance) (agrees : Agrees (Shows (whole_design k) k.program.now) f f)
     (m : MovesOne p f (set.contains k.schedule.ready.members p) same_stack k.schedule s) where
   pub marked_moves : Moves k (record k { schedule = s }) (λ c. change_instance c p f)
   marked_moves c h = processes_move k c h s (record c.processes { instances = change c.processes.instances p f })
-      (moved_with (Shows (whole_design k) k.program) k.schedule s c.processes h.processes p f f agrees
+      (moved_with (Shows (whole_design k) k.program.now) k.schedule s c.processes h.processes p f f agrees
       (set.contains k.schedule.ready.members p) same_stack m (shown_where_lives k p lives)
       (record c.processes { instances = change c.processes.instances p f }) refl (sym (h.processes.ready p)) (λ q apart. refl)
-      (stack_same (Shows (whole_design k) k.program) k.schedule s c.processes h.processes m.stack))
+      (stack_same (Shows (whole_design k) k.program.now) k.schedule s c.processes h.processes m.stack))
 
   pub marked_sound : IsSound k → schedules.IsSound s → IsSound (record k { schedule = s })
   marked_sound sound fine = schedule_sound k sound s fine m.bodies (ap (λ v. v.items) m.due) m.next
@@ -148,12 +148,12 @@ module _ (k : Kernel) (p : ℕ) (sound : IsSound k) (top : IsTop p k.schedule.st
       by None none is = absurd (true≢false (sym is))
       by (Some z) some is = (sound.schedule.busy p z (ap (λ xs. is_on xs p) top.1 ∙ on_top top.0 p) some).ready
 
-  module _ (s : Schedule Kept) (f : Instance → Instance) (agrees : Agrees (Shows (whole_design k) k.program) f f) (m : MovesOne p f false (leaves_top p) k.schedule s) where
+  module _ (s : Schedule Kept) (f : Instance → Instance) (agrees : Agrees (Shows (whole_design k) k.program.now) f f) (m : MovesOne p f false (leaves_top p) k.schedule s) where
     pub leaving_moves : Moves k (record k { schedule = s }) (λ c. leaves_stack (change_instance c p f))
     leaving_moves c h = processes_move k c h s (record c.processes { instances = change c.processes.instances p f; stack = drop 1 c.processes.stack })
-        (moved_with (Shows (whole_design k) k.program) k.schedule s c.processes h.processes p f f agrees false (leaves_top p) m (shown_where_lives k p (lives_on_top k p sound top))
+        (moved_with (Shows (whole_design k) k.program.now) k.schedule s c.processes h.processes p f f agrees false (leaves_top p) m (shown_where_lives k p (lives_on_top k p sound top))
         (record c.processes { instances = change c.processes.instances p f; stack = drop 1 c.processes.stack })
-        refl (sym (h.processes.ready p) ∙ not_ready) (λ q apart. refl) (stack_left (Shows (whole_design k) k.program) k.schedule s c.processes h.processes p m.stack))
+        refl (sym (h.processes.ready p) ∙ not_ready) (λ q apart. refl) (stack_left (Shows (whole_design k) k.program.now) k.schedule s c.processes h.processes p m.stack))
 
     pub leaving_sound : schedules.IsSound s → IsSound (record k { schedule = s })
     leaving_sound fine = schedule_sound k sound s fine m.bodies (ap (λ v. v.items) m.due) m.next

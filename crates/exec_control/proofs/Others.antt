@@ -21,11 +21,11 @@ use Rattle.exec_control.specs.Thrown.{past, injects}
 use Rattle.exec_control.proofs.Passing.{others_passed, is_refused, to_other, nothing_thrown, is_injected}
 
 module _ (k : Kernel) (q : ℕ) (none : map.contains_key k.schedule.table.live q ≡ false) (d : Config) (f : Instance → Result Config RunFault) where
-  over_by : (i : Instance) (b : Bool) → i.ended ≡ b → TellsBy (Shows (whole_design k) k.program) b (shown_at k.schedule q) (kept_at k.schedule q) i → (if i.ended then Ok d else f i) ≡ Ok d
+  over_by : (i : Instance) (b : Bool) → i.ended ≡ b → TellsBy (Shows (whole_design k) k.program.now) b (shown_at k.schedule q) (kept_at k.schedule q) i → (if i.ended then Ok d else f i) ≡ Ok d
   over_by i true is tells = ap (λ b. if b then Ok d else f i) is
   over_by i false is tells = absurd (true≢false (sym (lives_by_kept k.schedule q tells.kept.0 tells.kept.1.0) ∙ none))
 
-  over_at : (o : Option Instance) → Tells (Shows (whole_design k) k.program) (shown_at k.schedule q) (kept_at k.schedule q) o → unless_ended d o f ≡ Ok d
+  over_at : (o : Option Instance) → Tells (Shows (whole_design k) k.program.now) (shown_at k.schedule q) (kept_at k.schedule q) o → unless_ended d o f ≡ Ok d
   over_at None tells = refl
   over_at (Some i) tells = over_by i i.ended refl tells
 

@@ -57,27 +57,27 @@ module _ (k : Kernel) (p : ℕ) (lives : Lives k p) where
     pub resumed_sound : IsSound k → schedules.IsSound s → IsSound (record k { schedule = s })
     resumed_sound sound fine = schedule_sound k sound s fine m.bodies (ap (λ v. v.items) m.due) m.next
 
-    agrees : Agrees (Shows (whole_design k) k.program) resumed_as resumed_as
+    agrees : Agrees (Shows (whole_design k) k.program.now) resumed_as resumed_as
     agrees = record { bares = λ i. refl; ends = λ i. refl; shows = λ b i told. told }
 
     resumed_by : (kept : Bool) (c : Config) (i : Instance) → StandsFor k c → is_kept (map.get k.schedule.table.live p) ≡ kept → i.kept ≡ kept → StandsFor (record k { schedule = s }) (resumes c p i)
     resumed_by true c i h was is =
         subst (λ b. StandsFor (record k { schedule = s }) (if b then record c { processes = record c.processes { instances = change c.processes.instances p resumed_as; runnable = c.processes.runnable ++ p ∷ [] } } else record c { processes = record c.processes { instances = change c.processes.instances p resumed_as } })) (sym is)
         (processes_move k c h s (record c.processes { instances = change c.processes.instances p resumed_as; runnable = c.processes.runnable ++ p ∷ [] })
-        (moved_with (Shows (whole_design k) k.program) k.schedule s c.processes h.processes p resumed_as resumed_as agrees
+        (moved_with (Shows (whole_design k) k.program.now) k.schedule s c.processes h.processes p resumed_as resumed_as agrees
         (set.contains k.schedule.ready.members p || is_kept (map.get k.schedule.table.live p)) same_stack m (shown_where_lives k p lives)
         (record c.processes { instances = change c.processes.instances p resumed_as; runnable = c.processes.runnable ++ p ∷ [] }) refl
         (on_top c.processes.runnable p ∙ sym (ap (λ b. set.contains k.schedule.ready.members p || b) was ∙ or-all (set.contains k.schedule.ready.members p)))
         (λ q apart. on_last c.processes.runnable p q ∙ ap (λ b. holds c.processes.runnable q || b) (ne_eqb p q (λ same. apart (sym same))) ∙ or-nothing (holds c.processes.runnable q))
-        (stack_same (Shows (whole_design k) k.program) k.schedule s c.processes h.processes m.stack)))
+        (stack_same (Shows (whole_design k) k.program.now) k.schedule s c.processes h.processes m.stack)))
     resumed_by false c i h was is =
         subst (λ b. StandsFor (record k { schedule = s }) (if b then record c { processes = record c.processes { instances = change c.processes.instances p resumed_as; runnable = c.processes.runnable ++ p ∷ [] } } else record c { processes = record c.processes { instances = change c.processes.instances p resumed_as } })) (sym is)
         (processes_move k c h s (record c.processes { instances = change c.processes.instances p resumed_as })
-        (moved_with (Shows (whole_design k) k.program) k.schedule s c.processes h.processes p resumed_as resumed_as agrees
+        (moved_with (Shows (whole_design k) k.program.now) k.schedule s c.processes h.processes p resumed_as resumed_as agrees
         (set.contains k.schedule.ready.members p || is_kept (map.get k.schedule.table.live p)) same_stack m (shown_where_lives k p lives)
         (record c.processes { instances = change c.processes.instances p resumed_as }) refl
         (sym (h.processes.ready p) ∙ sym (ap (λ b. set.contains k.schedule.ready.members p || b) was ∙ or-nothing (set.contains k.schedule.ready.members p))) (λ q apart. refl)
-        (stack_same (Shows (whole_design k) k.program) k.schedule s c.processes h.processes m.stack)))
+        (stack_same (Shows (whole_design k) k.program.now) k.schedule s c.processes h.processes m.stack)))
 
     pub resumed_moves : MovesAt k (record k { schedule = s }) p (λ c i. resumes c p i)
     resumed_moves c i h there = resumed_by i.kept c i h (kept_is c i h there) refl

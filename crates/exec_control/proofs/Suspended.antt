@@ -80,10 +80,10 @@ module _ (k : Kernel) (p : ℕ) (sound : IsSound k) (lives : Lives k p) (s : Sch
       by None none is = absurd (true≢false (sym is))
       by (Some z) some is = (sound.schedule.busy p z (ap (λ xs. is_on xs p) top.1 ∙ on_top top.0 p) some).ready
 
-  held_agrees : (now : Bool) → now ≡ true → Agrees (Shows (whole_design k) k.program) (suspended_as now) held
+  held_agrees : (now : Bool) → now ≡ true → Agrees (Shows (whole_design k) k.program.now) (suspended_as now) held
   held_agrees now is = record { bares = λ i. sym (ap (λ b. record (bare i) { suspended = true; kept = b || i.kept }) is); ends = λ i. refl; shows = λ b i told. told }
 
-  marked_agrees : (now : Bool) → now ≡ false → Agrees (Shows (whole_design k) k.program) (suspended_as now) marked
+  marked_agrees : (now : Bool) → now ≡ false → Agrees (Shows (whole_design k) k.program.now) (suspended_as now) marked
   marked_agrees now is = record { bares = λ i. sym (ap (λ b. record (bare i) { suspended = true; kept = b || i.kept }) is); ends = λ i. refl; shows = λ b i told. told }
 
   -- by whether it is runnable and whether it leaves the stack
@@ -101,19 +101,19 @@ module _ (k : Kernel) (p : ℕ) (sound : IsSound k) (lives : Lives k p) (s : Sch
 
   leaving : MovesOne p (suspended_as (ready || true)) false (leaves_top p) k.schedule s → IsTop p k.schedule.stack.items → (c : Config) → StandsFor k c → StandsFor (record k { schedule = s }) (suspended_by false true c)
   leaving m top c h = processes_move k c h s (suspended_by false true c).processes
-      (moved_with (Shows (whole_design k) k.program) k.schedule s c.processes h.processes p (suspended_as (ready || true)) held (held_agrees (ready || true) (or-all ready)) false (leaves_top p) m (shown_where_lives k p lives)
+      (moved_with (Shows (whole_design k) k.program.now) k.schedule s c.processes h.processes p (suspended_as (ready || true)) held (held_agrees (ready || true) (or-all ready)) false (leaves_top p) m (shown_where_lives k p lives)
       (suspended_by false true c).processes (change-twice c.processes.instances p marked (λ j. record j { kept = true }))
-      (sym (h.processes.ready p) ∙ not_ready top) (λ q apart. refl) (stack_left (Shows (whole_design k) k.program) k.schedule s c.processes h.processes p m.stack))
+      (sym (h.processes.ready p) ∙ not_ready top) (λ q apart. refl) (stack_left (Shows (whole_design k) k.program.now) k.schedule s c.processes h.processes p m.stack))
 
   staying : (r : Bool) → ready ≡ r → MovesOne p (suspended_as (ready || false)) false same_stack k.schedule s → (c : Config) → StandsFor k c → StandsFor (record k { schedule = s }) (suspended_by r false c)
   staying true is m c h = processes_move k c h s (suspended_by true false c).processes
-      (moved_with (Shows (whole_design k) k.program) k.schedule s c.processes h.processes p (suspended_as (ready || false)) held (held_agrees (ready || false) (ap (λ b. b || false) is)) false same_stack m (shown_where_lives k p lives)
+      (moved_with (Shows (whole_design k) k.program.now) k.schedule s c.processes h.processes p (suspended_as (ready || false)) held (held_agrees (ready || false) (ap (λ b. b || false) is)) false same_stack m (shown_where_lives k p lives)
       (suspended_by true false c).processes (change-twice c.processes.instances p marked (λ j. record j { kept = true }))
-      (lacks_itself c.processes.runnable p) (λ q apart. has_others c.processes.runnable p q apart) (stack_same (Shows (whole_design k) k.program) k.schedule s c.processes h.processes m.stack))
+      (lacks_itself c.processes.runnable p) (λ q apart. has_others c.processes.runnable p q apart) (stack_same (Shows (whole_design k) k.program.now) k.schedule s c.processes h.processes m.stack))
   staying false is m c h = processes_move k c h s (suspended_by false false c).processes
-      (moved_with (Shows (whole_design k) k.program) k.schedule s c.processes h.processes p (suspended_as (ready || false)) marked (marked_agrees (ready || false) (ap (λ b. b || false) is)) false same_stack m (shown_where_lives k p lives)
+      (moved_with (Shows (whole_design k) k.program.now) k.schedule s c.processes h.processes p (suspended_as (ready || false)) marked (marked_agrees (ready || false) (ap (λ b. b || false) is)) false same_stack m (shown_where_lives k p lives)
       (suspended_by false false c).processes refl
-      (sym (h.processes.ready p) ∙ is) (λ q apart. refl) (stack_same (Shows (whole_design k) k.program) k.schedule s c.processes h.processes m.stack))
+      (sym (h.processes.ready p) ∙ is) (λ q apart. refl) (stack_same (Shows (whole_design k) k.program.now) k.schedule s c.processes h.processes m.stack))
 
   pub suspended_moves : (y : Bool) → (y ≡ true → IsTop p k.schedule.stack.items) → MovesOne p (suspended_as (ready || y)) false (leaves_if y p) k.schedule s
       → ((c : Config) (i : Instance) → StandsFor k c → instance_at c p ≡ Some i → y ≡ yields c p i) → MovesAt k (record k { schedule = s }) p (λ c i. suspends c p i)

@@ -131,18 +131,18 @@ raised_either a was now e k true is caught refused = caught refl
 raised_either a was now e k false is caught refused = refused refl ∙ sym (raise_nothing a was e k (sym is))
 
 module _ (k : Kernel) (p : ℕ) (x : Entry (Process Kept)) (b : Body) (at : map.get k.schedule.table.live p ≡ Some x) (keeps : bodies.Keeps x.body.body.body b) (e : ℕ) (end : Goal) where
-  pub raised_moves : (caught : Bool) → caught ≡ catches (left_in k.program x.body.body.body) e
-      → (caught ≡ true → left_in k.program b ≡ raise (arena_of k.program.code) (left_in k.program x.body.body.body) e end) → (caught ≡ false → left_in k.program b ≡ left_in k.program x.body.body.body)
+  pub raised_moves : (caught : Bool) → caught ≡ catches (left_in k.program.now x.body.body.body) e
+      → (caught ≡ true → left_in k.program.now b ≡ raise (arena_of k.program.now.code) (left_in k.program.now x.body.body.body) e end) → (caught ≡ false → left_in k.program.now b ≡ left_in k.program.now x.body.body.body)
       → MovesAt k (record k { schedule = with_body k p x b at keeps }) p (λ c i. with_residual c p (raise (arena c) i.residual e end))
   raised_moves caught is named refused = body_moves k p x b at keeps (λ c i. raise (arena c) i.residual e end) (λ c i h there.
-      strip-raise (arena c) i.residual e end ∙ ap (λ r. raise (arena c) r e end) (left_before k p x at c i h there) ∙ ap (λ d. raise (arena_of d.code) (left_in k.program x.body.body.body) e end) h.design
-      ∙ sym (raised_either (arena_of k.program.code) (left_in k.program x.body.body.body) (left_in k.program b) e end caught is named refused))
+      strip-raise (arena c) i.residual e end ∙ ap (λ r. raise (arena c) r e end) (left_before k p x at c i h there) ∙ ap (λ d. raise (arena_of d.code) (left_in k.program.now x.body.body.body) e end) h.design
+      ∙ sym (raised_either (arena_of k.program.now.code) (left_in k.program.now x.body.body.body) (left_in k.program.now b) e end caught is named refused))
 
 -- ---- the transport calls that it leaves
 
 module _ (k : Kernel) (p : ℕ) (x : Entry (Process Kept)) (at : map.get k.schedule.table.live p ≡ Some x) (b : TransactionBoard) (e : ℕ)
-    (moves : board.Moves k.transactions b (λ y. left y (left_by_raise (left_in k.program x.body.body.body) e))) (same : SameQuantum k.transactions b) (calls : LeftCallsEnd) where
-  same_calls : (c : Config) (i : Instance) → StandsFor k c → instance_at c p ≡ Some i → left_by_raise (left_in k.program x.body.body.body) e ≡ left_by_raise i.residual e
+    (moves : board.Moves k.transactions b (λ y. left y (left_by_raise (left_in k.program.now x.body.body.body) e))) (same : SameQuantum k.transactions b) (calls : LeftCallsEnd) where
+  same_calls : (c : Config) (i : Instance) → StandsFor k c → instance_at c p ≡ Some i → left_by_raise (left_in k.program.now x.body.body.body) e ≡ left_by_raise i.residual e
   same_calls c i h there = sym (ap (λ r. left_by_raise r e) (left_before k p x at c i h there)) ∙ strip-left_by_raise i.residual e
 
   pub left_moves : MovesAt k (record k { transactions = b }) p (λ c i. with_left c (left_by_raise i.residual e))

@@ -12,11 +12,11 @@ use Rattle.exec_data.specs.Entered.{Shows}
 
 -- instance p is not being unwound
 abbrev pub HasNoGoal : Kernel → ℕ → Type 0
-HasNoGoal k p = KeptAt k p (λ kept. has_goal (left_in k.program kept.body) ≡ false)
+HasNoGoal k p = KeptAt k p (λ kept. has_goal (left_in k.program.now kept.body) ≡ false)
 
 -- what comes next in its body is this goal
 abbrev pub Reaches : Kernel → ℕ → Goal → Type 0
-Reaches k p goal = KeptAt k p (λ kept. next_of (settled_in k.program kept.body) ≡ residual.reaches goal)
+Reaches k p goal = KeptAt k p (λ kept. next_of (settled_in k.program.now kept.body) ≡ residual.reaches goal)
 
 -- a throw stands only where instance p is not being unwound
 abbrev pub ThrowsFree : Kernel → ℕ → Statement → Type 0
@@ -27,4 +27,4 @@ ThrowsFreeIf k p o = (x : Statement) → o ≡ Some x → ThrowsFree k p x
 
 -- where a throw comes next in its body, it is not
 abbrev pub ThrowsFreeNext : Kernel → ℕ → Type 0
-ThrowsFreeNext k p = (s : ℕ) → Shows k p s → ThrowsFreeIf k p (statement_at (arena_of k.program.code) s)
+ThrowsFreeNext k p = (s : ℕ) → Shows k p s → ThrowsFreeIf k p (statement_at (arena_of k.program.now.code) s)

@@ -41,7 +41,7 @@ fn pass(k: &mut Kernel, p: u32)
     ensures made { k.new.made ≡ k.old.made }
 {
     match k.schedule.table.get_mut(p) {
-        Some(x) => x.body.body.body.past(&k.program),
+        Some(x) => x.body.body.body.past(k.program),
         None => {}
     }
 }
@@ -61,7 +61,7 @@ fn take_off(k: &mut Kernel, p: u32)
 {
     match k.schedule.table.get_mut(p) {
         Some(x) => {
-            let _ = x.body.body.body.owed(&k.program);
+            let _ = x.body.body.body.owed(k.program);
         }
         None => {}
     }

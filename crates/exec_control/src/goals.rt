@@ -45,7 +45,7 @@ fn pass_goal(k: &mut Kernel, p: u32, goal: Goal)
     ensures made { k.new.made ≡ k.old.made }
 {
     match k.schedule.table.get_mut(p) {
-        Some(x) => x.body.body.body.go_on(&k.program),
+        Some(x) => x.body.body.body.go_on(k.program),
         None => {}
     }
 }

@@ -17,14 +17,14 @@ pub fn begin_guard(k: &mut Kernel, p: u32, s: StmtId, b: BlockId, u: BlockId)
     requires sound { IsSound k.old }
     requires lives { Lives k.old p }
     requires next { Shows k.old p s }
-    requires owes { around_at (arena_of k.old.program.code) s ≡ around.Guard u }
-    requires inner { Contains (blocks_of (arena_of k.old.program.code) s) b }
+    requires owes { around_at (arena_of k.old.program.now.code) s ≡ around.Guard u }
+    requires inner { Contains (blocks_of (arena_of k.old.program.now.code) s) b }
     ensures does { Does k.old k.new (Ok tt) p (λ c q i r. do_guard c q r b u) }
     ensures sound { IsSound k.new }
     ensures made { k.new.made ≡ k.old.made }
 {
     match k.schedule.table.get_mut(p) {
-        Some(x) => x.body.body.body.begin_block(&k.program, b),
+        Some(x) => x.body.body.body.begin_block(k.program, b),
         None => {}
     }
 }
@@ -34,14 +34,14 @@ pub fn begin_try(k: &mut Kernel, p: u32, s: StmtId, b: BlockId)
     requires sound { IsSound k.old }
     requires lives { Lives k.old p }
     requires next { Shows k.old p s }
-    requires catches { around_at (arena_of k.old.program.code) s ≡ around.Try }
-    requires inner { Contains (blocks_of (arena_of k.old.program.code) s) b }
-    ensures does { Does k.old k.new (Ok tt) p (λ c q i r. do_try c q r b (handlers_of (arena_of k.old.program.code) s)) }
+    requires catches { around_at (arena_of k.old.program.now.code) s ≡ around.Try }
+    requires inner { Contains (blocks_of (arena_of k.old.program.now.code) s) b }
+    ensures does { Does k.old k.new (Ok tt) p (λ c q i r. do_try c q r b (handlers_of (arena_of k.old.program.now.code) s)) }
     ensures sound { IsSound k.new }
     ensures made { k.new.made ≡ k.old.made }
 {
     match k.schedule.table.get_mut(p) {
-        Some(x) => x.body.body.body.begin_block(&k.program, b),
+        Some(x) => x.body.body.body.begin_block(k.program, b),
         None => {}
     }
 }

@@ -100,7 +100,7 @@ fn restart_body(k: &mut Kernel, p: u32)
     ensures made { k.new.made ≡ k.old.made }
 {
     match k.schedule.table.get_mut(p) {
-        Some(x) => x.body.body.body.restart(&k.program),
+        Some(x) => x.body.body.body.restart(k.program),
         None => {}
     }
 }

@@ -23,7 +23,7 @@ fn owe_to(k: &mut Kernel, p: u32, s: StmtId, list: Vec<u32>)
 {
     let _ = s;
     match k.schedule.table.get_mut(p) {
-        Some(x) => x.body.body.body.owe(&k.program, list),
+        Some(x) => x.body.body.body.owe(k.program, list),
         None => {}
     }
 }

@@ -27,7 +27,7 @@ pub fn catches(k: &Kernel, p: u32, e: NameId) -> bool
     ensures { (c : Config) (i : Instance) → StandsFor k.now c → instance_at c p ≡ Some i → result ≡ unwinding.catches (residual.settle (arena c) i.residual) e }
 {
     match k.schedule.table.get(p) {
-        Some(x) => x.body.body.body.catches(&k.program, e),
+        Some(x) => x.body.body.body.catches(k.program, e),
         None => false,
     }
 }
@@ -44,7 +44,7 @@ fn settle(k: &mut Kernel, p: u32)
     ensures made { k.new.made ≡ k.old.made }
 {
     match k.schedule.table.get_mut(p) {
-        Some(x) => x.body.body.body.settle(&k.program),
+        Some(x) => x.body.body.body.settle(k.program),
         None => {}
     }
 }
@@ -68,13 +68,13 @@ fn leave(k: &mut Kernel, q: u32, e: NameId)
     requires lives { Lives k.old q }
     ensures moves { MovesAt k.old k.new q (λ c i. with_left c (left_by_raise i.residual e)) }
     ensures schedule { k.new.schedule ≡ k.old.schedule }
-    ensures program { k.new.program ≡ k.old.program }
+    ensures program { k.new.program.now ≡ k.old.program.now }
     ensures sound { IsSound k.new }
     ensures made { k.new.made ≡ k.old.made }
 {
     left_calls_end();
     match k.schedule.table.get(q) {
-        Some(x) => leave_calls(&mut k.transactions, &k.program, &x.body.body.body, e),
+        Some(x) => leave_calls(&mut k.transactions, k.program, &x.body.body.body, e),
         None => {}
     }
 }
@@ -94,7 +94,7 @@ fn raise(k: &mut Kernel, q: u32, e: NameId, end: Goal) -> bool
     ensures made { k.new.made ≡ k.old.made }
 {
     match k.schedule.table.get_mut(q) {
-        Some(x) => x.body.body.body.raise(&k.program, e, end),
+        Some(x) => x.body.body.body.raise(k.program, e, end),
         None => false,
     }
 }

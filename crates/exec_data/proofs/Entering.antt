@@ -39,23 +39,23 @@ number_in (next.Goal k) = zero
 number_in next.Nothing = zero
 
 module _ (k : Kernel) (p : ℕ) (x : Entry (Process Kept)) (at : map.get k.schedule.table.live p ≡ Some x) (s b : ℕ) (shows : Shows k p s) where
-  pub shows_next : next_of (bodies.settled_in k.program x.body.body.body) ≡ residual.statement s
+  pub shows_next : next_of (bodies.settled_in k.program.now x.body.body.body) ≡ residual.statement s
   shows_next = shows x.body.body (ap (option_map (λ (z : Entry (Process Kept)). z.body.body)) at)
 
-  pub is_statement : bodies.IsStatement (bodies.next_in k.program x.body.body.body)
+  pub is_statement : bodies.IsStatement (bodies.next_in k.program.now x.body.body.body)
   is_statement = subst bodies.IsStatement (sym (ap shown shows_next)) tt
 
-  pub is_inner : Contains (blocks_of (arena_of k.program.code) s) b → (n : ℕ) → bodies.next_in k.program x.body.body.body ≡ next.Statement n → Contains (blocks_of (arena_of k.program.code) n) b
-  is_inner inner n is = subst (λ m. Contains (blocks_of (arena_of k.program.code) m) b) (ap number_in (sym (ap shown shows_next) ∙ is)) inner
+  pub is_inner : Contains (blocks_of (arena_of k.program.now.code) s) b → (n : ℕ) → bodies.next_in k.program.now x.body.body.body ≡ next.Statement n → Contains (blocks_of (arena_of k.program.now.code) n) b
+  is_inner inner n is = subst (λ m. Contains (blocks_of (arena_of k.program.now.code) m) b) (ap number_in (sym (ap shown shows_next) ∙ is)) inner
 
   module _ (c : Config) (i : Instance) (h : StandsFor k c) (there : instance_at c p ≡ Some i) where
-    pub left_is : (e : Residual) → strip e ≡ e → strip (put (settle (arena c) i.residual) e) ≡ put (bodies.settled_in k.program x.body.body.body) e
+    pub left_is : (e : Residual) → strip e ≡ e → strip (put (settle (arena c) i.residual) e) ≡ put (bodies.settled_in k.program.now x.body.body.body) e
     left_is e same = strip-put (settle (arena c) i.residual) e ∙ ap (put (strip (settle (arena c) i.residual))) same ∙ ap (λ r. put r e) (settled_before k p x at c i h there)
 
-    pub same_block : block (arena c) b ≡ block (arena_of k.program.code) b
+    pub same_block : block (arena c) b ≡ block (arena_of k.program.now.code) b
     same_block = ap (λ d. block (arena_of d.code) b) h.design
 
 -- what a statement puts around its block, once that is known
-pub around_is : (k : Kernel) (s b : ℕ) (u : Around) → around_at (arena_of k.program.code) s ≡ u → (r : Residual)
-    → put r (enclosed (arena_of k.program.code) s (around_at (arena_of k.program.code) s) (block (arena_of k.program.code) b)) ≡ put r (enclosed (arena_of k.program.code) s u (block (arena_of k.program.code) b))
-around_is k s b u is r = ap (λ v. put r (enclosed (arena_of k.program.code) s v (block (arena_of k.program.code) b))) is
+pub around_is : (k : Kernel) (s b : ℕ) (u : Around) → around_at (arena_of k.program.now.code) s ≡ u → (r : Residual)
+    → put r (enclosed (arena_of k.program.now.code) s (around_at (arena_of k.program.now.code) s) (block (arena_of k.program.now.code) b)) ≡ put r (enclosed (arena_of k.program.now.code) s u (block (arena_of k.program.now.code) b))
+around_is k s b u is r = ap (λ v. put r (enclosed (arena_of k.program.now.code) s v (block (arena_of k.program.now.code) b))) is

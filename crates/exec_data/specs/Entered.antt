@@ -8,4 +8,4 @@ use Rattle.kernel_view.specs.KernelState.declared.kernel.Kernel.{Kernel}
 
 -- statement s comes next in the body of instance p
 abbrev pub Shows : Kernel → ℕ → ℕ → Type 0
-Shows k p s = KeptAt k p (λ kept. next_of (settled_in k.program kept.body) ≡ residual.statement s)
+Shows k p s = KeptAt k p (λ kept. next_of (settled_in k.program.now kept.body) ≡ residual.statement s)

@@ -23,14 +23,14 @@ fn enter(k: &mut Kernel, p: u32, s: StmtId, b: BlockId)
     requires sound { IsSound k.old }
     requires lives { Lives k.old p }
     requires next { Shows k.old p s }
-    requires plain { around_at (arena_of k.old.program.code) s ≡ around.Nothing }
-    requires inner { Contains (blocks_of (arena_of k.old.program.code) s) b }
+    requires plain { around_at (arena_of k.old.program.now.code) s ≡ around.Nothing }
+    requires inner { Contains (blocks_of (arena_of k.old.program.now.code) s) b }
     ensures steps { Steps k.old k.new p (λ c q i r. with_residual c q (put r (block (arena c) b))) }
     ensures sound { IsSound k.new }
     ensures made { k.new.made ≡ k.old.made }
 {
     match k.schedule.table.get_mut(p) {
-        Some(x) => x.body.body.body.begin_block(&k.program, b),
+        Some(x) => x.body.body.body.begin_block(k.program, b),
         None => {}
     }
 }
@@ -40,14 +40,14 @@ fn repeat(k: &mut Kernel, p: u32, s: StmtId, b: BlockId)
     requires sound { IsSound k.old }
     requires lives { Lives k.old p }
     requires next { Shows k.old p s }
-    requires again { around_at (arena_of k.old.program.code) s ≡ around.Loop }
-    requires inner { Contains (blocks_of (arena_of k.old.program.code) s) b }
+    requires again { around_at (arena_of k.old.program.now.code) s ≡ around.Loop }
+    requires inner { Contains (blocks_of (arena_of k.old.program.now.code) s) b }
     ensures steps { Steps k.old k.new p (λ c q i r. with_residual c q (put r (followed (block (arena c) b) (s ∷ [])))) }
     ensures sound { IsSound k.new }
     ensures made { k.new.made ≡ k.old.made }
 {
     match k.schedule.table.get_mut(p) {
-        Some(x) => x.body.body.body.begin_block(&k.program, b),
+        Some(x) => x.body.body.body.begin_block(k.program, b),
         None => {}
     }
 }
@@ -58,8 +58,8 @@ fn go_round(k: &mut Kernel, p: u32, s: StmtId, b: BlockId, yes: bool)
     requires lives { Lives k.old p }
     requires statement { HasStatement k.old p }
     requires next { Shows k.old p s }
-    requires again { around_at (arena_of k.old.program.code) s ≡ around.Loop }
-    requires inner { Contains (blocks_of (arena_of k.old.program.code) s) b }
+    requires again { around_at (arena_of k.old.program.now.code) s ≡ around.Loop }
+    requires inner { Contains (blocks_of (arena_of k.old.program.now.code) s) b }
     ensures steps { Steps k.old k.new p (λ c q i r. with_residual c q (put r (looped c yes s b))) }
     ensures sound { IsSound k.new }
     ensures made { k.new.made ≡ k.old.made }
@@ -77,9 +77,9 @@ fn choose(k: &mut Kernel, p: u32, s: StmtId, b: BlockId, other: Option<BlockId>,
     requires lives { Lives k.old p }
     requires statement { HasStatement k.old p }
     requires next { Shows k.old p s }
-    requires plain { around_at (arena_of k.old.program.code) s ≡ around.Nothing }
-    requires inner { Contains (blocks_of (arena_of k.old.program.code) s) b }
-    requires other { IfSome other (Contains (blocks_of (arena_of k.old.program.code) s)) }
+    requires plain { around_at (arena_of k.old.program.now.code) s ≡ around.Nothing }
+    requires inner { Contains (blocks_of (arena_of k.old.program.now.code) s) b }
+    requires other { IfSome other (Contains (blocks_of (arena_of k.old.program.now.code) s)) }
     ensures steps { Steps k.old k.new p (λ c q i r. with_residual c q (put r (chosen c yes b other))) }
     ensures sound { IsSound k.new }
     ensures made { k.new.made ≡ k.old.made }
@@ -110,9 +110,9 @@ pub fn if_then(
     requires top { IsOnTop k.old p }
     requires statement { HasStatement k.old p }
     requires next { Shows k.old p s }
-    requires plain { around_at (arena_of k.old.program.code) s ≡ around.Nothing }
-    requires inner { Contains (blocks_of (arena_of k.old.program.code) s) b }
-    requires other { IfSome other (Contains (blocks_of (arena_of k.old.program.code) s)) }
+    requires plain { around_at (arena_of k.old.program.now.code) s ≡ around.Nothing }
+    requires inner { Contains (blocks_of (arena_of k.old.program.now.code) s) b }
+    requires other { IfSome other (Contains (blocks_of (arena_of k.old.program.now.code) s)) }
     ensures does { (e : Term) → Gives k.old p v e → Does k.old k.new result p (λ c q i r. do_if c q r (here c q i r) e b other) }
     ensures sound { IsSound k.new }
     ensures made { k.new.made ≡ k.old.made }
@@ -142,8 +142,8 @@ pub fn while_do(
     requires top { IsOnTop k.old p }
     requires statement { HasStatement k.old p }
     requires next { Shows k.old p s }
-    requires again { around_at (arena_of k.old.program.code) s ≡ around.Loop }
-    requires inner { Contains (blocks_of (arena_of k.old.program.code) s) b }
+    requires again { around_at (arena_of k.old.program.now.code) s ≡ around.Loop }
+    requires inner { Contains (blocks_of (arena_of k.old.program.now.code) s) b }
     ensures does { (e : Term) → Gives k.old p v e → Does k.old k.new result p (λ c q i r. do_while c q r (here c q i r) s e b) }
     ensures sound { IsSound k.new }
     ensures made { k.new.made ≡ k.old.made }

@@ -19,7 +19,7 @@ fn answer_nothing(k: &mut Kernel, p: u32)
     ensures sound { IsSound k.new }
 {
     match k.schedule.table.get_mut(p) {
-        Some(x) => x.body.body.body.answer(&k.program, None),
+        Some(x) => x.body.body.body.answer(k.program, None),
         None => {}
     }
 }

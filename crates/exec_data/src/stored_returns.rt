@@ -37,7 +37,7 @@ fn answer_type(k: &Kernel, p: u32) -> Option<ValueType>
     ensures { (c : Config) (i : Instance) → StandsFor k.now c → instance_at c p ≡ Some i → result ≡ calls.answer_type (arena c) (innermost (settle (arena c) i.residual)) }
 {
     match k.schedule.table.get(p) {
-        Some(x) => type_of_answers(&k.program, x.body.body.body.function(&k.program)),
+        Some(x) => type_of_answers(k.program, x.body.body.body.function(k.program)),
         None => None,
     }
 }
@@ -65,7 +65,7 @@ fn answer(k: &mut Kernel, p: u32, v: Option<Value>)
     ensures made { k.new.made ≡ k.old.made }
 {
     match k.schedule.table.get_mut(p) {
-        Some(x) => x.body.body.body.answer(&k.program, v),
+        Some(x) => x.body.body.body.answer(k.program, v),
         None => {}
     }
 }

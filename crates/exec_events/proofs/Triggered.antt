@@ -37,18 +37,18 @@ module _ (k : Kernel) (p : ℕ) (x : Entry (Process Kept)) (b : Body) (t : Trigg
   was : kept_at k.schedule p ≡ Some x.body.body
   was = ap (option_map (λ (z : Entry (Process Kept)). z.body.body)) at
 
-  pub triggered_sound : IsSound k → bodies.IsSound k.program b → IsSound (record k { schedule = triggered })
+  pub triggered_sound : IsSound k → bodies.IsSound k.program.now b → IsSound (record k { schedule = triggered })
   triggered_sound sound fine = kept_sound k p waiting triggered puts sound (puts_sound k.schedule p x waiting at sound.schedule) fine
 
   -- the residual and the next trigger of the instance are others
-  both_move : (c : Config) → StandsFor k c → (n : Residual) → strip n ≡ left_in k.program b → StandsFor (record k { schedule = triggered }) (change_instance c p (λ i. record i { residual = n; trigger = Some (trigger_of t) }))
+  both_move : (c : Config) → StandsFor k c → (n : Residual) → strip n ≡ left_in k.program.now b → StandsFor (record k { schedule = triggered }) (change_instance c p (λ i. record i { residual = n; trigger = Some (trigger_of t) }))
   both_move c h n is = processes_move k c h triggered (record c.processes { instances = change c.processes.instances p (λ i. record i { residual = n; trigger = Some (trigger_of t) }) })
-      (put_stands (Shows (whole_design k) k.program) k.schedule triggered c.processes h.processes p waiting (λ i. record i { residual = n; trigger = Some (trigger_of t) }) puts (λ i. refl) (λ i. refl) (λ i none. none) shows)
+      (put_stands (Shows (whole_design k) k.program.now) k.schedule triggered c.processes h.processes p waiting (λ i. record i { residual = n; trigger = Some (trigger_of t) }) puts (λ i. refl) (λ i. refl) (λ i none. none) shows)
     where
-      shows : (a : Kept) (i : Instance) → kept_at k.schedule p ≡ Some a → slice_get c.processes.instances p ≡ Some i → Shows (whole_design k) k.program a (beside i)
-          → Shows (whole_design k) k.program waiting (beside (record i { residual = n; trigger = Some (trigger_of t) }))
+      shows : (a : Kept) (i : Instance) → kept_at k.schedule p ≡ Some a → slice_get c.processes.instances p ≡ Some i → Shows (whole_design k) k.program.now a (beside i)
+          → Shows (whole_design k) k.program.now waiting (beside (record i { residual = n; trigger = Some (trigger_of t) }))
       shows a i found there old =
-          let o = subst (λ v. Shows (whole_design k) k.program v (beside i)) (ap (λ o. unwrap_or o x.body.body) (sym found ∙ was)) old in
+          let o = subst (λ v. Shows (whole_design k) k.program.now v (beside i)) (ap (λ o. unwrap_or o x.body.body) (sym found ∙ was)) old in
           record {
             home = o.home;
             path = subst (λ f. i.path ≡ path_in (whole_design k) x.body.body.home f x.body.body.path) (sym keeps.code) o.path;
@@ -58,7 +58,7 @@ module _ (k : Kernel) (p : ℕ) (x : Entry (Process Kept)) (b : Body) (t : Trigg
             trigger = refl;
           }
 
-  pub triggers : (c : Config) (i : Instance) → StandsFor k c → (n : Residual) → strip n ≡ left_in k.program b
+  pub triggers : (c : Config) (i : Instance) → StandsFor k c → (n : Residual) → strip n ≡ left_in k.program.now b
       → StandsFor (record k { schedule = triggered }) (change_instance (with_residual (settled_in c p i.residual) p n) p (λ j. record j { trigger = Some (trigger_of t) }))
   triggers c i h n is =
       subst (λ is. StandsFor (record k { schedule = triggered }) (record c { processes = record c.processes { instances = is }; trace = (settled_in c p i.residual).trace }))

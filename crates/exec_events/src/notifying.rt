@@ -97,7 +97,7 @@ pub fn next_trigger(k: &mut Kernel, p: u32, t: Trigger)
 {
     match k.schedule.table.get_mut(p) {
         Some(x) => {
-            x.body.body.body.past(&k.program);
+            x.body.body.body.past(k.program);
             x.body.body.trigger = Some(t);
         }
         None => {}

@@ -26,5 +26,5 @@ shown_leaves residual.nothing is = absurd cc
 
 module _ (k : Kernel) (p : ℕ) (x : Entry (Process Kept)) (at : map.get k.schedule.table.live p ≡ Some x) (c : Config) (i : Instance) (h : StandsFor k c) (there : instance_at c p ≡ Some i) where
   -- what comes next in the body is what comes next in what is left
-  pub next_is : next_of (bodies.settled_in k.program x.body.body.body) ≡ next_of (settle (arena c) i.residual)
+  pub next_is : next_of (bodies.settled_in k.program.now x.body.body.body) ≡ next_of (settle (arena c) i.residual)
   next_is = ap next_of (sym (settled_before k p x at c i h there)) ∙ strip-next (settle (arena c) i.residual)

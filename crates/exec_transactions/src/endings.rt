@@ -60,7 +60,7 @@ pub(crate) fn ending_at(k: &Kernel, p: u32) -> Ending
     ensures { Ends k.now p result }
 {
     match k.schedule.table.get(p) {
-        Some(x) => ending_in(&k.program, &x.body.body.body),
+        Some(x) => ending_in(k.program, &x.body.body.body),
         None => unreachable!(),
     }
 }

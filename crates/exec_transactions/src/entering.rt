@@ -77,7 +77,7 @@ fn enter(
         Err(EnterStop::TooDeep) => return Err(StatementStop::Fault(RunFault::FrameDepth)),
         Err(EnterStop::NoMemory) => return Err(StatementStop::NoMemory),
     }
-    let arguments = match arguments_for(&k.program, alloc, f, values) {
+    let arguments = match arguments_for(k.program, alloc, f, values) {
         Ok(arguments) => arguments,
         Err(_) => return Err(StatementStop::NoMemory),
     };

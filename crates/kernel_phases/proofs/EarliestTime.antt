@@ -101,21 +101,21 @@ is_timed (at_time t) = true
 
 module _ (k : Kernel) (c : Config) (h : StandsFor k c) where
   -- an instance with a time is shown with it
-  shown_by : (o : Option Instance) (b : Option Kept) (i : Instance) (e : Bool) (t : ℕ) → i.ended ≡ e → i.deadline ≡ at_time t → TellsBy (Shows (whole_design k) k.program) e o b i → o ≡ Some (bare i)
+  shown_by : (o : Option Instance) (b : Option Kept) (i : Instance) (e : Bool) (t : ℕ) → i.ended ≡ e → i.deadline ≡ at_time t → TellsBy (Shows (whole_design k) k.program.now) e o b i → o ≡ Some (bare i)
   shown_by o b i true t is at gone = absurd (true≢false (sym (ap is_timed (sym gone.1.1 ∙ at))))
   shown_by o b i false t is at lives = lives.shown
 
   shown_with : (q t : ℕ) → At c.processes.instances q t → (i : Instance) × ((shown_at k.schedule q ≡ Some i) × (i.deadline ≡ at_time t))
   shown_with q t there =
       let i = there.0 in
-      (bare i, (shown_by (shown_at k.schedule q) (body_at k.schedule q) i i.ended t refl there.1.1 (subst (Tells (Shows (whole_design k) k.program) (shown_at k.schedule q) (body_at k.schedule q)) there.1.0 (h.processes.each q)), there.1.1))
+      (bare i, (shown_by (shown_at k.schedule q) (body_at k.schedule q) i i.ended t refl there.1.1 (subst (Tells (Shows (whole_design k) k.program.now) (shown_at k.schedule q) (body_at k.schedule q)) there.1.0 (h.processes.each q)), there.1.1))
 
   -- and what is shown with a time is an instance with it
-  held_by : (o : Option Instance) (b : Option Kept) (j i : Instance) (e : Bool) → j.ended ≡ e → o ≡ Some i → TellsBy (Shows (whole_design k) k.program) e o b j → j.deadline ≡ i.deadline
+  held_by : (o : Option Instance) (b : Option Kept) (j i : Instance) (e : Bool) → j.ended ≡ e → o ≡ Some i → TellsBy (Shows (whole_design k) k.program.now) e o b j → j.deadline ≡ i.deadline
   held_by o b j i true is shown gone = absurd (true≢false (sym (ap is_some shown) ∙ ap is_some gone.0))
   held_by o b j i false is shown lives = ap (λ z. (unwrap_or z i).deadline) (sym lives.shown ∙ shown)
 
-  held_at : (q t : ℕ) (i : Instance) (o : Option Instance) → slice_get c.processes.instances q ≡ o → shown_at k.schedule q ≡ Some i → i.deadline ≡ at_time t → Tells (Shows (whole_design k) k.program) (shown_at k.schedule q) (body_at k.schedule q) o → At c.processes.instances q t
+  held_at : (q t : ℕ) (i : Instance) (o : Option Instance) → slice_get c.processes.instances q ≡ o → shown_at k.schedule q ≡ Some i → i.deadline ≡ at_time t → Tells (Shows (whole_design k) k.program.now) (shown_at k.schedule q) (body_at k.schedule q) o → At c.processes.instances q t
   held_at q t i None there shown at gone = absurd (true≢false (sym (ap is_some shown) ∙ ap is_some gone))
   held_at q t i (Some j) there shown at tells = (j, (there, held_by (shown_at k.schedule q) (body_at k.schedule q) j i j.ended refl shown tells ∙ at))
 

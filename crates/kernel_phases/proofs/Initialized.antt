@@ -51,10 +51,10 @@ drop_at (y ∷ xs) (suc n) x at = drop_at xs n x at
 module _ (k : Kernel) (p : ℕ) (s : Schedule Kept) (m : MovesOne p freed true same_stack k.schedule s) (lives : Lives k p) where
   runs_moves : Moves k (record k { schedule = s }) (λ c. with_runnable (change_instance c p freed) (c.processes.runnable ++ p ∷ []))
   runs_moves c h = processes_move k c h s (record c.processes { instances = change c.processes.instances p freed; runnable = c.processes.runnable ++ p ∷ [] })
-      (moved_with (Shows (whole_design k) k.program) k.schedule s c.processes h.processes p freed freed (record { bares = λ i. refl; ends = λ i. refl; shows = λ b i told. told }) true same_stack m (shown_where_lives k p lives)
+      (moved_with (Shows (whole_design k) k.program.now) k.schedule s c.processes h.processes p freed freed (record { bares = λ i. refl; ends = λ i. refl; shows = λ b i told. told }) true same_stack m (shown_where_lives k p lives)
       (record c.processes { instances = change c.processes.instances p freed; runnable = c.processes.runnable ++ p ∷ [] }) refl
       (holds_last c.processes.runnable p) (λ q apart. holds_other c.processes.runnable p q apart)
-      (stack_same (Shows (whole_design k) k.program) k.schedule s c.processes h.processes m.stack))
+      (stack_same (Shows (whole_design k) k.program.now) k.schedule s c.processes h.processes m.stack))
 
   -- who is there, and who is suspended, stays
   there_shown : (z : Schedule Kept) (q : ℕ) → map.contains_key z.table.live q ≡ is_some (shown_at z q)

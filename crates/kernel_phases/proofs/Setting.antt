@@ -51,12 +51,12 @@ module _ (k : Kernel) (between : IsBetween k) (s : Schedule Kept) (fine : schedu
 
 -- ---- instances are roused
 
-module _ (k : Kernel) (s : Schedule Kept) (f : ℕ → Bool → Instance → Instance) (joining : ℕ → Bool → Instance → Bool) (rousing : Rousing (Shows (whole_design k) k.program) f joining) where
+module _ (k : Kernel) (s : Schedule Kept) (f : ℕ → Bool → Instance → Instance) (joining : ℕ → Bool → Instance → Bool) (rousing : Rousing (Shows (whole_design k) k.program.now) f joining) where
   pub roused_moves : (F : Config → Config) → ((c : Config) → woken.Rouses f joining c (F c)) → Rouses f joining k.schedule s → Moves k (record k { schedule = s }) F
   roused_moves F does r c h = subst (StandsFor (record k { schedule = s })) (sym (does c).others)
       (processes_move k c h s (record c.processes { runnable = (F c).processes.runnable; instances = (F c).processes.instances })
-      (subst (StandsForProcesses (Shows (whole_design k) k.program) s) (ap (λ d. d.processes) (does c).others)
-      (roused_stands (Shows (whole_design k) k.program) f joining rousing k.schedule s c (F c) r (does c) h.processes)))
+      (subst (StandsForProcesses (Shows (whole_design k) k.program.now) s) (ap (λ d. d.processes) (does c).others)
+      (roused_stands (Shows (whole_design k) k.program.now) f joining rousing k.schedule s c (F c) r (does c) h.processes)))
 
 -- ---- events fire
 
@@ -85,7 +85,7 @@ one_fired e left all old k s fired fine r = record {
       let so = fired.moves c h in (
         fire so.0 (ev.Fixed e),
         (
-          roused_moves k s (λ q. after_event (ev.Fixed e)) (λ q. joins_by (ev.Fixed e)) (rousing_event (Shows (whole_design k) k.program) (ev.Fixed e)) (λ d. fire d (ev.Fixed e)) (λ d. fire_rouses d (ev.Fixed e)) r so.0 so.1.0,
+          roused_moves k s (λ q. after_event (ev.Fixed e)) (λ q. joins_by (ev.Fixed e)) (rousing_event (Shows (whole_design k) k.program.now) (ev.Fixed e)) (λ d. fire d (ev.Fixed e)) (λ d. fire_rouses d (ev.Fixed e)) r so.0 so.1.0,
           so.1.1,
         ),
       );
@@ -117,7 +117,7 @@ module _ (k : Kernel) (s : Schedule Kept) (ds : List ℕ) (w : WakesThose ds k.s
 
   pub due_wake : (due : List ℕ) → ((q : ℕ) → is_on due q ≡ is_on ds q) → Moves k (record k { schedule = s }) (wake_all due)
   due_wake due same c h =
-      let so = roused_moves k not_due (those_on ds after_wake) (those_join ds joins) (rousing_those (Shows (whole_design k) k.program) ds) (wake_all due) (wakes_same due ds same) rouses c h in
+      let so = roused_moves k not_due (those_on ds after_wake) (those_join ds joins) (rousing_those (Shows (whole_design k) k.program.now) ds) (wake_all due) (wakes_same due ds same) rouses c h in
       record {
         design = so.design;
         cycle = so.cycle;
@@ -154,7 +154,7 @@ module _ (k : Kernel) (test : Pending → Bool) (time : Deadline → Bool) (none
   taken_moves c h = record {
     design = h.design;
     cycle = h.cycle;
-    processes = taken_stands (Shows (whole_design k) k.program) time none k.schedule s takes c.processes h.processes;
+    processes = taken_stands (Shows (whole_design k) k.program.now) time none k.schedule s takes c.processes h.processes;
     parents = h.parents;
     events = ap (map (without_pending test)) h.events ∙ sym left;
     channels = h.channels;
@@ -168,4 +168,4 @@ module _ (k : Kernel) (test : Pending → Bool) (time : Deadline → Bool) (none
   pub all_set_off : (events : List ℕ) (new : Kernel) → fixed events ≡ due_events test 0 k.events → SetsOff events taken new → Moves k new (fire_due test time)
   all_set_off events new are off c h =
       subst (λ es. StandsFor new (wake_all (due_instances time 0 c.processes.instances) (fire_all es (without c)))) (are ∙ ap (due_events test 0) (sym h.events))
-      (off (without c) (due_instances time 0 c.processes.instances) (taken_moves c h) (due_same (Shows (whole_design k) k.program) time none k.schedule s takes c.processes h.processes))
+      (off (without c) (due_instances time 0 c.processes.instances) (taken_moves c h) (due_same (Shows (whole_design k) k.program.now) time none k.schedule s takes c.processes h.processes))

@@ -41,19 +41,19 @@ module _ (k : Kernel) (p : ℕ) (x : Entry (Process Kept)) (at : map.get k.sched
   kept : kept_at k.schedule p ≡ Some x.body.body
   kept = ap (option_map (λ (z : Entry (Process Kept)). z.body.body)) at
 
-  shows_by : (i : Instance) (e : Bool) → TellsBy (Shows (whole_design k) k.program) e (shown_at k.schedule p) (kept_at k.schedule p) i → Shows (whole_design k) k.program x.body.body (beside i)
+  shows_by : (i : Instance) (e : Bool) → TellsBy (Shows (whole_design k) k.program.now) e (shown_at k.schedule p) (kept_at k.schedule p) i → Shows (whole_design k) k.program.now x.body.body (beside i)
   shows_by i true gone = absurd (true≢false (sym (ap is_some shown) ∙ ap is_some gone.0))
-  shows_by i false lives = subst (λ v. Shows (whole_design k) k.program v (beside i)) (ap (λ o. unwrap_or o x.body.body) (sym lives.kept.1.0 ∙ kept)) lives.kept.1.1
+  shows_by i false lives = subst (λ v. Shows (whole_design k) k.program.now v (beside i)) (ap (λ o. unwrap_or o x.body.body) (sym lives.kept.1.0 ∙ kept)) lives.kept.1.1
 
-  started_by : (i : Instance) (e : Bool) → TellsBy (Shows (whole_design k) k.program) e (shown_at k.schedule p) (kept_at k.schedule p) i → i.started ≡ x.started
+  started_by : (i : Instance) (e : Bool) → TellsBy (Shows (whole_design k) k.program.now) e (shown_at k.schedule p) (kept_at k.schedule p) i → i.started ≡ x.started
   started_by i true gone = absurd (true≢false (sym (ap is_some shown) ∙ ap is_some gone.0))
   started_by i false lives = ap (λ o. (unwrap_or o i).started) (sym lives.shown ∙ shown)
 
   module _ (c : Config) (h : StandsFor k c) (i : Instance) (there : instance_at c p ≡ Some i) where
-    tells : TellsBy (Shows (whole_design k) k.program) i.ended (shown_at k.schedule p) (kept_at k.schedule p) i
-    tells = subst (Tells (Shows (whole_design k) k.program) (shown_at k.schedule p) (kept_at k.schedule p)) there (h.processes.each p)
+    tells : TellsBy (Shows (whole_design k) k.program.now) i.ended (shown_at k.schedule p) (kept_at k.schedule p) i
+    tells = subst (Tells (Shows (whole_design k) k.program.now) (shown_at k.schedule p) (kept_at k.schedule p)) there (h.processes.each p)
 
-    pub shows_at : Shows (whole_design k) k.program x.body.body (beside i)
+    pub shows_at : Shows (whole_design k) k.program.now x.body.body (beside i)
     shows_at = shows_by i i.ended tells
 
     pub started_at : i.started ≡ x.started
@@ -62,21 +62,21 @@ module _ (k : Kernel) (p : ℕ) (x : Entry (Process Kept)) (at : map.get k.sched
 -- ---- the body
 
 module _ (k : Kernel) (p : ℕ) (x : Entry (Process Kept)) (b : Body) (at : map.get k.schedule.table.live p ≡ Some x) (keeps : bodies.Keeps x.body.body.body b) where
-  pub restarts_at : left_in k.program b ≡ begun (arena_of k.program.code) x.body.body.body.calls.code x.body.body.body.calls.arguments.items
+  pub restarts_at : left_in k.program.now b ≡ begun (arena_of k.program.now.code) x.body.body.body.calls.code x.body.body.body.calls.arguments.items
       → MovesAt k (record k { schedule = with_body k p x b at keeps }) p (λ c i. with_residual c p (begun (arena c) i.code i.arguments))
   restarts_at left c i h there =
       let s = shows_at k p x at c h i there in
       residual_moves k p x.body.body b (kept k p x at) (with_body k p x b at keeps) (puts_body k.schedule p x (record x.body.body { body = b }) at) keeps c h (begun (arena c) i.code i.arguments)
-      (strip-entered (arena c) i.code i.arguments None None ∙ ap (λ d. begun (arena_of d.code) i.code i.arguments) h.design ∙ ap (λ n. begun (arena_of k.program.code) n i.arguments) s.code ∙ ap (begun (arena_of k.program.code) x.body.body.body.calls.code) s.arguments ∙ sym left)
+      (strip-entered (arena c) i.code i.arguments None None ∙ ap (λ d. begun (arena_of d.code) i.code i.arguments) h.design ∙ ap (λ n. begun (arena_of k.program.now.code) n i.arguments) s.code ∙ ap (begun (arena_of k.program.now.code) x.body.body.body.calls.code) s.arguments ∙ sym left)
 
 -- and it has begun
 module _ (k : Kernel) (p : ℕ) (s : Schedule Kept) (m : MovesOne p (started_as true) (set.contains k.schedule.ready.members p) same_stack k.schedule s) (lives : Lives k p) where
   pub starts : Moves k (record k { schedule = s }) (λ c. change_instance c p (λ j. record j { started = true }))
   starts c h = processes_move k c h s (record c.processes { instances = change c.processes.instances p (started_as true) })
-      (moved_with (Shows (whole_design k) k.program) k.schedule s c.processes h.processes p (started_as true) (started_as true) (record { bares = λ i. refl; ends = λ i. refl; shows = λ b i told. told })
+      (moved_with (Shows (whole_design k) k.program.now) k.schedule s c.processes h.processes p (started_as true) (started_as true) (record { bares = λ i. refl; ends = λ i. refl; shows = λ b i told. told })
       (set.contains k.schedule.ready.members p) same_stack m (shown_where_lives k p lives)
       (record c.processes { instances = change c.processes.instances p (started_as true) }) refl (sym (h.processes.ready p)) (λ q apart. refl)
-      (stack_same (Shows (whole_design k) k.program) k.schedule s c.processes h.processes m.stack))
+      (stack_same (Shows (whole_design k) k.program.now) k.schedule s c.processes h.processes m.stack))
 
 pub begins_at : (k j l : Kernel) (p : ℕ) → MovesAt k j p (λ c i. with_residual c p (begun (arena c) i.code i.arguments)) → Moves j l (λ c. change_instance c p (λ i. record i { started = true })) → MovesAt k l p (λ c i. begins c p i)
 begins_at k j l p first next c i h there = subst (λ is. StandsFor l (record c { processes = record c.processes { instances = is } }))
@@ -142,10 +142,10 @@ module _ (k : Kernel) (p : ℕ) (sound : IsSound k) (runs : set.contains k.sched
 
   pub takes_moves : Moves k (record k { schedule = s }) (λ c. with_stack (with_runnable c (without c.processes.runnable p)) (p ∷ []))
   takes_moves c h = processes_move k c h s (record c.processes { runnable = without c.processes.runnable p; stack = p ∷ [] })
-      (moved_with (Shows (whole_design k) k.program) k.schedule s c.processes h.processes p (λ i. i) (λ i. i) (record { bares = λ i. refl; ends = λ i. refl; shows = λ b i told. told })
+      (moved_with (Shows (whole_design k) k.program.now) k.schedule s c.processes h.processes p (λ i. i) (λ i. i) (record { bares = λ i. refl; ends = λ i. refl; shows = λ b i told. told })
       false (joins_top p) m (shown_where_lives k p (runnable_lives k p sound runs))
       (record c.processes { runnable = without c.processes.runnable p; stack = p ∷ [] }) (sym (same_change c.processes.instances)) (lacks_itself c.processes.runnable p) (λ q apart. has_others c.processes.runnable p q apart)
-      (ap (λ xs. p ∷ xs) (sym (h.processes.stack ∙ ap reverse nobody)) ∙ stack_joined (Shows (whole_design k) k.program) k.schedule s c.processes h.processes p m.stack))
+      (ap (λ xs. p ∷ xs) (sym (h.processes.stack ∙ ap reverse nobody)) ∙ stack_joined (Shows (whole_design k) k.program.now) k.schedule s c.processes h.processes p m.stack))
 
 -- ---- all of a turn
 
@@ -153,7 +153,7 @@ module _ (k : Kernel) (p : ℕ) (sound : IsSound k) (runs : set.contains k.sched
 pub instance_there : (k : Kernel) (c : Config) → StandsFor k c → (p : ℕ) → Lives k p → (i : Instance) × (instance_at c p ≡ Some i)
 instance_there k c h p lives = by (slice_get c.processes.instances p) refl (h.processes.each p)
   where
-    by : (o : Option Instance) → slice_get c.processes.instances p ≡ o → Tells (Shows (whole_design k) k.program) (shown_at k.schedule p) (kept_at k.schedule p) o → (i : Instance) × (instance_at c p ≡ Some i)
+    by : (o : Option Instance) → slice_get c.processes.instances p ≡ o → Tells (Shows (whole_design k) k.program.now) (shown_at k.schedule p) (kept_at k.schedule p) o → (i : Instance) × (instance_at c p ≡ Some i)
     by None at none = absurd (true≢false (sym lives ∙ there_shown k.schedule p ∙ ap is_some none))
     by (Some i) at _ = (i, at)
 

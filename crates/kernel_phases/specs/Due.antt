@@ -15,7 +15,7 @@ use Rattle.kernel_state.specs.declared.kernel.Kernel.{Kernel}
 -- a sound kernel, but for instances that are due
 pub record IsBetween (k : Kernel) : Type 0 where
   pub schedule : schedules.IsSound k.schedule
-  pub bodies : (p : ℕ) (kept : Kept) → body_at k.schedule p ≡ Some kept → bodies.IsSound k.program kept.body
+  pub bodies : (p : ℕ) (kept : Kept) → body_at k.schedule p ≡ Some kept → bodies.IsSound k.program.now kept.body
   pub serials : k.schedule.table.next ≤ 2 ^ 16 + k.made
   pub payloads : IsWithin k.made k.transactions
 

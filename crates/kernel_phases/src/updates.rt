@@ -28,7 +28,7 @@ pub(crate) fn update_channels(k: &mut Kernel)
     ensures many { length k.new.events ≡ length k.old.events }
     ensures cycle { k.new.cycle ≡ k.old.cycle }
     ensures design { k.new.design ≡ k.old.design }
-    ensures program { k.new.program ≡ k.old.program }
+    ensures program { k.new.program.now ≡ k.old.program.now }
     ensures sound { IsSound k.new }
     ensures made { k.new.made ≡ k.old.made }
 {

@@ -42,7 +42,7 @@ lives_there k c p h lives = by (instance_at c p) refl
   where
     by : (o : Option Instance) → instance_at c p ≡ o → is_some o ≡ true
     by None none =
-        let ended : shown_at k.schedule p ≡ None = subst (λ o. Tells (Shows (whole_design k) k.program) (shown_at k.schedule p) (kept_at k.schedule p) o) none (h.processes.each p) in
+        let ended : shown_at k.schedule p ≡ None = subst (λ o. Tells (Shows (whole_design k) k.program.now) (shown_at k.schedule p) (kept_at k.schedule p) o) none (h.processes.each p) in
         absurd (true≢false (sym (shown_where_lives k p lives) ∙ ap is_some ended))
     by (Some i) some = refl
 

@@ -181,7 +181,7 @@ within_prop n b x y = λ i. record {
 pub sound_prop : (k : Kernel) → IsProp (IsSound k)
 sound_prop k x y = λ i. record {
   schedule = schedule_prop k.schedule x.schedule y.schedule i;
-  bodies = Π_prop (λ p. Π_prop (λ kept. Π_prop (λ _. body_prop k.program kept.body))) x.bodies y.bodies i;
+  bodies = Π_prop (λ p. Π_prop (λ kept. Π_prop (λ _. body_prop k.program.now kept.body))) x.bodies y.bodies i;
   nobody_due = list_prop _ _ x.nobody_due y.nobody_due i;
   serials = le_prop x.serials y.serials i;
   payloads = within_prop k.made k.transactions x.payloads y.payloads i;

@@ -8,8 +8,8 @@ use kernel_state::Kernel;
 /// clean configuration, of one in which nothing that has ended is named (`parts_are_clean` says what that comes to), and each
 /// body has the room that it may need. Whatever changes the kernel leaves it so.
 #[derive(Drop)]
-pub struct SoundKernel {
+pub struct SoundKernel<'d> {
     /// The kernel.
-    pub kernel: Kernel,
+    pub kernel: Kernel<'d>,
     ghost sound: { IsSound kernel } by { sound_prop kernel },
 }

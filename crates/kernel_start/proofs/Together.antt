@@ -1,5 +1,6 @@
 -- The parts that a kernel begins with, together.
 use Rattle.std.proofs.Common.{◌≡◌, ◌≤◌, ℕ, List, [], length, map, replicate, Option, None, refl, sym, ap, ◌∙◌, subst, arith}
+use Rattle.std.specs.Borrow.{Bor}
 use Rattle.kernel_state.specs.InstanceTable.declared.TheConstants.{MAX_LIVE}
 use Rattle.kernel_state.specs.EventCore.declared.notifications.Pending.TheVariants as pending
 use Rattle.kernel_state.specs.QuantumKeeper.Keepers.{at_start}
@@ -20,32 +21,31 @@ use Rattle.kernel_state.specs.declared.kernel.Kernel.{Kernel}
 use Rattle.kernel_start.specs.Made.{IsMade, AddsAll, first_cycle, no_parents}
 use Rattle.kernel_start.specs.declared.parts.First.{First}
 
-module _ (x : Design) (program : Program) (cycle : Cycle) (s : Schedule Kept) (f : First) where
+module _ (x : Design) (program : Bor Program) (cycle : Cycle) (s : Schedule Kept) (f : First) where
   abbrev pub together : Kernel
   together = record { design = x; program = program; cycle = cycle; schedule = s; parents = f.parents; events = f.events; channels = f.channels; transactions = f.transactions; variables = f.variables; memories = f.memories; made = 0 }
 
-  -- x is the design d with other code, and the program has the code of d
-  module _ (d : Design) (parted : x ≡ record d { code = x.code }) (same : program.code ≡ d.code) (first : cycle_of cycle ≡ first_cycle)
-      (ps : List ProcessPart) (processes : AddsAll program ps s) (listed : ps ≡ x.processes)
-      (parents : f.parents.items ≡ no_parents d.processes)
-      (events : f.events ≡ replicate d.events pending.Nothing) (channels : f.channels ≡ first_channels d)
-      (transactions : StandsForTransactions f.transactions (record { pool = []; hops = replicate (length d.hops) [] })) (quantum : StandsForQuantum f.transactions (record { keepers = replicate d.keepers at_start; global = 0 }))
-      (variables : f.variables.items ≡ map (λ (p : VariablePart). p.initial) d.variables) (memories : f.memories.items ≡ map (λ (p : MemoryPart). replicate p.size 0) d.memories) where
-    whole : record x { code = program.code } ≡ d
-    whole = ap {A = Design} (λ y. record y { code = program.code }) parted ∙ ap (λ y. record d { code = y }) same
+  -- the design with this code
+  abbrev pub whole : Design
+  whole = record x { code = program.now.code }
 
+  module _ (first : cycle_of cycle ≡ first_cycle)
+      (ps : List ProcessPart) (processes : AddsAll program.now ps s) (listed : ps ≡ x.processes)
+      (parents : f.parents.items ≡ no_parents x.processes)
+      (events : f.events ≡ replicate x.events pending.Nothing) (channels : f.channels ≡ first_channels x)
+      (transactions : StandsForTransactions f.transactions (record { pool = []; hops = replicate (length x.hops) [] })) (quantum : StandsForQuantum f.transactions (record { keepers = replicate x.keepers at_start; global = 0 }))
+      (variables : f.variables.items ≡ map (λ (p : VariablePart). p.initial) x.variables) (memories : f.memories.items ≡ map (λ (p : MemoryPart). replicate p.size 0) x.memories) where
     first_parents : List (Option ℕ)
-    first_parents = map (λ (p : ProcessPart). None) d.processes
+    first_parents = map (λ (p : ProcessPart). None) x.processes
 
-    first_ones : StandsForProcesses (Shows (record x { code = program.code }) program) s (record { runnable = []; stack = []; instances = map (first_instance d) d.processes; parents = first_parents })
-    first_ones = subst (λ (y : Design). StandsForProcesses (Shows (record x { code = program.code }) program) s (record { runnable = []; stack = []; instances = map (first_instance y) d.processes; parents = first_parents })) whole
-        (subst (λ ys. StandsForProcesses (Shows (record x { code = program.code }) program) s (record { runnable = []; stack = []; instances = map (first_instance (record x { code = program.code })) ys; parents = first_parents })) (listed ∙ ap (λ (y : Design). y.processes) parted)
-        (processes (record x { code = program.code }) first_parents refl))
+    first_ones : StandsForProcesses (Shows whole program.now) s (record { runnable = []; stack = []; instances = map (first_instance whole) x.processes; parents = first_parents })
+    first_ones = subst (λ ys. StandsForProcesses (Shows whole program.now) s (record { runnable = []; stack = []; instances = map (first_instance whole) ys; parents = first_parents })) listed
+        (processes whole first_parents refl)
 
-    pub first_stands : (script : List Command) → StandsFor together (start d script)
+    pub first_stands : (script : List Command) → StandsFor together (start whole script)
     unfolding first_parents
     first_stands script = record {
-      design = sym whole;
+      design = refl;
       cycle = sym first;
       processes = first_ones;
       parents = sym parents;
@@ -57,7 +57,7 @@ module _ (x : Design) (program : Program) (cycle : Cycle) (s : Schedule Kept) (f
       memories = sym memories;
     }
 
-  pub first_sound : (ps : List ProcessPart) → IsMade program s → s.table.next ≡ length ps → length ps ≤ MAX_LIVE → IsWithin 0 f.transactions → IsSound together
+  pub first_sound : (ps : List ProcessPart) → IsMade program.now s → s.table.next ≡ length ps → length ps ≤ MAX_LIVE → IsWithin 0 f.transactions → IsSound together
   first_sound ps made next few within = record {
     schedule = made.schedule;
     bodies = made.bodies;

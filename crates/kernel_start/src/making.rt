@@ -22,12 +22,10 @@ use kernel_state::{Cycle, Kept, Kernel};
 use std::alloc::{AllocError, Global};
 use std::mem;
 
-/// A design and its code, apart.
+/// A design and its code as it stands in it, apart.
 #[derive(Drop)]
 struct Parted {
-    /// The design, with other code.
     design: Design,
-    /// Its code.
     code: Code,
 }
 
@@ -40,7 +38,7 @@ fn no_code(alloc: Global) -> Code {
     }
 }
 
-/// Takes the code out of a design.
+/// The code of a design is taken out of it, as it stands.
 fn without_code(alloc: Global, design: Design) -> Parted
     ensures code { result.code ≡ design.code }
     ensures others { result.design ≡ record design { code = result.design.code } }
@@ -65,7 +63,7 @@ fn first_cycle() -> Cycle
 }
 
 /// The parts together, Idle at time 0.
-fn assembled(design: Design, program: Program, schedule: Schedule<Kept>, first: First) -> Kernel
+fn assembled(design: Design, program: &Program, schedule: Schedule<Kept>, first: First) -> Kernel
     ensures parts { result ≡ record { design = design; program = program; cycle = result.cycle; schedule = schedule; parents = first.parents; events = first.events; channels = first.channels; transactions = first.transactions; variables = first.variables; memories = first.memories; made = 0 } }
     ensures cycle { cycle_of result.cycle ≡ first_cycle }
 {
@@ -92,24 +90,43 @@ fn assembled(design: Design, program: Program, schedule: Schedule<Kept>, first: 
     }
 }
 
-/// The kernel of a sound design before the first command: no run has begun, it is time 0, and each value is the first. Its parts
-/// agree, as its type states.
-pub fn first_kernel(alloc: Global, design: Design) -> Result<SoundKernel, AllocError>
-    requires nested { (b j : ℕ) (s : code.Statement) → IsIn (arena_of design.code) b s → Contains (inner_blocks s) j → j < b }
+/// A design and its code, apart.
+#[derive(Drop)]
+pub struct Apart {
+    /// The design, with other code.
+    pub design: Design,
+    /// Its code.
+    pub program: Program,
+}
+
+/// Takes the code out of a design.
+pub fn apart(alloc: Global, design: Design) -> Result<Apart, AllocError>
+    requires { (b j : ℕ) (s : code.Statement) → IsIn (arena_of design.code) b s → Contains (inner_blocks s) j → j < b }
+    ensures { IfOk result (λ x. record x.design { code = x.program.code } ≡ design) }
+{
+    let Parted { design, code } = without_code(alloc, design);
+    match Program::new(alloc, code) {
+        Ok(program) => Ok(Apart { design, program }),
+        Err(_) => Err(AllocError),
+    }
+}
+
+/// The kernel of a sound design before the first command, over the code of the design: no run has begun, it is time 0, and each
+/// value is the first. Its parts agree, as its type states.
+pub fn first_kernel(
+    alloc: Global,
+    design: Design,
+    program: &Program,
+) -> Result<SoundKernel, AllocError>
     requires few { length design.processes ≤ MAX_LIVE }
-    ensures first { IfOk result (λ k. (script : List Command) → StandsFor k.kernel (start design script)) }
+    ensures first { IfOk result (λ k. (script : List Command) → StandsFor k.kernel (start (record design { code = program.now.code }) script)) }
     ensures made { IfOk result (λ k. k.kernel.made ≡ 0) }
 {
     let first = match first_parts(alloc, &design) {
         Ok(first) => first,
         Err(_) => return Err(AllocError),
     };
-    let Parted { design, code } = without_code(alloc, design);
-    let program = match Program::new(alloc, code) {
-        Ok(program) => program,
-        Err(_) => return Err(AllocError),
-    };
-    match first_processes(alloc, &program, design.processes.as_slice()) {
+    match first_processes(alloc, program, design.processes.as_slice()) {
         Ok(schedule) => Ok(SoundKernel {
             kernel: assembled(design, program, schedule, first),
         }),

@@ -69,11 +69,11 @@ module _ (k : Kernel) (c : Config) (h : StandsFor k c) where
   as_shown : (q : ℕ) → is_some (map.get k.schedule.table.live q) ≡ is_some (shown_at k.schedule q)
   as_shown q = sym (there_as (λ (z : Entry (Process Kept)). as_instance z (seen k.schedule q).wait) (map.get k.schedule.table.live q))
 
-  alive_by : (q : ℕ) (e : Bool) (i : Instance) → TellsBy (Shows (whole_design k) k.program) e (shown_at k.schedule q) (kept_at k.schedule q) i → is_some (map.get k.schedule.table.live q) ≡ not e
+  alive_by : (q : ℕ) (e : Bool) (i : Instance) → TellsBy (Shows (whole_design k) k.program.now) e (shown_at k.schedule q) (kept_at k.schedule q) i → is_some (map.get k.schedule.table.live q) ≡ not e
   alive_by q true i tells = as_shown q ∙ ap is_some tells.0
   alive_by q false i tells = as_shown q ∙ ap is_some tells.shown
 
-  alive_at : (q : ℕ) (o : Option Instance) → Tells (Shows (whole_design k) k.program) (shown_at k.schedule q) (kept_at k.schedule q) o → is_some (map.get k.schedule.table.live q) ≡ lives_in o
+  alive_at : (q : ℕ) (o : Option Instance) → Tells (Shows (whole_design k) k.program.now) (shown_at k.schedule q) (kept_at k.schedule q) o → is_some (map.get k.schedule.table.live q) ≡ lives_in o
   alive_at q None none = as_shown q ∙ ap is_some none
   alive_at q (Some i) tells = alive_by q i.ended i tells
 

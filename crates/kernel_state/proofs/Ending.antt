@@ -28,18 +28,18 @@ module _ (k : Kernel) (c : Config) (h : StandsFor k c) (q : ℕ) where
   pub alive_in : Lives k q → (i : Instance) × ((instance_at c q ≡ Some i) × (i.ended ≡ false))
   alive_in lives = by (instance_at c q) refl (h.processes.each q)
     where
-      by : (o : Option Instance) → instance_at c q ≡ o → Tells (Shows (whole_design k) k.program) (shown_at k.schedule q) (kept_at k.schedule q) o → (i : Instance) × ((instance_at c q ≡ Some i) × (i.ended ≡ false))
+      by : (o : Option Instance) → instance_at c q ≡ o → Tells (Shows (whole_design k) k.program.now) (shown_at k.schedule q) (kept_at k.schedule q) o → (i : Instance) × ((instance_at c q ≡ Some i) × (i.ended ≡ false))
       by None at none = absurd (true≢false (sym (shown_where_lives k q lives) ∙ ap is_some none))
-      by (Some i) at tells = (i, (at, lives_that_shows (Shows (whole_design k) k.program) (shown_at k.schedule q) (kept_at k.schedule q) (Some i) (shown_where_lives k q lives) tells i refl))
+      by (Some i) at tells = (i, (at, lives_that_shows (Shows (whole_design k) k.program.now) (shown_at k.schedule q) (kept_at k.schedule q) (Some i) (shown_where_lives k q lives) tells i refl))
 
   pub over_in : map.contains_key k.schedule.table.live q ≡ false → (f : Instance → Result Config RunFault) → unless_ended c (instance_at c q) f ≡ Ok c
   over_in none f = by (instance_at c q) refl (h.processes.each q)
     where
-      by_end : (i : Instance) (e : Bool) → i.ended ≡ e → TellsBy (Shows (whole_design k) k.program) e (shown_at k.schedule q) (kept_at k.schedule q) i → (if i.ended then Ok c else f i) ≡ Ok c
+      by_end : (i : Instance) (e : Bool) → i.ended ≡ e → TellsBy (Shows (whole_design k) k.program.now) e (shown_at k.schedule q) (kept_at k.schedule q) i → (if i.ended then Ok c else f i) ≡ Ok c
       by_end i true is tells = ap (λ b. if b then Ok c else f i) is
       by_end i false is tells = absurd (true≢false (sym (lives_by_kept k.schedule q tells.kept.0 tells.kept.1.0) ∙ none))
 
-      by : (o : Option Instance) → instance_at c q ≡ o → Tells (Shows (whole_design k) k.program) (shown_at k.schedule q) (kept_at k.schedule q) o → unless_ended c (instance_at c q) f ≡ Ok c
+      by : (o : Option Instance) → instance_at c q ≡ o → Tells (Shows (whole_design k) k.program.now) (shown_at k.schedule q) (kept_at k.schedule q) o → unless_ended c (instance_at c q) f ≡ Ok c
       by None at tells = ap (λ o. unless_ended c o f) at
       by (Some i) at tells = ap (λ o. unless_ended c o f) at ∙ by_end i i.ended refl tells
 

@@ -75,7 +75,7 @@ change-twice xs n f g = change-twice_by xs n f g (slice_get xs n) refl
 
 module _ (k : Kernel) (c : Config) (h : StandsFor k c) where
   -- the parents stay
-  pub processes_move : (s : Schedule Kept) (x : Processes) → StandsForProcesses (Shows (whole_design k) k.program) s x → StandsFor (record k { schedule = s }) (record c { processes = record x { parents = c.processes.parents } })
+  pub processes_move : (s : Schedule Kept) (x : Processes) → StandsForProcesses (Shows (whole_design k) k.program.now) s x → StandsFor (record k { schedule = s }) (record c { processes = record x { parents = c.processes.parents } })
   processes_move s x stands = record {
     design = h.design;
     cycle = h.cycle;
@@ -176,11 +176,11 @@ module _ (k : Kernel) (sound : IsSound k) where
 -- ---- what is kept for an instance
 
 module _ (k : Kernel) (p : ℕ) (new : Kept) (s : Schedule Kept) (puts : PutsBody p new k.schedule s) where
-  pub kept_sound : IsSound k → schedules.IsSound s → bodies.IsSound k.program new.body → IsSound (record k { schedule = s })
+  pub kept_sound : IsSound k → schedules.IsSound s → bodies.IsSound k.program.now new.body → IsSound (record k { schedule = s })
   kept_sound sound fine body_fine = record {
     schedule = fine;
     bodies = λ q other found. ⊎_elim
-        (λ same. subst (λ v. bodies.IsSound k.program v.body) (ap (λ o. unwrap o new) (sym (puts.body) ∙ ap (kept_at s) (sym same) ∙ found)) body_fine)
+        (λ same. subst (λ v. bodies.IsSound k.program.now v.body) (ap (λ o. unwrap o new) (sym (puts.body) ∙ ap (kept_at s) (sym same) ∙ found)) body_fine)
         (λ apart. sound.bodies q other (sym (puts.bodies q apart) ∙ found))
         (cases_eq q p);
     nobody_due = ap (λ v. v.items) puts.due ∙ sound.nobody_due;
@@ -192,15 +192,15 @@ module _ (k : Kernel) (p : ℕ) (new : Kept) (s : Schedule Kept) (puts : PutsBod
 
 module _ (k : Kernel) (p : ℕ) (kept : Kept) (b : Body) (at : kept_at k.schedule p ≡ Some kept) (s : Schedule Kept) (puts : PutsBody p (record kept { body = b }) k.schedule s) (keeps : bodies.Keeps kept.body b) where
   -- the residual of the instance becomes what its body stands for
-  pub residual_moves : (c : Config) → StandsFor k c → (n : Residual) → strip n ≡ left_in k.program b → StandsFor (record k { schedule = s }) (with_residual c p n)
+  pub residual_moves : (c : Config) → StandsFor k c → (n : Residual) → strip n ≡ left_in k.program.now b → StandsFor (record k { schedule = s }) (with_residual c p n)
   residual_moves c h n is = processes_move k c h s (record c.processes { instances = change c.processes.instances p (λ i. record i { residual = n }) })
-      (put_stands (Shows (whole_design k) k.program) k.schedule s c.processes h.processes p (record kept { body = b }) (λ i. record i { residual = n }) puts (λ i. refl) (λ i. refl) (λ i none. none) shows)
+      (put_stands (Shows (whole_design k) k.program.now) k.schedule s c.processes h.processes p (record kept { body = b }) (λ i. record i { residual = n }) puts (λ i. refl) (λ i. refl) (λ i none. none) shows)
     where
-      shows : (a : Kept) (i : Instance) → kept_at k.schedule p ≡ Some a → slice_get c.processes.instances p ≡ Some i → Shows (whole_design k) k.program a (beside i)
-          → Shows (whole_design k) k.program (record kept { body = b }) (beside (record i { residual = n }))
+      shows : (a : Kept) (i : Instance) → kept_at k.schedule p ≡ Some a → slice_get c.processes.instances p ≡ Some i → Shows (whole_design k) k.program.now a (beside i)
+          → Shows (whole_design k) k.program.now (record kept { body = b }) (beside (record i { residual = n }))
       shows a i found there old =
           let same : a ≡ kept = ap (λ o. unwrap o kept) (sym found ∙ at) in
-          let o = subst (λ v. Shows (whole_design k) k.program v (beside i)) same old in
+          let o = subst (λ v. Shows (whole_design k) k.program.now v (beside i)) same old in
           record {
             home = o.home;
             path = subst (λ f. i.path ≡ path_in (whole_design k) kept.home f kept.path) (sym keeps.code) o.path;
@@ -216,26 +216,26 @@ module _ (k : Kernel) (p : ℕ) (x : Entry (Process Kept)) (at : map.get k.sched
   pub was : kept_at k.schedule p ≡ Some x.body.body
   was = ap (option_map (λ (z : Entry (Process Kept)). z.body.body)) at
 
-  pub old_body_sound : IsSound k → bodies.IsSound k.program x.body.body.body
+  pub old_body_sound : IsSound k → bodies.IsSound k.program.now x.body.body.body
   old_body_sound sound = sound.bodies p x.body.body was
 
   -- what the body stood for
-  pub left_before : (c : Config) (i : Instance) → StandsFor k c → instance_at c p ≡ Some i → strip i.residual ≡ left_in k.program x.body.body.body
+  pub left_before : (c : Config) (i : Instance) → StandsFor k c → instance_at c p ≡ Some i → strip i.residual ≡ left_in k.program.now x.body.body.body
   left_before c i h there = (shown_before c i h there).residual
     where
-      shown_before : (c : Config) (i : Instance) → StandsFor k c → instance_at c p ≡ Some i → Shows (whole_design k) k.program x.body.body (beside i)
-      shown_before c i h there = by i.ended refl (subst (Tells (Shows (whole_design k) k.program) (shown_at k.schedule p) (kept_at k.schedule p)) there (h.processes.each p))
+      shown_before : (c : Config) (i : Instance) → StandsFor k c → instance_at c p ≡ Some i → Shows (whole_design k) k.program.now x.body.body (beside i)
+      shown_before c i h there = by i.ended refl (subst (Tells (Shows (whole_design k) k.program.now) (shown_at k.schedule p) (kept_at k.schedule p)) there (h.processes.each p))
         where
-          by : (e : Bool) → i.ended ≡ e → TellsBy (Shows (whole_design k) k.program) i.ended (shown_at k.schedule p) (kept_at k.schedule p) i → Shows (whole_design k) k.program x.body.body (beside i)
-          by e is tells = live_shows e (subst (λ b. TellsBy (Shows (whole_design k) k.program) b (shown_at k.schedule p) (kept_at k.schedule p) i) is tells)
+          by : (e : Bool) → i.ended ≡ e → TellsBy (Shows (whole_design k) k.program.now) i.ended (shown_at k.schedule p) (kept_at k.schedule p) i → Shows (whole_design k) k.program.now x.body.body (beside i)
+          by e is tells = live_shows e (subst (λ b. TellsBy (Shows (whole_design k) k.program.now) b (shown_at k.schedule p) (kept_at k.schedule p) i) is tells)
             where
-              live_shows : (e : Bool) → TellsBy (Shows (whole_design k) k.program) e (shown_at k.schedule p) (kept_at k.schedule p) i → Shows (whole_design k) k.program x.body.body (beside i)
+              live_shows : (e : Bool) → TellsBy (Shows (whole_design k) k.program.now) e (shown_at k.schedule p) (kept_at k.schedule p) i → Shows (whole_design k) k.program.now x.body.body (beside i)
               live_shows true none = absurd (true≢false (ap is_some (sym (ap (option_map (λ (z : Entry (Process Kept)). as_instance z (seen k.schedule p).wait)) at) ∙ none.0)))
-              live_shows false lives = subst (λ v. Shows (whole_design k) k.program v (beside i)) (ap (λ o. unwrap o x.body.body) (sym lives.kept.1.0 ∙ was)) lives.kept.1.1
+              live_shows false lives = subst (λ v. Shows (whole_design k) k.program.now v (beside i)) (ap (λ o. unwrap o x.body.body) (sym lives.kept.1.0 ∙ was)) lives.kept.1.1
 
   -- and what it stands for settled, in the words of the configuration
-  pub settled_before : (c : Config) (i : Instance) → StandsFor k c → instance_at c p ≡ Some i → strip (settle (arena c) i.residual) ≡ bodies.settled_in k.program x.body.body.body
-  settled_before c i h there = strip-settle (arena c) i.residual ∙ ap (settle (arena c)) (left_before c i h there) ∙ ap (λ d. settle (arena_of d.code) (left_in k.program x.body.body.body)) h.design
+  pub settled_before : (c : Config) (i : Instance) → StandsFor k c → instance_at c p ≡ Some i → strip (settle (arena c) i.residual) ≡ bodies.settled_in k.program.now x.body.body.body
+  settled_before c i h there = strip-settle (arena c) i.residual ∙ ap (settle (arena c)) (left_before c i h there) ∙ ap (λ d. settle (arena_of d.code) (left_in k.program.now x.body.body.body)) h.design
 
 -- ---- the first move of a step: another residual in place of the settled one
 
@@ -246,11 +246,11 @@ module _ (k : Kernel) (p : ℕ) (x : Entry (Process Kept)) (b : Body) (at : map.
   puts : PutsBody p (record x.body.body { body = b }) k.schedule with_body
   puts = puts_body k.schedule p x (record x.body.body { body = b }) at
 
-  pub one_body_sound : IsSound k → bodies.IsSound k.program b → IsSound (record k { schedule = with_body })
+  pub one_body_sound : IsSound k → bodies.IsSound k.program.now b → IsSound (record k { schedule = with_body })
   one_body_sound sound fine = kept_sound k p (record x.body.body { body = b }) with_body puts sound (puts_sound k.schedule p x (record x.body.body { body = b }) at sound.schedule) fine
 
   -- over the configuration in which finished parts fell away
-  pub steps_to : (c : Config) (i : Instance) → StandsFor k c → instance_at c p ≡ Some i → (n : Residual) → strip n ≡ left_in k.program b
+  pub steps_to : (c : Config) (i : Instance) → StandsFor k c → instance_at c p ≡ Some i → (n : Residual) → strip n ≡ left_in k.program.now b
       → StandsFor (record k { schedule = with_body }) (with_residual (settled_in c p i.residual) p n)
   steps_to c i h there n is =
       subst (λ is. StandsFor (record k { schedule = with_body }) (record (with_residual c p n) { processes = record c.processes { instances = is }; trace = (settled_in c p i.residual).trace }))
@@ -260,15 +260,15 @@ module _ (k : Kernel) (p : ℕ) (x : Entry (Process Kept)) (b : Body) (at : map.
   -- the residual becomes what a function makes of it
   pub local_moves : (n : ℕ) (v : Value) → ((a : Arena) → bodies.left_of a b ≡ in_innermost (with_local n v) (bodies.left_of a x.body.body.body)) → Moves k (record k { schedule = with_body }) (λ c. set_local c p n v)
   local_moves n v left c h = processes_move k c h with_body (record c.processes { instances = change c.processes.instances p (λ i. record i { residual = in_innermost (with_local n v) i.residual }) })
-      (put_stands (Shows (whole_design k) k.program) k.schedule with_body c.processes h.processes p (record x.body.body { body = b }) (λ i. record i { residual = in_innermost (with_local n v) i.residual }) puts (λ i. refl) (λ i. refl) (λ i none. none)
+      (put_stands (Shows (whole_design k) k.program.now) k.schedule with_body c.processes h.processes p (record x.body.body { body = b }) (λ i. record i { residual = in_innermost (with_local n v) i.residual }) puts (λ i. refl) (λ i. refl) (λ i none. none)
       (λ a i found there old.
-      let o = subst (λ w. Shows (whole_design k) k.program w (beside i)) (ap (λ o. unwrap o x.body.body) (sym found ∙ was k p x at)) old in
+      let o = subst (λ w. Shows (whole_design k) k.program.now w (beside i)) (ap (λ o. unwrap o x.body.body) (sym found ∙ was k p x at)) old in
       record {
         home = o.home;
         path = subst (λ f. i.path ≡ path_in (whole_design k) x.body.body.home f x.body.body.path) (sym keeps.code) o.path;
         code = o.code ∙ sym keeps.code;
         arguments = o.arguments ∙ sym keeps.arguments;
-        residual = strip-in_innermost (with_local n v) i.residual ∙ ap (in_innermost (with_local n v)) o.residual ∙ sym (left (arena_of k.program.code));
+        residual = strip-in_innermost (with_local n v) i.residual ∙ ap (in_innermost (with_local n v)) o.residual ∙ sym (left (arena_of k.program.now.code));
         trigger = o.trigger;
       }))
 
@@ -279,7 +279,7 @@ module _ (k : Kernel) (p : ℕ) (x : Entry (Process Kept)) (b : Body) (at : map.
   -- what is left is unwound
   pub unwound_moves : (end : Goal) → ((a : Arena) → bodies.left_of a b ≡ goal (unw (bodies.left_of a x.body.body.body)) end) → MovesAt k (record k { schedule = with_body }) p (λ c i. with_residual c p (goal (unw i.residual) end))
   unwound_moves end left c i h there = residual_moves k p x.body.body b (was k p x at) with_body puts keeps c h (goal (unw i.residual) end)
-      (ap (λ r. goal r end) (strip-unw i.residual ∙ ap unw (left_before k p x at c i h there)) ∙ sym (left (arena_of k.program.code)))
+      (ap (λ r. goal r end) (strip-unw i.residual ∙ ap unw (left_before k p x at c i h there)) ∙ sym (left (arena_of k.program.now.code)))
 
 -- ---- the next trigger of an instance is gone
 
@@ -298,9 +298,9 @@ module _ (k : Kernel) (p : ℕ) (x : Entry (Process Kept)) (at : map.get k.sched
 
   pub untriggered_moves : Moves k (record k { schedule = without_trigger }) (λ c. change_instance c p (λ i. record i { trigger = None }))
   untriggered_moves c h = processes_move k c h without_trigger (record c.processes { instances = change c.processes.instances p (λ i. record i { trigger = None }) })
-      (put_stands (Shows (whole_design k) k.program) k.schedule without_trigger c.processes h.processes p (record x.body.body { trigger = None }) (λ i. record i { trigger = None }) puts_untriggered (λ i. refl) (λ i. refl) (λ i none. none)
+      (put_stands (Shows (whole_design k) k.program.now) k.schedule without_trigger c.processes h.processes p (record x.body.body { trigger = None }) (λ i. record i { trigger = None }) puts_untriggered (λ i. refl) (λ i. refl) (λ i none. none)
       (λ a i found there old.
-      let o = subst (λ w. Shows (whole_design k) k.program w (beside i)) (ap (λ o. unwrap o x.body.body) (sym found ∙ was k p x at)) old in
+      let o = subst (λ w. Shows (whole_design k) k.program.now w (beside i)) (ap (λ o. unwrap o x.body.body) (sym found ∙ was k p x at)) old in
       record {
         home = o.home;
         path = o.path;
@@ -320,8 +320,8 @@ module _ (k : Kernel) (sound : IsSound k) (s : Schedule Kept) (fine : schedules.
     pub fired_moves : Moves k (record k { schedule = s }) (λ c. fire c e)
     fired_moves c h = subst (StandsFor (record k { schedule = s })) (sym (fire_rouses c e).others)
         (processes_move k c h s (record c.processes { runnable = (fire c e).processes.runnable; instances = (fire c e).processes.instances })
-        (subst (StandsForProcesses (Shows (whole_design k) k.program) s) (ap (λ d. d.processes) (fire_rouses c e).others)
-        (roused_stands (Shows (whole_design k) k.program) (λ q. after_event e) (λ q. joins_by e) (rousing_event (Shows (whole_design k) k.program) e) k.schedule s c (fire c e) r (fire_rouses c e) h.processes)))
+        (subst (StandsForProcesses (Shows (whole_design k) k.program.now) s) (ap (λ d. d.processes) (fire_rouses c e).others)
+        (roused_stands (Shows (whole_design k) k.program.now) (λ q. after_event e) (λ q. joins_by e) (rousing_event (Shows (whole_design k) k.program.now) e) k.schedule s c (fire c e) r (fire_rouses c e) h.processes)))
 
   module _ (p : ℕ) (r : Rouses (at_only p after_wake) (joins_only p joins) k.schedule s) where
     pub woken_sound : IsSound (record k { schedule = s })
@@ -330,8 +330,8 @@ module _ (k : Kernel) (sound : IsSound k) (s : Schedule Kept) (fine : schedules.
     pub woken_moves : Moves k (record k { schedule = s }) (λ c. wake c p)
     woken_moves c h = subst (StandsFor (record k { schedule = s })) (sym (wake_rouses c p).others)
         (processes_move k c h s (record c.processes { runnable = (wake c p).processes.runnable; instances = (wake c p).processes.instances })
-        (subst (StandsForProcesses (Shows (whole_design k) k.program) s) (ap (λ d. d.processes) (wake_rouses c p).others)
-        (roused_stands (Shows (whole_design k) k.program) (at_only p after_wake) (joins_only p joins) (rousing_wake (Shows (whole_design k) k.program) p) k.schedule s c (wake c p) r (wake_rouses c p) h.processes)))
+        (subst (StandsForProcesses (Shows (whole_design k) k.program.now) s) (ap (λ d. d.processes) (wake_rouses c p).others)
+        (roused_stands (Shows (whole_design k) k.program.now) (at_only p after_wake) (joins_only p joins) (rousing_wake (Shows (whole_design k) k.program.now) p) k.schedule s c (wake c p) r (wake_rouses c p) h.processes)))
 
 -- ---- an instance that has not ended is shown
 
@@ -366,7 +366,7 @@ module _ (k : Kernel) (p : ℕ) (sound : IsSound k) (top : IsTop p k.schedule.st
     stays_sound st = schedule_sound k sound s fine st.bodies st.due st.next
 
     pub stays_moves : Stays k.schedule s → Moves k (record k { schedule = s }) (λ c. c)
-    stays_moves st c h = processes_move k c h s c.processes (stays (Shows (whole_design k) k.program) k.schedule s c.processes h.processes st)
+    stays_moves st c h = processes_move k c h s c.processes (stays (Shows (whole_design k) k.program.now) k.schedule s c.processes h.processes st)
 
     module _ (t : Trigger) (m : MovesOne p (waits_as t) false (leaves_top p) k.schedule s) where
       pub waits_sound : IsSound (record k { schedule = s })
@@ -374,10 +374,10 @@ module _ (k : Kernel) (p : ℕ) (sound : IsSound k) (top : IsTop p k.schedule.st
 
       pub waits_moves : Moves k (record k { schedule = s }) (λ c. waits c p (wait_as t.wait) (deadline_of t.deadline))
       waits_moves c h = processes_move k c h s (record c.processes { instances = change c.processes.instances p (λ i. record i { wait = wait_as t.wait; deadline = deadline_of t.deadline }); stack = drop 1 c.processes.stack })
-          (moved_with (Shows (whole_design k) k.program) k.schedule s c.processes h.processes p (waits_as t) (λ i. record i { wait = wait_as t.wait; deadline = deadline_of t.deadline })
+          (moved_with (Shows (whole_design k) k.program.now) k.schedule s c.processes h.processes p (waits_as t) (λ i. record i { wait = wait_as t.wait; deadline = deadline_of t.deadline })
           (record { bares = λ i. refl; ends = λ i. refl; shows = λ b i told. told }) false (leaves_top p) m shows_on_top
           (record c.processes { instances = change c.processes.instances p (λ i. record i { wait = wait_as t.wait; deadline = deadline_of t.deadline }); stack = drop 1 c.processes.stack })
-          refl (sym (h.processes.ready p) ∙ not_ready) (λ q apart. refl) (stack_left (Shows (whole_design k) k.program) k.schedule s c.processes h.processes p m.stack))
+          refl (sym (h.processes.ready p) ∙ not_ready) (λ q apart. refl) (stack_left (Shows (whole_design k) k.program.now) k.schedule s c.processes h.processes p m.stack))
 
 -- ---- what stays with the bodies
 

@@ -52,10 +52,10 @@ LeftCallsEnd = (c : Config) (vias : List Via) → with_left c vias ≡ record c 
 
 module _ (k : Kernel) (p : ℕ) (x : Entry (Process Kept)) (at : map.get k.schedule.table.live p ≡ Some x) (b : TransactionBoard)
     (moves : (a : Arena) → board.Moves k.transactions b (λ y. left y (left_by_unw (left_of a x.body.body.body)))) (same : SameQuantum k.transactions b) (calls : LeftCallsEnd) where
-  same_calls : (c : Config) (i : Instance) → StandsFor k c → instance_at c p ≡ Some i → left_by_unw (left_in k.program x.body.body.body) ≡ left_by_unw i.residual
+  same_calls : (c : Config) (i : Instance) → StandsFor k c → instance_at c p ≡ Some i → left_by_unw (left_in k.program.now x.body.body.body) ≡ left_by_unw i.residual
   same_calls c i h there = sym (ap left_by_unw (left_before k p x at c i h there)) ∙ strip-left_by_unw i.residual
 
   pub left_moves : MovesAt k (record k { transactions = b }) p (λ c i. with_left c (left_by_unw i.residual))
   left_moves c i h there = subst (StandsFor (record k { transactions = b })) (sym (calls c (left_by_unw i.residual)))
       (transactions_move k c h b (left c.transactions (left_by_unw i.residual))
-      (subst (λ vs. StandsForTransactions b (left c.transactions vs)) (same_calls c i h there) (moves (arena_of k.program.code) c.transactions h.transactions)) same)
+      (subst (λ vs. StandsForTransactions b (left c.transactions vs)) (same_calls c i h there) (moves (arena_of k.program.now.code) c.transactions h.transactions)) same)

@@ -60,7 +60,7 @@ with_runs_of n true rs = rs
 with_runs_of n false rs = rs ++ n ∷ []
 
 module _ (k : Kernel) (sound : IsSound k) (o : Offspring) (n : ℕ) (b : Body) (s : Schedule Kept) (fine : schedules.IsSound s)
-    (same_code : b.calls.code ≡ o.code) (same_arguments : b.calls.arguments.items ≡ o.arguments.items) (nothing_left : left_in k.program b ≡ skip) (body_fine : bodies.IsSound k.program b)
+    (same_code : b.calls.code ≡ o.code) (same_arguments : b.calls.arguments.items ≡ o.arguments.items) (nothing_left : left_in k.program.now b ≡ skip) (body_fine : bodies.IsSound k.program.now b)
     (spawns : Spawns n (spawned_as o.kind o.sensitive o.waits) (record { home = o.home; path = path_by.Spawned n; body = b; trigger = None }) (not o.waits) k.schedule s) where
   nobody_ready : set.contains k.schedule.ready.members n ≡ false
   nobody_ready = by (map.get k.schedule.table.live n) refl
@@ -72,7 +72,7 @@ module _ (k : Kernel) (sound : IsSound k) (o : Offspring) (n : ℕ) (b : Body) (
   pub number_is : (c : Config) → StandsFor k c → n ≡ length c.processes.instances
   number_is c h = spawns.number ∙ h.processes.next
 
-  shows : Shows (whole_design k) k.program (record { home = o.home; path = path_by.Spawned n; body = b; trigger = None }) (beside (offspring_in (whole_design k) n o))
+  shows : Shows (whole_design k) k.program.now (record { home = o.home; path = path_by.Spawned n; body = b; trigger = None }) (beside (offspring_in (whole_design k) n o))
   shows = record {
     home = refl;
     path = ap (λ f. path_in (whole_design k) o.home f (path_by.Spawned n)) (sym same_code);
@@ -108,8 +108,8 @@ module _ (k : Kernel) (sound : IsSound k) (o : Offspring) (n : ℕ) (b : Body) (
         (subst (λ xs. StandsFor more_parents (record c { processes = record c.processes { runnable = with_runs_of n o.waits c.processes.runnable; instances = c.processes.instances ++ offspring_in c.design n o ∷ []; parents = xs } })) (parents_are c h)
         (parents_move (record k { schedule = s }) (record c { processes = record c.processes { runnable = with_runs_of n o.waits c.processes.runnable; instances = c.processes.instances ++ offspring_in c.design n o ∷ [] } })
         (processes_move k c h s (record c.processes { runnable = with_runs_of n o.waits c.processes.runnable; instances = c.processes.instances ++ offspring_in c.design n o ∷ [] })
-        (subst (λ d. StandsForProcesses (Shows (whole_design k) k.program) s (record c.processes { runnable = with_runs_of n o.waits c.processes.runnable; instances = c.processes.instances ++ offspring_in d n o ∷ [] })) (sym h.design)
-        (spawned_stands (Shows (whole_design k) k.program) k.schedule s c.processes h.processes n (spawned_as o.kind o.sensitive o.waits) (offspring_in (whole_design k) n o)
+        (subst (λ d. StandsForProcesses (Shows (whole_design k) k.program.now) s (record c.processes { runnable = with_runs_of n o.waits c.processes.runnable; instances = c.processes.instances ++ offspring_in d n o ∷ [] })) (sym h.design)
+        (spawned_stands (Shows (whole_design k) k.program.now) k.schedule s c.processes h.processes n (spawned_as o.kind o.sensitive o.waits) (offspring_in (whole_design k) n o)
         (record { home = o.home; path = path_by.Spawned n; body = b; trigger = None }) (not o.waits) spawns refl refl shows
         (record c.processes { runnable = with_runs_of n o.waits c.processes.runnable; instances = c.processes.instances ++ offspring_in (whole_design k) n o ∷ [] })
         refl (runs_by o.waits c (h.processes.ready n)) (others_by o.waits c) refl))) ps))
@@ -118,7 +118,7 @@ module _ (k : Kernel) (sound : IsSound k) (o : Offspring) (n : ℕ) (b : Body) (
   spawned_sound ps = record {
     schedule = fine;
     bodies = λ q other found. ⊎_elim
-        (λ same. subst (λ v. bodies.IsSound k.program v.body) (ap (λ e. given e (record { home = o.home; path = path_by.Spawned n; body = b; trigger = None })) (sym spawns.body ∙ ap (kept_at s) (sym same) ∙ found)) body_fine)
+        (λ same. subst (λ v. bodies.IsSound k.program.now v.body) (ap (λ e. given e (record { home = o.home; path = path_by.Spawned n; body = b; trigger = None })) (sym spawns.body ∙ ap (kept_at s) (sym same) ∙ found)) body_fine)
         (λ apart. sound.bodies q other (sym (spawns.bodies q apart) ∙ found))
         (cases_eq q n);
     nobody_due = spawns.due ∙ sound.nobody_due;
@@ -154,4 +154,4 @@ module _ (k : Kernel) (ps : Vec (Option ℕ)) where
     }
 
     pub nobody_spawned : (s : Schedule Kept) → Stays k.schedule s → Moves k (record k { schedule = s; parents = ps }) (λ c. c)
-    nobody_spawned s st c h = processes_move (record k { parents = ps }) c (room_stays c h) s c.processes (stays (Shows (whole_design k) k.program) k.schedule s c.processes h.processes st)
+    nobody_spawned s st c h = processes_move (record k { parents = ps }) c (room_stays c h) s c.processes (stays (Shows (whole_design k) k.program.now) k.schedule s c.processes h.processes st)

@@ -42,10 +42,10 @@ module _ (k : Kernel) (p : ℕ) (sound : IsSound k) (lives : Lives k p) (s : Sch
 
   pub pushed_moves : Moves k (record k { schedule = s }) (λ c. gets_on_top c p)
   pushed_moves c h = processes_move k c h s (record c.processes { instances = change c.processes.instances p pushed_as; runnable = without c.processes.runnable p; stack = p ∷ c.processes.stack })
-      (moved_with (Shows (whole_design k) k.program) k.schedule s c.processes h.processes p pushed_as pushed_as
+      (moved_with (Shows (whole_design k) k.program.now) k.schedule s c.processes h.processes p pushed_as pushed_as
       (record { bares = λ i. refl; ends = λ i. refl; shows = λ b i told. told }) false (joins_top p) m (shown_where_lives k p lives)
       (record c.processes { instances = change c.processes.instances p pushed_as; runnable = without c.processes.runnable p; stack = p ∷ c.processes.stack })
-      refl (lacks_itself c.processes.runnable p) (λ q apart. has_others c.processes.runnable p q apart) (stack_joined (Shows (whole_design k) k.program) k.schedule s c.processes h.processes p m.stack))
+      refl (lacks_itself c.processes.runnable p) (λ q apart. has_others c.processes.runnable p q apart) (stack_joined (Shows (whole_design k) k.program.now) k.schedule s c.processes h.processes p m.stack))
 
 -- and it has no next trigger
 pub pushed_whole : (l : Kernel) (c : Config) (p : ℕ) → StandsFor l (gets_on_top (change_instance c p (λ i. record i { trigger = None })) p) → StandsFor l (pushed c p)

@@ -100,11 +100,11 @@ module _ (k : Kernel) (c : Config) (h : StandsFor k c) where
   live_by q true lives = let i = alive_in k c h q lives in sym (ap is_live i.1.0 ∙ ap not i.1.1)
   live_by q false none = sym (by (instance_at c q) refl (h.processes.each q))
     where
-      by_end : (i : Instance) (e : Bool) → i.ended ≡ e → TellsBy (Shows (whole_design k) k.program) e (shown_at k.schedule q) (kept_at k.schedule q) i → is_alive i ≡ false
+      by_end : (i : Instance) (e : Bool) → i.ended ≡ e → TellsBy (Shows (whole_design k) k.program.now) e (shown_at k.schedule q) (kept_at k.schedule q) i → is_alive i ≡ false
       by_end i true is tells = ap not is
       by_end i false is tells = absurd (true≢false (sym (lives_by_kept k.schedule q tells.kept.0 tells.kept.1.0) ∙ none))
 
-      by : (o : Option Instance) → instance_at c q ≡ o → Tells (Shows (whole_design k) k.program) (shown_at k.schedule q) (kept_at k.schedule q) o → is_live (instance_at c q) ≡ false
+      by : (o : Option Instance) → instance_at c q ≡ o → Tells (Shows (whole_design k) k.program.now) (shown_at k.schedule q) (kept_at k.schedule q) o → is_live (instance_at c q) ≡ false
       by None at tells = ap is_live at
       by (Some i) at tells = ap is_live at ∙ by_end i i.ended refl tells
 

@@ -25,7 +25,7 @@ use Rattle.kernel_state.specs.declared.kernel.Kernel.{Kernel}
 
 -- the design, with its code
 abbrev pub whole_design : Kernel → Design
-whole_design k = record k.design { code = k.program.code }
+whole_design k = record k.design { code = k.program.now.code }
 
 -- the path of an instance: that of an object, or that of a spawned one
 abbrev pub path_in : Design → ℕ → ℕ → PathOf → List ℕ
@@ -52,7 +52,7 @@ cycle_of x = record { phase = x.phase; begun = x.begun; now = x.now.0; end = opt
 pub record StandsFor (k : Kernel) (c : Config) : Type 0 where
   pub design : c.design ≡ whole_design k
   pub cycle : c.cycle ≡ cycle_of k.cycle
-  pub processes : StandsForProcesses (Shows (whole_design k) k.program) k.schedule c.processes
+  pub processes : StandsForProcesses (Shows (whole_design k) k.program.now) k.schedule c.processes
   pub parents : c.processes.parents ≡ k.parents.items
   pub events : c.events ≡ k.events
   pub channels : c.channels ≡ k.channels
@@ -64,7 +64,7 @@ pub record StandsFor (k : Kernel) (c : Config) : Type 0 where
 -- What holds of a kernel whatever it stands for.
 pub record IsSound (k : Kernel) : Type 0 where
   pub schedule : schedules.IsSound k.schedule
-  pub bodies : (p : ℕ) (kept : Kept) → kept_at k.schedule p ≡ Some kept → bodies.IsSound k.program kept.body
+  pub bodies : (p : ℕ) (kept : Kept) → kept_at k.schedule p ≡ Some kept → bodies.IsSound k.program.now kept.body
   pub nobody_due : k.schedule.due.items ≡ []
   pub serials : k.schedule.table.next ≤ 2 ^ 16 + k.made
   pub payloads : IsWithin k.made k.transactions

@@ -50,7 +50,7 @@ KeptAt k p P = (kept : Kept) → kept_at k.schedule p ≡ Some kept → P kept
 
 -- a statement comes next in its body
 abbrev pub HasStatement : Kernel → ℕ → Type 0
-HasStatement k p = KeptAt k p (λ kept. bodies.IsStatement (bodies.next_in k.program kept.body))
+HasStatement k p = KeptAt k p (λ kept. bodies.IsStatement (bodies.next_in k.program.now kept.body))
 
 -- it is the active one on top
 abbrev pub IsOnTop : Kernel → ℕ → Type 0
@@ -59,5 +59,5 @@ IsOnTop k p = IsTop p k.schedule.stack.items
 -- the bodies stay, and so do the code and the design
 pub record KeepsBodies (old new : Kernel) : Type 0 where
   pub bodies : (q : ℕ) → kept_at new.schedule q ≡ kept_at old.schedule q
-  pub program : new.program ≡ old.program
+  pub program : new.program.now ≡ old.program.now
   pub design : new.design ≡ old.design

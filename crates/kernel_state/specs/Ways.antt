@@ -18,7 +18,7 @@ moved_on w c p r = with_residual c p (moved w r)
 
 -- a call that is owed comes next in its body
 abbrev pub HasOwed : Kernel → ℕ → Type 0
-HasOwed k p = KeptAt k p (λ kept. bodies.IsOwed (bodies.next_in k.program kept.body))
+HasOwed k p = KeptAt k p (λ kept. bodies.IsOwed (bodies.next_in k.program.now kept.body))
 
 -- what comes next is a statement, or a call that is owed
 abbrev pub MayMoveOn : Way → Kernel → ℕ → Type 0

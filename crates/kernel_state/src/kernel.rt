@@ -54,11 +54,11 @@ pub struct Cycle {
 
 /// The parts that keep a configuration, but for the script and what was seen of the run.
 #[derive(Drop)]
-pub struct Kernel {
+pub struct Kernel<'d> {
     /// The design; its code is in `program`.
     pub design: Design,
-    /// The code of the design.
-    pub program: Program,
+    /// The code of the design, which is read while the kernel is changed.
+    pub program: &'d Program,
     /// Where the run stands.
     pub cycle: Cycle,
     /// The processes.

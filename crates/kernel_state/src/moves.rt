@@ -25,7 +25,7 @@ pub fn pass(k: &mut Kernel, p: u32)
     ensures made { k.new.made ≡ k.old.made }
 {
     match k.schedule.table.get_mut(p) {
-        Some(x) => x.body.body.body.past(&k.program),
+        Some(x) => x.body.body.body.past(k.program),
         None => {}
     }
 }
@@ -101,7 +101,7 @@ pub fn settle(k: &mut Kernel, p: u32)
     ensures made { k.new.made ≡ k.old.made }
 {
     match k.schedule.table.get_mut(p) {
-        Some(x) => x.body.body.body.settle(&k.program),
+        Some(x) => x.body.body.body.settle(k.program),
         None => {}
     }
 }

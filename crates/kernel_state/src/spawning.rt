@@ -27,7 +27,7 @@ pub fn spawn(k: &mut Kernel, alloc: Global, o: Offspring) -> Result<u32, SpawnSt
     ensures stays { OnErr result (Moves k.old k.new (λ c. c)) }
     ensures others { (q : ℕ) → Lives k.old q → kept_at k.new.schedule q ≡ kept_at k.old.schedule q }
     ensures stack { k.new.schedule.stack.items ≡ k.old.schedule.stack.items }
-    ensures program { k.new.program ≡ k.old.program }
+    ensures program { k.new.program.now ≡ k.old.program.now }
     ensures sound { IsSound k.new }
     ensures made { k.new.made ≤ k.old.made + 1 }
     ensures refused { OnErr result (k.new.made ≡ k.old.made) }
@@ -46,7 +46,7 @@ pub fn spawn(k: &mut Kernel, alloc: Global, o: Offspring) -> Result<u32, SpawnSt
         Err(_) => return Err(SpawnStop::NoMemory),
     }
     let parent = top(&k.schedule);
-    let body = match Body::start(alloc, &k.program, code, arguments) {
+    let body = match Body::start(alloc, k.program, code, arguments) {
         Ok(body) => body,
         Err(_) => return Err(SpawnStop::NoMemory),
     };

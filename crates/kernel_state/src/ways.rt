@@ -30,7 +30,7 @@ fn take_off(k: &mut Kernel, p: u32)
 {
     match k.schedule.table.get_mut(p) {
         Some(x) => {
-            let _ = x.body.body.body.owed(&k.program);
+            let _ = x.body.body.body.owed(k.program);
         }
         None => {}
     }

@@ -92,8 +92,8 @@ module _ (old new : Kernel) (a : StepAnswer) (p s : ℕ) (x y : Kept) (is : x �
   sending_carried other done by does = carried other (sending_made old new p (λ c q i r. do_statement c q i r (here c q i r) s (statement_of y)) a done by does)
 
 -- a try has the handlers of its statement
-pub try_carried : (old new : Kernel) (p s b : ℕ) (x : Kept) (handlers : List Handler) → x ≡ kept.Try b handlers → statement_at (arena_of old.program.code) s ≡ Some (statement_of x)
-    → Does old new (Ok tt) p (λ c q i r. do_try c q r b (handlers_of (arena_of old.program.code) s)) → CarriesAll old new answer.Went p s (statement_of x)
+pub try_carried : (old new : Kernel) (p s b : ℕ) (x : Kept) (handlers : List Handler) → x ≡ kept.Try b handlers → statement_at (arena_of old.program.now.code) s ≡ Some (statement_of x)
+    → Does old new (Ok tt) p (λ c q i r. do_try c q r b (handlers_of (arena_of old.program.now.code) s)) → CarriesAll old new answer.Went p s (statement_of x)
 try_carried old new p s b x handlers is there does =
     carried old new answer.Went p s x (kept.Try b handlers) is refl
     (subst (λ hs. Does old new (Ok tt) p (λ c q i r. do_try c q r b hs)) (ap handlers_if (there ∙ ap (λ z. Some (statement_of z)) is)) does)

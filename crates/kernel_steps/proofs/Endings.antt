@@ -18,16 +18,16 @@ one_frame : (n : Next) (x y : Frame) → n ≡ residual.leaves x → n ≡ resid
 one_frame n x y first second = cc
 
 -- so what is true of the statement that made it is true of the caller
-pub called : (k : Kernel) (p : ℕ) (P : Option Statement → Type 0) (x : Frame) → EndsNext k p x → P (statement_if (arena_of k.program.code) x.call) → CalledBy k p P
+pub called : (k : Kernel) (p : ℕ) (P : Option Statement → Type 0) (x : Frame) → EndsNext k p x → P (statement_if (arena_of k.program.now.code) x.call) → CalledBy k p P
 called k p P x here h = λ kept at y is.
-    subst (λ (z : Frame). P (statement_if (arena_of k.program.code) z.call)) (one_frame _ x y (here kept at) is) h
+    subst (λ (z : Frame). P (statement_if (arena_of k.program.now.code) z.call)) (one_frame _ x y (here kept at) is) h
 
 -- each way of ending has its caller
 pub blocking : (k : Kernel) (p : ℕ) (e : CallEnd) (socket : ℕ) (n d : NameUse) → e ≡ ends.Blocking socket n d → CalledBy k p (IsEndOf e) → CalledBy k p (IsBTransport d)
 blocking k p e socket n d is by = λ kept at x leaves. record {
   socket = socket;
   payload = n;
-  is = subst (λ z. IsEndOf z (statement_if (arena_of k.program.code) x.call)) is (by kept at x leaves);
+  is = subst (λ z. IsEndOf z (statement_if (arena_of k.program.now.code) x.call)) is (by kept at x leaves);
 }
 
 pub nonblocking : (k : Kernel) (p : ℕ) (e : CallEnd) (target : Option Target) (socket : ℕ) (n phase d : NameUse) → e ≡ ends.NonBlocking target socket n phase d
@@ -35,7 +35,7 @@ pub nonblocking : (k : Kernel) (p : ℕ) (e : CallEnd) (target : Option Target) 
 nonblocking k p e target socket n phase d is by = λ kept at x leaves. record {
   socket = socket;
   payload = n;
-  is = subst (λ z. IsEndOf z (statement_if (arena_of k.program.code) x.call)) is (by kept at x leaves);
+  is = subst (λ z. IsEndOf z (statement_if (arena_of k.program.now.code) x.call)) is (by kept at x leaves);
 }
 
 -- what calls over no socket is no transport call
@@ -46,5 +46,5 @@ no_transport o plain = record {
 }
 
 pub plainly : (k : Kernel) (p : ℕ) (e : CallEnd) → e ≡ ends.Plain → CalledBy k p (IsEndOf e) → CalledBy k p IsNoTransport
-plainly k p e is by = λ kept at x leaves. no_transport (statement_if (arena_of k.program.code) x.call)
-    (subst (λ z. IsEndOf z (statement_if (arena_of k.program.code) x.call)) is (by kept at x leaves))
+plainly k p e is by = λ kept at x leaves. no_transport (statement_if (arena_of k.program.now.code) x.call)
+    (subst (λ z. IsEndOf z (statement_if (arena_of k.program.now.code) x.call)) is (by kept at x leaves))

@@ -47,13 +47,13 @@ print_stays c p i j h text e there = by (val_if h e)
     by (Err f) = tt
 
 -- an instance that has not ended for the kernel has not ended
-not_ended : (b : Bool) (k : Kernel) (p : ℕ) (i : Instance) → TellsBy (Shows (whole_design k) k.program) b (shown_at k.schedule p) (kept_at k.schedule p) i → is_some (shown_at k.schedule p) ≡ true → b ≡ false
+not_ended : (b : Bool) (k : Kernel) (p : ℕ) (i : Instance) → TellsBy (Shows (whole_design k) k.program.now) b (shown_at k.schedule p) (kept_at k.schedule p) i → is_some (shown_at k.schedule p) ≡ true → b ≡ false
 not_ended false k p i tells is = refl
 not_ended true k p i tells is = absurd (true≢false (sym is ∙ ap is_some tells.0))
 
 pub lives_still : (k : Kernel) (c : Config) (p : ℕ) (i : Instance) → StandsFor k c → instance_at c p ≡ Some i → Lives k p → i.ended ≡ false
 lives_still k c p i h there lives =
-    not_ended i.ended k p i (subst (Tells (Shows (whole_design k) k.program) (shown_at k.schedule p) (kept_at k.schedule p)) there (h.processes.each p)) (shown_where_lives k p lives)
+    not_ended i.ended k p i (subst (Tells (Shows (whole_design k) k.program.now) (shown_at k.schedule p) (kept_at k.schedule p)) there (h.processes.each p)) (shown_where_lives k p lives)
 
 module _ (new : Kernel) (c : Config) (i : Instance) where
   pub printed_tells : (p s : ℕ) (v : Option Value) (text : List ℕ) (e : Option Term) → i.ended ≡ false → statement_at (arena c) s ≡ Some (code.print text e)

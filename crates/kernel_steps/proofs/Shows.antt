@@ -47,11 +47,11 @@ module _ (k : Kernel) (p : ℕ) (x : Entry (Process Kept)) (at : map.get k.sched
   pub kept_is : (P : Kept → Type 0) → P x.body.body → KeptAt k p P
   kept_is P holds kept is = subst P (ap (λ o. unwrap_or o kept) (sym was ∙ is)) holds
 
-  pub comes_next : (n : Next) → next_of (bodies.settled_in k.program x.body.body.body) ≡ n → ComesNext k p n
+  pub comes_next : (n : Next) → next_of (bodies.settled_in k.program.now x.body.body.body) ≡ n → ComesNext k p n
   comes_next n is c i h there = sym (strip-next (settle (arena c) i.residual)) ∙ ap next_of (settled_before k p x at c i h there) ∙ is
 
-  pub leave_next : next.Leave ≡ bodies.next_in k.program x.body.body.body → (f : Frame) × ComesNext k p (residual.leaves f)
-  leave_next is = let t = leave_is (next_of (bodies.settled_in k.program x.body.body.body)) is in (t.0, comes_next (residual.leaves t.0) t.1)
+  pub leave_next : next.Leave ≡ bodies.next_in k.program.now x.body.body.body → (f : Frame) × ComesNext k p (residual.leaves f)
+  leave_next is = let t = leave_is (next_of (bodies.settled_in k.program.now x.body.body.body)) is in (t.0, comes_next (residual.leaves t.0) t.1)
 
 step_is : (c : Config) (i : Instance) (p : ℕ) (n : Next) → instance_at c p ≡ Some i → next_of (settle (arena c) i.residual) ≡ n
     → do_next (settled_in c p i.residual) p (record i { residual = settle (arena c) i.residual }) (settle (arena c) i.residual) n ≡ statement_step c p
@@ -61,10 +61,10 @@ module _ (k new : Kernel) (a : StepAnswer) (p : ℕ) where
   pub next_made : (n : Next) → ComesNext k p n → MakesAll k new a p (λ c q i r. do_next c q i r n) → MakesStep k new a p
   next_made n comes makes c i h there = subst (TellsAll new a c i) (step_is c i p n there (comes c i h there)) (makes c i h there)
 
-  pub statement_made : (s : ℕ) → ComesNext k p (residual.statement s) → MakesAll k new a p (λ c q i r. on_statement c q i r s (statement_at (arena_of k.program.code) s)) → MakesStep k new a p
+  pub statement_made : (s : ℕ) → ComesNext k p (residual.statement s) → MakesAll k new a p (λ c q i r. on_statement c q i r s (statement_at (arena_of k.program.now.code) s)) → MakesStep k new a p
   statement_made s comes makes = next_made (residual.statement s) comes (λ c i h there.
       subst (λ d. TellsAll new a c i (on_statement (settled_in c p i.residual) p (record i { residual = settle (arena c) i.residual }) (settle (arena c) i.residual) s (statement_at (arena_of d.code) s))) (sym h.design) (makes c i h there))
 
-  pub owed_made : (s q : ℕ) → ComesNext k p (residual.owes s q) → MakesAll k new a p (λ c t i r. owed_by (with_residual c t (taken_off r)) q (statement_at (arena_of k.program.code) s)) → MakesStep k new a p
+  pub owed_made : (s q : ℕ) → ComesNext k p (residual.owes s q) → MakesAll k new a p (λ c t i r. owed_by (with_residual c t (taken_off r)) q (statement_at (arena_of k.program.now.code) s)) → MakesStep k new a p
   owed_made s q comes makes = next_made (residual.owes s q) comes (λ c i h there.
       subst (λ d. TellsAll new a c i (owed_by (with_residual (settled_in c p i.residual) p (taken_off (settle (arena c) i.residual))) q (statement_at (arena_of d.code) s))) (sym h.design) (makes c i h there))

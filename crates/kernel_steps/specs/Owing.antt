@@ -12,7 +12,7 @@ use Rattle.kernel_steps.specs.declared.owing.OwedCall.TheVariants as owed
 
 -- what comes next in the body of instance p is the call that statement s owes to instance q
 abbrev pub Owes : Kernel → ℕ → ℕ → ℕ → Type 0
-Owes k p s q = KeptAt k p (λ kept. next_of (settled_in k.program kept.body) ≡ residual.owes s q)
+Owes k p s q = KeptAt k p (λ kept. next_of (settled_in k.program.now kept.body) ≡ residual.owes s q)
 
 -- which call a statement owes; one that is no control call owes none
 abbrev pub call_of : Statement → OwedCall

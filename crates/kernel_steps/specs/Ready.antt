@@ -11,4 +11,4 @@ use Rattle.exec_transactions.specs.ExecEvents.Numbers.{NumbersEvents}
 pub record Ready (k : Kernel) (program : Program) : Type 0 where
   pub names : NamesFit (whole_design k)
   pub numbers : NumbersEvents (whole_design k)
-  pub same : arena_of program.code ≡ arena_of k.program.code
+  pub same : arena_of program.code ≡ arena_of k.program.now.code

@@ -50,7 +50,7 @@ pub(crate) fn carry_out(
     requires room { k.old.made < 2 ^ 31 + 2 }
     requires posts { All (λ v. v < 2 ^ 64 - 1) k.old.channels.semaphores }
     requires next { Shows k.old p s }
-    requires there { statement_at (arena_of k.old.program.code) s ≡ Some (statement_of statement.now) }
+    requires there { statement_at (arena_of k.old.program.now.code) s ≡ Some (statement_of statement.now) }
     requires free { ThrowsFree k.old p (statement_of statement.now) }
     requires others { OthersHaveNoGoal k.old }
     ensures carries { CarriesAll k.old k.new result p s (statement_of statement.now) }

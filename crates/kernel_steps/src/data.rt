@@ -46,7 +46,7 @@ pub(crate) fn print_step(
     requires sound { IsSound k.old }
     requires top { IsOnTop k.old p }
     requires statement { HasStatement k.old p }
-    requires there { statement_at (arena_of k.old.program.code) s ≡ Some (code.print text.now (option_map term_of e.now)) }
+    requires there { statement_at (arena_of k.old.program.now.code) s ≡ Some (code.print text.now (option_map term_of e.now)) }
     ensures carries { CarriesAll k.old k.new result p s (code.print text.now (option_map term_of e.now)) }
     ensures sound { IsSound k.new }
     ensures made { k.new.made ≡ k.old.made }
@@ -73,7 +73,7 @@ pub(crate) fn if_step(
     requires top { IsOnTop k.old p }
     requires statement { HasStatement k.old p }
     requires next { Shows k.old p s }
-    requires there { statement_at (arena_of k.old.program.code) s ≡ Some (code.if_ (term_of e.now) b other) }
+    requires there { statement_at (arena_of k.old.program.now.code) s ≡ Some (code.if_ (term_of e.now) b other) }
     ensures carries { Carries k.old k.new result p s (code.if_ (term_of e.now) b other) }
     ensures sound { IsSound k.new }
     ensures made { k.new.made ≡ k.old.made }
@@ -89,7 +89,7 @@ pub(crate) fn while_step(k: &mut Kernel, p: u32, s: StmtId, e: &Expr, b: BlockId
     requires top { IsOnTop k.old p }
     requires statement { HasStatement k.old p }
     requires next { Shows k.old p s }
-    requires there { statement_at (arena_of k.old.program.code) s ≡ Some (code.while_ (term_of e.now) b) }
+    requires there { statement_at (arena_of k.old.program.now.code) s ≡ Some (code.while_ (term_of e.now) b) }
     ensures carries { Carries k.old k.new result p s (code.while_ (term_of e.now) b) }
     ensures sound { IsSound k.new }
     ensures made { k.new.made ≡ k.old.made }

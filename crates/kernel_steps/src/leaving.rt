@@ -78,7 +78,7 @@ fn end_by(statement: &Statement) -> CallEnd
 fn end_at(k: &Kernel, program: &Program, p: u32) -> CallEnd
     requires lives { Lives k.now p }
     requires leaves { Leaves k.now p }
-    requires same { arena_of program.now.code ≡ arena_of k.now.program.code }
+    requires same { arena_of program.now.code ≡ arena_of k.now.program.now.code }
     ensures called { CalledBy k.now p (IsEndOf result) }
 {
     match ending_call(k, p) {
@@ -96,7 +96,7 @@ pub(crate) fn leave(k: &mut Kernel, program: &Program, p: u32) -> Result<(), Run
     requires sound { IsSound k.old }
     requires lives { Lives k.old p }
     requires leaves { Leaves k.old p }
-    requires same { arena_of program.now.code ≡ arena_of k.old.program.code }
+    requires same { arena_of program.now.code ≡ arena_of k.old.program.now.code }
     ensures does { LeavesBy k.old k.new result p }
     ensures sound { IsSound k.new }
     ensures made { k.new.made ≡ k.old.made }

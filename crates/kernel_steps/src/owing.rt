@@ -103,10 +103,10 @@ fn make_owed(k: &mut Kernel, p: u32, q: u32, statement: &Statement) -> StepAnswe
 pub(crate) fn on_owed(k: &mut Kernel, program: &Program, p: u32, s: StmtId, q: u32) -> StepAnswer
     requires sound { IsSound k.old }
     requires top { IsOnTop k.old p }
-    requires same { arena_of program.now.code ≡ arena_of k.old.program.code }
+    requires same { arena_of program.now.code ≡ arena_of k.old.program.now.code }
     requires owes { Owes k.old p s q }
     requires others { OthersHaveNoGoal k.old }
-    ensures makes { MakesAll k.old k.new result p (λ c t i r. statements.owed_by (with_residual c t (taken_off r)) q (statement_at (arena_of k.old.program.code) s)) }
+    ensures makes { MakesAll k.old k.new result p (λ c t i r. statements.owed_by (with_residual c t (taken_off r)) q (statement_at (arena_of k.old.program.now.code) s)) }
     ensures sound { IsSound k.new }
     ensures made { k.new.made ≡ k.old.made }
 {

@@ -45,7 +45,7 @@ fn next_at(k: &Kernel, p: u32) -> Next
     ensures shows_owed { (s q : ℕ) → result ≡ Next.Batch s q → ComesNext k.now p (residual.owes s q) }
 {
     match k.schedule.table.get(p) {
-        Some(x) => x.body.body.body.next(&k.program),
+        Some(x) => x.body.body.body.next(k.program),
         None => Next::Nothing,
     }
 }
@@ -59,8 +59,8 @@ fn on_statement(k: &mut Kernel, program: &Program, alloc: Global, p: u32, s: Stm
     requires posts { All (λ v. v < 2 ^ 64 - 1) k.old.channels.semaphores }
     requires others { OthersHaveNoGoal k.old }
     requires next { Shows k.old p s }
-    requires free { ThrowsFreeIf k.old p (statement_at (arena_of k.old.program.code) s) }
-    ensures makes { MakesAll k.old k.new result p (λ c q i r. statements.on_statement c q i r s (statement_at (arena_of k.old.program.code) s)) }
+    requires free { ThrowsFreeIf k.old p (statement_at (arena_of k.old.program.now.code) s) }
+    ensures makes { MakesAll k.old k.new result p (λ c q i r. statements.on_statement c q i r s (statement_at (arena_of k.old.program.now.code) s)) }
     ensures sound { IsSound k.new }
     ensures made { k.new.made ≤ k.old.made + 1 }
     ensures refused { result ≡ StepAnswer.NoMemory → k.new.made ≡ k.old.made }

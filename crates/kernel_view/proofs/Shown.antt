@@ -47,11 +47,11 @@ module _ (k : Kernel) (q : ℕ) where
   lives_as_shown : map.contains_key k.schedule.table.live q ≡ is_some (shown_at k.schedule q)
   lives_as_shown = sym (there_as (λ (z : Entry (Process Kept)). as_instance z (seen k.schedule q).wait) (map.get k.schedule.table.live q))
 
-  ended_by : (e : Bool) (i : Instance) → TellsBy (Shows (whole_design k) k.program) e (shown_at k.schedule q) (kept_at k.schedule q) i → e ≡ not (map.contains_key k.schedule.table.live q)
+  ended_by : (e : Bool) (i : Instance) → TellsBy (Shows (whole_design k) k.program.now) e (shown_at k.schedule q) (kept_at k.schedule q) i → e ≡ not (map.contains_key k.schedule.table.live q)
   ended_by true i tells = ap not (sym (lives_as_shown ∙ ap is_some tells.0))
   ended_by false i tells = ap not (sym (lives_as_shown ∙ ap is_some tells.shown))
 
-  gone_by : (o : Option Instance) → Tells (Shows (whole_design k) k.program) (shown_at k.schedule q) (kept_at k.schedule q) o → has_ended o ≡ (is_some o && not (map.contains_key k.schedule.table.live q))
+  gone_by : (o : Option Instance) → Tells (Shows (whole_design k) k.program.now) (shown_at k.schedule q) (kept_at k.schedule q) o → has_ended o ≡ (is_some o && not (map.contains_key k.schedule.table.live q))
   gone_by None tells = refl
   gone_by (Some i) tells = ended_by i.ended i tells
 
@@ -78,13 +78,13 @@ module _ (k : Kernel) (p : ℕ) (x : Entry (Process Kept)) (at : map.get k.sched
   kept_of None = x.body.body
   kept_of (Some kept) = kept
 
-  shown_by : (e : Bool) → TellsBy (Shows (whole_design k) k.program) e (shown_at k.schedule p) (kept_at k.schedule p) i → Shows (whole_design k) k.program x.body.body (beside i)
+  shown_by : (e : Bool) → TellsBy (Shows (whole_design k) k.program.now) e (shown_at k.schedule p) (kept_at k.schedule p) i → Shows (whole_design k) k.program.now x.body.body (beside i)
   shown_by true tells = absurd (true≢false (ap is_some (sym (ap (option_map (λ (z : Entry (Process Kept)). as_instance z (seen k.schedule p).wait)) at) ∙ tells.0)))
-  shown_by false lives = subst (λ v. Shows (whole_design k) k.program v (beside i))
+  shown_by false lives = subst (λ v. Shows (whole_design k) k.program.now v (beside i))
       (ap kept_of (sym lives.kept.1.0 ∙ ap (option_map (λ (z : Entry (Process Kept)). z.body.body)) at)) lives.kept.1.1
 
-  shown : Shows (whole_design k) k.program x.body.body (beside i)
-  shown = shown_by i.ended (subst (Tells (Shows (whole_design k) k.program) (shown_at k.schedule p) (kept_at k.schedule p)) there (h.processes.each p))
+  shown : Shows (whole_design k) k.program.now x.body.body (beside i)
+  shown = shown_by i.ended (subst (Tells (Shows (whole_design k) k.program.now) (shown_at k.schedule p) (kept_at k.schedule p)) there (h.processes.each p))
 
   parts : ShowsParts k (next_here c p i).config
   parts = record {
@@ -98,22 +98,22 @@ module _ (k : Kernel) (p : ℕ) (x : Entry (Process Kept)) (at : map.get k.sched
     memories = h.memories;
   }
 
-  within_is : within (settle (arena c) i.residual) ≡ within (bodies.settled_in k.program x.body.body.body)
+  within_is : within (settle (arena c) i.residual) ≡ within (bodies.settled_in k.program.now x.body.body.body)
   within_is = sym (strip-within (settle (arena c) i.residual)) ∙ ap within (settled_before k p x at c i h there)
 
-  innermost_is : innermost (settle (arena c) i.residual) ≡ innermost (bodies.settled_in k.program x.body.body.body)
+  innermost_is : innermost (settle (arena c) i.residual) ≡ innermost (bodies.settled_in k.program.now x.body.body.body)
   innermost_is = sym (strip-innermost (settle (arena c) i.residual)) ∙ ap innermost (settled_before k p x at c i h there)
 
-  home_is : home_of_via c.design i.home (within (settle (arena c) i.residual)) ≡ home_of_via k.design x.body.body.home (within (bodies.settled_in k.program x.body.body.body))
+  home_is : home_of_via c.design i.home (within (settle (arena c) i.residual)) ≡ home_of_via k.design x.body.body.home (within (bodies.settled_in k.program.now x.body.body.body))
   home_is = ap (λ d. home_of_via d i.home (within (settle (arena c) i.residual))) h.design
       ∙ ap (λ n. home_of_via (whole_design k) n (within (settle (arena c) i.residual))) shown.home
       ∙ ap (λ v. home_of_via (whole_design k) x.body.body.home v) within_is
 
   pub shows_next : (y : Standing) → y.kernel.now ≡ k → y.body.now ≡ x.body.body.body → y.serial ≡ p
-      → y.home ≡ home_of_via k.design x.body.body.home (within (bodies.settled_in k.program x.body.body.body)) → ShowsHere y (next_here c p i)
+      → y.home ≡ home_of_via k.design x.body.body.home (within (bodies.settled_in k.program.now x.body.body.body)) → ShowsHere y (next_here c p i)
   shows_next y kernel body serial home = record {
     parts = subst (λ j. ShowsParts j (next_here c p i).config) (sym kernel) parts;
     serial = sym serial;
     home = home_is ∙ sym home;
-    locals = ap locals_of innermost_is ∙ ap (λ j. locals_of (innermost (bodies.settled_in j.program x.body.body.body))) (sym kernel) ∙ ap (λ b. locals_of (innermost (bodies.settled_in y.kernel.now.program b))) (sym body);
+    locals = ap locals_of innermost_is ∙ ap (λ j. locals_of (innermost (bodies.settled_in j.program.now x.body.body.body))) (sym kernel) ∙ ap (λ b. locals_of (innermost (bodies.settled_in y.kernel.now.program.now b))) (sym body);
   }

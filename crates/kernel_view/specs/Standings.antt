@@ -41,7 +41,7 @@ pub record ShowsHere (x : Standing) (h : Here) : Type 0 where
   pub parts : ShowsParts x.kernel.now h.config
   pub serial : h.serial ≡ x.serial
   pub home : h.home ≡ x.home
-  pub locals : h.locals ≡ locals_of (innermost (bodies.settled_in x.kernel.now.program x.body.now))
+  pub locals : h.locals ≡ locals_of (innermost (bodies.settled_in x.kernel.now.program.now x.body.now))
 
 -- where the next statement of instance p, which is i, stands: finished parts of its body have fallen away
 abbrev pub next_here : Config → ℕ → Instance → Here

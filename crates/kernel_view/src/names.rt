@@ -149,7 +149,7 @@ impl<'a> Standing<'a> {
     fn local(&self, n: u32) -> Value
         ensures { (h : Here) → ShowsHere self.now h → result ≡ reading.local_value h n }
     {
-        match self.body.local(&self.kernel.program, n as usize) {
+        match self.body.local(self.kernel.program, n as usize) {
             Some(value) => value,
             None => Value::Bool(false),
         }

@@ -50,12 +50,12 @@ pub fn home_within(design: &Design, home: u32, within: Option<Via>) -> u32
 
 /// The instance of a module that the next statement of a body stands in.
 fn home_of(k: &Kernel, kept: &Kept) -> u32
-    ensures { result ≡ reading.home_of_via k.now.design kept.now.home (residual.within (settled_in k.now.program kept.now.body)) }
+    ensures { result ≡ reading.home_of_via k.now.design kept.now.home (residual.within (settled_in k.now.program.now kept.now.body)) }
 {
     // Within no transport call nothing has to fall away to know that.
     match kept.body.within_now() {
         None => kept.home,
-        Some(_) => home_within(&k.design, kept.home, kept.body.within(&k.program)),
+        Some(_) => home_within(&k.design, kept.home, kept.body.within(k.program)),
     }
 }
 

@@ -12,7 +12,7 @@ use Rattle.laws_unwinding.specs.EventCore.declared.notifications.Pending.{Pendin
 use Rattle.laws_reached.proofs.Reaching.{design-is}
 use Rattle.laws_reached.proofs.CountedRuns.{events-after, semaphores-after}
 
-pub kernel-code : (k : Kernel) (c : Config) → StandsFor k c → (r : IsReached c) → k.program.code ≡ r.design.code
+pub kernel-code : (k : Kernel) (c : Config) → StandsFor k c → (r : IsReached c) → k.program.now.code ≡ r.design.code
 kernel-code k c h r = sym (ap (λ (d : Design). d.code) h.design) ∙ ap (λ (d : Design). d.code) (design-is c r)
 
 -- the numbers of events and of semaphores

@@ -21,7 +21,7 @@ pub record IsKeptFor (k : Kernel) (c : Config) (p : ℕ) (kept : Kept) : Type 0 
   pub instance : Instance
   pub there : instance_at c p ≡ Some instance
   pub lives : instance.ended ≡ false
-  pub shows : Shows (whole_design k) k.program kept (beside instance)
+  pub shows : Shows (whole_design k) k.program.now kept (beside instance)
 
 module _ (k : Kernel) (c : Config) (h : StandsFor k c) where
   -- ---- who lives
@@ -30,16 +30,16 @@ module _ (k : Kernel) (c : Config) (h : StandsFor k c) where
     shown_there : is_some (shown_at k.schedule p) ≡ true
     shown_there = shown_where_lives k p (lives_by_kept k.schedule p kept at)
 
-    by_end : (i : Instance) (e : Bool) → i.ended ≡ e → instance_at c p ≡ Some i → TellsBy (Shows (whole_design k) k.program) e (shown_at k.schedule p) (kept_at k.schedule p) i → IsKeptFor k c p kept
+    by_end : (i : Instance) (e : Bool) → i.ended ≡ e → instance_at c p ≡ Some i → TellsBy (Shows (whole_design k) k.program.now) e (shown_at k.schedule p) (kept_at k.schedule p) i → IsKeptFor k c p kept
     by_end i true over there tells = absurd (true≢false (sym shown_there ∙ ap is_some tells.0))
     by_end i false lives there tells = record {
       instance = i;
       there = there;
       lives = lives;
-      shows = subst (λ b. Shows (whole_design k) k.program b (beside i)) (ap (λ o. unwrap_or o kept) (sym tells.kept.1.0 ∙ at)) tells.kept.1.1;
+      shows = subst (λ b. Shows (whole_design k) k.program.now b (beside i)) (ap (λ o. unwrap_or o kept) (sym tells.kept.1.0 ∙ at)) tells.kept.1.1;
     }
 
-    by_there : (o : Option Instance) → instance_at c p ≡ o → Tells (Shows (whole_design k) k.program) (shown_at k.schedule p) (kept_at k.schedule p) o → IsKeptFor k c p kept
+    by_there : (o : Option Instance) → instance_at c p ≡ o → Tells (Shows (whole_design k) k.program.now) (shown_at k.schedule p) (kept_at k.schedule p) o → IsKeptFor k c p kept
     by_there None none tells = absurd (true≢false (sym shown_there ∙ ap is_some tells))
     by_there (Some i) there tells = by_end i i.ended refl there tells
 
@@ -47,10 +47,10 @@ module _ (k : Kernel) (c : Config) (h : StandsFor k c) where
     kept-for = by_there (instance_at c p) refl (h.processes.each p)
 
   module _ (p : ℕ) (i : Instance) (there : instance_at c p ≡ Some i) (lives : i.ended ≡ false) where
-    pub told-live : IsLive (Shows (whole_design k) k.program) (shown_at k.schedule p) (kept_at k.schedule p) i
+    pub told-live : IsLive (Shows (whole_design k) k.program.now) (shown_at k.schedule p) (kept_at k.schedule p) i
     told-live =
-        subst (λ e. TellsBy (Shows (whole_design k) k.program) e (shown_at k.schedule p) (kept_at k.schedule p) i) lives
-        (subst (Tells (Shows (whole_design k) k.program) (shown_at k.schedule p) (kept_at k.schedule p)) there (h.processes.each p))
+        subst (λ e. TellsBy (Shows (whole_design k) k.program.now) e (shown_at k.schedule p) (kept_at k.schedule p) i) lives
+        (subst (Tells (Shows (whole_design k) k.program.now) (shown_at k.schedule p) (kept_at k.schedule p)) there (h.processes.each p))
 
     pub lives-there : Lives k p
     lives-there = lives_by_kept k.schedule p told-live.kept.0 told-live.kept.1.0

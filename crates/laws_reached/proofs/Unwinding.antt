@@ -48,18 +48,18 @@ module _ (k : Kernel) (c : Config) (h : StandsFor k c) (r : IsReached c) where
     here : IsKeptFor k c p kept
     here = kept-for k c h p kept at
 
-    goal_here : has_goal (left_in k.program kept.body) ≡ has_goal here.instance.residual
+    goal_here : has_goal (left_in k.program.now kept.body) ≡ has_goal here.instance.residual
     goal_here = sym (ap has_goal here.shows.residual) ∙ strip-has_goal here.instance.residual
 
-    code_is : arena_of k.program.code ≡ code_of c.design
+    code_is : arena_of k.program.now.code ≡ code_of c.design
     code_is = sym (ap (λ (d : Design). arena_of d.code) h.design)
 
-    next_here : next_of (settled_in k.program kept.body) ≡ next_of (settle (code_of c.design) here.instance.residual)
+    next_here : next_of (settled_in k.program.now kept.body) ≡ next_of (settle (code_of c.design) here.instance.residual)
     next_here =
-        ap (λ a. next_of (settle a (left_in k.program kept.body))) code_is ∙ sym (ap (λ x. next_of (settle (code_of c.design) x)) here.shows.residual)
+        ap (λ a. next_of (settle a (left_in k.program.now kept.body))) code_is ∙ sym (ap (λ x. next_of (settle (code_of c.design) x)) here.shows.residual)
         ∙ sym (ap next_of (strip-settle (code_of c.design) here.instance.residual)) ∙ strip-next (settle (code_of c.design) here.instance.residual)
 
-  pub throws-free : (p s e : ℕ) → Shows k p s → statement_at (arena_of k.program.code) s ≡ Some (code.throw e) → HasNoGoal k p
+  pub throws-free : (p s e : ℕ) → Shows k p s → statement_at (arena_of k.program.now.code) s ≡ Some (code.throw e) → HasNoGoal k p
   throws-free p s e next there kept at =
       let i = here p kept at in
       goal_here p kept at

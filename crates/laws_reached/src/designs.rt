@@ -14,7 +14,7 @@ pub fn designs_stay()
     ensures stays { (c : Config) (r : IsReached c) → c.design ≡ r.design }
     ensures steps { (c d : Config) → IsReached c → step c ≡ went d → d.design ≡ c.design }
     ensures takings { (c d : Config) (p : ℕ) → IsReached c → step c ≡ takes → taking c p ≡ Some d → d.design ≡ c.design }
-    ensures code { (k : Kernel) (c : Config) → StandsFor k c → (r : IsReached c) → k.program.code ≡ r.design.code }
+    ensures code { (k : Kernel) (c : Config) → StandsFor k c → (r : IsReached c) → k.program.now.code ≡ r.design.code }
 {}
 
 /// The design of a kernel in a run is sound: its names stand for what is there, and its events, if they are few, have numbers.

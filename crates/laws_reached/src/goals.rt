@@ -13,7 +13,7 @@ ghost use Rattle.laws_reached.specs.Reached.{IsReached};
 /// An instance in whose body a throw comes next is not being unwound: no unwind block throws, nor does what it calls (IEEE
 /// 1666-2011, 5.6.6).
 pub fn throws_are_free()
-    ensures free { (k : Kernel) (c : Config) → StandsFor k c → IsReached c → (p s e : ℕ) → Shows k p s → statement_at (arena_of k.program.code) s ≡ Some (code.throw e) → HasNoGoal k p }
+    ensures free { (k : Kernel) (c : Config) → StandsFor k c → IsReached c → (p s e : ℕ) → Shows k p s → statement_at (arena_of k.program.now.code) s ≡ Some (code.throw e) → HasNoGoal k p }
     ensures next { (k : Kernel) (c : Config) → StandsFor k c → IsReached c → (p : ℕ) → ThrowsFreeNext k p }
 {}
 

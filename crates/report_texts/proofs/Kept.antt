@@ -17,8 +17,8 @@ use Rattle.report_texts.specs.Instances.{path_if, path_at, IsPrintLine, IsTurnLi
 module _ (k : Kernel) (p : ℕ) (c : Config) (i : Instance) (h : StandsFor k c) (there : instance_at c p ≡ Some i) (lives : i.ended ≡ false) where
   pub path_is : i.path ≡ path_at k p
   path_is =
-      let tells = subst (λ e. TellsBy (Shows (whole_design k) k.program) e (shown_at k.schedule p) (kept_at k.schedule p) i) lives
-      (subst (Tells (Shows (whole_design k) k.program) (shown_at k.schedule p) (kept_at k.schedule p)) there (h.processes.each p)) in
+      let tells = subst (λ e. TellsBy (Shows (whole_design k) k.program.now) e (shown_at k.schedule p) (kept_at k.schedule p) i) lives
+      (subst (Tells (Shows (whole_design k) k.program.now) (shown_at k.schedule p) (kept_at k.schedule p)) there (h.processes.each p)) in
       tells.kept.1.1.path ∙ sym (ap (path_if (whole_design k)) tells.kept.1.0)
 
   pub now_is : c.cycle.now ≡ k.cycle.now.0
@@ -29,7 +29,7 @@ is_turn k p line is c i h there lives = is
     ∙ sym (ap (λ (path : List ℕ). turn_line c.cycle.now path p) (path_is k p c i h there lives) ∙ ap (λ (now : ℕ). turn_line now (path_at k p) p) (now_is k p c i h there lives))
 
 pub is_print : (k : Kernel) (p s : ℕ) (v : Option Value) (words line : List ℕ)
-    → ((text : List ℕ) (shown : Option Term) → statement_at (arena_of k.program.code) s ≡ Some (code.print text shown) → words ≡ text)
+    → ((text : List ℕ) (shown : Option Term) → statement_at (arena_of k.program.now.code) s ≡ Some (code.print text shown) → words ≡ text)
     → line ≡ print_line k.cycle.now.0 (path_at k p) words v → IsPrintLine k p s v line
 is_print k p s v words line reads is c i text shown h there lives prints =
     is

@@ -51,7 +51,7 @@ fn push_spawned(
 {
     push_home(alloc, text, &k.design, home)?;
     text.extend_from_slice(b".")?;
-    push_body_name(text, &k.program, code)?;
+    push_body_name(text, k.program, code)?;
     text.extend_from_slice(b"_")?;
     push_number(text, u64::from(serial))
 }

@@ -1,7 +1,6 @@
 -- What a session begins with.
-use Rattle.std.specs.Prelude.{◌≡◌, ◌<◌, ◌+◌, ◌-◌, ◌^◌, ℕ, List, [], ◌++◌, All, Contains, Some}
-use Rattle.flat_design.specs.Code.{Arena, Statement, arena_of}
-use Rattle.flat_design.specs.Reach.{IsIn, inner_blocks}
+use Rattle.std.specs.Prelude.{◌≡◌, ◌<◌, ◌+◌, ◌-◌, ◌^◌, ℕ, List, [], ◌++◌, All, Some}
+use Rattle.flat_design.specs.Code.{arena_of}
 use Rattle.flat_design.specs.declared.design.SemaphorePart.{SemaphorePart}
 use Rattle.vcd_trace.specs.SimModel.Configuration.{Config}
 use Rattle.vcd_trace.specs.SimModel.Steps.{step, went, takes, taking}
@@ -13,17 +12,13 @@ use Rattle.kernel_runs.specs.Made.{NoDoubles}
 use Rattle.kernel_start.specs.KernelState.Kernel.{StandsFor}
 use Rattle.kernel_start.specs.KernelState.declared.kernel.Kernel.{Kernel}
 
--- blocks inside a block have smaller numbers
-abbrev pub IsNested : Arena → Type 0
-IsNested a = (b j : ℕ) (s : Statement) → IsIn a b s → Contains (inner_blocks s) j → j < b
-
 -- the script is still to be carried out, and nothing was told or seen
 pub record IsFirst (c : Config) (script : List Command) : Type 0 where
   pub script_left : c.script ≡ script
   pub nothing_told : c.trace.told ≡ []
   pub nothing_seen : c.trace.snapshots ≡ []
 
--- the kernel stands for the first configuration of a run of a sound design, whose code the program beside it has; it has made nothing
+-- the kernel stands for the first configuration of a run of a sound design, whose code this program has; it has made nothing
 pub record HasBegun (k : Kernel) (program : Program) (script : List Command) : Type 0 where
   pub first : Config
   pub stands : StandsFor k first

@@ -1,6 +1,5 @@
 //! The steps of a session, one after another.
 ghost use Rattle.std.specs.Prelude.{◌≡◌, ◌≤◌, ◌<◌, ◌-◌, ◌^◌, All, [], ◌∷◌, ◌++◌, length, IfOk, IfSome, vec_len, vec_capacity};
-ghost use Rattle.flat_design.specs.Code.{arena_of};
 ghost use Rattle.flat_design.specs.Sound.{SoundDesign};
 ghost use Rattle.flat_design.specs.declared.design.SemaphorePart.{SemaphorePart};
 ghost use Rattle.kernel_start.specs.InstanceTable.declared.TheConstants.{MAX_LIVE};
@@ -9,7 +8,7 @@ ghost use Rattle.kernel_start.specs.KernelState.Kernel.{StandsFor};
 ghost use Rattle.write_buffer.specs.SimIo.Keeps.{WriteKeeps};
 ghost use Rattle.laws_reached.specs.Reached.{IsReached};
 ghost use Rattle.session.specs.Course.{Ran};
-ghost use Rattle.session.specs.Begun.{HasBegun, IsFirst, IsNested};
+ghost use Rattle.session.specs.Begun.{HasBegun, IsFirst};
 ghost use Rattle.session.specs.Outputs.{AreNames, OneRose, Took, outer_of};
 
 use crate::buffers::Buffers;
@@ -18,15 +17,14 @@ use crate::finishing::{cut_between, finish};
 use crate::laws::{runs_may_step, sound_runs_go_on};
 use crate::plans::{Outcome, Plan};
 use crate::recording::{record_begin, record_step, record_turn};
-use code_copy::copy_code;
 use flat_design::{Choices, Design};
 use kernel_runs::{Made, make_step};
-use kernel_start::first_kernel;
 use kernel_start::kernel_bodies_api::Program;
 use kernel_start::kernel_sound_api::SoundKernel;
+use kernel_start::{Apart, apart, first_kernel};
 use laws_reached::kernel_phases_api::Choosing;
 use laws_reached::runs_begin;
-use std::alloc::{AllocError, Global};
+use std::alloc::Global;
 use vcd_trace::Tracing;
 use vcd_trace::sim_model_api::{Command, Stop};
 use write_buffer::sim_io_api::{Shelf, Sink, Trouble};
@@ -194,20 +192,6 @@ fn run_on<S: Shelf, O: Sink>(
     )
 }
 
-/// The program of a code, twice: a kernel changes while the statements of its program are carried out.
-fn program_beside(alloc: Global, design: &Design) -> Result<Program, AllocError>
-    requires nested { IsNested (arena_of design.now.code) }
-    ensures { IfOk result (λ program. arena_of program.code ≡ arena_of design.now.code) }
-{
-    match copy_code(alloc, &design.code) {
-        Ok(code) => match Program::new(alloc, code) {
-            Ok(program) => Ok(program),
-            Err(_) => Err(AllocError),
-        },
-        Err(_) => Err(AllocError),
-    }
-}
-
 /// Runs a session: carries the script out over a sound design whose semaphores start low, in no more steps than the plan has, and writes
 /// the report to `out`. The rule of the plan picks each
 /// process that is taken (IEEE 1666-2011, 4.2.1.2). The files of the plan get the trace (IEEE 1364-2005, 18) and the choices.
@@ -237,11 +221,11 @@ pub fn run_session<S: Shelf, O: Sink>(
     ensures cause { OneRose (O.faults out.old) (O.faults out.new) (S.writes shelf.old) (S.writes shelf.new) (result.stop ≡ Stop.WriteFault) }
 {
     runs_begin();
-    let program = match program_beside(alloc, &design) {
-        Ok(program) => program,
+    let Apart { design, program } = match apart(alloc, design) {
+        Ok(parted) => parted,
         Err(_) => return Outcome::cut(Trouble::NoMemory, Choices::new(alloc), 0),
     };
-    match first_kernel(alloc, design) {
+    match first_kernel(alloc, design, &program) {
         Ok(mut k) => run_on(alloc, &mut k, &program, script, plan, shelf, out),
         Err(_) => Outcome::cut(Trouble::NoMemory, Choices::new(alloc), 0),
     }

@@ -20,7 +20,7 @@ pub returns-in-Some : goal.returns-in-Some
 returns-in-Some c = λ leaves.
     let at = sym c.get.ensures.value ∙ ap option_copied c.in-Some.is in
     let body = c.in-Some.x.now.body.body.body in
-    let w = ends_as (next_of (settled_in c.args.k.now.program body)) (leaves c.in-Some.x.now.body.body (was c.args.k.now c.args.p c.in-Some.x.now at)) in
+    let w = ends_as (next_of (settled_in c.args.k.now.program.now body)) (leaves c.in-Some.x.now.body.body (was c.args.k.now c.args.p c.in-Some.x.now at)) in
     some_as (λ x. call_of x.now) (EndsNext c.args.k.now c.args.p) c.innermost.result w.0
-    (c.innermost.ensures ∙ leaves_innermost (arena_of c.args.k.now.program.code) (left_in c.args.k.now.program body) w.0 w.1)
-    (kept_is c.args.k.now c.args.p c.in-Some.x.now at (λ kept. next_of (settled_in c.args.k.now.program kept.body) ≡ residual.leaves w.0) w.1)
+    (c.innermost.ensures ∙ leaves_innermost (arena_of c.args.k.now.program.now.code) (left_in c.args.k.now.program.now body) w.0 w.1)
+    (kept_is c.args.k.now c.args.p c.in-Some.x.now at (λ kept. next_of (settled_in c.args.k.now.program.now kept.body) ≡ residual.leaves w.0) w.1)

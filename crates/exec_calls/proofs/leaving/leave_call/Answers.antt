@@ -18,7 +18,7 @@ leave-requires-clause-leaves c = c.requires.leaves c.in-Some.x.now.body.body (wa
 
 pub returns-clause-ends : goal.returns-clause-ends
 returns-clause-ends c =
-    kept_is c.args.k.now c.args.p c.in-Some.x.now (sym c.get_mut.ensures.value ∙ ap option_copied_mut c.in-Some.is) (λ kept. next_of (settled_in c.args.k.now.program kept.body) ≡ residual.leaves (call_of c.leave.result)) c.leave.ensures.frame
+    kept_is c.args.k.now c.args.p c.in-Some.x.now (sym c.get_mut.ensures.value ∙ ap option_copied_mut c.in-Some.is) (λ kept. next_of (settled_in c.args.k.now.program.now kept.body) ≡ residual.leaves (call_of c.leave.result)) c.leave.ensures.frame
 
 pub returns-clause-frame : goal.returns-clause-frame
 returns-clause-frame c =

@@ -14,7 +14,7 @@ reserve-requires c = old_body_sound c.args.k.now c.args.p c.in-Some.x.now (sym c
 
 pub returns-clause-stays : goal.returns-clause-stays
 returns-clause-stays c =
-    same_moves c.args.k.now c.args.p c.in-Some.x.now c.reserve.new.self (sym c.get_mut.ensures.value ∙ ap option_copied_mut c.in-Some.is) c.reserve.ensures.kept (c.reserve.ensures.left (arena_of c.args.k.now.program.code))
+    same_moves c.args.k.now c.args.p c.in-Some.x.now c.reserve.new.self (sym c.get_mut.ensures.value ∙ ap option_copied_mut c.in-Some.is) c.reserve.ensures.kept (c.reserve.ensures.left (arena_of c.args.k.now.program.now.code))
 
 pub returns-clause-depth : goal.returns-clause-depth
 returns-clause-depth c =
@@ -22,7 +22,7 @@ returns-clause-depth c =
 
 pub returns-clause-ready : goal.returns-clause-ready
 returns-clause-ready c =
-    ready_if c.args.k.now c.args.p c.in-Some.x.now c.reserve.new.self (sym c.get_mut.ensures.value ∙ ap option_copied_mut c.in-Some.is) c.reserve.ensures.kept (c.reserve.ensures.left (arena_of c.args.k.now.program.code))
+    ready_if c.args.k.now c.args.p c.in-Some.x.now c.reserve.new.self (sym c.get_mut.ensures.value ∙ ap option_copied_mut c.in-Some.is) c.reserve.ensures.kept (c.reserve.ensures.left (arena_of c.args.k.now.program.now.code))
     c.args.f c.reserve.result c.reserve.ensures.ready c.reserve.ensures.shallow
 
 pub returns-clause-succeeds : goal.returns-clause-succeeds
@@ -32,16 +32,16 @@ returns-clause-succeeds c = λ ready.
 
 pub returns-clause-left : goal.returns-clause-left
 returns-clause-left c =
-    same_left c.args.k.now c.args.p c.in-Some.x.now c.reserve.new.self (sym c.get_mut.ensures.value ∙ ap option_copied_mut c.in-Some.is) c.reserve.ensures.kept (c.reserve.ensures.left (arena_of c.args.k.now.program.code))
+    same_left c.args.k.now c.args.p c.in-Some.x.now c.reserve.new.self (sym c.get_mut.ensures.value ∙ ap option_copied_mut c.in-Some.is) c.reserve.ensures.kept (c.reserve.ensures.left (arena_of c.args.k.now.program.now.code))
 
 pub returns-clause-shows : goal.returns-clause-shows
 returns-clause-shows c = λ s.
-    still_next c.args.k.now c.args.p c.in-Some.x.now c.reserve.new.self (sym c.get_mut.ensures.value ∙ ap option_copied_mut c.in-Some.is) c.reserve.ensures.kept (c.reserve.ensures.left (arena_of c.args.k.now.program.code))
+    still_next c.args.k.now c.args.p c.in-Some.x.now c.reserve.new.self (sym c.get_mut.ensures.value ∙ ap option_copied_mut c.in-Some.is) c.reserve.ensures.kept (c.reserve.ensures.left (arena_of c.args.k.now.program.now.code))
     (λ r. next_of r ≡ residual.statement s)
 
 pub returns-clause-statement : goal.returns-clause-statement
 returns-clause-statement c =
-    still_next c.args.k.now c.args.p c.in-Some.x.now c.reserve.new.self (sym c.get_mut.ensures.value ∙ ap option_copied_mut c.in-Some.is) c.reserve.ensures.kept (c.reserve.ensures.left (arena_of c.args.k.now.program.code))
+    still_next c.args.k.now c.args.p c.in-Some.x.now c.reserve.new.self (sym c.get_mut.ensures.value ∙ ap option_copied_mut c.in-Some.is) c.reserve.ensures.kept (c.reserve.ensures.left (arena_of c.args.k.now.program.now.code))
     (λ r. bodies.IsStatement (shown (next_of r)))
 
 pub returns-clause-others : goal.returns-clause-others

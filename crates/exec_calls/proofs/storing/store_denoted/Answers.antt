@@ -11,7 +11,7 @@ returns-in-Some-clause-moves c = λ d h.
     subst (StandsFor c.set_variable.new.k) (sym (set_is d c.args.d c.args.v ∙ ap (set_if d c.args.v) (sym c.variable_number.ensures ∙ c.in-Some.is))) (c.set_variable.ensures.moves d h)
 
 pub returns-in-Some-clause-design : goal.returns-in-Some-clause-design
-returns-in-Some-clause-design c = ap {A = Design} (λ d. record d { code = c.set_variable.new.k.program.code }) c.set_variable.ensures.kept.design ∙ ap {A = Program} (λ q. record c.args.k.now.design { code = q.code }) c.set_variable.ensures.kept.program
+returns-in-Some-clause-design c = ap {A = Design} (λ d. record d { code = c.set_variable.new.k.program.now.code }) c.set_variable.ensures.kept.design ∙ ap {A = Program} (λ q. record c.args.k.now.design { code = q.code }) c.set_variable.ensures.kept.program
 
 pub returns-in-Some-clause-lives : goal.returns-in-Some-clause-lives
 returns-in-Some-clause-lives c = lives_still c.args.k.now c.set_variable.new.k c.args.p c.set_variable.ensures.kept c.requires.lives

@@ -12,4 +12,4 @@ returns-in-Some-clause-lives c = there_still c.args.k.now c.args.p c.in-Some.x.n
 pub returns-in-Some-clause-sound : goal.returns-in-Some-clause-sound
 returns-in-Some-clause-sound c =
     let at = sym c.get_mut.ensures.value ∙ ap option_copied_mut c.in-Some.is in
-    one_body_sound c.args.k.now c.args.p c.in-Some.x.now c.set_local.new.self at c.set_local.ensures.kept c.requires.sound (c.set_local.ensures.sound c.args.k.now.program (old_body_sound c.args.k.now c.args.p c.in-Some.x.now at c.requires.sound))
+    one_body_sound c.args.k.now c.args.p c.in-Some.x.now c.set_local.new.self at c.set_local.ensures.kept c.requires.sound (c.set_local.ensures.sound c.args.k.now.program.now (old_body_sound c.args.k.now c.args.p c.in-Some.x.now at c.requires.sound))

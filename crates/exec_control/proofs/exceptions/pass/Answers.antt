@@ -30,9 +30,9 @@ returns-in-Some-clause-lives c = there_still c.args.k.now c.args.p c.in-Some.x.n
 pub returns-in-Some-clause-free : goal.returns-in-Some-clause-free
 returns-in-Some-clause-free c = λ free.
     let at = sym c.get_mut.ensures.value ∙ ap option_copied_mut c.in-Some.is in
-    kept_now c.args.k.now c.args.p c.in-Some.x.now c.past.new.self at c.past.ensures.kept (λ kept. has_goal (left_in c.args.k.now.program kept.body) ≡ false)
-    (ap has_goal c.past.ensures.left ∙ put_goal (bodies.settled_in c.args.k.now.program c.in-Some.x.now.body.body.body) (c.requires.statement c.in-Some.x.now.body.body (was c.args.k.now c.args.p c.in-Some.x.now at))
-    ∙ settle_goal (arena_of c.args.k.now.program.code) (left_in c.args.k.now.program c.in-Some.x.now.body.body.body) ∙ free c.in-Some.x.now.body.body (was c.args.k.now c.args.p c.in-Some.x.now at))
+    kept_now c.args.k.now c.args.p c.in-Some.x.now c.past.new.self at c.past.ensures.kept (λ kept. has_goal (left_in c.args.k.now.program.now kept.body) ≡ false)
+    (ap has_goal c.past.ensures.left ∙ put_goal (bodies.settled_in c.args.k.now.program.now c.in-Some.x.now.body.body.body) (c.requires.statement c.in-Some.x.now.body.body (was c.args.k.now c.args.p c.in-Some.x.now at))
+    ∙ settle_goal (arena_of c.args.k.now.program.now.code) (left_in c.args.k.now.program.now c.in-Some.x.now.body.body.body) ∙ free c.in-Some.x.now.body.body (was c.args.k.now c.args.p c.in-Some.x.now at))
 
 pub returns-in-Some-clause-others : goal.returns-in-Some-clause-others
 returns-in-Some-clause-others c = others_kept c.args.k.now c.args.p c.in-Some.x.now c.past.new.self (sym c.get_mut.ensures.value ∙ ap option_copied_mut c.in-Some.is) c.past.ensures.kept

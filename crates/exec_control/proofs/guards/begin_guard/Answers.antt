@@ -31,8 +31,8 @@ returns-in-Some-clause-does c d i h there =
     (strip-put (settle (arena d) i.residual) (guard (block (arena d) c.args.b) d.trace.next_guard c.args.u)
     ∙ ap (λ r. put (strip (settle (arena d) i.residual)) (guard r 0 c.args.u)) (strip-block (arena d) c.args.b)
     ∙ ap (λ r. put r (guard (block (arena d) c.args.b) 0 c.args.u)) (settled_before c.args.k.now c.args.p c.in-Some.x.now at d i h there)
-    ∙ ap (λ r. put (bodies.settled_in c.args.k.now.program c.in-Some.x.now.body.body.body) (guard r 0 c.args.u)) (same_block c.args.k.now c.args.p c.in-Some.x.now at c.args.s c.args.b c.requires.next d i h there)
-    ∙ sym (around_is c.args.k.now c.args.s c.args.b (around.Guard c.args.u) c.requires.owes (bodies.settled_in c.args.k.now.program c.in-Some.x.now.body.body.body))
+    ∙ ap (λ r. put (bodies.settled_in c.args.k.now.program.now c.in-Some.x.now.body.body.body) (guard r 0 c.args.u)) (same_block c.args.k.now c.args.p c.in-Some.x.now at c.args.s c.args.b c.requires.next d i h there)
+    ∙ sym (around_is c.args.k.now c.args.s c.args.b (around.Guard c.args.u) c.requires.owes (bodies.settled_in c.args.k.now.program.now c.in-Some.x.now.body.body.body))
     ∙ sym (c.begin_block.ensures.left c.args.s (shows_next c.args.k.now c.args.p c.in-Some.x.now at c.args.s c.args.b c.requires.next))))
     (record marked.trace { next_guard = d.trace.next_guard + 1 })
 

@@ -24,13 +24,13 @@ begin_block-requires-clause-inner c = is_inner c.args.k.now c.args.p c.in-Some.x
 pub returns-in-Some-clause-does : goal.returns-in-Some-clause-does
 returns-in-Some-clause-does c d i h there =
     let at = sym c.get_mut.ensures.value ∙ ap option_copied_mut c.in-Some.is in
-    let n = put (settle (arena d) i.residual) (try_ (block (arena d) c.args.b) (handlers_of (arena_of c.args.k.now.program.code) c.args.s)) in
+    let n = put (settle (arena d) i.residual) (try_ (block (arena d) c.args.b) (handlers_of (arena_of c.args.k.now.program.now.code) c.args.s)) in
     steps_to c.args.k.now c.args.p c.in-Some.x.now c.begin_block.new.self at c.begin_block.ensures.kept d i h there n
-    (strip-put (settle (arena d) i.residual) (try_ (block (arena d) c.args.b) (handlers_of (arena_of c.args.k.now.program.code) c.args.s))
-    ∙ ap (λ r. put (strip (settle (arena d) i.residual)) (try_ r (handlers_of (arena_of c.args.k.now.program.code) c.args.s))) (strip-block (arena d) c.args.b)
-    ∙ ap (λ r. put r (try_ (block (arena d) c.args.b) (handlers_of (arena_of c.args.k.now.program.code) c.args.s))) (settled_before c.args.k.now c.args.p c.in-Some.x.now at d i h there)
-    ∙ ap (λ r. put (bodies.settled_in c.args.k.now.program c.in-Some.x.now.body.body.body) (try_ r (handlers_of (arena_of c.args.k.now.program.code) c.args.s))) (same_block c.args.k.now c.args.p c.in-Some.x.now at c.args.s c.args.b c.requires.next d i h there)
-    ∙ sym (around_is c.args.k.now c.args.s c.args.b (around.Try) c.requires.catches (bodies.settled_in c.args.k.now.program c.in-Some.x.now.body.body.body))
+    (strip-put (settle (arena d) i.residual) (try_ (block (arena d) c.args.b) (handlers_of (arena_of c.args.k.now.program.now.code) c.args.s))
+    ∙ ap (λ r. put (strip (settle (arena d) i.residual)) (try_ r (handlers_of (arena_of c.args.k.now.program.now.code) c.args.s))) (strip-block (arena d) c.args.b)
+    ∙ ap (λ r. put r (try_ (block (arena d) c.args.b) (handlers_of (arena_of c.args.k.now.program.now.code) c.args.s))) (settled_before c.args.k.now c.args.p c.in-Some.x.now at d i h there)
+    ∙ ap (λ r. put (bodies.settled_in c.args.k.now.program.now c.in-Some.x.now.body.body.body) (try_ r (handlers_of (arena_of c.args.k.now.program.now.code) c.args.s))) (same_block c.args.k.now c.args.p c.in-Some.x.now at c.args.s c.args.b c.requires.next d i h there)
+    ∙ sym (around_is c.args.k.now c.args.s c.args.b (around.Try) c.requires.catches (bodies.settled_in c.args.k.now.program.now c.in-Some.x.now.body.body.body))
     ∙ sym (c.begin_block.ensures.left c.args.s (shows_next c.args.k.now c.args.p c.in-Some.x.now at c.args.s c.args.b c.requires.next)))
 
 pub returns-in-Some-clause-sound : goal.returns-in-Some-clause-sound

@@ -11,8 +11,8 @@ use Rattle.exec_control.proofs.shown.has_goal.Goals as goal
 
 pub returns-in-Some-clause-shown : goal.returns-in-Some-clause-shown
 returns-in-Some-clause-shown c = λ d i h there.
-    c.has_goal.ensures (arena_of c.args.k.now.program.code) ∙ sym (ap has_goal (left_before c.args.k.now c.args.q c.in-Some.x.now (sym c.get.ensures.value ∙ ap option_copied c.in-Some.is) d i h there)) ∙ strip-has_goal i.residual
+    c.has_goal.ensures (arena_of c.args.k.now.program.now.code) ∙ sym (ap has_goal (left_before c.args.k.now c.args.q c.in-Some.x.now (sym c.get.ensures.value ∙ ap option_copied c.in-Some.is) d i h there)) ∙ strip-has_goal i.residual
 
 pub returns-in-Some-clause-free : goal.returns-in-Some-clause-free
 returns-in-Some-clause-free c = λ none kept at.
-    subst (λ x. has_goal (left_in c.args.k.now.program x.body) ≡ false) (ap (λ o. unwrap_or o kept) (sym (was c.args.k.now c.args.q c.in-Some.x.now (sym c.get.ensures.value ∙ ap option_copied c.in-Some.is)) ∙ at)) (sym (c.has_goal.ensures (arena_of c.args.k.now.program.code)) ∙ none)
+    subst (λ x. has_goal (left_in c.args.k.now.program.now x.body) ≡ false) (ap (λ o. unwrap_or o kept) (sym (was c.args.k.now c.args.q c.in-Some.x.now (sym c.get.ensures.value ∙ ap option_copied c.in-Some.is)) ∙ at)) (sym (c.has_goal.ensures (arena_of c.args.k.now.program.now.code)) ∙ none)

@@ -8,4 +8,4 @@ use Rattle.exec_control.proofs.shown.in_nb.Goals as goal
 
 pub returns-in-Some : goal.returns-in-Some
 returns-in-Some c = λ d i h there.
-    c.in_nb.ensures (arena_of c.args.k.now.program.code) ∙ sym (ap in_nb (left_before c.args.k.now c.args.q c.in-Some.x.now (sym c.get.ensures.value ∙ ap option_copied c.in-Some.is) d i h there)) ∙ strip-in_nb i.residual
+    c.in_nb.ensures (arena_of c.args.k.now.program.now.code) ∙ sym (ap in_nb (left_before c.args.k.now c.args.q c.in-Some.x.now (sym c.get.ensures.value ∙ ap option_copied c.in-Some.is) d i h there)) ∙ strip-in_nb i.residual

@@ -24,8 +24,8 @@ returns-in-Some-clause-lives c = there_still c.args.k.now c.args.p c.in-Some.x.n
 pub returns-in-Some-clause-free : goal.returns-in-Some-clause-free
 returns-in-Some-clause-free c =
     let at = sym c.get_mut.ensures.value ∙ ap option_copied_mut c.in-Some.is in
-    kept_now c.args.k.now c.args.p c.in-Some.x.now c.settle.new.self at c.settle.ensures.kept (λ kept. has_goal (left_in c.args.k.now.program kept.body) ≡ false)
-    (ap has_goal c.settle.ensures.left ∙ settle_goal (arena_of c.args.k.now.program.code) (left_in c.args.k.now.program c.in-Some.x.now.body.body.body) ∙ c.requires.free c.in-Some.x.now.body.body (was c.args.k.now c.args.p c.in-Some.x.now at))
+    kept_now c.args.k.now c.args.p c.in-Some.x.now c.settle.new.self at c.settle.ensures.kept (λ kept. has_goal (left_in c.args.k.now.program.now kept.body) ≡ false)
+    (ap has_goal c.settle.ensures.left ∙ settle_goal (arena_of c.args.k.now.program.now.code) (left_in c.args.k.now.program.now c.in-Some.x.now.body.body.body) ∙ c.requires.free c.in-Some.x.now.body.body (was c.args.k.now c.args.p c.in-Some.x.now at))
 
 pub returns-in-Some-clause-sound : goal.returns-in-Some-clause-sound
 returns-in-Some-clause-sound c = one_body_sound c.args.k.now c.args.p c.in-Some.x.now c.settle.new.self (sym c.get_mut.ensures.value ∙ ap option_copied_mut c.in-Some.is) c.settle.ensures.kept c.requires.sound c.settle.ensures.sound

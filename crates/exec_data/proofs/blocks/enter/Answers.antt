@@ -23,8 +23,8 @@ returns-in-Some-clause-steps c d i h there =
     let at = sym c.get_mut.ensures.value ∙ ap option_copied_mut c.in-Some.is in
     steps_to c.args.k.now c.args.p c.in-Some.x.now c.begin_block.new.self at c.begin_block.ensures.kept d i h there (put (settle (arena d) i.residual) (block (arena d) c.args.b))
     (left_is c.args.k.now c.args.p c.in-Some.x.now at c.args.s c.args.b c.requires.next d i h there (block (arena d) c.args.b) (strip-block (arena d) c.args.b)
-    ∙ ap (put (bodies.settled_in c.args.k.now.program c.in-Some.x.now.body.body.body)) (same_block c.args.k.now c.args.p c.in-Some.x.now at c.args.s c.args.b c.requires.next d i h there)
-    ∙ sym (around_is c.args.k.now c.args.s c.args.b around.Nothing c.requires.plain (bodies.settled_in c.args.k.now.program c.in-Some.x.now.body.body.body))
+    ∙ ap (put (bodies.settled_in c.args.k.now.program.now c.in-Some.x.now.body.body.body)) (same_block c.args.k.now c.args.p c.in-Some.x.now at c.args.s c.args.b c.requires.next d i h there)
+    ∙ sym (around_is c.args.k.now c.args.s c.args.b around.Nothing c.requires.plain (bodies.settled_in c.args.k.now.program.now c.in-Some.x.now.body.body.body))
     ∙ sym (c.begin_block.ensures.left c.args.s (shows_next c.args.k.now c.args.p c.in-Some.x.now at c.args.s c.args.b c.requires.next)))
 
 pub returns-in-Some-clause-sound : goal.returns-in-Some-clause-sound

@@ -23,8 +23,8 @@ returns-in-Some-clause-steps c d i h there =
     let at = sym c.get_mut.ensures.value ∙ ap option_copied_mut c.in-Some.is in
     steps_to c.args.k.now c.args.p c.in-Some.x.now c.begin_block.new.self at c.begin_block.ensures.kept d i h there (put (settle (arena d) i.residual) (followed (block (arena d) c.args.b) (c.args.s ∷ [])))
     (left_is c.args.k.now c.args.p c.in-Some.x.now at c.args.s c.args.b c.requires.next d i h there (followed (block (arena d) c.args.b) (c.args.s ∷ [])) (strip-followed (block (arena d) c.args.b) (c.args.s ∷ []) ∙ ap (λ r. followed r (c.args.s ∷ [])) (strip-block (arena d) c.args.b))
-    ∙ ap (λ e. put (bodies.settled_in c.args.k.now.program c.in-Some.x.now.body.body.body) (followed e (c.args.s ∷ []))) (same_block c.args.k.now c.args.p c.in-Some.x.now at c.args.s c.args.b c.requires.next d i h there)
-    ∙ sym (around_is c.args.k.now c.args.s c.args.b around.Loop c.requires.again (bodies.settled_in c.args.k.now.program c.in-Some.x.now.body.body.body))
+    ∙ ap (λ e. put (bodies.settled_in c.args.k.now.program.now c.in-Some.x.now.body.body.body) (followed e (c.args.s ∷ []))) (same_block c.args.k.now c.args.p c.in-Some.x.now at c.args.s c.args.b c.requires.next d i h there)
+    ∙ sym (around_is c.args.k.now c.args.s c.args.b around.Loop c.requires.again (bodies.settled_in c.args.k.now.program.now c.in-Some.x.now.body.body.body))
     ∙ sym (c.begin_block.ensures.left c.args.s (shows_next c.args.k.now c.args.p c.in-Some.x.now at c.args.s c.args.b c.requires.next)))
 
 pub returns-in-Some-clause-sound : goal.returns-in-Some-clause-sound

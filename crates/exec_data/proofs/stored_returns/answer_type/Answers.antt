@@ -18,9 +18,9 @@ pub returns-in-Some : goal.returns-in-Some
 returns-in-Some c = λ d i h there.
     let left = settle (arena d) i.residual in
     let at = sym c.get.ensures.value ∙ ap option_copied c.in-Some.is in
-    let body = bodies.settled_in c.args.k.now.program c.in-Some.x.now.body.body.body in
+    let body = bodies.settled_in c.args.k.now.program.now c.in-Some.x.now.body.body.body in
     c.type_of_answers.ensures
-    ∙ ap (type_of_answers (arena_of c.args.k.now.program.code)) c.function.ensures
-    ∙ of_frame (arena_of c.args.k.now.program.code) (innermost body)
-    ∙ ap (answer_type (arena_of c.args.k.now.program.code)) (sym (sym (strip-innermost left) ∙ ap innermost (settled_before c.args.k.now c.args.p c.in-Some.x.now at d i h there)))
+    ∙ ap (type_of_answers (arena_of c.args.k.now.program.now.code)) c.function.ensures
+    ∙ of_frame (arena_of c.args.k.now.program.now.code) (innermost body)
+    ∙ ap (answer_type (arena_of c.args.k.now.program.now.code)) (sym (sym (strip-innermost left) ∙ ap innermost (settled_before c.args.k.now c.args.p c.in-Some.x.now at d i h there)))
     ∙ ap (λ e. answer_type (arena_of e.code) (innermost left)) (sym h.design)

@@ -4,7 +4,7 @@ use Rattle.kernel_state.proofs.Frames.{one_body_sound, old_body_sound, there_sti
 use Rattle.kernel_state.proofs.control.unwind_body.Goals as goal
 
 pub unwind-requires : goal.unwind-requires
-unwind-requires c = (c.args.k.now.program, old_body_sound c.args.k.now c.args.q c.in-Some.x.now (sym c.get_mut.ensures.value ∙ ap option_copied_mut c.in-Some.is) c.requires.sound)
+unwind-requires c = (c.args.k.now.program.now, old_body_sound c.args.k.now c.args.q c.in-Some.x.now (sym c.get_mut.ensures.value ∙ ap option_copied_mut c.in-Some.is) c.requires.sound)
 
 pub returns-in-Some-clause-moves : goal.returns-in-Some-clause-moves
 returns-in-Some-clause-moves c = unwound_moves c.args.k.now c.args.q c.in-Some.x.now c.unwind.new.self (sym c.get_mut.ensures.value ∙ ap option_copied_mut c.in-Some.is) c.unwind.ensures.kept c.args.end c.unwind.ensures.left
@@ -15,4 +15,4 @@ returns-in-Some-clause-lives c = there_still c.args.k.now c.args.q c.in-Some.x.n
 pub returns-in-Some-clause-sound : goal.returns-in-Some-clause-sound
 returns-in-Some-clause-sound c =
     let at = sym c.get_mut.ensures.value ∙ ap option_copied_mut c.in-Some.is in
-    one_body_sound c.args.k.now c.args.q c.in-Some.x.now c.unwind.new.self at c.unwind.ensures.kept c.requires.sound (c.unwind.ensures.sound c.args.k.now.program (old_body_sound c.args.k.now c.args.q c.in-Some.x.now at c.requires.sound))
+    one_body_sound c.args.k.now c.args.q c.in-Some.x.now c.unwind.new.self at c.unwind.ensures.kept c.requires.sound (c.unwind.ensures.sound c.args.k.now.program.now (old_body_sound c.args.k.now c.args.q c.in-Some.x.now at c.requires.sound))

@@ -14,7 +14,7 @@ returns-in-Ok-spawn_process-clause-spawned c d h =
     let same = c.next_serial-serial.ensures.value ∙ sym c.in-Ok-spawn_process.ensures.spawns.number in
     let spawns = subst (λ m. Spawns n (spawned_as c.args.o.kind c.args.o.sensitive c.args.o.waits) (record { home = c.args.o.home; path = path_by.Spawned m; body = c.in-Ok-start.body; trigger = None }) (not c.args.o.waits) c.args.k.now.schedule c.spawn.new.s) same c.in-Ok-spawn_process.ensures.spawns in
     made_moves (record c.args.k.now { schedule = c.spawn.new.s; parents = c.push_reserved.new.self }) _ _
-    (spawned_moves c.args.k.now c.requires.sound c.args.o n c.in-Ok-start.body c.spawn.new.s c.spawn.ensures.sound c.in-Ok-start.ensures.kept.0 c.in-Ok-start.ensures.kept.1 (c.in-Ok-start.ensures.left (arena_of c.args.k.now.program.code)) c.in-Ok-start.ensures.sound spawns c.push_reserved.new.self c.top-parent.result (c.push_reserved.ensures.items ∙ ap (λ xs. xs ++ c.top-parent.result ∷ []) c.reserve.ensures.items) (λ e g. top_is c.args.k.now e g c.top-parent.result c.top-parent.ensures.none c.top-parent.ensures.some) d h)
+    (spawned_moves c.args.k.now c.requires.sound c.args.o n c.in-Ok-start.body c.spawn.new.s c.spawn.ensures.sound c.in-Ok-start.ensures.kept.0 c.in-Ok-start.ensures.kept.1 (c.in-Ok-start.ensures.left (arena_of c.args.k.now.program.now.code)) c.in-Ok-start.ensures.sound spawns c.push_reserved.new.self c.top-parent.result (c.push_reserved.ensures.items ∙ ap (λ xs. xs ++ c.top-parent.result ∷ []) c.reserve.ensures.items) (λ e g. top_is c.args.k.now e g c.top-parent.result c.top-parent.ensures.none c.top-parent.ensures.some) d h)
 
 pub returns-in-Ok-spawn_process-clause-answer : goal.returns-in-Ok-spawn_process-clause-answer
 returns-in-Ok-spawn_process-clause-answer c d h = few_live c.args.k.now d h c.in-Ok-spawn_process.ensures.few
@@ -27,7 +27,7 @@ returns-in-Ok-spawn_process-clause-sound c =
     let n = c.in-Ok-spawn_process.serial in
     let same = c.next_serial-serial.ensures.value ∙ sym c.in-Ok-spawn_process.ensures.spawns.number in
     let spawns = subst (λ m. Spawns n (spawned_as c.args.o.kind c.args.o.sensitive c.args.o.waits) (record { home = c.args.o.home; path = path_by.Spawned m; body = c.in-Ok-start.body; trigger = None }) (not c.args.o.waits) c.args.k.now.schedule c.spawn.new.s) same c.in-Ok-spawn_process.ensures.spawns in
-    spawned_sound c.args.k.now c.requires.sound c.args.o n c.in-Ok-start.body c.spawn.new.s c.spawn.ensures.sound c.in-Ok-start.ensures.kept.0 c.in-Ok-start.ensures.kept.1 (c.in-Ok-start.ensures.left (arena_of c.args.k.now.program.code)) c.in-Ok-start.ensures.sound spawns c.push_reserved.new.self
+    spawned_sound c.args.k.now c.requires.sound c.args.o n c.in-Ok-start.body c.spawn.new.s c.spawn.ensures.sound c.in-Ok-start.ensures.kept.0 c.in-Ok-start.ensures.kept.1 (c.in-Ok-start.ensures.left (arena_of c.args.k.now.program.now.code)) c.in-Ok-start.ensures.sound spawns c.push_reserved.new.self
 
 pub returns-in-Err-spawn_process-clause-answer : goal.returns-in-Err-spawn_process-clause-answer
 returns-in-Err-spawn_process-clause-answer c d h = answers_stop c.args.k.now d h c.in-Err-spawn_process.stop (λ is. c.in-Err-spawn_process.ensures.many (ap Err is))
