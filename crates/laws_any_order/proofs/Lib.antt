@@ -6,3 +6,4 @@ mod Ends
 mod Orders
 mod Ongoing
 mod Dones
+mod Itself

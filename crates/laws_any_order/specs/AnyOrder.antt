@@ -1,5 +1,5 @@
 -- What it means that the order in which processes are taken does not matter in a design.
-use Rattle.std.specs.Prelude.{◌≡◌, ◌<◌, ◌⊎◌, ℕ, List, Some}
+use Rattle.std.specs.Prelude.{◌≡◌, ◌<◌, ◌⊎◌, ℕ, List, [], Some}
 use Rattle.sim_model.specs.FlatDesign.declared.design.Design.{Design}
 use Rattle.sim_model.specs.Configuration.{Config, start}
 use Rattle.sim_model.specs.Phases.{visible_values}
@@ -13,6 +13,8 @@ use Rattle.laws_phases.specs.Same.{Same}
 use Rattle.laws_any_order.specs.Evaluations.{Evaluates, IsAtUpdate, IsFirst, IsDone, GoesOn}
 
 pub record OrderDoesNotMatter (d : Design) : Type 0 where
+  -- what a run comes to with no process in its turn is the same as itself: of each resolved signal each process has one driver
+  pub itself : (script : List Command) (n : ℕ) (choices : List ℕ) (c : Config) → after n choices (start d script) ≡ Some c → c.processes.stack ≡ [] → Same c c
   -- evaluation phases that begin in configurations that are the same but for that order, in whichever runs, come to the update phase after
   -- as many steps, in configurations that are the same
   pub phases : (script other : List Command) (n m : ℕ) (choices others : List ℕ) (c x : Config) → after n choices (start d script) ≡ Some c → after m others (start d other) ≡ Some x → Evaluates c → Same c x

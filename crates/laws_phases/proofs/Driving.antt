@@ -10,7 +10,8 @@ use Rattle.sim_model.specs.LogicValues.declared.kinds.Digit.{Digit}
 use Rattle.sim_model.specs.LogicValues.declared.kinds.Digit.TheVariants as digit
 use Rattle.sim_model.specs.SignalChannel.Drivers.{Driven, driven_at, driven_by}
 use Rattle.sim_model.specs.Waits.{holds}
-use Rattle.laws_phases.specs.Same.{AreOnce, HasOwnDrivers, SameDriven}
+use Rattle.laws_runs.specs.Marks.{IsDistinct}
+use Rattle.laws_phases.specs.Same.{HasOwnDrivers, SameDriven}
 use Rattle.laws_phases.proofs.Permuting.{sums-same, from-sums}
 
 -- ---- a writer and its driver as a number
@@ -98,11 +99,11 @@ module _ (p : ℕ) (d v : Digit) where
   -- ---- each has one driver of its own
 
   record OwnStill (ws : List ℕ) (r : Driven) : Type 0 where
-    once : AreOnce r.writers
+    once : IsDistinct r.writers
     many : length r.drivers ≡ length r.writers
     others : (q : ℕ) → q ≢ p → holds r.writers q ≡ holds ws q
 
-  own_made : (ws : List ℕ) (ds : List Digit) → AreOnce ws → length ds ≡ length ws → OwnStill ws (made ws ds)
+  own_made : (ws : List ℕ) (ds : List Digit) → IsDistinct ws → length ds ≡ length ws → OwnStill ws (made ws ds)
   own_made [] [] once many = record { once = (refl, tt); many = refl; others = λ q apart. ap (λ b. b || false) (ne_eqb p q (λ e. apart (sym e))) }
   own_made [] (e ∷ ds) once many = absurd (omega (arith, many))
   own_made (w ∷ ws) [] once many = absurd (omega (arith, many))
@@ -133,7 +134,7 @@ module _ (p : ℕ) (d v : Digit) where
   abbrev zipped : Driven → List (ℕ × Digit)
   zipped r = zip r.writers r.drivers
 
-  sum_made : (g : ℕ × Digit → ℕ) (ws : List ℕ) (ds : List Digit) → AreOnce ws → length ds ≡ length ws → sum_by g (zipped (made ws ds)) ≡ g (p, d) + sum_by (but g) (zip ws ds)
+  sum_made : (g : ℕ × Digit → ℕ) (ws : List ℕ) (ds : List Digit) → IsDistinct ws → length ds ≡ length ws → sum_by g (zipped (made ws ds)) ≡ g (p, d) + sum_by (but g) (zip ws ds)
   sum_made g [] [] once many = sum_by-cons g (p, d) []
   sum_made g [] (e ∷ ds) once many = absurd (omega (arith, many))
   sum_made g (w ∷ ws) [] once many = absurd (omega (arith, many))

@@ -1,18 +1,13 @@
 -- Two configurations that are the same but for what the order of processes may leave.
-use Rattle.std.specs.Prelude.{◌≡◌, ⊤, ℕ, false, List, [], ◌∷◌, length, zip, IsPermutation}
+use Rattle.std.specs.Prelude.{◌≡◌, ⊤, List, [], ◌∷◌, length, zip, IsPermutation}
 use Rattle.sim_model.specs.SignalChannel.Drivers.{Driven}
 use Rattle.sim_model.specs.Configuration.{Config}
-use Rattle.sim_model.specs.Waits.{holds}
+use Rattle.laws_runs.specs.Marks.{IsDistinct}
 use Rattle.laws_order.specs.LeftAlike.{AreLeftAlike}
-
--- a list without doubles
-abbrev pub AreOnce : List ℕ → Type 0
-AreOnce [] = ⊤
-AreOnce (p ∷ ps) = (holds ps p ≡ false) × AreOnce ps
 
 -- each process that wrote a resolved signal has one driver of its own
 pub record HasOwnDrivers (r : Driven) : Type 0 where
-  pub once : AreOnce r.writers
+  pub once : IsDistinct r.writers
   pub many : length r.drivers ≡ length r.writers
 
 -- a resolved signal with the same value, and the same drivers in whatever order

@@ -1,4 +1,5 @@
 use Rattle.sim_model.specs.declared.plain.Stop.TheVariants as stop
+use Rattle.laws_any_order.proofs.Itself.{runs-come-to-themselves}
 use Rattle.laws_any_order.proofs.Ongoing.{runs-go-on}
 use Rattle.laws_any_order.proofs.Orders.{phases-end-alike, runs-end-alike}
 use Rattle.laws_any_order.proofs.runs.order_does_not_matter.Goals as goal
@@ -8,6 +9,7 @@ returns c = λ d free.
     let the = c.the_same_goes_on.ensures in
     let keeps = c.runs_keep_to_turns.ensures d free in
     record {
+      itself = runs-come-to-themselves d the keeps;
       phases = λ script other n m choices others first second reached reached_too now same k l own another e y one two.
           phases-end-alike d the keeps k l own another first e second y (record { script = script; n = n; choices = choices; is_run = reached }) (record { script = other; n = m; choices = others; is_run = reached_too }) now same one two;
       runs = λ script n m choices others e y one two done done_too.
