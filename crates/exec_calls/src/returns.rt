@@ -129,18 +129,18 @@ fn hand_back_to(k: &mut Kernel, p: u32, frame: &Frame, statement: &Statement)
 }
 
 /// The end of a call by a statement that is no transport call, or by none: the frame is gone, and what it hands back is stored
-/// where the statement stands. The program is the kernel's own, held apart, so that no statement is copied.
-pub fn leave_plain_call(k: &mut Kernel, program: &Program, p: u32)
+/// where the statement stands.
+pub fn leave_plain_call(k: &mut Kernel, p: u32)
     requires sound { IsSound k.old }
     requires lives { Lives k.old p }
     requires leaves { Leaves k.old p }
-    requires same { arena_of program.now.code ≡ arena_of k.old.program.now.code }
     requires called { CalledBy k.old p IsNoTransport }
     ensures does { LeavesBy k.old k.new (Ok tt) p }
     ensures lives { Lives k.new p }
     ensures sound { IsSound k.new }
     ensures made { k.new.made ≡ k.old.made }
 {
+    let program = k.program;
     let frame = leave_call(k, p);
     match calling_statement(program, frame.call) {
         Some(statement) => hand_back_to(k, p, &frame, statement),

@@ -9,7 +9,6 @@ ghost use Rattle.kernel_runs.specs.Made.{Makes, Asks};
 
 use crate::answers::{Made, Telling, of_instance};
 use crate::takings::take;
-use kernel_phases::kernel_bodies_api::Program;
 use kernel_phases::kernel_processes_api::top;
 use kernel_phases::kernel_state_api::Kernel;
 use kernel_phases::ready_set_api::least_of_a_set;
@@ -40,9 +39,9 @@ fn evaluate_next<C: Chooser>(k: &mut Kernel, chooser: &mut C) -> Made
 }
 
 /// A step of the instance on top.
-fn step_of_top(k: &mut Kernel, program: &Program, alloc: Global, p: u32) -> Made
+fn step_of_top(k: &mut Kernel, alloc: Global, p: u32) -> Made
     requires sound { IsSound k.old }
-    requires asked { MayStep k.old program.now }
+    requires asked { MayStep k.old }
     requires room { k.old.made < 2 ^ 31 }
     requires top { IsOnTop k.old p }
     ensures makes { Makes k.old k.new result (λ c. evaluate c c.processes.stack c.processes.runnable) }
@@ -51,19 +50,14 @@ fn step_of_top(k: &mut Kernel, program: &Program, alloc: Global, p: u32) -> Made
     ensures refused { result ≡ Made.NoMemory → k.new.made ≡ k.old.made }
     ensures faulted { (f : RunFault) → result ≡ Made.Fault f → k.new.made ≡ k.old.made }
 {
-    of_instance(step_statement(k, program, alloc, p))
+    of_instance(step_statement(k, alloc, p))
 }
 
 /// A step of the evaluation phase (IEEE 1666-2011, 4.2.1.2): one of the instance on top; with none active, the taking of the
 /// runnable one that the chooser picks; with none runnable either, the update phase.
-pub(crate) fn evaluate<C: Chooser>(
-    k: &mut Kernel,
-    program: &Program,
-    alloc: Global,
-    chooser: &mut C,
-) -> Made
+pub(crate) fn evaluate<C: Chooser>(k: &mut Kernel, alloc: Global, chooser: &mut C) -> Made
     requires sound { IsSound k.old }
-    requires asked { MayStep k.old program.now }
+    requires asked { MayStep k.old }
     requires room { k.old.made < 2 ^ 31 }
     ensures makes { Makes k.old k.new result (λ c. evaluate c c.processes.stack c.processes.runnable) }
     ensures asks { Asks C.picks C.later k.old chooser.old chooser.new result (λ c. evaluate c c.processes.stack c.processes.runnable) }
@@ -73,7 +67,7 @@ pub(crate) fn evaluate<C: Chooser>(
     ensures faulted { (f : RunFault) → result ≡ Made.Fault f → k.new.made ≡ k.old.made }
 {
     match top(&k.schedule) {
-        Some(p) => step_of_top(k, program, alloc, p),
+        Some(p) => step_of_top(k, alloc, p),
         None => evaluate_next(k, chooser),
     }
 }

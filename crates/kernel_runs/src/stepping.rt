@@ -13,7 +13,6 @@ ghost use Rattle.kernel_runs.specs.Made.{Makes, StepsOn, Asks};
 use crate::answers::{Made, Telling};
 use crate::commands::next_command;
 use crate::evaluation::evaluate;
-use kernel_phases::kernel_bodies_api::Program;
 use kernel_phases::kernel_state_api::Kernel;
 use kernel_phases::sim_model_api::{Command, Phase};
 use kernel_phases::{Chooser, delta, initialize, timed};
@@ -87,13 +86,12 @@ fn go_to_next_time(k: &mut Kernel, events: &mut Vec<u32>) -> Made
 /// The step of the phase.
 fn go_on<C: Chooser>(
     k: &mut Kernel,
-    program: &Program,
     alloc: Global,
     chooser: &mut C,
     events: &mut Vec<u32>,
 ) -> Made
     requires sound { IsSound k.old }
-    requires asked { MayStep k.old program.now }
+    requires asked { MayStep k.old }
     requires room { k.old.made < 2 ^ 31 }
     requires running { k.old.cycle.phase ≢ phase.Idle }
     requires going { k.old.cycle.stopped ≡ false }
@@ -109,7 +107,7 @@ fn go_on<C: Chooser>(
     match k.cycle.phase {
         Phase::Idle => unreachable!(),
         Phase::Start => start(k, events),
-        Phase::Evaluate => evaluate(k, program, alloc, chooser),
+        Phase::Evaluate => evaluate(k, alloc, chooser),
         Phase::Notify => notify(k, events),
         Phase::Timed => go_to_next_time(k, events),
     }
@@ -118,7 +116,6 @@ fn go_on<C: Chooser>(
 /// The next step, of a kernel that is sound.
 fn make<C: Chooser>(
     k: &mut Kernel,
-    program: &Program,
     alloc: Global,
     script: &[Command],
     place: &mut usize,
@@ -126,7 +123,7 @@ fn make<C: Chooser>(
     events: &mut Vec<u32>,
 ) -> Made
     requires sound { IsSound k.old }
-    requires asked { MayStep k.old program.now }
+    requires asked { MayStep k.old }
     requires room { k.old.made < 2 ^ 31 }
     requires within { place.old ≤ length script.now }
     requires none { events.old.items ≡ [] }
@@ -144,26 +141,24 @@ fn make<C: Chooser>(
     }
     match k.cycle.phase {
         Phase::Idle => next_command(k, script, place),
-        _ => go_on(k, program, alloc, chooser, events),
+        _ => go_on(k, alloc, chooser, events),
     }
 }
 
 /// Makes the next step of a session: the next command of the script where the kernel is idle, else the step of its phase
 /// (IEEE 1666-2011, 4.2.1). The chooser is asked once where the step takes a process, and in no other step. `place` counts the
-/// commands that were carried out; `events` is a list without members, whose room is used again. The program is the kernel's own,
-/// held apart, so that no statement is copied.
+/// commands that were carried out; `events` is a list without members, whose room is used again.
 ///
 /// At most one instance, payload or reference to a payload is made, and none where the step is refused.
 pub fn make_step<C: Chooser>(
     k: &mut SoundKernel,
-    program: &Program,
     alloc: Global,
     script: &[Command],
     place: &mut usize,
     chooser: &mut C,
     events: &mut Vec<u32>,
 ) -> Made
-    requires asked { MayStep k.old.kernel program.now }
+    requires asked { MayStep k.old.kernel }
     requires room { k.old.kernel.made < 2 ^ 31 }
     requires within { place.old ≤ length script.now }
     requires none { events.old.items ≡ [] }
@@ -177,7 +172,6 @@ pub fn make_step<C: Chooser>(
 {
     make(
         &mut k.kernel,
-        program,
         alloc,
         script,
         place,

@@ -1,13 +1,12 @@
 //! The end of a call.
 ghost use Rattle.std.specs.Prelude.{◌≡◌, Some};
-ghost use Rattle.flat_design.specs.Code.{arena_of, statement_of};
+ghost use Rattle.flat_design.specs.Code.{statement_of};
 ghost use Rattle.exec_channels.specs.KernelState.Kernel.{IsSound};
 ghost use Rattle.exec_channels.specs.KernelState.Moves.{Lives};
 ghost use Rattle.exec_transactions.specs.ExecCalls.Calling.{Leaves};
 ghost use Rattle.exec_transactions.specs.ExecCalls.Leaving.{CalledBy, LeavesBy};
 ghost use Rattle.kernel_steps.specs.Ending.{IsEndOf};
 
-use exec_channels::kernel_bodies_api::Program;
 use exec_channels::kernel_state_api::Kernel;
 use exec_transactions::exec_calls_api::{calling_statement, ending_call, leave_plain_call};
 use exec_transactions::{b_transport_returns, nb_transport_returns};
@@ -75,14 +74,13 @@ fn end_by(statement: &Statement) -> CallEnd
 }
 
 /// How the call ends that ends next in the body of an instance, by the statement that called, if there was one.
-fn end_at(k: &Kernel, program: &Program, p: u32) -> CallEnd
+fn end_at(k: &Kernel, p: u32) -> CallEnd
     requires lives { Lives k.now p }
     requires leaves { Leaves k.now p }
-    requires same { arena_of program.now.code ≡ arena_of k.now.program.now.code }
     ensures called { CalledBy k.now p (IsEndOf result) }
 {
     match ending_call(k, p) {
-        Some(frame) => match calling_statement(program, frame.call) {
+        Some(frame) => match calling_statement(k.program, frame.call) {
             Some(statement) => end_by(statement),
             None => CallEnd::Plain,
         },
@@ -92,22 +90,21 @@ fn end_at(k: &Kernel, program: &Program, p: u32) -> CallEnd
 
 /// The end of a call: its frame is gone, a transport call's return is judged, and what is handed back is stored where the statement
 /// stands that called. It takes no memory.
-pub(crate) fn leave(k: &mut Kernel, program: &Program, p: u32) -> Result<(), RunFault>
+pub(crate) fn leave(k: &mut Kernel, p: u32) -> Result<(), RunFault>
     requires sound { IsSound k.old }
     requires lives { Lives k.old p }
     requires leaves { Leaves k.old p }
-    requires same { arena_of program.now.code ≡ arena_of k.old.program.now.code }
     ensures does { LeavesBy k.old k.new result p }
     ensures sound { IsSound k.new }
     ensures made { k.new.made ≡ k.old.made }
 {
-    match end_at(k, program, p) {
+    match end_at(k, p) {
         CallEnd::Blocking(_, _, d) => b_transport_returns(k, p, d),
         CallEnd::NonBlocking(target, _, _, phase, d) => {
             nb_transport_returns(k, p, target, phase, d)
         }
         CallEnd::Plain => {
-            leave_plain_call(k, program, p);
+            leave_plain_call(k, p);
             Ok(())
         }
     }

@@ -12,7 +12,6 @@ ghost use Rattle.kernel_steps.specs.Owing.{Owes, call_of};
 ghost use Rattle.kernel_steps.specs.Told.{MakesAll};
 
 use crate::answers::{StepAnswer, plain};
-use exec_channels::kernel_bodies_api::Program;
 use exec_channels::kernel_state_api::{Kernel, Way, move_on, top_lives};
 use exec_channels::model_tree_api::Control;
 use exec_control::{control_owed, throw_owed};
@@ -100,10 +99,9 @@ fn make_owed(k: &mut Kernel, p: u32, q: u32, statement: &Statement) -> StepAnswe
 
 /// The call that statement `s` owes to instance `q` comes next, and is made for it; the statement owes it to one less. It takes no
 /// memory.
-pub(crate) fn on_owed(k: &mut Kernel, program: &Program, p: u32, s: StmtId, q: u32) -> StepAnswer
+pub(crate) fn on_owed(k: &mut Kernel, p: u32, s: StmtId, q: u32) -> StepAnswer
     requires sound { IsSound k.old }
     requires top { IsOnTop k.old p }
-    requires same { arena_of program.now.code ≡ arena_of k.old.program.now.code }
     requires owes { Owes k.old p s q }
     requires others { OthersHaveNoGoal k.old }
     ensures makes { MakesAll k.old k.new result p (λ c t i r. statements.owed_by (with_residual c t (taken_off r)) q (statement_at (arena_of k.old.program.now.code) s)) }
@@ -111,6 +109,7 @@ pub(crate) fn on_owed(k: &mut Kernel, program: &Program, p: u32, s: StmtId, q: u
     ensures made { k.new.made ≡ k.old.made }
 {
     top_lives(k, p);
+    let program = k.program;
     match program.statement(s) {
         Some(x) => make_owed(k, p, q, x),
         None => {

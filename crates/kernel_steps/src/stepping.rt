@@ -22,7 +22,7 @@ use crate::answers::{StepAnswer, plain};
 use crate::carrying::carry_out;
 use crate::leaving::leave;
 use crate::owing::on_owed;
-use exec_channels::kernel_bodies_api::{Next, Program};
+use exec_channels::kernel_bodies_api::Next;
 use exec_channels::kernel_state_api::{Kernel, pass, top_lives};
 use exec_channels::sim_model_api::Goal;
 use exec_control::{body_ends, reach_goal};
@@ -51,10 +51,10 @@ fn next_at(k: &Kernel, p: u32) -> Next
 }
 
 /// The statement of this number comes next, and is carried out; where there is none it is past.
-fn on_statement(k: &mut Kernel, program: &Program, alloc: Global, p: u32, s: StmtId) -> StepAnswer
+fn on_statement(k: &mut Kernel, alloc: Global, p: u32, s: StmtId) -> StepAnswer
     requires sound { IsSound k.old }
     requires top { IsOnTop k.old p }
-    requires ready { Ready k.old program.now }
+    requires ready { Ready k.old }
     requires room { k.old.made < 2 ^ 31 + 2 }
     requires posts { All (λ v. v < 2 ^ 64 - 1) k.old.channels.semaphores }
     requires others { OthersHaveNoGoal k.old }
@@ -67,6 +67,7 @@ fn on_statement(k: &mut Kernel, program: &Program, alloc: Global, p: u32, s: Stm
     ensures faulted { (f : RunFault) → result ≡ StepAnswer.Fault f → k.new.made ≡ k.old.made }
 {
     top_lives(k, p);
+    let program = k.program;
     match program.statement(s) {
         Some(x) => carry_out(k, alloc, p, s, x),
         None => {
@@ -91,11 +92,11 @@ fn end_body(k: &mut Kernel, p: u32) -> StepAnswer
 }
 
 /// One step of the instance on top (IEEE 1666-2011, 4.2.1.2): finished parts of its body fall away, and what comes next is
-/// carried out. The program is the kernel's own, held apart, so that no statement is copied.
-pub fn step_statement(k: &mut Kernel, program: &Program, alloc: Global, p: u32) -> StepAnswer
+/// carried out.
+pub fn step_statement(k: &mut Kernel, alloc: Global, p: u32) -> StepAnswer
     requires sound { IsSound k.old }
     requires top { IsOnTop k.old p }
-    requires ready { Ready k.old program.now }
+    requires ready { Ready k.old }
     requires room { k.old.made < 2 ^ 31 + 2 }
     requires posts { All (λ v. v < 2 ^ 64 - 1) k.old.channels.semaphores }
     requires others { OthersHaveNoGoal k.old }
@@ -108,9 +109,9 @@ pub fn step_statement(k: &mut Kernel, program: &Program, alloc: Global, p: u32) 
 {
     top_lives(k, p);
     match next_at(k, p) {
-        Next::Statement(s) => on_statement(k, program, alloc, p, s),
-        Next::Batch(s, q) => on_owed(k, program, p, s, q),
-        Next::Leave => plain(leave(k, program, p)),
+        Next::Statement(s) => on_statement(k, alloc, p, s),
+        Next::Batch(s, q) => on_owed(k, p, s, q),
+        Next::Leave => plain(leave(k, p)),
         Next::Done => end_body(k, p),
         Next::Goal(goal) => {
             reach_goal(k, p, goal);

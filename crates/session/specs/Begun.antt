@@ -1,11 +1,9 @@
 -- What a session begins with.
 use Rattle.std.specs.Prelude.{◌≡◌, ◌<◌, ◌+◌, ◌-◌, ◌^◌, ℕ, List, [], ◌++◌, All, Some}
-use Rattle.flat_design.specs.Code.{arena_of}
 use Rattle.flat_design.specs.declared.design.SemaphorePart.{SemaphorePart}
 use Rattle.vcd_trace.specs.SimModel.Configuration.{Config}
 use Rattle.vcd_trace.specs.SimModel.Steps.{step, went, takes, taking}
 use Rattle.vcd_trace.specs.SimModel.declared.plain.Command.{Command}
-use Rattle.kernel_start.specs.KernelBodies.declared.program.Program.{Program}
 use Rattle.vcd_trace.specs.LawsRuns.Added.{added}
 use Rattle.laws_reached.specs.Reached.{IsReached}
 use Rattle.kernel_runs.specs.Made.{NoDoubles}
@@ -18,14 +16,13 @@ pub record IsFirst (c : Config) (script : List Command) : Type 0 where
   pub nothing_told : c.trace.told ≡ []
   pub nothing_seen : c.trace.snapshots ≡ []
 
--- the kernel stands for the first configuration of a run of a sound design, whose code this program has; it has made nothing
-pub record HasBegun (k : Kernel) (program : Program) (script : List Command) : Type 0 where
+-- the kernel stands for the first configuration of a run of a sound design; it has made nothing
+pub record HasBegun (k : Kernel) (script : List Command) : Type 0 where
   pub first : Config
   pub stands : StandsFor k first
   pub is_first : IsFirst first script
   pub reached : IsReached first
   pub no_steps : reached.steps ≡ 0
-  pub code : arena_of program.code ≡ arena_of first.design.code
   pub events : first.design.events < 2 ^ 32 - 1
   pub starts : All (λ (p : SemaphorePart). p.start < 2 ^ 31) first.design.semaphores
   pub made : k.made ≡ 0

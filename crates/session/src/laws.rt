@@ -1,8 +1,6 @@
 //! What a run of a sound design gives each of its steps.
-ghost use Rattle.std.specs.Prelude.{◌≡◌, ◌<◌, ◌-◌, ◌^◌, All};
+ghost use Rattle.std.specs.Prelude.{◌<◌, ◌-◌, ◌^◌, All};
 ghost use Rattle.flat_design.specs.declared.design.SemaphorePart.{SemaphorePart};
-ghost use Rattle.flat_design.specs.Code.{arena_of};
-ghost use Rattle.kernel_start.specs.KernelBodies.declared.program.Program.{Program};
 ghost use Rattle.vcd_trace.specs.SimModel.Configuration.{Config};
 ghost use Rattle.kernel_start.specs.KernelState.Kernel.{StandsFor};
 ghost use Rattle.kernel_start.specs.KernelState.declared.kernel.Kernel.{Kernel};
@@ -19,8 +17,8 @@ use vcd_trace::laws_runs_api::{steps_add_snapshots, takings_add_none};
 /// Where a kernel stands for a configuration that a run of a sound design comes to, whose semaphores start low, its next step may be
 /// made.
 pub(crate) fn runs_may_step()
-    ensures { (k : Kernel) (program : Program) (c : Config) → StandsFor k c → (r : IsReached c) → c.design.events < 2 ^ 32 - 1
-        → All (λ (p : SemaphorePart). p.start < 2 ^ 31) c.design.semaphores → r.steps < 2 ^ 63 → arena_of program.code ≡ arena_of c.design.code → MayStep k program }
+    ensures { (k : Kernel) (c : Config) → StandsFor k c → (r : IsReached c) → c.design.events < 2 ^ 32 - 1
+        → All (λ (p : SemaphorePart). p.start < 2 ^ 31) c.design.semaphores → r.steps < 2 ^ 63 → MayStep k }
 {
     fresh_at_start();
     throws_are_free();

@@ -19,7 +19,6 @@ use crate::plans::{Outcome, Plan};
 use crate::recording::{record_begin, record_step, record_turn};
 use flat_design::{Choices, Design};
 use kernel_runs::{Made, make_step};
-use kernel_start::kernel_bodies_api::Program;
 use kernel_start::kernel_sound_api::SoundKernel;
 use kernel_start::{Apart, apart, first_kernel};
 use laws_reached::kernel_phases_api::Choosing;
@@ -41,13 +40,12 @@ fn add_choice(choices: &mut Vec<u32>, choice: u32)
 fn run_on<S: Shelf, O: Sink>(
     alloc: Global,
     k: &mut SoundKernel,
-    program: &Program,
     script: &[Command],
     plan: Plan,
     shelf: &mut S,
     out: &mut O,
 ) -> Outcome
-    requires begun { HasBegun k.old.kernel program.now script.now }
+    requires begun { HasBegun k.old.kernel script.now }
     requires budget { plan.budget ≤ 2 ^ 26 }
     requires created { IfSome plan.vcd (S.created shelf.old) }
     requires listed { IfSome plan.choices (S.created shelf.old) }
@@ -89,7 +87,6 @@ fn run_on<S: Shelf, O: Sink>(
         }
         match make_step(
             k,
-            program,
             alloc,
             script,
             &mut place,
@@ -226,7 +223,7 @@ pub fn run_session<S: Shelf, O: Sink>(
         Err(_) => return Outcome::cut(Trouble::NoMemory, Choices::new(alloc), 0),
     };
     match first_kernel(alloc, design, &program) {
-        Ok(mut k) => run_on(alloc, &mut k, &program, script, plan, shelf, out),
+        Ok(mut k) => run_on(alloc, &mut k, script, plan, shelf, out),
         Err(_) => Outcome::cut(Trouble::NoMemory, Choices::new(alloc), 0),
     }
 }

@@ -12,7 +12,7 @@ use Rattle.exec_calls.proofs.returns.leave_plain_call.Goals as goal
 
 pub hand_back_to-requires-clause-plain : goal.hand_back_to-requires-clause-plain
 hand_back_to-requires-clause-plain c =
-    subst IsNoTransport (ap (λ a. statement_if a c.leave_call-frame.result.call) (sym c.requires.same) ∙ sym c.calling_statement.ensures ∙ ap (option_map (λ z. statement_of z.now)) c.in-Some.is)
+    subst IsNoTransport (sym c.calling_statement.ensures ∙ ap (option_map (λ z. statement_of z.now)) c.in-Some.is)
     (called_kept c.args.k.now c.args.p c.requires.lives IsNoTransport c.requires.called (call_of c.leave_call-frame.result) c.leave_call-frame.ensures.ends)
 
 pub returns-in-Some-clause-does : goal.returns-in-Some-clause-does
@@ -23,7 +23,7 @@ returns-in-Some-clause-does c = λ d i h there x shows.
     let same : call_of c.leave_call-frame.result ≡ x = same_frame (next_of (settle (arena d) i.residual)) (call_of c.leave_call-frame.result) x (c.leave_call-frame.ensures.frame d i h there) shows in
     subst (λ y. Follows c.hand_back_to.new.k (Ok tt) d (handed_back after c.args.p stands y (calling_statement (settled_in d c.args.p i.residual) y.call))) same
     (subst (λ s. Follows c.hand_back_to.new.k (Ok tt) d (handed_back after c.args.p stands (call_of c.leave_call-frame.result) s))
-    (sym (calling_in c.args.k.now c.args.p d i h c.leave_call-frame.result.call ∙ ap (λ a. statement_if a c.leave_call-frame.result.call) (sym c.requires.same) ∙ sym c.calling_statement.ensures ∙ ap (option_map (λ z. statement_of z.now)) c.in-Some.is))
+    (sym (calling_in c.args.k.now c.args.p d i h c.leave_call-frame.result.call ∙ sym c.calling_statement.ensures ∙ ap (option_map (λ z. statement_of z.now)) c.in-Some.is))
     (c.hand_back_to.ensures.hands after (record i { residual = r }) (c.leave_call-frame.ensures.steps d i h there) (there_behind d c.args.p i there)))
 
 pub returns-clause-does : goal.returns-clause-does
@@ -34,5 +34,5 @@ returns-clause-does c = λ d i h there x shows.
     let same : call_of c.leave_call-frame.result ≡ x = same_frame (next_of (settle (arena d) i.residual)) (call_of c.leave_call-frame.result) x (c.leave_call-frame.ensures.frame d i h there) shows in
     subst (λ y. Follows c.leave_call-frame.new.k (Ok tt) d (handed_back after c.args.p stands y (calling_statement (settled_in d c.args.p i.residual) y.call))) same
     (subst (λ s. Follows c.leave_call-frame.new.k (Ok tt) d (handed_back after c.args.p stands (call_of c.leave_call-frame.result) s))
-    (sym (calling_in c.args.k.now c.args.p d i h c.leave_call-frame.result.call ∙ ap (λ a. statement_if a c.leave_call-frame.result.call) (sym c.requires.same) ∙ sym c.calling_statement.ensures ∙ ap (option_map (λ z. statement_of z.now)) c.in-None.is))
+    (sym (calling_in c.args.k.now c.args.p d i h c.leave_call-frame.result.call ∙ sym c.calling_statement.ensures ∙ ap (option_map (λ z. statement_of z.now)) c.in-None.is))
     (c.leave_call-frame.ensures.steps d i h there))

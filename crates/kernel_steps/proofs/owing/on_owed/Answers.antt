@@ -17,10 +17,10 @@ move_on-requires-clause-may c = has_owed c.args.k.now c.args.p c.args.s c.args.q
 pub returns-in-Some-clause-makes : goal.returns-in-Some-clause-makes
 returns-in-Some-clause-makes c =
     subst (λ o. MakesAll c.args.k.now c.make_owed.new.k c.make_owed.result c.args.p (λ d t i r. owed_by (with_residual d t (taken_off r)) c.args.q o))
-    (sym (ap (λ a. statement_at a c.args.s) (sym c.requires.same) ∙ sym c.statement.ensures ∙ ap (option_map (λ z. statement_of z.now)) c.in-Some.is)) c.make_owed.ensures.makes
+    (sym (sym c.statement.ensures ∙ ap (option_map (λ z. statement_of z.now)) c.in-Some.is)) c.make_owed.ensures.makes
 
 pub returns-in-None-clause-makes : goal.returns-in-None-clause-makes
 returns-in-None-clause-makes c =
     subst (λ o. MakesAll c.args.k.now c.move_on.new.k answer.Went c.args.p (λ d t i r. owed_by (with_residual d t (taken_off r)) c.args.q o))
-    (sym (ap (λ a. statement_at a c.args.s) (sym c.requires.same) ∙ sym c.statement.ensures ∙ ap (option_map (λ z. statement_of z.now)) c.in-None.is))
+    (sym (sym c.statement.ensures ∙ ap (option_map (λ z. statement_of z.now)) c.in-None.is))
     (λ d i h there. (c.move_on.ensures.steps d i h there, refl))

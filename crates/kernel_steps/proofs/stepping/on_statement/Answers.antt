@@ -13,7 +13,7 @@ pub carry_out-requires-clause-numbers : goal.carry_out-requires-clause-numbers
 carry_out-requires-clause-numbers c = c.requires.ready.numbers
 
 pub carry_out-requires-clause-there : goal.carry_out-requires-clause-there
-carry_out-requires-clause-there c = ap (λ a. statement_at a c.args.s) (sym c.requires.ready.same) ∙ sym c.statement.ensures ∙ ap (option_map (λ z. statement_of z.now)) c.in-Some.is
+carry_out-requires-clause-there c = sym c.statement.ensures ∙ ap (option_map (λ z. statement_of z.now)) c.in-Some.is
 
 pub carry_out-requires-clause-free : goal.carry_out-requires-clause-free
 carry_out-requires-clause-free c = c.requires.free (statement_of c.in-Some.x.now) (carry_out-requires-clause-there c)
@@ -21,7 +21,7 @@ carry_out-requires-clause-free c = c.requires.free (statement_of c.in-Some.x.now
 pub returns-in-Some-clause-makes : goal.returns-in-Some-clause-makes
 returns-in-Some-clause-makes c =
     subst (λ o. MakesAll c.args.k.now c.carry_out.new.k c.carry_out.result c.args.p (λ d q i r. on_statement d q i r c.args.s o))
-    (sym (ap (λ a. statement_at a c.args.s) (sym c.requires.ready.same) ∙ sym c.statement.ensures ∙ ap (option_map (λ z. statement_of z.now)) c.in-Some.is)) c.carry_out.ensures.carries
+    (sym (sym c.statement.ensures ∙ ap (option_map (λ z. statement_of z.now)) c.in-Some.is)) c.carry_out.ensures.carries
 
 pub pass-requires-clause-statement : goal.pass-requires-clause-statement
 pass-requires-clause-statement c = has_statement c.args.k.now c.args.p c.args.s c.requires.next
@@ -29,5 +29,5 @@ pass-requires-clause-statement c = has_statement c.args.k.now c.args.p c.args.s 
 pub returns-in-None-clause-makes : goal.returns-in-None-clause-makes
 returns-in-None-clause-makes c =
     subst (λ o. MakesAll c.args.k.now c.pass.new.k answer.Went c.args.p (λ d q i r. on_statement d q i r c.args.s o))
-    (sym (ap (λ a. statement_at a c.args.s) (sym c.requires.ready.same) ∙ sym c.statement.ensures ∙ ap (option_map (λ z. statement_of z.now)) c.in-None.is))
+    (sym (sym c.statement.ensures ∙ ap (option_map (λ z. statement_of z.now)) c.in-None.is))
     (λ d i h there. (c.pass.ensures.steps d i h there, refl))

@@ -15,9 +15,6 @@ on_statement-requires-clause-next c = c.next_at.ensures.statement c.in-Statement
 pub on_statement-requires-clause-free : goal.on_statement-requires-clause-free
 on_statement-requires-clause-free c = c.requires.free c.in-Statement.s (c.next_at.ensures.statement c.in-Statement.s c.in-Statement.is)
 
-pub on_owed-requires-clause-same : goal.on_owed-requires-clause-same
-on_owed-requires-clause-same c = c.requires.ready.same
-
 pub on_owed-requires-clause-owes : goal.on_owed-requires-clause-owes
 on_owed-requires-clause-owes c = c.next_at.ensures.owes c.in-Batch.s c.in-Batch.q c.in-Batch.is
 
@@ -27,9 +24,6 @@ returns-in-Batch-clause-makes c =
 
 pub leave-requires-clause-leaves : goal.leave-requires-clause-leaves
 leave-requires-clause-leaves c = c.next_at.ensures.leaves c.in-Leave.is
-
-pub leave-requires-clause-same : goal.leave-requires-clause-same
-leave-requires-clause-same c = c.requires.ready.same
 
 pub reach_goal-requires-clause-reaches : goal.reach_goal-requires-clause-reaches
 reach_goal-requires-clause-reaches c = c.next_at.ensures.goal c.in-Goal.goal c.in-Goal.is

@@ -1,15 +1,13 @@
-use Rattle.std.proofs.Common.{◌<◌, ◌-◌, ◌^◌, All, ap, ◌∙◌, subst}
-use Rattle.flat_design.specs.Code.{arena_of}
+use Rattle.std.proofs.Common.{◌<◌, ◌-◌, ◌^◌, All, subst}
 use Rattle.flat_design.specs.declared.design.Design.{Design}
 use Rattle.flat_design.specs.declared.design.SemaphorePart.{SemaphorePart}
 use Rattle.session.proofs.laws.runs_may_step.Goals as goal
 
 pub returns : goal.returns
-returns c k program d h reached few starts steps same = record {
+returns c k d h reached few starts steps = record {
   ready = record {
     names = c.reached_designs_are_sound.ensures.names k d h reached;
     numbers = c.reached_designs_are_sound.ensures.numbers k d h reached (subst (λ (x : Design). x.events < 2 ^ 32 - 1) h.design few);
-    same = same ∙ ap (λ (x : Design). arena_of x.code) h.design;
   };
   throws = λ p top. c.throws_are_free.ensures.next k d h reached p;
   others = c.others_have_no_goal.ensures k d h reached;

@@ -1,6 +1,5 @@
-use Rattle.std.proofs.Common.{◌<◌, ◌+◌, ◌-◌, ◌^◌, All, length, refl, sym, ap, ◌∙◌, subst, arith}
+use Rattle.std.proofs.Common.{◌<◌, ◌+◌, ◌-◌, ◌^◌, All, length, refl, sym, subst, arith}
 use Rattle.std.proofs.lemmas.Option.{IfSome_then}
-use Rattle.flat_design.specs.Code.{arena_of}
 use Rattle.flat_design.specs.declared.design.SemaphorePart.{SemaphorePart}
 use Rattle.write_buffer.proofs.SimIo.Chains.{write_keeps_on}
 use Rattle.session.specs.Outputs.{AreNames}
@@ -35,11 +34,10 @@ pub make_step-requires-clause-asked : goal.make_step-requires-clause-asked
 make_step-requires-clause-asked g c =
     let begun = c.requires.begun in
     let so_far = c.loop-steps.invariant.going begun.first begun.stands begun.is_first begun.reached begun.no_steps in
-    c.runs_may_step.ensures c.loop-steps.k.kernel c.args.program.now so_far.at so_far.stands so_far.sound
+    c.runs_may_step.ensures c.loop-steps.k.kernel so_far.at so_far.stands so_far.sound
     (subst (λ d. d.events < 2 ^ 32 - 1) (sym so_far.design) begun.events)
     (subst (λ d. All (λ (p : SemaphorePart). p.start < 2 ^ 31) d.semaphores) (sym so_far.design) begun.starts)
     (omega (arith, so_far.counted, c.requires.budget, c.loop-steps-test.true))
-    (begun.code ∙ ap (λ d. arena_of d.code) (sym so_far.design))
 
 pub make_step-requires-clause-room : goal.make_step-requires-clause-room
 make_step-requires-clause-room g c = omega (arith, c.requires.budget, c.loop-steps.invariant.made, c.loop-steps-test.true)

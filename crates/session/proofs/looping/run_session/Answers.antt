@@ -1,5 +1,4 @@
-use Rattle.std.proofs.Common.{◌≤◌, length, refl, sym, ap, subst}
-use Rattle.flat_design.specs.Code.{arena_of}
+use Rattle.std.proofs.Common.{◌≤◌, length, refl, sym, subst}
 use Rattle.flat_design.specs.declared.design.Design.{Design}
 use Rattle.kernel_start.specs.InstanceTable.declared.TheConstants.{MAX_LIVE}
 use Rattle.kernel_start.specs.KernelState.Kernel.{StandsFor}
@@ -22,7 +21,6 @@ run_on-requires-clause-begun g c = record {
   is_first = record { script_left = refl; nothing_told = refl; nothing_seen = refl };
   reached = (c.runs_begin.ensures c.args.design c.args.script.now c.requires.sound).0;
   no_steps = (c.runs_begin.ensures c.args.design c.args.script.now c.requires.sound).3;
-  code = ap (λ (d : Design). arena_of d.code) c.in-Ok.ensures;
   events = c.requires.events;
   starts = c.requires.starts;
   made = c.in-Ok-first_kernel.ensures.made;
