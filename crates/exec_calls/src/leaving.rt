@@ -11,7 +11,7 @@ use exec_data::kernel_bodies_api::Frame;
 use exec_data::kernel_state_api::Kernel;
 
 /// The call of an instance that ends next, where one does.
-pub fn ending_call(k: &Kernel, p: u32) -> Option<&Frame>
+pub fn ending_call<'a>(k: &'a Kernel, p: u32) -> Option<&'a Frame>
     requires { Lives k.now p }
     ensures { Leaves k.now p → IsSomeAnd result (λ x. EndsNext k.now p (call_of x.now)) }
 {

@@ -10,7 +10,7 @@ use kernel_processes::flat_design_api::VisibleId;
 use kernel_processes::logic_values_api::Value;
 use kernel_processes::sim_time_api::Time;
 
-impl Kernel {
+impl Kernel<'_> {
     /// The simulated time.
     pub fn now(&self) -> Time
         ensures { (c : Config) → StandsFor self.now c → result.0 ≡ c.cycle.now }

@@ -65,7 +65,7 @@ fn print_text(statement: &Statement) -> &[u8]
 }
 
 /// The text of the statement of this number, where it is a print.
-fn text_at(k: &Kernel, s: StmtId) -> &[u8]
+fn text_at<'a>(k: &'a Kernel, s: StmtId) -> &'a [u8]
     ensures { (text : List ℕ) (shown : Option Term) → statement_at (arena_of k.now.program.now.code) s ≡ Some (code.print text shown) → result.now ≡ text }
 {
     match k.program.statement(s) {
