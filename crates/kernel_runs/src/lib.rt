@@ -9,4 +9,3 @@ mod takings;
 
 pub use answers::{Made, Telling};
 pub use stepping::make_step;
-pub use takings::take_next;

@@ -6,7 +6,6 @@ ghost use Rattle.kernel_runs.specs.Taken.{Takes};
 
 use kernel_phases::kernel_state_api::Kernel;
 use kernel_phases::{Chooser, turn};
-use kernel_sound::SoundKernel;
 
 /// Takes what a chooser picks, of a kernel that is sound.
 pub(crate) fn take<C: Chooser>(k: &mut Kernel, chooser: &mut C) -> Option<u32>
@@ -29,15 +28,4 @@ pub(crate) fn take<C: Chooser>(k: &mut Kernel, chooser: &mut C) -> Option<u32>
             }
         }
     }
-}
-
-/// Takes the runnable process that a chooser picks, which is asked once, and says which it is (IEEE 1666-2011, 4.2.1.2).
-/// None is taken, and nothing of the kernel changes, where the chooser picks none or one that is not runnable. It takes no memory.
-pub fn take_next<C: Chooser>(k: &mut SoundKernel, chooser: &mut C) -> Option<u32>
-    requires { k.old.kernel.schedule.stack.items ≡ [] }
-    ensures takes { Takes k.old.kernel k.new.kernel (C.picks chooser.old (rising k.old.kernel.schedule.ready.members)) result }
-    ensures held { chooser.new ≡ C.later chooser.old (rising k.old.kernel.schedule.ready.members) }
-    ensures stays { result ≡ None → k.new.kernel ≡ k.old.kernel }
-{
-    take(&mut k.kernel, chooser)
 }

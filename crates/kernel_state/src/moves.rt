@@ -11,7 +11,7 @@ ghost use Rattle.kernel_state.specs.Moves.{Moves, Steps, Lives, HasStatement, Is
 use crate::kernel::Kernel;
 use kernel_processes::event_core_api::{Ev, When};
 use kernel_processes::logic_values_api::Value;
-use kernel_processes::{Trigger, fire as fire_processes, wake as wake_process};
+use kernel_processes::{Trigger, fire as fire_processes};
 use std::alloc::AllocError;
 
 /// The statement in place of an instance is past.
@@ -39,16 +39,6 @@ pub fn fire(k: &mut Kernel, e: Ev)
     ensures made { k.new.made ≡ k.old.made }
 {
     fire_processes(&mut k.schedule, e);
-}
-
-/// A wake of one instance.
-pub fn wake(k: &mut Kernel, p: u32)
-    requires { IsSound k.old }
-    ensures moves { Moves k.old k.new (λ c. waiting.wake c p) }
-    ensures kept { KeepsBodies k.old k.new }
-    ensures sound { IsSound k.new }
-{
-    wake_process(&mut k.schedule, p);
 }
 
 /// The active instance on top waits so, and leaves the stack (IEEE 1666-2011, 5.2.18). Where memory is refused nothing

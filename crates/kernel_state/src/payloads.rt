@@ -1,20 +1,18 @@
 //! Statements on payloads (IEEE 1666-2011, 14.5).
-ghost use Rattle.std.specs.Prelude.{◌≤◌, ◌≡◌, ◌<◌, ◌+◌, ◌^◌, length, Ok, OnOk, OnErr};
+ghost use Rattle.std.specs.Prelude.{◌≤◌, ◌≡◌, ◌<◌, ◌+◌, ◌^◌, length, Ok, OnErr};
 ghost use Rattle.kernel_processes.specs.LogicValues.declared.kinds.Value.{Value as Values};
 ghost use Rattle.kernel_processes.specs.SimModel.Values.{on_ok, bits, index_within};
-ghost use Rattle.kernel_processes.specs.SimModel.Configuration.{Config};
-ghost use Rattle.kernel_processes.specs.SimModel.Payloads.{with_made, with_acquired, with_released};
+ghost use Rattle.kernel_processes.specs.SimModel.Payloads.{with_acquired, with_released};
 ghost use Rattle.kernel_processes.specs.SimModel.Reading.{live_payload};
 ghost use Rattle.kernel_processes.specs.SimModel.Storing.{passes, bytes_in, set_payload, with_field, with_byte};
 ghost use Rattle.kernel_processes.specs.SimModel.Transport.{with_pool};
-ghost use Rattle.kernel_transactions.specs.Answers.{Makes, number_made};
-ghost use Rattle.kernel_state.specs.Kernel.{StandsFor, IsSound};
-ghost use Rattle.kernel_state.specs.Moves.{Moves, Steps, Does, Lives, HasStatement};
+ghost use Rattle.kernel_state.specs.Kernel.{IsSound};
+ghost use Rattle.kernel_state.specs.Moves.{Does, Lives, HasStatement};
 
 use crate::kernel::Kernel;
 use crate::moves::pass;
 use kernel_processes::flat_design_api::{PayloadBytes, PayloadField, RunFault};
-use kernel_transactions::{MakeStop, live_payloads_are_used};
+use kernel_transactions::live_payloads_are_used;
 
 /// A payload is held once more. It is a fault where it was freed, and then nothing changes.
 pub fn acquire(k: &mut Kernel, p: u32, t: u32) -> Result<(), RunFault>
@@ -53,28 +51,6 @@ pub fn release(k: &mut Kernel, p: u32, t: u32) -> Result<(), RunFault>
             Ok(())
         }
         Err(fault) => Err(fault),
-    }
-}
-
-/// A payload is made with so many bytes and so many enable bytes, held once, and its number is answered. It is a fault where
-/// one cannot have as many bytes, or as many payloads are live as may be. Where it is refused, or memory is, nothing changes.
-pub fn make(k: &mut Kernel, p: u32, len: u64, enables: u64) -> Result<u32, MakeStop>
-    requires sound { IsSound k.old }
-    requires lives { Lives k.old p }
-    requires statement { HasStatement k.old p }
-    requires room { k.old.made < 2 ^ 31 + 2 }
-    ensures answer { (c : Config) → StandsFor k.old c → Makes result (number_made c len enables) }
-    ensures steps { OnOk result (Steps k.old k.new p (λ c q i r. with_pool (passes c q r) (with_made c.transactions.pool len enables))) }
-    ensures stays { OnErr result (Moves k.old k.new (λ c. c)) }
-    ensures sound { IsSound k.new }
-{
-    match k.transactions.make(len, enables) {
-        Ok(t) => {
-            k.made += 1;
-            pass(k, p);
-            Ok(t)
-        }
-        Err(stop) => Err(stop),
     }
 }
 
