@@ -15,16 +15,16 @@ use Rattle.kernel_processes.specs.SimModel.Unwinding.{unw}
 use Rattle.kernel_processes.specs.SimModel.declared.plain.Goal.{Goal}
 use Rattle.kernel_processes.specs.SimModel.Configuration as model
 use Rattle.kernel_processes.specs.SimModel.Configuration.{Config, Instance, Processes, Channels, Transactions, Trace, changed_at, change, change_instance, instance_at, with_residual, with_marks, arena}
-use Rattle.kernel_processes.specs.SimModel.Waits.{holds, fire, wake, waits, leaves_stack}
+use Rattle.kernel_processes.specs.SimModel.Waits.{holds, fire, waits, leaves_stack}
 use Rattle.kernel_processes.specs.SimModel.Statements.{settled_in}
 use Rattle.kernel_processes.specs.SimModel.Storing.{with_local, set_local}
 use Rattle.process_bodies.specs.KernelBodies.Strip.{strip}
 use Rattle.process_bodies.proofs.KernelBodies.Strips.{strip-settle, strip-in_innermost, strip-unw}
 use Rattle.kernel_processes.specs.NumberedSlots.Numbered.{with_value}
-use Rattle.kernel_processes.specs.Woken.{after_wake, joins, after_event, joins_by, at_only, joins_only}
+use Rattle.kernel_processes.specs.Woken.{after_event, joins_by}
 use Rattle.kernel_processes.proofs.OtherBody.{puts_body, puts_sound}
 use Rattle.kernel_processes.proofs.Sounding.{on_top}
-use Rattle.kernel_processes.proofs.Wakes.{set-here, change-here, change-other, wake_rouses, fire_rouses}
+use Rattle.kernel_processes.proofs.Wakes.{set-here, change-here, change-other, fire_rouses}
 use Rattle.process_bodies.specs.Bodies as bodies
 use Rattle.process_bodies.specs.Bodies.{left_in}
 use Rattle.process_bodies.specs.declared.body.Body.{Body}
@@ -43,7 +43,7 @@ use Rattle.kernel_state.specs.Kernel.{Shows, StandsFor, IsSound, whole_design, p
 use Rattle.kernel_state.specs.Moves.{Moves, MovesAt, Steps, stepped, Lives, HasStatement, KeepsBodies}
 use Rattle.kernel_state.specs.declared.kernel.Kept.{Kept}
 use Rattle.kernel_state.specs.declared.kernel.Kernel.{Kernel}
-use Rattle.kernel_state.proofs.ProcessFrames.{Agrees, stays, moved_with, stack_same, stack_left, stack_joined, put_stands, roused_stands, rousing_wake, rousing_event}
+use Rattle.kernel_state.proofs.ProcessFrames.{Agrees, stays, moved_with, stack_same, stack_left, stack_joined, put_stands, roused_stands, rousing_event}
 
 abbrev unwrap : Option Kept → Kept → Kept
 unwrap None x = x
@@ -310,7 +310,7 @@ module _ (k : Kernel) (p : ℕ) (x : Entry (Process Kept)) (at : map.get k.sched
         trigger = refl;
       }))
 
--- ---- events and wakes
+-- ---- events
 
 module _ (k : Kernel) (sound : IsSound k) (s : Schedule Kept) (fine : schedules.IsSound s) where
   module _ (e : Ev) (r : Rouses (λ q. after_event e) (λ q. joins_by e) k.schedule s) where
@@ -322,16 +322,6 @@ module _ (k : Kernel) (sound : IsSound k) (s : Schedule Kept) (fine : schedules.
         (processes_move k c h s (record c.processes { runnable = (fire c e).processes.runnable; instances = (fire c e).processes.instances })
         (subst (StandsForProcesses (Shows (whole_design k) k.program.now) s) (ap (λ d. d.processes) (fire_rouses c e).others)
         (roused_stands (Shows (whole_design k) k.program.now) (λ q. after_event e) (λ q. joins_by e) (rousing_event (Shows (whole_design k) k.program.now) e) k.schedule s c (fire c e) r (fire_rouses c e) h.processes)))
-
-  module _ (p : ℕ) (r : Rouses (at_only p after_wake) (joins_only p joins) k.schedule s) where
-    pub woken_sound : IsSound (record k { schedule = s })
-    woken_sound = schedule_sound k sound s fine r.bodies (ap (λ v. v.items) r.due) r.next
-
-    pub woken_moves : Moves k (record k { schedule = s }) (λ c. wake c p)
-    woken_moves c h = subst (StandsFor (record k { schedule = s })) (sym (wake_rouses c p).others)
-        (processes_move k c h s (record c.processes { runnable = (wake c p).processes.runnable; instances = (wake c p).processes.instances })
-        (subst (StandsForProcesses (Shows (whole_design k) k.program.now) s) (ap (λ d. d.processes) (wake_rouses c p).others)
-        (roused_stands (Shows (whole_design k) k.program.now) (at_only p after_wake) (joins_only p joins) (rousing_wake (Shows (whole_design k) k.program.now) p) k.schedule s c (wake c p) r (wake_rouses c p) h.processes)))
 
 -- ---- an instance that has not ended is shown
 
