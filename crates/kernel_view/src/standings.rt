@@ -15,7 +15,7 @@ use kernel_state::{Kept, Kernel};
 #[derive(Clone, Copy)]
 pub struct Standing<'a> {
     /// The kernel.
-    pub kernel: &'a Kernel,
+    pub kernel: &'a Kernel<'a>,
     /// What is left of the instance.
     pub body: &'a Body,
     /// The serial of the instance.
