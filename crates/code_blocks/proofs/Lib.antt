@@ -3,4 +3,5 @@ mod Forms
 mod Sees
 pub mod Results
 pub mod Owned
+pub mod Only
 mod Walks

@@ -17,3 +17,7 @@ if_both A B C (Err e) f h k = tt
 pub if_three : {T E : Type 0} (A : Type 0) (B B' C : T → Type 0) (r : Result T E) → (A → (x : T) → B x → B' x → C x) → OnOk r A → IfOk r B → IfOk r B' → IfOk r C
 if_three A B B' C (Ok x) f h k m = f h x k m
 if_three A B B' C (Err e) f h k m = tt
+
+pub on_both : {T E : Type 0} {A B C : Type 0} (r : Result T E) → (A → B → C) → OnOk r A → OnOk r B → OnOk r C
+on_both (Ok x) f h k = f h k
+on_both (Err e) f h k = tt

@@ -69,3 +69,12 @@ pub record HangsFrom (a : Arena) (ids : List ℕ) (n : ℕ) : Type 0 where
 -- P of each block that was laid out from this number on, from now on
 abbrev pub EachFrom : ℕ → Laid → (Arena → ℕ → Type 0) → Type 0
 EachFrom first l P = FromNowOn l (λ a. (n : ℕ) → first ≤ n → n < length l.blocks → P a n)
+
+-- P of none but those: each block that P is so of was laid out from this number on
+abbrev pub OnlyFrom : ℕ → Laid → (Arena → ℕ → Type 0) → Type 0
+OnlyFrom first l P = FromNowOn l (λ a. (n : ℕ) → P a n → (first ≤ n) × (n < length l.blocks))
+
+-- what hung from some statements alone was laid out from a number on: so it is of what hangs from more of them, where more was laid out
+abbrev pub HangsOnlyFromThere : Laid → List ℕ → Laid → List ℕ → Type 0
+HangsOnlyFromThere old ids new more =
+    (first : ℕ) → first ≤ length old.blocks → OnlyFrom first old (λ a n. HangsFrom a ids n) → OnlyFrom first new (λ a n. HangsFrom a more n)

@@ -6,7 +6,7 @@ ghost use Rattle.code_deeds.specs.CodeRules.Numbered.{AtBlock, IsBlock, IsStatem
 ghost use Rattle.laws_code.specs.LawsRules.HasCode.{BlockHasCode, HasCode};
 ghost use Rattle.check_statements.specs.CheckNames.Places.{scope_of};
 ghost use Rattle.code_deeds.specs.Homes.{IsHome, home_of};
-ghost use Rattle.code_blocks.specs.Laid.{Adds, EachFrom, FromNowOn, Grows, HangsFrom, IsNested, IsNext};
+ghost use Rattle.code_blocks.specs.Laid.{Adds, EachFrom, FromNowOn, Grows, HangsFrom, HangsOnlyFromThere, IsNested, IsNext, OnlyFrom};
 
 use super::laid::{Laid, add, push_block};
 use super::leaves::{known_exception, known_term, lay_deed, lay_local};
@@ -33,6 +33,7 @@ fn lay_undo<'a>(
     ensures grows { OnOk result (Grows laid.old laid.new) }
     ensures nested { OnOk result (IsNested laid.new) }
     ensures owned { IfOk result (λ b. EachFrom (length laid.old.blocks) laid.new (λ a n. Inside a b n)) }
+    ensures only { IfOk result (λ b. OnlyFrom (length laid.old.blocks) laid.new (λ a n. Inside a b n)) }
     ensures moves { OnOk result (scope_of place.new ≡ past (locals_in_block (body_of undo.now.items)) (scope_of place.old)) }
     ensures reads { IfOk result (λ b. FromNowOn laid.new (λ a. AtBlock a b (IsBlock (body_of undo.now.items) (home_of home.entry) a (in_unwind (scope_of place.old))))) }
 {
@@ -61,6 +62,7 @@ fn lay_statement<'a>(
     ensures nested { OnOk result (IsNested laid.new) }
     ensures next { OnOk result (IsNext laid.new ids.new) }
     ensures owned { OnOk result (EachFrom (length laid.old.blocks) laid.new (λ a n. HangsFrom a ids.new n)) }
+    ensures only { OnOk result (HangsOnlyFromThere laid.old ids.old laid.new ids.new) }
     ensures moves { OnOk result (scope_of place.new ≡ behind (statement_of statement.now) (scope_of place.old)) }
     ensures reads { OnOk result (Adds laid.new ids.old ids.new (λ a ns rest. IsStatement (statement_of statement.now) (home_of home.entry) a (scope_of place.old) ns rest)) }
 {
@@ -124,9 +126,9 @@ fn lay_statement<'a>(
     }
 }
 
-/// Lays out the statements of a block that has code, and the blocks inside it, and tells the block's number. Behind it the
-/// place is as before, with the local variables of the block declared before it and not visible. More blocks or statements
-/// than 32 bits can count are answered as out of memory.
+/// Lays out the statements of a block that has code, and the blocks inside it, and tells the block's number: these blocks are
+/// new, and no others stand inside it. Behind it the place is as before, with the local variables of the block declared before
+/// it and not visible. More blocks or statements than 32 bits can count are answered as out of memory.
 #[cycle(blocks)]
 pub fn lay_block<'a>(
     body: &'a Vec<Statement>,
@@ -141,6 +143,7 @@ pub fn lay_block<'a>(
     ensures grows { OnOk result (Grows laid.old laid.new) }
     ensures nested { OnOk result (IsNested laid.new) }
     ensures owned { IfOk result (λ b. EachFrom (length laid.old.blocks) laid.new (λ a n. Inside a b n)) }
+    ensures only { IfOk result (λ b. OnlyFrom (length laid.old.blocks) laid.new (λ a n. Inside a b n)) }
     ensures moves { OnOk result (scope_of place.new ≡ past (locals_in_block (body_of body.now.items)) (scope_of place.old)) }
     ensures reads { IfOk result (λ b. FromNowOn laid.new (λ a. AtBlock a b (IsBlock (body_of body.now.items) (home_of home.entry) a (scope_of place.old)))) }
 {

@@ -16,6 +16,7 @@ use Rattle.binding.specs.DesignRules.Designs.{IsDesignOf}
 use Rattle.model_check.specs.CodeRooms.Rooms.{HasRooms, IsNested}
 use Rattle.laws_design.specs.LawsCode.Bodies.{StatementsStand}
 use Rattle.model_check.specs.Parts.{AllStand}
+use Rattle.model_check.specs.LawsCode.OwnBlocks.{HaveOwnBlocks}
 use Rattle.elaborate.specs.Elaborated.{elaboration_fault}
 use Rattle.laws_design.specs.Accepted.{IsAccepted, IsLaidOut}
 
@@ -49,6 +50,9 @@ laid_out d c same nested stand rooms = record {
   standing = all_standing d (subst AllStand (sym same) stand);
   rooms = subst (λ (x : Code). HasRooms (arena_of x)) (sym same) rooms;
 }
+
+pub apart_still : (c d : Code) → d ≡ c → HaveOwnBlocks c → HaveOwnBlocks d
+apart_still c d same apart = subst HaveOwnBlocks (sym same) apart
 
 -- the design of a model is that at any resolution
 pub at_resolution : (m : tree.Model) (d : Design) (r : Resolution) → IsDesignOf m d → IsDesignOf m (record d { resolution = r })

@@ -7,6 +7,7 @@ ghost use Rattle.flat_design.specs.Sound.{SoundDesign};
 ghost use Rattle.model_check.specs.CodeRules.Bodies.{IsCodeOf};
 ghost use Rattle.model_check.specs.CodeRooms.Rooms.{HasRooms};
 ghost use Rattle.model_check.specs.Parts.{AllStand};
+ghost use Rattle.model_check.specs.LawsCode.OwnBlocks.{HaveOwnBlocks};
 ghost use Rattle.model_check.specs.TickRules.Sources as sources;
 ghost use Rattle.binding.specs.DesignRules.Designs.{IsDesignOf};
 ghost use Rattle.elaborate.specs.Elaborated.{elaboration_fault};
@@ -19,8 +20,8 @@ use model_check::tick_rules_api::resolution_of;
 use model_tree::CheckStop;
 use std::alloc::Global;
 
-/// The flat design of a checked tree within the limits of a text, whose code is as [`model_check::check`] makes it. It is sound, and
-/// its resolution is that of the text.
+/// The flat design of a checked tree within the limits of a text, whose code is as [`model_check::check`] makes it: no block of it
+/// stands inside two bodies. It is sound, and its resolution is that of the text.
 ///
 /// # Errors
 /// Refused is exactly the first fault of the whole: a module that has itself among its instances, at any depth
@@ -35,6 +36,7 @@ pub fn sound_design(alloc: Global, checked: Checked) -> Result<Design, CheckStop
     ensures accepted { OnOk result (elaboration_fault (model_of checked.tree) ≡ None) }
     ensures design { IfOk result (λ design. IsDesignOf (model_of checked.tree) design) }
     ensures code { IfOk result (λ design. design.code ≡ checked.code) }
+    ensures apart { IfOk result (λ design. HaveOwnBlocks design.code) }
     ensures resolution { IfOk result (λ design. design.resolution.power ≡ (sources.resolution_of checked.tree.head).power) }
     ensures sound { IfOk result (λ design. SoundDesign design) }
     ensures refused { IfErr result (λ stop. IfRefused stop (λ fault. elaboration_fault (model_of checked.tree) ≡ Some fault)) }

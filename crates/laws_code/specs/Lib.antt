@@ -5,3 +5,4 @@ pub mod TypedCode
 pub mod Bodies
 pub mod Reached
 pub mod LawsRules
+pub mod OwnBlocks

@@ -3,3 +3,4 @@ pub mod ModelRules
 pub mod CodeRules
 pub mod CodeRooms
 pub mod TickRules
+pub mod LawsCode

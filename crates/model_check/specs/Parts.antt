@@ -1,16 +1,16 @@
 -- The parts of the code of a model, as they are laid out one behind another.
-use Rattle.std.specs.Prelude.{◌≡◌, ◌<◌, ℕ, true, false, List, [], ◌∷◌, ◌++◌, map, Contains, Option, Some}
+use Rattle.std.specs.Prelude.{◌≡◌, ◌<◌, ℕ, true, false, List, [], ◌∷◌, ◌++◌, map, slice_get, Contains, Option, Some}
 use Rattle.model_tree.specs.declared.types.VarType.{VarType}
 use Rattle.flat_design.specs.Code as code
 use Rattle.flat_design.specs.Code.{Arena, arena_of, body_at}
-use Rattle.flat_design.specs.Reach.{InBody, IsIn, inner_blocks}
+use Rattle.flat_design.specs.Reach.{InBody, Inside, IsIn, inner_blocks}
 use Rattle.flat_design.specs.declared.code.CodeBody.{CodeBody}
 use Rattle.flat_design.specs.declared.code.Code.{Code}
 use Rattle.code_rooms.specs.ModelRules.Scopes.{Scope}
 use Rattle.code_rooms.specs.CodeRules.Deeds.{Home}
 use Rattle.code_rooms.specs.CodeRules.Bodies.{wait_for, write_truth}
 use Rattle.code_blocks.specs.declared.laid.Laid.{Laid}
-use Rattle.code_blocks.specs.Laid.{FromNowOn}
+use Rattle.code_blocks.specs.Laid.{FromNowOn, OnlyFrom, StandsInside}
 
 -- where a function has this answer
 abbrev pub answering : Option VarType → Scope → Scope
@@ -35,6 +35,14 @@ IsNestedCode c = (b j : ℕ) (s : code.Statement) → IsIn (arena_of c) b s → 
 -- the blocks of bodies
 abbrev pub body_blocks : List CodeBody → List ℕ
 body_blocks bs = map (λ (b : CodeBody). b.block) bs
+
+-- no block stands inside two of these
+abbrev pub NoneInTwo : Arena → List ℕ → Type 0
+NoneInTwo a bs = (i k b c n : ℕ) → slice_get bs i ≡ Some b → slice_get bs k ≡ Some c → Inside a b n → Inside a c n → i ≡ k
+
+-- what stands inside these was laid out, and nothing stands inside two of them
+abbrev pub AreLaidApart : Laid → List ℕ → Type 0
+AreLaidApart l bs = OnlyFrom 0 l (λ a n. StandsInside a bs n) × FromNowOn l (λ a. NoneInTwo a bs)
 
 -- a statement stands in some body
 pub record IsInABody (a : Arena) (s : code.Statement) : Type 0 where

@@ -10,7 +10,7 @@ ghost use Rattle.code_rooms.specs.ModelRules.Meanings.{declarations};
 ghost use Rattle.code_rooms.specs.ModelRules.Scopes.{is_declared, item_scope, with_parameters};
 ghost use Rattle.check_reach.specs.CheckNames.ModuleNames.{items_of};
 ghost use Rattle.check_reach.specs.CheckNames.Places.{scope_of};
-ghost use Rattle.code_blocks.specs.Laid.{EachFrom, FromNowOn, Grows, IsNested};
+ghost use Rattle.code_blocks.specs.Laid.{EachFrom, FromNowOn, Grows, IsNested, OnlyFrom};
 ghost use Rattle.model_check.specs.Parts.{answering};
 
 use super::clocks::clock_block;
@@ -93,6 +93,7 @@ pub(crate) fn function_body<'a>(
     ensures grows { OnOk result (Grows laid.old laid.new) }
     ensures nested { OnOk result (IsNested laid.new) }
     ensures owned { IfOk result (λ b. EachFrom (length laid.old.blocks) laid.new (λ a n. Inside a b.block n)) }
+    ensures only { IfOk result (λ b. OnlyFrom (length laid.old.blocks) laid.new (λ a n. Inside a b.block n)) }
     ensures reads { IfOk result (λ b. FromNowOn laid.new (λ a. IsBody module_place (home_of home.entry) a (item_scope (modules_of model.now) (items_of names.now) function.now.name) (bodies.of_function (function_of function.now)) b)) }
 {
     let mut place = body_place(alloc, model, names, function.name.bytes(), function.answer);
@@ -129,6 +130,7 @@ pub(crate) fn process_body<'a>(
     ensures grows { OnOk result (Grows laid.old laid.new) }
     ensures nested { OnOk result (IsNested laid.new) }
     ensures owned { IfOk result (λ b. EachFrom (length laid.old.blocks) laid.new (λ a n. Inside a b.block n)) }
+    ensures only { IfOk result (λ b. OnlyFrom (length laid.old.blocks) laid.new (λ a n. Inside a b.block n)) }
     ensures reads { IfOk result (λ b. FromNowOn laid.new (λ a. IsBody module_place (home_of home.entry) a (item_scope (modules_of model.now) (items_of names.now) process.now.name) (bodies.of_process (process_of process.now)) b)) }
 {
     let mut place = body_place(alloc, model, names, process.name.bytes(), None);
@@ -173,6 +175,7 @@ pub(crate) fn clock_body<'a>(
     ensures grows { OnOk result (Grows laid.old laid.new) }
     ensures nested { OnOk result (IsNested laid.new) }
     ensures owned { IfOk result (λ b. EachFrom (length laid.old.blocks) laid.new (λ a n. Inside a b.block n)) }
+    ensures only { IfOk result (λ b. OnlyFrom (length laid.old.blocks) laid.new (λ a n. Inside a b.block n)) }
     ensures reads { IfOk result (λ b. FromNowOn laid.new (λ a. IsBody module_place (home_of home.entry) a (item_scope (modules_of model.now) (items_of names.now) clock.now.name) (bodies.of_clock clock.now) b)) }
 {
     let channel = clock_channel(names, clock)?;

@@ -8,6 +8,7 @@ ghost use Rattle.code_blocks.specs.LawsRules.HasCode.{ModelHasCode};
 ghost use Rattle.code_rooms.specs.Rooms.{HasRooms};
 ghost use Rattle.tick_rules.specs.Sources.{source_fault, ticked};
 ghost use Rattle.model_check.specs.Parts.{AllStand, IsNestedCode};
+ghost use Rattle.model_check.specs.LawsCode.OwnBlocks.{HaveOwnBlocks};
 
 use crate::{code_of, judge_source};
 use code_blocks::laws_rules_api::sound_models_have_code;
@@ -25,6 +26,7 @@ pub struct Checked {
     pub code: Code,
     pub ghost accepted: { first_fault (model_of tree) ≡ None },
     pub ghost nested: { IsNestedCode code },
+    pub ghost apart: { HaveOwnBlocks code },
 }
 
 /// The code of a tree whose parts have code, with the rooms of its bodies.
@@ -32,6 +34,7 @@ fn roomy_code(alloc: Global, tree: &Tree) -> Result<Code, AllocError>
     requires { ModelHasCode (model_of tree.now) }
     ensures reads_back { IfOk result (λ code. IsCodeOf (model_of tree.now) code) }
     ensures nested { IfOk result (λ code. IsNestedCode code) }
+    ensures apart { IfOk result (λ code. HaveOwnBlocks code) }
     ensures stand { IfOk result (λ code. AllStand code) }
     ensures rooms { IfOk result (λ code. HasRooms (arena_of code)) }
 {
@@ -48,6 +51,7 @@ fn sound_code(alloc: Global, tree: &Tree) -> Result<Code, AllocError>
     requires { first_fault (model_of tree.now) ≡ None }
     ensures reads_back { IfOk result (λ code. IsCodeOf (model_of tree.now) code) }
     ensures nested { IfOk result (λ code. IsNestedCode code) }
+    ensures apart { IfOk result (λ code. HaveOwnBlocks code) }
     ensures stand { IfOk result (λ code. AllStand code) }
     ensures rooms { IfOk result (λ code. HasRooms (arena_of code)) }
 {

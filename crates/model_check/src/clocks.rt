@@ -4,7 +4,7 @@ ghost use Rattle.flat_design.specs.Reach.{Inside};
 ghost use Rattle.code_rooms.specs.CodeRules.Bodies as bodies;
 ghost use Rattle.code_rooms.specs.CodeRules.Bodies.{IsClockBlock};
 ghost use Rattle.code_rooms.specs.CodeRules.Numbered.{AreFirst, AtBlock};
-ghost use Rattle.code_blocks.specs.Laid.{Adds, EachFrom, FromNowOn, Grows, IsNested, IsNext};
+ghost use Rattle.code_blocks.specs.Laid.{Adds, EachFrom, FromNowOn, Grows, IsNested, IsNext, OnlyFrom};
 ghost use Rattle.model_check.specs.Parts.{high_and_low};
 
 use code_blocks::{Laid, add, push_block};
@@ -68,6 +68,7 @@ fn period_block(
     ensures grows { OnOk result (Grows laid.old laid.new) }
     ensures nested { OnOk result (IsNested laid.new) }
     ensures owned { IfOk result (λ b. EachFrom (length laid.old.blocks) laid.new (λ a n. Inside a b n)) }
+    ensures only { IfOk result (λ b. OnlyFrom (length laid.old.blocks) laid.new (λ a n. Inside a b n)) }
     ensures reads { IfOk result (λ b. FromNowOn laid.new (λ a. AtBlock a b (λ ids. AreFirst a (high_and_low channel high low) ids []))) }
 {
     let mut ids: Items<StmtId> = Items::new(alloc);
@@ -107,6 +108,7 @@ pub(crate) fn clock_block(
     ensures grows { OnOk result (Grows laid.old laid.new) }
     ensures nested { OnOk result (IsNested laid.new) }
     ensures owned { IfOk result (λ b. EachFrom (length laid.old.blocks) laid.new (λ a n. Inside a b n)) }
+    ensures only { IfOk result (λ b. OnlyFrom (length laid.old.blocks) laid.new (λ a n. Inside a b n)) }
     ensures reads { IfOk result (λ b. FromNowOn laid.new (λ a. AtBlock a b (IsClockBlock a (Some channel) clock.now))) }
 {
     let start = start_time(clock.start)?;

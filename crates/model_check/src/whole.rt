@@ -5,7 +5,8 @@ ghost use Rattle.code_rooms.specs.CodeRules.Bodies.{AreBodies, AreModules, IsCod
 ghost use Rattle.code_blocks.specs.LawsRules.HasCode.{ItemsHaveCode, ModelHasCode, ModulesHaveCode};
 ghost use Rattle.check_reach.specs.CheckNames.ModelNames.{module_items};
 ghost use Rattle.code_blocks.specs.Laid.{EachFrom, FromNowOn, Grows, IsNested, StandsInside};
-ghost use Rattle.model_check.specs.Parts.{AddsBodies, AllStand, IsNestedCode, body_blocks, home_from};
+ghost use Rattle.model_check.specs.Parts.{AddsBodies, AllStand, AreLaidApart, IsNestedCode, body_blocks, home_from};
+ghost use Rattle.model_check.specs.LawsCode.OwnBlocks.{HaveOwnBlocks};
 
 use super::bodies::in_32_bits;
 use super::items::add_items;
@@ -32,9 +33,11 @@ fn add_module<'a>(
     requires there { get_or (module_items model.now) place [] ≡ «module».now.items.items }
     requires coded { ItemsHaveCode (modules_of model.now) (module_of «module».now).items (home_from (length bodies.old) exceptions.now) (module_of «module».now).items }
     requires nested { IsNested laid.old }
+    requires apart { AreLaidApart laid.old (body_blocks bodies.old) }
     ensures grows { OnOk result (Grows laid.old laid.new) }
     ensures nested { OnOk result (IsNested laid.new) }
     ensures owned { OnOk result (EachFrom (length laid.old.blocks) laid.new (λ a n. StandsInside a (body_blocks bodies.new) n)) }
+    ensures apart { OnOk result (AreLaidApart laid.new (body_blocks bodies.new)) }
     ensures reads { OnOk result (AddsBodies laid.new bodies.old bodies.new (λ a new rest. AreBodies (modules_of model.now) (module_of «module».now).items place (home_from (length bodies.old) exceptions.now) a (module_of «module».now).items new rest)) }
 {
     let names = model.names_at(place);
@@ -63,6 +66,7 @@ fn modules_code<'a>(
     requires nested { IsNested laid.old }
     ensures nested { OnOk result (IsNested laid.new) }
     ensures owned { IfOk result (λ bodies. EachFrom (length laid.old.blocks) laid.new (λ a n. StandsInside a (body_blocks bodies) n)) }
+    ensures apart { IfOk result (λ bodies. AreLaidApart laid.new (body_blocks bodies)) }
     ensures reads { IfOk result (λ bodies. FromNowOn laid.new (λ a. AreModules (modules_of model.now) exceptions.now a 0 0 (modules_of modules.now) bodies)) }
 {
     let mut bodies = Items::new(alloc);
@@ -82,6 +86,7 @@ fn tree_code<'a, 't: 'a>(
     requires coded { ModelHasCode (model_of tree.now) }
     ensures code { IfOk result (λ c. IsCodeOf (model_of tree.now) c) }
     ensures nested { IfOk result (λ c. IsNestedCode c) }
+    ensures apart { IfOk result (λ c. HaveOwnBlocks c) }
     ensures stand { IfOk result (λ c. AllStand c) }
 {
     let modules = tree.modules.as_slice();
@@ -100,8 +105,8 @@ fn tree_code<'a, 't: 'a>(
 }
 
 /// The code of the model of a tree, of which each part has code: one body for each function, process and clock, in text
-/// order over all modules, and each block before the block that it stands in. The room of each body is 0, since the text
-/// does not tell it.
+/// order over all modules, and each block before the block that it stands in; no block stands inside two bodies. The room of
+/// each body is 0, since the text does not tell it.
 ///
 /// Bodies, blocks and statements are numbered in 32 bits, and the times of clocks are below 2^64 picoseconds: what passes
 /// that is answered as out of memory, the only error.
@@ -109,6 +114,7 @@ pub fn code_of(alloc: Global, tree: &Tree) -> Result<Code, AllocError>
     requires coded { ModelHasCode (model_of tree.now) }
     ensures code { IfOk result (λ c. IsCodeOf (model_of tree.now) c) }
     ensures nested { IfOk result (λ c. IsNestedCode c) }
+    ensures apart { IfOk result (λ c. HaveOwnBlocks c) }
     ensures stand { IfOk result (λ c. AllStand c) }
 {
     let model = ModelNames::new(alloc, tree.modules.as_slice())?;

@@ -6,6 +6,7 @@ use Rattle.script_text.specs.ModelLexer.Reads.{Reads}
 use Rattle.elaborate.specs.TickRules.Sources.{resolution_of, source_fault, ticked}
 use Rattle.elaborate.specs.DesignRules.Designs.{IsDesignOf}
 use Rattle.elaborate.specs.Elaborated.{elaboration_fault}
+use Rattle.elaborate.specs.ModelCheck.OwnBlocks.{HaveOwnBlocks}
 use Rattle.flat_design.specs.Sound.{SoundDesign}
 use Rattle.flat_design.specs.declared.design.Design.{Design}
 use Rattle.flat_design.specs.declared.design.SemaphorePart.{SemaphorePart}
@@ -67,9 +68,11 @@ pub record AcceptsModel (model : List ℕ) (m : tree.Source) : Type 0 where
   pub faultless : source_fault m ≡ None
   pub elaborated : elaboration_fault (ticked m) ≡ None
 
--- the design of a whole text: it is that of the tree of ticks, and its resolution is that of the text
+-- the design of a whole text: it is that of the tree of ticks, no block of its code stands inside two bodies, and its resolution is
+-- that of the text
 pub record IsDesignOfSource (m : tree.Source) (d : Design) : Type 0 where
   pub parts : IsDesignOf (ticked m) d
+  pub apart : HaveOwnBlocks d.code
   pub resolution : d.resolution.power ≡ (resolution_of m.head).power
 
 -- the design is that of the tree that the model is accepted as

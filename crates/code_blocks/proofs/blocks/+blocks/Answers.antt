@@ -10,21 +10,23 @@ use Rattle.model_tree.specs.declared.statements.Statement.TheFolds.{the_lemmas}
 use Rattle.model_tree.proofs.Trees.{handlers_list, next_handler, other_of, sees_guard, sees_if, sees_try, sees_while}
 use Rattle.flat_design.specs.Code as code
 use Rattle.flat_design.specs.declared.code.Handler.{Handler}
+use Rattle.code_deeds.specs.ModelRules.Meanings.{variable_type}
 use Rattle.code_deeds.specs.ModelRules.Scopes.{Scope, in_unwind, locals_in_block, locals_in_handlers, past}
 use Rattle.code_deeds.specs.CodeRules.Deeds.{exception_number, if_written, store}
 use Rattle.code_deeds.specs.CodeRules.Numbered.{AreHandlers, AtBlock, IsBlock, IsElse, IsStatement}
 use Rattle.laws_code.specs.LawsRules.HasCode.{HandlersHaveCode, IsThere}
-use Rattle.laws_code.proofs.Plain.{NoneHasBlocks, Only, action_plain, assign_plain, operate_plain}
+use Rattle.laws_code.proofs.Plain.{NoneHasBlocks, Only, action_plain, assign_plain, operate_plain, var_plain}
 use Rattle.check_statements.specs.CheckNames.Places.{scope_of, with_visible}
 use Rattle.check_statements.proofs.Behind.{behind_block, past_nothing, past_past}
 use Rattle.code_deeds.specs.CodeTerms.Names.{body_names}
 use Rattle.code_deeds.specs.Homes.{IsHome, home_of}
 use Rattle.flat_design.specs.Reach.{Inside}
-use Rattle.code_blocks.specs.Laid.{EachFrom, FromNowOn, Grows, HangsFrom, StandsInside, handler_blocks}
+use Rattle.code_blocks.specs.Laid.{EachFrom, FromNowOn, Grows, HangsFrom, OnlyFrom, StandsInside, handler_blocks}
 use Rattle.code_blocks.proofs.Owned.{added_owned, block_owned, both_grow, both_owned, handlers_owned, more_owned, none_from, one_owned}
-use Rattle.code_blocks.proofs.Growth.{next_grown, next_none}
+use Rattle.code_blocks.proofs.Growth.{blocks_grow, next_grown, next_none}
 use Rattle.code_blocks.proofs.Forms.{added, guard_inner, guard_laid, if_inner, if_laid, try_inner, try_laid, while_inner, while_laid}
-use Rattle.code_blocks.proofs.Results.{if_both, if_three, on_ok}
+use Rattle.code_blocks.proofs.Only.{added_only, block_only, both_only, coded_only, more_only, none_hangs, none_only, one_only}
+use Rattle.code_blocks.proofs.Results.{if_both, if_three, on_both, on_ok}
 use Rattle.code_blocks.proofs.Sees.{as_coded, seen_coded, seen_moves, seen_reads, sees_act, sees_assign, sees_operate, sees_var}
 use Rattle.code_blocks.proofs.Walks.{AreBefore, AreHandled, at_end, at_start, handler_coded, handler_more, handlers_end, handlers_start, next_statement, one_more, same_items}
 use Rattle.code_blocks.proofs.blocks.+blocks.Goals as goal
@@ -39,6 +41,7 @@ lay_undo-returns t c =
       grows = block.grows;
       nested = block.nested;
       owned = block.owned;
+      only = block.only;
       moves = ap (λ (v : Scope). record v { unwinding = s.unwinding }) block.moves;
       reads = block.reads;
     }
@@ -66,6 +69,7 @@ lay_statement-returns-in-Var t c =
       nested = laid.nested;
       next = laid.next;
       owned = on_ok r (none_from c.args.laid.now new (λ a n. HangsFrom a ids n)) laid.blocks;
+      only = on_both r (λ grows adds. coded_only c.args.laid.now new c.args.ids.now ids _ (var_plain s (variable_type c.in-Var.var_type) (option_map expression_of c.in-Var.value)) grows adds) laid.grows laid.reads;
       moves = on_ok r (seen_moves h x y is s (scope_of c.lay_local.new.place)) laid.moves;
       reads = on_ok r (seen_reads h x y is s c.lay_local.new.laid c.args.ids.now c.lay_local.new.ids) laid.reads;
     }
@@ -96,6 +100,7 @@ lay_statement-returns-in_ok-deed-in-Assign t c =
       nested = laid.nested;
       next = laid.next;
       owned = on_ok r (none_from c.args.laid.now new (λ a n. HangsFrom a ids n)) laid.blocks;
+      only = on_both r (λ grows adds. coded_only c.args.laid.now new c.args.ids.now ids _ (subst (λ (fs : Option (List code.Statement)). Only NoneHasBlocks fs) (sym c.in_ok-deed-in-Assign.ensures) (assign_plain s (target_of c.in-Assign.target) (expression_of c.in-Assign.value))) grows adds) laid.grows laid.reads;
       moves = on_ok r (λ g. seen_moves h x y is s s refl) laid.grows;
       reads = on_ok r (λ adds. seen_reads h x y is s new c.args.ids.now ids (as_coded new c.args.ids.now ids _ _ c.in_ok-deed-in-Assign.ensures adds)) laid.reads;
     }
@@ -127,6 +132,7 @@ lay_statement-returns-in_ok-deed-in-Operate t c =
       nested = laid.nested;
       next = laid.next;
       owned = on_ok r (none_from c.args.laid.now new (λ a n. HangsFrom a ids n)) laid.blocks;
+      only = on_both r (λ grows adds. coded_only c.args.laid.now new c.args.ids.now ids _ (subst (λ (fs : Option (List code.Statement)). Only NoneHasBlocks fs) (sym c.in_ok-deed-in-Operate.ensures) (operate_plain h s (if_written (store s) c.in-Operate.name) (operation_of c.in-Operate.operation))) grows adds) laid.grows laid.reads;
       moves = on_ok r (λ g. seen_moves h x y is s s refl) laid.grows;
       reads = on_ok r (λ adds. seen_reads h x y is s new c.args.ids.now ids (as_coded new c.args.ids.now ids _ _ c.in_ok-deed-in-Operate.ensures adds)) laid.reads;
     }
@@ -157,6 +163,7 @@ lay_statement-returns-in_ok-deed-in-Act t c =
       nested = laid.nested;
       next = laid.next;
       owned = on_ok r (none_from c.args.laid.now new (λ a n. HangsFrom a ids n)) laid.blocks;
+      only = on_both r (λ grows adds. coded_only c.args.laid.now new c.args.ids.now ids _ (subst (λ (fs : Option (List code.Statement)). Only NoneHasBlocks fs) (sym c.in_ok-deed-in-Act.ensures) (action_plain h s (action_of c.in-Act.action))) grows adds) laid.grows laid.reads;
       moves = on_ok r (λ g. seen_moves h x y is s s refl) laid.grows;
       reads = on_ok r (λ adds. seen_reads h x y is s new c.args.ids.now ids (as_coded new c.args.ids.now ids _ _ c.in_ok-deed-in-Act.ensures adds)) laid.reads;
     }
@@ -216,6 +223,21 @@ lay_statement-returns-in_ok-add-in-None-clause-owned t c =
     let add = c.in_ok-add-in-None.ensures in
     added_owned (length start.blocks) l c.add.new.laid c.args.ids.now c.add.new.ids c.in_ok-add-in-None.field-0 (code.if_ term b None) add.grows add.blocks add.numbers add.at
     (one_owned (length start.blocks) l b [] first.owned)
+
+pub lay_statement-returns-in_ok-add-in-None-clause-only : goal.lay_statement-returns-in_ok-add-in-None-clause-only
+lay_statement-returns-in_ok-add-in-None-clause-only t c =
+    let h = home_of c.args.home in
+    let s = scope_of c.args.place.now in
+    let start = c.args.laid.now in
+    let l = c.lay_block.new.laid in
+    let e = expression_of c.in-If.condition in
+    let body = body_of c.in-If.body.items in
+    let b = c.in_ok-block-in-If.block in
+    let first = c.in_ok-block-in-If.ensures in
+    let term = code.term_of c.in_ok-term-in-If.term in
+    let add = c.in_ok-add-in-None.ensures in
+    added_only start l c.add.new.laid c.args.ids.now c.add.new.ids c.in_ok-add-in-None.field-0 (code.if_ term b None) first.grows add.grows add.numbers add.at
+    (one_only (length start.blocks) l b first.only)
 
 pub lay_statement-returns-in_ok-add-in-None-clause-reads : goal.lay_statement-returns-in_ok-add-in-None-clause-reads
 lay_statement-returns-in_ok-add-in-None-clause-reads t c =
@@ -310,6 +332,26 @@ lay_statement-returns-in_ok-add-in-Some-clause-owned t c =
     added_owned (length start.blocks) l c.add-in-Some.new.laid c.args.ids.now c.add-in-Some.new.ids c.in_ok-add-in-Some.field-0 (code.if_ term b (Some o)) add.grows add.blocks add.numbers add.at
     (both_owned (length start.blocks) mid l b (o ∷ []) second.grows first.owned (one_owned (length mid.blocks) l o [] second.owned))
 
+pub lay_statement-returns-in_ok-add-in-Some-clause-only : goal.lay_statement-returns-in_ok-add-in-Some-clause-only
+lay_statement-returns-in_ok-add-in-Some-clause-only t c =
+    let h = home_of c.args.home in
+    let s = scope_of c.args.place.now in
+    let start = c.args.laid.now in
+    let mid = c.lay_block.new.laid in
+    let l = c.lay_block-in-Some.new.laid in
+    let e = expression_of c.in-If.condition in
+    let body = body_of c.in-If.body.items in
+    let other = body_of c.in-Some.other.items in
+    let b = c.in_ok-block-in-If.block in
+    let o = c.in_ok-otherwise-in-Some.otherwise in
+    let first = c.in_ok-block-in-If.ensures in
+    let second = c.in_ok-otherwise-in-Some.ensures in
+    let term = code.term_of c.in_ok-term-in-If.term in
+    let more : FromNowOn l (λ a. IsElse (tree.else_block other) h a (past (locals_in_block body) s) (Some o)) = subst (λ (u : Scope). FromNowOn l (λ a. IsElse (tree.else_block other) h a u (Some o))) first.moves (λ a begins. (o, refl, second.reads a begins)) in
+    let add = c.in_ok-add-in-Some.ensures in
+    added_only start l c.add-in-Some.new.laid c.args.ids.now c.add-in-Some.new.ids c.in_ok-add-in-Some.field-0 (code.if_ term b (Some o)) (both_grow start mid l first.grows second.grows) add.grows add.numbers add.at
+    (both_only (length start.blocks) mid l b (o ∷ []) (blocks_grow start mid first.grows) second.grows first.only (one_only (length mid.blocks) l o second.only))
+
 pub lay_statement-returns-in_ok-add-in-Some-clause-reads : goal.lay_statement-returns-in_ok-add-in-Some-clause-reads
 lay_statement-returns-in_ok-add-in-Some-clause-reads t c =
     let h = home_of c.args.home in
@@ -387,6 +429,21 @@ lay_statement-returns-in_ok-add-in-While-clause-owned t c =
     let add = c.in_ok-add-in-While.ensures in
     added_owned (length start.blocks) l c.add-in-While.new.laid c.args.ids.now c.add-in-While.new.ids c.in_ok-add-in-While.field-0 (code.while_ term b) add.grows add.blocks add.numbers add.at
     (one_owned (length start.blocks) l b [] first.owned)
+
+pub lay_statement-returns-in_ok-add-in-While-clause-only : goal.lay_statement-returns-in_ok-add-in-While-clause-only
+lay_statement-returns-in_ok-add-in-While-clause-only t c =
+    let h = home_of c.args.home in
+    let s = scope_of c.args.place.now in
+    let start = c.args.laid.now in
+    let l = c.lay_block-in-While.new.laid in
+    let e = expression_of c.in-While.condition in
+    let body = body_of c.in-While.body.items in
+    let b = c.in_ok-block-in-While.block in
+    let first = c.in_ok-block-in-While.ensures in
+    let term = code.term_of c.in_ok-term-in-While.term in
+    let add = c.in_ok-add-in-While.ensures in
+    added_only start l c.add-in-While.new.laid c.args.ids.now c.add-in-While.new.ids c.in_ok-add-in-While.field-0 (code.while_ term b) first.grows add.grows add.numbers add.at
+    (one_only (length start.blocks) l b first.only)
 
 pub lay_statement-returns-in_ok-add-in-While-clause-reads : goal.lay_statement-returns-in_ok-add-in-While-clause-reads
 lay_statement-returns-in_ok-add-in-While-clause-reads t c =
@@ -473,6 +530,24 @@ lay_statement-returns-in_ok-add-in-Guard-clause-owned t c =
     added_owned (length start.blocks) l c.add-in-Guard.new.laid c.args.ids.now c.add-in-Guard.new.ids c.in_ok-add-in-Guard.field-0 (code.guard b u) add.grows add.blocks add.numbers add.at
     (both_owned (length start.blocks) mid l b (u ∷ []) second.grows first.owned (one_owned (length mid.blocks) l u [] second.owned))
 
+pub lay_statement-returns-in_ok-add-in-Guard-clause-only : goal.lay_statement-returns-in_ok-add-in-Guard-clause-only
+lay_statement-returns-in_ok-add-in-Guard-clause-only t c =
+    let h = home_of c.args.home in
+    let s = scope_of c.args.place.now in
+    let start = c.args.laid.now in
+    let mid = c.lay_block-in-Guard.new.laid in
+    let l = c.lay_undo.new.laid in
+    let body = body_of c.in-Guard.body.items in
+    let undo = body_of c.in-Guard.undo.items in
+    let b = c.in_ok-block-in-Guard.block in
+    let u = c.in_ok-unwind-in-Guard.unwind in
+    let first = c.in_ok-block-in-Guard.ensures in
+    let second = c.in_ok-unwind-in-Guard.ensures in
+    let more : FromNowOn l (λ a. AtBlock a u (IsBlock undo h a (in_unwind (past (locals_in_block body) s)))) = subst (λ (v : Scope). FromNowOn l (λ a. AtBlock a u (IsBlock undo h a (in_unwind v)))) first.moves second.reads in
+    let add = c.in_ok-add-in-Guard.ensures in
+    added_only start l c.add-in-Guard.new.laid c.args.ids.now c.add-in-Guard.new.ids c.in_ok-add-in-Guard.field-0 (code.guard b u) (both_grow start mid l first.grows second.grows) add.grows add.numbers add.at
+    (both_only (length start.blocks) mid l b (u ∷ []) (blocks_grow start mid first.grows) second.grows first.only (one_only (length mid.blocks) l u second.only))
+
 pub lay_statement-returns-in_ok-add-in-Guard-clause-reads : goal.lay_statement-returns-in_ok-add-in-Guard-clause-reads
 lay_statement-returns-in_ok-add-in-Guard-clause-reads t c =
     let h = home_of c.args.home in
@@ -510,6 +585,7 @@ lay_statement-loop-name-init t c =
       grows = λ a begins. begins;
       nested = first.nested;
       owned = none_from mid mid (λ a n. StandsInside a [] n) refl;
+      only = none_only (length mid.blocks) mid;
       before = handlers_start h (handlers_list c.in-Try.handlers.items) (scope_of c.lay_block-in-Try.new.place) mid entered;
     })
 
@@ -561,6 +637,9 @@ lay_statement-loop-name-preserved t c =
       owned = handlers_owned (length begun.blocks) c.loop-name.laid l (handler_blocks c.loop-name.found) (handler_blocks c.push.new.self) b
           (ap handler_blocks pushed ∙ map-append (λ (y : Handler). y.block) c.loop-name.found (record { exception = e; block = b } ∷ []))
           step.grows old.owned step.owned;
+      only = more_only (length begun.blocks) c.loop-name.laid l (handler_blocks c.loop-name.found) (b ∷ []) (handler_blocks c.push.new.self)
+          (ap handler_blocks pushed ∙ map-append (λ (y : Handler). y.block) c.loop-name.found (record { exception = e; block = b } ∷ []))
+          (blocks_grow begun c.loop-name.laid old.grows) step.grows old.only (one_only (length c.loop-name.laid.blocks) l b step.only);
       before = handler_more h whole entered c.loop-name.laid (handlers_list (drop i hs)) (scope_of c.loop-name.place) c.loop-name.found x.0 (body_of x.1.items) (handlers_list (drop (i + 1) hs)) is old.before
           l (scope_of c.lay_block-in-loop-name.new.place) c.push.new.self e b
           step.grows (sym (ap (exception_number h) c.bytes.ensures.value) ∙ c.in_ok-exception-in-Try.ensures) step.moves step.reads pushed;
@@ -660,6 +739,31 @@ lay_statement-returns-in_ok-add-in-Try-clause-owned t c =
     added_owned (length start.blocks) l c.add-in-Try.new.laid c.args.ids.now c.add-in-Try.new.ids c.in_ok-add-in-Try.field-0 (code.try_ b found) add.grows add.blocks add.numbers add.at
     (both_owned (length start.blocks) mid l b (handler_blocks found) old.grows first.owned old.owned)
 
+pub lay_statement-returns-in_ok-add-in-Try-clause-only : goal.lay_statement-returns-in_ok-add-in-Try-clause-only
+lay_statement-returns-in_ok-add-in-Try-clause-only t c =
+    let h = home_of c.args.home in
+    let s = scope_of c.args.place.now in
+    let start = c.args.laid.now in
+    let mid = c.lay_block-in-Try.new.laid in
+    let l = c.loop-name.laid in
+    let body = body_of c.in-Try.body.items in
+    let handlers = handlers_list c.in-Try.handlers.items in
+    let hs : List (List ℕ × Vec Statement) = c.deref-name-items.result.now in
+    let b = c.in_ok-block-in-Try.block in
+    let found = c.loop-name.found in
+    let first = c.in_ok-block-in-Try.ensures in
+    let old = c.loop-name.invariant in
+    let u = scope_of c.loop-name.place in
+    let entered = scope_of c.lay_block-in-Try.new.place in
+    let same : handlers_list hs ≡ handlers = ap handlers_list c.deref-name-items.ensures.value in
+    let ended : AreHandled h handlers entered l tree.no_more u found =
+    subst (λ (w : tree.Handlers). AreHandled h w entered l tree.no_more u found) same (subst (λ (xs : List (List ℕ × Vec Statement)). AreHandled h (handlers_list hs) entered l (handlers_list xs) u found) (drop_all c.loop-name.name-index hs c.loop-name-test.false) old.before)
+    in
+    let more : FromNowOn l (λ a. AreHandlers handlers h a (past (locals_in_block body) s) found) = subst (λ (v : Scope). FromNowOn l (λ a. AreHandlers handlers h a v found)) first.moves (handlers_end h handlers entered l u found ended) in
+    let add = c.in_ok-add-in-Try.ensures in
+    added_only start l c.add-in-Try.new.laid c.args.ids.now c.add-in-Try.new.ids c.in_ok-add-in-Try.field-0 (code.try_ b found) (both_grow start mid l first.grows old.grows) add.grows add.numbers add.at
+    (both_only (length start.blocks) mid l b (handler_blocks found) (blocks_grow start mid first.grows) old.grows first.only old.only)
+
 pub lay_statement-returns-in_ok-add-in-Try-clause-moves : goal.lay_statement-returns-in_ok-add-in-Try-clause-moves
 lay_statement-returns-in_ok-add-in-Try-clause-moves t c =
     let h = home_of c.args.home in
@@ -724,6 +828,7 @@ lay_block-loop-statement-init t c =
       nested = c.requires.nested;
       next = next_none c.args.laid.now;
       owned = none_from c.args.laid.now c.args.laid.now (λ a n. HangsFrom a [] n) refl;
+      only = none_hangs (length c.args.laid.now.blocks) c.args.laid.now;
       before = at_start (home_of c.args.home) (body_of c.args.body.now.items) (scope_of c.args.place.now) c.args.laid.now c.requires.coded;
     })
 
@@ -742,6 +847,7 @@ lay_block-loop-statement-preserved t c =
       nested = step.nested;
       next = step.next;
       owned = more_owned (length c.args.laid.now.blocks) c.loop-statement.laid c.lay_statement.new.laid c.loop-statement.ids c.lay_statement.new.ids step.reads.0 step.reads.1 step.grows old.owned step.owned;
+      only = step.only (length c.args.laid.now.blocks) (blocks_grow c.args.laid.now c.loop-statement.laid old.grows) old.only;
       before = one_more (home_of c.args.home) (body_of c.args.body.now.items) (scope_of c.args.place.now) c.loop-statement.laid (body_of (drop i ss)) here c.loop-statement.ids (statement_of x) (body_of (drop (i + 1) ss)) is old.before
           c.lay_statement.new.laid (scope_of c.lay_statement.new.place) c.lay_statement.new.ids step.grows step.moves step.reads;
     }
@@ -766,6 +872,8 @@ lay_block-returns t c =
       nested = pushed.nested;
       owned = if_three (Grows l new) (λ b. (b ≡ length l.blocks) × (length new.blocks ≡ b + 1)) (λ b. FromNowOn new (λ a. slice_get a.blocks b ≡ Some ids)) (λ b. EachFrom (length c.args.laid.now.blocks) new (λ a n. Inside a b n)) r
           (λ grows b last at. block_owned (length c.args.laid.now.blocks) l new ids b grows last.0 last.1 at old.owned) pushed.grows pushed.last pushed.at;
+      only = if_three (Grows l new) (λ b. (b ≡ length l.blocks) × (length new.blocks ≡ b + 1)) (λ b. FromNowOn new (λ a. slice_get a.blocks b ≡ Some ids)) (λ b. OnlyFrom (length c.args.laid.now.blocks) new (λ a n. Inside a b n)) r
+          (λ grows b last at. block_only (length c.args.laid.now.blocks) l new ids b (blocks_grow c.args.laid.now l old.grows) grows last.0 last.1 at old.only) pushed.grows pushed.last pushed.at;
       moves = on_ok r (λ grows. left) pushed.grows;
       reads = if_both (Grows l new) (λ b. FromNowOn new (λ a. slice_get a.blocks b ≡ Some ids)) (λ b. FromNowOn new (λ a. AtBlock a b (IsBlock whole h a s))) r (λ grows b at. at_end h whole s l new u ids b ended grows at) pushed.grows pushed.at;
     }

@@ -3,7 +3,7 @@ use Rattle.model_tree.specs.Views.{body_of}
 use Rattle.model_tree.proofs.Trees.{handlers_list}
 use Rattle.check_statements.specs.CheckNames.Places.{scope_of}
 use Rattle.code_deeds.specs.Homes.{IsHome, home_of}
-use Rattle.code_blocks.specs.Laid.{EachFrom, Grows, HangsFrom, IsNested, IsNext, StandsInside, handler_blocks}
+use Rattle.code_blocks.specs.Laid.{EachFrom, Grows, HangsFrom, IsNested, IsNext, OnlyFrom, StandsInside, handler_blocks}
 use Rattle.code_blocks.proofs.Walks.{AreBefore, AreHandled}
 use Rattle.code_blocks.proofs.blocks.+blocks.Given as goal
 
@@ -14,6 +14,7 @@ invariant-lay_block-loop-statement l = record {
   nested : IsNested l.laid;
   next : IsNext l.laid l.ids;
   owned : EachFrom (length l.fn.laid.blocks) l.laid (λ a n. HangsFrom a l.ids n);
+  only : OnlyFrom (length l.fn.laid.blocks) l.laid (λ a n. HangsFrom a l.ids n);
   before : AreBefore (home_of l.home) (body_of l.body.items) (scope_of l.fn.place) l.laid (body_of (drop l.statement-index l.statement-items)) (scope_of l.place) l.ids;
 }
 
@@ -23,5 +24,6 @@ invariant-lay_statement-loop-name l = record {
   grows : Grows l.initial.laid l.laid;
   nested : IsNested l.laid;
   owned : EachFrom (length l.initial.laid.blocks) l.laid (λ a n. StandsInside a (handler_blocks l.found) n);
+  only : OnlyFrom (length l.initial.laid.blocks) l.laid (λ a n. StandsInside a (handler_blocks l.found) n);
   before : AreHandled (home_of l.home) (handlers_list l.name-items) (scope_of l.initial.place) l.laid (handlers_list (drop l.name-index l.name-items)) (scope_of l.place) l.found;
 }

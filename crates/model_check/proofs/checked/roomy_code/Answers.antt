@@ -1,5 +1,5 @@
 use Rattle.model_tree.specs.Seen.{model_of}
-use Rattle.model_check.proofs.Raised.{still_stand}
+use Rattle.model_check.proofs.Raised.{still_apart, still_stand}
 use Rattle.model_check.proofs.checked.roomy_code.Goals as goal
 
 pub returns : goal.returns
@@ -12,6 +12,7 @@ returns c =
     record {
       reads_back = c.code_stays.ensures (model_of c.args.tree.now) before after kept made.code;
       nested = c.blocks_stay.ensures.nested before after kept made.nested;
+      apart = still_apart before after (c.blocks_stay.ensures.stands after before back) (c.bodies_stay.ensures.bodies after before back) made.apart;
       stand = still_stand before after (c.blocks_stay.ensures.stands after before back) (c.blocks_stay.ensures.holds before after kept) (c.bodies_stay.ensures.bodies before after kept) made.stand;
       rooms = c.in_ok-raised.ensures.rooms;
     }

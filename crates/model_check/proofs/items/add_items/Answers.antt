@@ -7,6 +7,7 @@ use Rattle.std.proofs.lemmas.List.{map-append}
 use Rattle.flat_design.specs.declared.code.CodeBody.{CodeBody}
 use Rattle.code_blocks.proofs.Owned.{both_grow, more_stand}
 use Rattle.model_check.specs.Parts.{body_blocks}
+use Rattle.model_check.proofs.Apart.{body_only, laid_more, one_at_most}
 use Rattle.model_check.proofs.LocalLemmas.{next_seen}
 use Rattle.model_check.proofs.BodyLemmas.{first_coded, next_bodies}
 use Rattle.model_check.proofs.items.add_items.Goals as goal
@@ -38,6 +39,9 @@ loop-item-preserved c =
       grows = both_grow _ _ _ inv.grows c.in_ok-body.ensures.grows;
       owned = more_stand (length c.args.laid.now.blocks) c.loop-item.laid c.item_body.new.laid (body_blocks c.loop-item.bodies) (body_blocks (option_to_list b)) (body_blocks c.add_body.new.bodies)
           (ap body_blocks c.in_ok-add_body.ensures ∙ map-append (λ (x : CodeBody). x.block) c.loop-item.bodies (option_to_list b)) c.in_ok-body.ensures.grows inv.owned c.in_ok-body.ensures.owned;
+      apart = laid_more c.loop-item.laid c.item_body.new.laid (body_blocks c.loop-item.bodies) (body_blocks (option_to_list b)) (body_blocks c.add_body.new.bodies)
+          (ap body_blocks c.in_ok-add_body.ensures ∙ map-append (λ (x : CodeBody). x.block) c.loop-item.bodies (option_to_list b)) c.in_ok-body.ensures.grows inv.apart
+          (body_only (length c.loop-item.laid.blocks) c.item_body.new.laid b c.in_ok-body.ensures.only) (λ a. one_at_most a b);
       reads = (
         inv.reads.0 ++ option_to_list b,
         c.in_ok-add_body.ensures ∙ ap (λ bs. bs ++ option_to_list b) inv.reads.1 ∙ append_assoc _ inv.reads.0 (option_to_list b),

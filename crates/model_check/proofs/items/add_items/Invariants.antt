@@ -6,7 +6,7 @@ use Rattle.code_blocks.specs.LawsRules.HasCode.{ItemsHaveCode}
 use Rattle.code_blocks.specs.CodeDeeds.Homes.{home_of}
 use Rattle.check_reach.specs.CheckNames.ModuleNames.{items_of}
 use Rattle.code_blocks.specs.Laid.{EachFrom, FromNowOn, Grows, IsNested, StandsInside}
-use Rattle.model_check.specs.Parts.{body_blocks}
+use Rattle.model_check.specs.Parts.{AreLaidApart, body_blocks}
 use Rattle.model_check.proofs.items.add_items.Given as goal
 
 abbrev pub invariant-loop-item : goal.invariant-loop-item
@@ -19,6 +19,7 @@ invariant-loop-item l =
       nested : IsNested l.laid;
       grows : Grows l.fn.laid l.laid;
       owned : EachFrom (length l.fn.laid.blocks) l.laid (λ a n. StandsInside a (body_blocks l.bodies) n);
+      apart : AreLaidApart l.laid (body_blocks l.bodies);
       reads : (more : List CodeBody) × (l.bodies ≡ l.fn.bodies ++ more)
           × FromNowOn l.laid (λ a. (tail rest : List CodeBody) → AreBodies modules all l.module_place (home_of l.home) a left tail rest → AreBodies modules all l.module_place (home_of l.home) a (items_of l.items) (more ++ tail) rest);
     }

@@ -49,6 +49,7 @@ loop-i-preserved c =
       nested = done.nested;
       owned = grown_stand (length c.args.laid.now.blocks) c.loop-i.laid l (body_blocks c.loop-i.bodies) (body_blocks added.0) (body_blocks c.add_module.new.bodies)
           (ap body_blocks added.1 ∙ map-append (λ (b : CodeBody). b.block) c.loop-i.bodies added.0) done.grows inv.owned done.owned;
+      apart = done.apart;
       reads = λ a begins rest are.
           subst (λ (bs : List CodeBody). AreModules modules exceptions a 0 0 (modules_of ms) (bs ++ rest)) (sym added.1)
           (next_modules modules exceptions a i first _ (modules_of ms) left others m c.loop-i.bodies added.0 e counted (inv.reads a (done.grows a begins)) (added.2 a begins) rest are);
@@ -64,6 +65,7 @@ returns c =
     record {
       nested = c.loop-i.invariant.nested;
       owned = c.loop-i.invariant.owned;
+      apart = c.loop-i.invariant.apart;
       reads = λ a begins.
           subst (AreModules modules exceptions a 0 0 (modules_of ms)) (append-nil bodies)
           (c.loop-i.invariant.reads a begins [] (subst (λ (os : List Module). AreModules modules exceptions a i (length bodies) (modules_of os) []) (sym (drop_all i ms c.loop-i-test.false)) refl));

@@ -4,7 +4,7 @@ use Rattle.model_tree.specs.Views.{modules_of}
 use Rattle.code_rooms.specs.CodeRules.Bodies.{AreModules}
 use Rattle.code_blocks.specs.LawsRules.HasCode.{ModulesHaveCode}
 use Rattle.code_blocks.specs.Laid.{EachFrom, FromNowOn, IsNested, StandsInside}
-use Rattle.model_check.specs.Parts.{body_blocks}
+use Rattle.model_check.specs.Parts.{AreLaidApart, body_blocks}
 use Rattle.model_check.proofs.whole.modules_code.Given as goal
 
 abbrev pub invariant-loop-i : goal.invariant-loop-i
@@ -15,5 +15,6 @@ invariant-loop-i l =
       coded : ModulesHaveCode modules l.exceptions (length l.bodies) left;
       nested : IsNested l.laid;
       owned : EachFrom (length l.fn.laid.blocks) l.laid (λ a n. StandsInside a (body_blocks l.bodies) n);
+      apart : AreLaidApart l.laid (body_blocks l.bodies);
       reads : FromNowOn l.laid (λ a. (rest : List CodeBody) → AreModules modules l.exceptions a l.i (length l.bodies) left rest → AreModules modules l.exceptions a 0 0 (modules_of l.modules) (l.bodies ++ rest));
     }

@@ -8,6 +8,7 @@ use Rattle.code_rooms.specs.CodeRules.Bodies.{exceptions_of, once}
 use Rattle.code_blocks.specs.CodeTerms.Names.{thrown_in_modules}
 use Rattle.model_check.proofs.BodyLemmas.{modules_at, modules_coded_at}
 use Rattle.code_blocks.proofs.Growth.{nested_none, nested_code}
+use Rattle.model_check.proofs.Apart.{code_apart}
 use Rattle.model_check.proofs.LaidLemmas.{begins_code}
 use Rattle.model_check.proofs.Standing.{all_stand}
 use Rattle.model_check.proofs.whole.tree_code.Goals as goal
@@ -35,5 +36,6 @@ returns c =
           (ap modules_of c.requires.named) (ap modules_of same) (c.in_ok-exceptions.ensures ∙ ap (λ (ms : List Module). once (thrown_in_modules (modules_of ms))) same)
           (done.reads (arena_of made) (begins_code l made refl refl));
       nested = nested_code l made refl refl done.nested;
+      apart = code_apart l made refl refl done.apart;
       stand = all_stand l made refl refl (ap length c.new.ensures) done.owned;
     }

@@ -24,6 +24,7 @@ pub returns-in-Ok-sound_design-clause-design : goal.returns-in-Ok-sound_design-c
 returns-in-Ok-sound_design-clause-design c =
     record {
       parts = subst (λ (m : tree.Model). IsDesignOf m c.in-Ok-sound_design.design) c.in-Ok.ensures.tree c.in-Ok-sound_design.ensures.design;
+      apart = c.in-Ok-sound_design.ensures.apart;
       resolution = c.in-Ok-sound_design.ensures.resolution ∙ ap (λ (h : Head). (resolution_of h).power) c.in-Ok.ensures.head;
     }
 

@@ -1,0 +1,1 @@
+pub use Rattle.laws_code.specs.OwnBlocks as OwnBlocks

@@ -1,0 +1,1 @@
+pub use Rattle.model_check.specs.LawsCode.OwnBlocks as OwnBlocks
