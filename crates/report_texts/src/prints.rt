@@ -92,24 +92,23 @@ fn push_end_of_print(
     }
 }
 
-/// The line of a print of this text, in terms of the kernel.
-fn line_of_print(
+/// Adds the line of a print of this text, in terms of the kernel.
+fn push_print(
     alloc: Global,
+    line: &mut Vec<u8>,
     k: &Kernel,
     p: u32,
     text: &[u8],
     value: Option<Value>,
-) -> Result<Line, AllocError>
-    ensures { IfOk result (λ line. line ≡ print_line k.now.cycle.now.0 (path_at k.now p) text.now value) }
+) -> Result<(), AllocError>
+    ensures { OnOk result (line.new.items ≡ line.old.items ++ print_line k.now.cycle.now.0 (path_at k.now p) text.now value) }
 {
-    let mut line = Vec::with_capacity(alloc, USUAL)?;
-    push_number(&mut line, k.cycle.now.0)?;
+    push_number(line, k.cycle.now.0)?;
     line.extend_from_slice(b" ")?;
-    push_path_at(alloc, &mut line, k, p)?;
+    push_path_at(alloc, line, k, p)?;
     line.extend_from_slice(b" ")?;
     line.extend_from_slice(text)?;
-    push_end_of_print(alloc, &mut line, value)?;
-    Ok(Line::from_vec(line))
+    push_end_of_print(alloc, line, value)
 }
 
 /// The line of a taking, in terms of the kernel.
@@ -140,7 +139,27 @@ pub fn printed_line(
 ) -> Result<Line, AllocError>
     ensures { IfOk result (λ line. IsPrintLine k.now p s value line) }
 {
-    line_of_print(alloc, k, p, text_at(k, s), value)
+    let mut line = Vec::with_capacity(alloc, USUAL)?;
+    print_in(alloc, &mut line, k, p, s, value)?;
+    Ok(Line::from_vec(line))
+}
+
+/// The same line, in the place of what a list held, so that its room is used again.
+///
+/// # Errors
+/// Memory was refused.
+pub fn print_in(
+    alloc: Global,
+    line: &mut Vec<u8>,
+    k: &Kernel,
+    p: u32,
+    s: StmtId,
+    value: Option<Value>,
+) -> Result<(), AllocError>
+    ensures { OnOk result (IsPrintLine k.now p s value line.new.items) }
+{
+    line.clear();
+    push_print(alloc, line, k, p, text_at(k, s), value)
 }
 
 /// The line of a taking of an instance, which a report that tells the turns gets: the simulated time in picoseconds, the path

@@ -17,6 +17,8 @@ pub struct Buffers {
     pub trace: Held,
     /// That of the choices.
     pub choices: Held,
+    /// Where a line is made, before it is held.
+    pub line: Vec<u8>,
 }
 
 impl Buffers {
@@ -31,6 +33,7 @@ impl Buffers {
             report,
             trace,
             choices,
+            line: Vec::new(alloc),
         })
     }
 

@@ -34,7 +34,7 @@ fn give_step<S: Shelf, O: Sink>(
     ensures kept { WriteKeeps S.files S.reads S.reading S.created S.stands shelf.old shelf.new }
     ensures cause { OneRose (O.faults out.old) (O.faults out.new) (S.writes shelf.old) (S.writes shelf.new) (result ≡ Err Trouble.Failed) }
 {
-    match tell(alloc, k, told, &mut held.report, out) {
+    match tell(alloc, k, told, &mut held.line, &mut held.report, out) {
         Ok(()) => trace_step(alloc, k, time, vcd, tracing, &mut held.trace, shelf),
         Err(trouble) => Err(trouble),
     }

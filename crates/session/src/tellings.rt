@@ -9,25 +9,11 @@ ghost use Rattle.session.specs.Telling.{Into, IsClosing, TextOf, TextOfTurn, tex
 use flat_design::Line;
 use kernel_runs::Telling;
 use kernel_start::kernel_state_api::Kernel;
-use report_texts::{closing, printed_line, show, turn_text};
+use report_texts::{closing, print_in, show, turn_text};
 use std::alloc::{AllocError, Global};
 use vcd_trace::sim_model_api::{Log, Stop};
 use write_buffer::Held;
 use write_buffer::sim_io_api::{Sink, Trouble};
-
-/// The text that a step adds to a report, where it adds one, by the kernel after it.
-pub(crate) fn text_of(alloc: Global, k: &Kernel, told: Telling) -> Result<Option<Line>, AllocError>
-    ensures { IfOk result (λ text. TextOf k.now told (text_if text)) }
-{
-    match told {
-        Telling::Nothing => Ok(None),
-        Telling::Print(p, s, value) => match printed_line(alloc, k, p, s, value) {
-            Ok(line) => Ok(Some(line)),
-            Err(_) => Err(AllocError),
-        },
-        Telling::Show(number) => show(alloc, k, number),
-    }
-}
 
 /// The text that a taking adds to a report, where it tells the turns, by the kernel after it.
 pub(crate) fn text_of_turn(
@@ -58,23 +44,28 @@ fn write_text<O: Sink>(held: &mut Held, out: &mut O, text: &Option<Line>) -> Res
     }
 }
 
-/// Gives what a step adds to a report, by the kernel after it.
+/// Gives what a step adds to a report, by the kernel after it. A line that is printed is made in `line`.
 pub(crate) fn tell<O: Sink>(
     alloc: Global,
     k: &Kernel,
     told: Telling,
+    line: &mut Vec<u8>,
     held: &mut Held,
     out: &mut O,
 ) -> Result<(), Trouble>
     ensures tells { Into (TextOf k.now told) (Grew (O.holds out.old) (O.holds out.new)) held.old held.new result }
     ensures cause { RoseIf (O.faults out.old) (O.faults out.new) (result ≡ Err Trouble.Failed) }
 {
-    if let Telling::Nothing = told {
-        return Ok(());
-    }
-    match text_of(alloc, k, told) {
-        Ok(text) => write_text(held, out, &text),
-        Err(_) => Err(Trouble::NoMemory),
+    match told {
+        Telling::Nothing => Ok(()),
+        Telling::Print(p, s, value) => match print_in(alloc, line, k, p, s, value) {
+            Ok(()) => held.put(out, line.as_slice()),
+            Err(_) => Err(Trouble::NoMemory),
+        },
+        Telling::Show(number) => match show(alloc, k, number) {
+            Ok(text) => write_text(held, out, &text),
+            Err(_) => Err(Trouble::NoMemory),
+        },
     }
 }
 
