@@ -3,7 +3,7 @@ ghost use Rattle.std.specs.Prelude.{◌≡◌, ◌<◌, ◌⊎◌, ◌∷◌, �
 ghost use Rattle.kernel_state.specs.SimModel.Configuration.{name_of, is_own_parent, parent_of, path_up};
 ghost use Rattle.report_texts.specs.Climbs.{path_through};
 
-use crate::pieces::push_bytes;
+use crate::pieces::{push_byte, push_bytes};
 use flat_design::Object;
 use std::alloc::{AllocError, Global};
 
@@ -62,7 +62,7 @@ fn push_names(
 {
     push_bytes(text, name_of(objects, top))?;
     for place in (0..below.len()).rev() {
-        push_bytes(text, b".")?;
+        push_byte(text, b'.')?;
         push_bytes(text, name_of(objects, below[place]))?;
     }
     Ok(())
@@ -93,7 +93,7 @@ fn push_path_by_list(
 fn push_below(text: &mut Vec<u8>, name: &[u8]) -> Result<(), AllocError>
     ensures { OnOk result (text.new.items ≡ text.old.items ++ 46 ∷ name.now) }
 {
-    push_bytes(text, b".")?;
+    push_byte(text, b'.')?;
     push_bytes(text, name)
 }
 

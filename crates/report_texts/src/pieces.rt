@@ -1,5 +1,5 @@
 //! Pieces of a text.
-ghost use Rattle.std.specs.Prelude.{◌≡◌, ◌++◌, OnOk};
+ghost use Rattle.std.specs.Prelude.{◌≡◌, ◌∷◌, ◌++◌, [], OnOk};
 ghost use Rattle.std.specs.Fmt.{decimal};
 ghost use Rattle.kernel_state.specs.LogicValues.ValueText.{text_of};
 ghost use Rattle.kernel_state.specs.SimModel.Texts.{with_number};
@@ -13,6 +13,16 @@ pub(crate) fn push_bytes(text: &mut Vec<u8>, piece: &[u8]) -> Result<(), AllocEr
     ensures { OnOk result (text.new.items ≡ text.old.items ++ piece.now) }
 {
     text.extend_from_slice(piece)
+}
+
+/// Adds one byte.
+pub(crate) fn push_byte(text: &mut Vec<u8>, byte: u8) -> Result<(), AllocError>
+    ensures { OnOk result (text.new.items ≡ text.old.items ++ byte ∷ []) }
+{
+    match text.push(byte) {
+        Ok(()) => Ok(()),
+        Err(_) => Err(AllocError),
+    }
 }
 
 /// Adds a number in decimal.
@@ -47,7 +57,7 @@ pub(crate) fn push_word_and_number(
     ensures { OnOk result (text.new.items ≡ text.old.items ++ with_number word.now number) }
 {
     text.extend_from_slice(word)?;
-    text.extend_from_slice(b" ")?;
+    push_byte(text, b' ')?;
     push_number(text, number)
 }
 

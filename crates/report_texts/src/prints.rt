@@ -7,7 +7,7 @@ ghost use Rattle.kernel_state.specs.SimModel.Storing.{print_line};
 ghost use Rattle.report_texts.specs.Instances.{path_at, end_of_print, IsPrintLine, IsTurnLine};
 
 use crate::instances::push_path_at;
-use crate::pieces::{push_number, push_value};
+use crate::pieces::{push_byte, push_number, push_value};
 use flat_design::{Line, Statement, StmtId};
 use kernel_state::Kernel;
 use kernel_state::logic_values_api::Value;
@@ -84,11 +84,11 @@ fn push_end_of_print(
 {
     match value {
         Some(value) => {
-            line.extend_from_slice(b" ")?;
+            push_byte(line, b' ')?;
             push_value(alloc, line, value)?;
-            line.extend_from_slice(b"\n")
+            push_byte(line, b'\n')
         }
-        None => line.extend_from_slice(b"\n"),
+        None => push_byte(line, b'\n'),
     }
 }
 
@@ -104,9 +104,9 @@ fn push_print(
     ensures { OnOk result (line.new.items ≡ line.old.items ++ print_line k.now.cycle.now.0 (path_at k.now p) text.now value) }
 {
     push_number(line, k.cycle.now.0)?;
-    line.extend_from_slice(b" ")?;
+    push_byte(line, b' ')?;
     push_path_at(alloc, line, k, p)?;
-    line.extend_from_slice(b" ")?;
+    push_byte(line, b' ')?;
     line.extend_from_slice(text)?;
     push_end_of_print(alloc, line, value)
 }
@@ -117,11 +117,11 @@ fn line_of_turn(alloc: Global, k: &Kernel, p: u32) -> Result<Line, AllocError>
 {
     let mut line = Vec::with_capacity(alloc, USUAL)?;
     push_number(&mut line, k.cycle.now.0)?;
-    line.extend_from_slice(b" ")?;
+    push_byte(&mut line, b' ')?;
     push_path_at(alloc, &mut line, k, p)?;
     line.extend_from_slice(b" turn ")?;
     push_number(&mut line, u64::from(p))?;
-    line.extend_from_slice(b"\n")?;
+    push_byte(&mut line, b'\n')?;
     Ok(Line::from_vec(line))
 }
 
