@@ -10,5 +10,5 @@ mod prints;
 mod shows;
 
 pub use closings::closing;
-pub use prints::{print_in, printed_line, turn_text};
+pub use prints::{print_in, turn_text};
 pub use shows::show;

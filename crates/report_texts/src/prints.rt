@@ -125,26 +125,9 @@ fn line_of_turn(alloc: Global, k: &Kernel, p: u32) -> Result<Line, AllocError>
     Ok(Line::from_vec(line))
 }
 
-/// The line that a print of an instance adds to the report, where the print is the statement of this number and shows this
-/// value: the simulated time in picoseconds, the path of the instance, the text, and the value, where there is one.
-///
-/// # Errors
-/// Memory was refused.
-pub fn printed_line(
-    alloc: Global,
-    k: &Kernel,
-    p: u32,
-    s: StmtId,
-    value: Option<Value>,
-) -> Result<Line, AllocError>
-    ensures { IfOk result (λ line. IsPrintLine k.now p s value line) }
-{
-    let mut line = Vec::with_capacity(alloc, USUAL)?;
-    print_in(alloc, &mut line, k, p, s, value)?;
-    Ok(Line::from_vec(line))
-}
-
-/// The same line, in the place of what a list held, so that its room is used again.
+/// Makes of a list the line that a print of an instance adds to the report, where the print is the statement of this number and
+/// shows this value: the simulated time in picoseconds, the path of the instance, the text, and the value, where there is one.
+/// What the list held goes, and its room is used again.
 ///
 /// # Errors
 /// Memory was refused.
