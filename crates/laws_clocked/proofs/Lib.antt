@@ -37,4 +37,5 @@ pub mod Sparing
 pub mod Rounded
 pub mod Resetting
 pub mod Injecting
+pub mod NoCalls
 pub mod BegunByCode

@@ -1,5 +1,5 @@
 -- Each statement that is left stands in the body of the call that it is left in, and one that is owed or begun by an unwinding in an
--- unwind block of that body; and each call has at least as many local variables as its body declares.
+-- unwind block of that body; each call has at least as many local variables as its body declares, and what a body calls is a function.
 use Rattle.std.proofs.Common.{◌≡◌, ◌≤◌, ◌==◌, ℕ, zero, suc, Bool, true, false, cond, List, [], ◌∷◌, length, Contains, Option, Some, None, refl, sym, ◌∙◌, subst, arith}
 use Rattle.std.proofs.lemmas.List.{length-map, length-set}
 use Rattle.std.proofs.lemmas.Option.{none-some, same_Some}
@@ -10,6 +10,7 @@ use Rattle.laws_unwinding.specs.FlatDesign.ValueTypes.{default_value}
 use Rattle.laws_unwinding.specs.FlatDesign.Typed.{EachOf}
 use Rattle.laws_unwinding.specs.FlatDesign.Reach.{Inside, itself, deeper, Holds, InBody, inner_blocks}
 use Rattle.laws_unwinding.specs.FlatDesign.Sound.{IsHomeOf}
+use Rattle.laws_unwinding.specs.FlatDesign.declared.code.BodyKind.TheVariants as body_kind
 use Rattle.laws_unwinding.specs.FlatDesign.declared.code.CodeBody.{CodeBody}
 use Rattle.laws_unwinding.specs.FlatDesign.declared.code.Handler.{Handler}
 use Rattle.laws_unwinding.specs.FlatDesign.declared.code.Local.{Local}
@@ -62,6 +63,14 @@ module _ (d : Design) where
   IsCallOf u o None = Unit {0}
   IsCallOf u o (Some s) = IsOf u o s
 
+  -- what is called in a body is a function
+  abbrev pub IsCallee : Option ℕ → ℕ → Type 0
+  IsCallee None g = Unit {0}
+  IsCallee (Some f) g = (b : CodeBody) → body_at (code_of d) g ≡ Some b → b.kind ≡ body_kind.Function
+
+  abbrev pub IsCalledFrom : Bool → Option ℕ → Option ℕ → ℕ → Type 0
+  IsCalledFrom u o call g = IsCallOf u o call × IsCallee o g
+
   abbrev pub HasRoom : Frame → Type 0
   HasRoom x = (b : CodeBody) → body_at (code_of d) x.body ≡ Some b → length b.locals ≤ length x.locals
 
@@ -74,8 +83,8 @@ module _ (d : Design) where
   Placed u o (owing r g w) = Placed u o r × EachInBlock (IsOf true o) (code_of d) w
   Placed u o (guard r g w) = Placed u o r × EachInBlock (IsOf true o) (code_of d) w
   Placed u o (try_ r handlers) = Placed u o r × EachInHandlers (IsOf u o) (code_of d) handlers
-  Placed u o (frame r x) = HasRoom x × IsCallOf u o x.call × Placed false (Some x.body) r
-  Placed u o (shell r x) = HasRoom x × IsCallOf u o x.call × Placed false (Some x.body) r
+  Placed u o (frame r x) = HasRoom x × IsCalledFrom u o x.call x.body × Placed false (Some x.body) r
+  Placed u o (shell r x) = HasRoom x × IsCalledFrom u o x.call x.body × Placed false (Some x.body) r
   Placed u o (run g r) = Placed true o r
   Placed u o (goal r k) = Placed u o r
 
@@ -146,7 +155,7 @@ module _ (d : Design) where
     try_placed skip handlers h e = tt
     try_placed other handlers h e = (h, e)
 
-    shell_placed : (r : Residual) (x : Frame) → HasRoom x → IsCallOf u o x.call → Placed false (Some x.body) r → Placed u o (in_shell r x)
+    shell_placed : (r : Residual) (x : Frame) → HasRoom x → IsCalledFrom u o x.call x.body → Placed false (Some x.body) r → Placed u o (in_shell r x)
     shell_placed skip x room call h = tt
     shell_placed other x room call h = (room, call, h)
 
@@ -239,7 +248,7 @@ module _ (d : Design) where
     set_room : (x : Frame) → HasRoom x → HasRoom (with_local k v x)
     set_room x room b at = subst (λ n. length b.locals ≤ n) (sym (length-set x.locals k v)) (room b at)
 
-    set_placed : (w : Option Frame) (u : Bool) (o : Option ℕ) (r : Residual) (x : Frame) → HasRoom x → IsCallOf u o x.call → Placed false (Some x.body) r → Placed u o (frame r (changed_if w (with_local k v) x))
+    set_placed : (w : Option Frame) (u : Bool) (o : Option ℕ) (r : Residual) (x : Frame) → HasRoom x → IsCalledFrom u o x.call x.body → Placed false (Some x.body) r → Placed u o (frame r (changed_if w (with_local k v) x))
     set_placed None u o r x room call h = (set_room x room, call, h)
     set_placed (Some y) u o r x room call h = (room, call, h)
 
@@ -257,7 +266,7 @@ module _ (d : Design) where
     local-placed u o (goal r j) h = local-placed u o r h
 
   module _ (v : Option Value) where
-    frame_returned : (e u : Bool) (o : Option ℕ) (r : Residual) (x : Frame) → HasRoom x → IsCallOf u o x.call → Placed false (Some x.body) r → Placed u o (cond e (frame r x) (frame skip (record x { answer = v })))
+    frame_returned : (e u : Bool) (o : Option ℕ) (r : Residual) (x : Frame) → HasRoom x → IsCalledFrom u o x.call x.body → Placed false (Some x.body) r → Placed u o (cond e (frame r x) (frame skip (record x { answer = v })))
     frame_returned true u o r x room call h = (room, call, h)
     frame_returned false u o r x room call h = (room, call, tt)
 
@@ -334,7 +343,7 @@ module _ (d : Design) where
       (each-from (IsOf false (Some f)) (block_at (code_of d) b.block)
       (λ m listed. record { body = b; is_body = is; stands = λ x found. record { block = b.block; inside = itself b.block; stands = record { number = m; listed_there = listed; found = found } } }))
 
-  entered_by : (u : Bool) (o : Option ℕ) (f : ℕ) (args : List Value) (call : Option ℕ) (via : Option Via) → IsCallOf u o call → (m : Option CodeBody) → body_at (code_of d) f ≡ m
+  entered_by : (u : Bool) (o : Option ℕ) (f : ℕ) (args : List Value) (call : Option ℕ) (via : Option Via) → IsCalledFrom u o call f → (m : Option CodeBody) → body_at (code_of d) f ≡ m
       → ((b : CodeBody) → body_at (code_of d) f ≡ Some b → HasBody f b) → Placed u o (entered_in (code_of d) f args call via m)
   entered_by u o f args call via calls None at has = ((λ b there. absurd (none-some b (sym at ∙ there))), calls, tt)
   entered_by u o f args call via calls (Some b) at has = (
@@ -343,6 +352,6 @@ module _ (d : Design) where
     body_placed f b (has b at),
   )
 
-  pub entered-placed : (u : Bool) (o : Option ℕ) (f : ℕ) (args : List Value) (call : Option ℕ) (via : Option Via) → IsCallOf u o call → ((b : CodeBody) → body_at (code_of d) f ≡ Some b → HasBody f b)
+  pub entered-placed : (u : Bool) (o : Option ℕ) (f : ℕ) (args : List Value) (call : Option ℕ) (via : Option Via) → IsCalledFrom u o call f → ((b : CodeBody) → body_at (code_of d) f ≡ Some b → HasBody f b)
       → Placed u o (entered (code_of d) f args call via)
   entered-placed u o f args call via calls has = entered_by u o f args call via calls (body_at (code_of d) f) refl has

@@ -6,6 +6,7 @@ use Rattle.laws_unwinding.specs.FlatDesign.Code as code
 use Rattle.laws_unwinding.specs.FlatDesign.Code.{Statement, statement_at, body_at, block_at}
 use Rattle.laws_unwinding.specs.FlatDesign.Reach.{inner_blocks}
 use Rattle.laws_unwinding.specs.FlatDesign.Sound.{SoundDesign, IsHomeOf, HandlerFits}
+use Rattle.laws_unwinding.specs.FlatDesign.declared.code.BodyKind.TheVariants as body_kind
 use Rattle.laws_unwinding.specs.FlatDesign.declared.code.CodeBody.{CodeBody}
 use Rattle.laws_unwinding.specs.FlatDesign.declared.code.Handler.{Handler}
 use Rattle.laws_unwinding.specs.FlatDesign.declared.design.Hop.{Hop}
@@ -40,7 +41,7 @@ use Rattle.laws_moves.specs.Moves as move
 use Rattle.laws_moves.specs.Moves.{made, with_suspended, InTurn, Gives, chooses, loops, tries, calls, controls, throws, Moves, time_moved, turn_taken, StepMoves, in_turn, between, initializing, moving_now, TakingMoves, of_none, of_one}
 use Rattle.laws_moves.proofs.Kept.{EachKeeps, moves-keep}
 use Rattle.laws_moves.proofs.RunSteps.{taken-moves}
-use Rattle.laws_clocked.proofs.Placed.{HasBody, IsOf, Placed, stands-inside, inner-of, undoing-of, followed-placed, statements-placed, settle-placed, put-placed, past-placed, off-placed, local-placed, returned-placed, unw-placed, raise-placed, entered-placed}
+use Rattle.laws_clocked.proofs.Placed.{HasBody, IsOf, IsCallOf, IsCallee, Placed, stands-inside, inner-of, undoing-of, followed-placed, statements-placed, settle-placed, put-placed, past-placed, off-placed, local-placed, returned-placed, unw-placed, raise-placed, entered-placed}
 
 -- ---- instances
 
@@ -71,22 +72,35 @@ handlers_each : (P : ℕ → Type 0) (d : Design) (handlers : List Handler) → 
 handlers_each P d [] each = tt
 handlers_each P d (x ∷ xs) each = (each x.block (zero, omega arith, refl), handlers_each P d xs (λ j c. each j (let within = c.1 in (suc c.0, omega (arith, within), c.2))))
 
+-- the body of this number, of which some instance of a module has one, is a function
+abbrev IsFunction : Design → ℕ → Type 0
+IsFunction d f = (b : CodeBody) → body_at (code_of d) f ≡ Some b → HasBody d f b × (b.kind ≡ body_kind.Function)
+
+callee : (d : Design) (o : Option ℕ) (f : ℕ) → IsFunction d f → IsCallee d o f
+callee d None f is = tt
+callee d (Some g) f is = λ b at. (is b at).1
+
+called_placed : (d : Design) (u : Bool) (o : Option ℕ) (f : ℕ) (args : List Value) (call : Option ℕ) (via : Option Via) → IsCallOf d u o call → IsFunction d f → Placed d u o (entered (code_of d) f args call via)
+called_placed d u o f args call via from is = entered-placed d u o f args call via (from, callee d o f is) (λ b at. (is b at).0)
+
 module _ (c : Config) (sound : SoundDesign c.design) (s : ℕ) (u : Bool) (o : Option ℕ) (h : IsOf c.design u o s) where
   block_new : (b : ℕ) (x : Statement) → statement_at (arena c) s ≡ Some x → Contains (inner_blocks x) b → Placed c.design u o (block (arena c) b)
   block_new b x found inner = statements-placed c.design u o (block_at (arena c) b) (inner-of c.design u o s b x h found inner)
 
-  -- the body that a statement calls is one of its module
-  called_body : (w : Option ℕ) → IsOf c.design u w s → (y : Option _) (f : ℕ) (arguments : List _) → statement_at (arena c) s ≡ Some (code.call y f arguments) → (b : CodeBody) → body_at (arena c) f ≡ Some b → HasBody c.design f b
+  -- the body that a statement calls is a function of its module
+  called_body : (w : Option ℕ) → IsOf c.design u w s → (y : Option _) (f : ℕ) (arguments : List _) → statement_at (arena c) s ≡ Some (code.call y f arguments) → IsFunction c.design f
   called_body None k y f arguments found b at = absurd k
   called_body (Some g) k y f arguments found b at =
       let typed = sound.typed g k.body k.is_body.home (code.call y f arguments) k.is_body.found k.is_body.home_of (stands-inside c.design u k.body (code.call y f arguments) (k.stands (code.call y f arguments) found)) in
       let home = k.is_body.home_of in
-      let same : typed.0 ≡ b = same_Some typed.0 b (sym typed.1.found ∙ at) in
-      record {
-        found = at;
-        home = k.is_body.home;
-        home_of = record { instance = home.instance; found = home.found; same = home.same ∙ sym typed.1.here ∙ ap (λ (z : CodeBody). z.module_place) same };
-      }
+      let same : typed.0 ≡ b = same_Some typed.0 b (sym typed.1.found ∙ at) in (
+        record {
+          found = at;
+          home = k.is_body.home;
+          home_of = record { instance = home.instance; found = home.found; same = home.same ∙ sym typed.1.here ∙ ap (λ (z : CodeBody). z.module_place) same };
+        },
+        subst (λ (z : CodeBody). z.kind ≡ body_kind.Function) same typed.1.is_function,
+      )
 
   gives_new : (x : Statement) (new : Residual) → statement_at (arena c) s ≡ Some x → Gives c s x new → Placed c.design u o new
   gives_new _ _ found (chooses e b other true) = block_new b (code.if_ e b other) found (zero, omega arith, refl)
@@ -98,29 +112,29 @@ module _ (c : Config) (sound : SoundDesign c.design) (s : ℕ) (u : Bool) (o : O
     block_new b (code.try_ b handlers) found (zero, omega arith, refl),
     handlers_each (IsOf c.design u o) c.design handlers (λ j inner. inner-of c.design u o s j (code.try_ b handlers) h found (let within = inner.1 in (suc inner.0, omega (arith, within), inner.2))),
   )
-  gives_new _ _ found (calls y f arguments args) = entered-placed c.design u o f args (Some s) None h (called_body o h y f arguments found)
+  gives_new _ _ found (calls y f arguments args) = called_placed c.design u o f args (Some s) None h (called_body o h y f arguments found)
   gives_new _ _ found (controls k whom qs) = h
   gives_new _ _ found (throws whom e qs) = h
 
--- the handler of a hop is a body of a module that has an instance
-handler_body : (d : Design) (home : ℕ) (parameters : List _) (answer : Option _) (m : Option ℕ) (f : ℕ) → m ≡ Some f → HandlerFits d home parameters answer m → (b : CodeBody) → body_at (code_of d) f ≡ Some b → HasBody d f b
+-- the handler of a hop is a function of a module that has an instance
+handler_body : (d : Design) (home : ℕ) (parameters : List _) (answer : Option _) (m : Option ℕ) (f : ℕ) → m ≡ Some f → HandlerFits d home parameters answer m → IsFunction d f
 handler_body d home parameters answer None f is fits b at = absurd (none-some f is)
 handler_body d home parameters answer (Some g) f is fits b at =
     let same : fits.body ≡ b = same_Some fits.body b (sym fits.found ∙ ap (body_at (code_of d)) (same_Some g f is) ∙ at) in
-    record { found = at; home = home; home_of = subst (IsHomeOf d home) same fits.home_of }
+    (record { found = at; home = home; home_of = subst (IsHomeOf d home) same fits.home_of }, subst (λ (z : CodeBody). z.kind ≡ body_kind.Function) same fits.is_function)
 
 module _ (d : Design) (sound : SoundDesign d) (f : ℕ) (hop : ℕ) where
-  blocking_body : (o : Option Hop) → slice_get d.hops hop ≡ o → blocking_handler o ≡ Some f → (b : CodeBody) → body_at (code_of d) f ≡ Some b → HasBody d f b
+  blocking_body : (o : Option Hop) → slice_get d.hops hop ≡ o → blocking_handler o ≡ Some f → IsFunction d f
   blocking_body None at is b there = absurd (none-some f is)
   blocking_body (Some h) at is b there = handler_body d h.target_home _ _ h.blocking f is (sound.hops hop h at).blocking b there
 
-  nonblocking_body : (forward : Bool) (o : Option Hop) → slice_get d.hops hop ≡ o → nonblocking_handler forward o ≡ Some f → (b : CodeBody) → body_at (code_of d) f ≡ Some b → HasBody d f b
+  nonblocking_body : (forward : Bool) (o : Option Hop) → slice_get d.hops hop ≡ o → nonblocking_handler forward o ≡ Some f → IsFunction d f
   nonblocking_body true None at is b there = absurd (none-some f is)
   nonblocking_body false None at is b there = absurd (none-some f is)
   nonblocking_body true (Some h) at is b there = handler_body d h.target_home _ _ h.forward f is (sound.hops hop h at).forward b there
   nonblocking_body false (Some h) at is b there = handler_body d h.initiator_home _ _ h.backward f is (sound.hops hop h at).backward b there
 
-hop_body : (c : Config) → SoundDesign c.design → (via : Via) (f : ℕ) → move.IsHandler c via f → (b : CodeBody) → body_at (arena c) f ≡ Some b → HasBody c.design f b
+hop_body : (c : Config) → SoundDesign c.design → (via : Via) (f : ℕ) → move.IsHandler c via f → IsFunction c.design f
 hop_body c sound via f (inl (blocking, forward, is)) = blocking_body c.design sound f via.hop (slice_get c.design.hops via.hop) refl is
 hop_body c sound via f (inr (blocking, is)) = nonblocking_body c.design sound f via.hop via.forward (slice_get c.design.hops via.hop) refl is
 
@@ -149,7 +163,7 @@ module _ (c : Config) (s : Sound c) (h : InPlace c) where
   begins_placed : (p f : ℕ) (args : List Value) (i : Instance) → instance_at c p ≡ Some i → i.code ≡ f → InPlace (made c (move.beginning p f args))
   begins_placed p f args i at same =
       to_placed c.design c.processes.instances p (λ j. record j { residual = begun (arena c) f args; started = true }) (begun (arena c) f args) (λ j. refl)
-      (entered-placed c.design false None f args None None tt
+      (entered-placed c.design false None f args None None (tt, tt)
       (λ b there.
       let fine = fine-at c.design c.processes p i at s.1 in
       record { found = there; home = i.home; home_of = subst (IsHomeOf c.design i.home) (same_Some fine.body b (sym fine.found ∙ ap (body_at (arena c)) same ∙ there)) fine.home_of })) h
@@ -221,7 +235,7 @@ each-placed w c (move.falling_due_at t) may s h = timeless c s h (is_due_at t)
 each-placed w c (move.setting_local p n v) may s h =
     each-change (λ q (i : Instance). Placed c.design false None i.residual) c.processes.instances p _ (λ i at k. local-placed c.design n v false None i.residual k) h
 each-placed w c (move.calling p r n f args via e) (x, t, hop, handler, entry, unbroken) s h =
-    puts c s h w p r t.turn n (entered (arena c) f args (Some n) (Some via)) t.next (λ u o k. entered-placed c.design u o f args (Some n) (Some via) k (hop_body c s.0 via f handler))
+    puts c s h w p r t.turn n (entered (arena c) f args (Some n) (Some via)) t.next (λ u o k. called_placed c.design u o f args (Some n) (Some via) k (hop_body c s.0 via f handler))
 each-placed w c (move.answering p r via e) (x, t, next, over, entry, unbroken) s h = passed c s h w p r t
 each-placed w c other may s h = h
 

@@ -108,7 +108,7 @@ module _ (d : Design) where
   own-leaves u o (guard r g w) z h is = own-leaves u o r z h.0 is
   own-leaves u o (try_ r handlers) z h is = own-leaves u o r z h.0 is
   own-leaves u o (frame r x) z h is = ⊎_elim
-      (λ bare. let same = ends_as x.call x z (sym (ap (λ q. in_frame (next_of q) x) bare) ∙ is) in inr (u, subst (λ (y : Frame). IsCallOf d u o y.call) same h.1, λ e. e))
+      (λ bare. let same = ends_as x.call x z (sym (ap (λ q. in_frame (next_of q) x) bare) ∙ is) in inr (u, subst (λ (y : Frame). IsCallOf d u o y.call) same h.1.0, λ e. e))
       (λ c. inl c)
       (skip_or r x (put r skip))
   own-leaves u o (shell r x) z h is = inl (call_or (innermost (put r skip)) x)

@@ -4,7 +4,10 @@ use Rattle.laws_unwinding.specs.LogicValues.declared.kinds.Value.{Value}
 use Rattle.laws_unwinding.specs.LogicValues.declared.kinds.Value.TheVariants as value
 use Rattle.laws_unwinding.specs.ModelTree.declared.expressions.BinaryOp.TheVariants as op
 use Rattle.laws_unwinding.specs.FlatDesign.Code as code
-use Rattle.laws_unwinding.specs.FlatDesign.Code.{Arena, Term, block_at, statement_at}
+use Rattle.laws_unwinding.specs.FlatDesign.Code.{Arena, Term, block_at, body_at, statement_at}
+use Rattle.laws_unwinding.specs.FlatDesign.Reach.{Inside}
+use Rattle.laws_unwinding.specs.FlatDesign.declared.code.BodyKind.TheVariants as body_kind
+use Rattle.laws_unwinding.specs.FlatDesign.declared.code.CodeBody.{CodeBody}
 use Rattle.laws_unwinding.specs.FlatDesign.declared.names.NameUse.TheVariants as name_use
 use Rattle.laws_unwinding.specs.FlatDesign.declared.value_types.ValueType.{ValueType}
 use Rattle.laws_unwinding.specs.FlatDesign.declared.value_types.ValueType.TheVariants as type
@@ -79,6 +82,10 @@ pub record HasTick (a : Arena) (t : Tick) : Type 0 where
   pub unit : Value
   pub is_one : bits unit ≡ 1
   pub lowers : statement_at a t.lowers ≡ Some (code.assign (code.to_name (record { name = name_use.Local t.local; value_type = type.Uint 32 })) (code.binary op.Subtract (type.Uint one_width) (count_of t) (code.literal unit)))
+
+-- the tick stands in no function's body: its round does not
+abbrev pub IsInNoFunction : Arena → Tick → Type 0
+IsInNoFunction a t = (f : ℕ) (b : CodeBody) → body_at a f ≡ Some b → b.kind ≡ body_kind.Function → Inside a b.block t.round → ⊥
 
 -- ---- what is left of the thread inside a tick
 

@@ -17,4 +17,7 @@ pub use first::{
 pub use resets::{a_reset_at_its_level_throws, a_reset_begins_anew};
 pub use spots::{ticks_go_on, what_shows_stands_in_place};
 pub use ticks::ticks_take_their_takings;
-pub use tries::{no_try_of_its_own_catches, own_statements_begin_again_by_the_code};
+pub use tries::{
+    no_call_is_open_behind_the_wait_of_a_tick, no_try_of_its_own_catches,
+    own_statements_begin_again_by_the_code,
+};

@@ -10,7 +10,7 @@ ghost use Rattle.laws_unwinding.specs.SimModel.Configuration.{Config, Instance, 
 ghost use Rattle.laws_unwinding.specs.SimModel.Steps.{step, takes, taking};
 ghost use Rattle.laws_unwinding.specs.SimModel.Runs.{after};
 ghost use Rattle.laws_unwinding.specs.SimModel.declared.plain.Command.{Command};
-ghost use Rattle.laws_clocked.specs.Ticks.{Test, Tick, HasTick};
+ghost use Rattle.laws_clocked.specs.Ticks.{Test, Tick, HasTick, IsInNoFunction};
 ghost use Rattle.laws_clocked.specs.Turns.{IsBehindWait};
 ghost use Rattle.laws_clocked.specs.Levels.{NoneAtLevel, IsAtLevel};
 ghost use Rattle.laws_clocked.specs.Again.{Around, trying, StandsAt, BeginsFirst};
@@ -27,11 +27,21 @@ pub fn no_try_of_its_own_catches()
         → (n : ℕ) → UncaughtIn (arena c) b n → catches r n ≡ false }
 {}
 
+/// In every run of a sound design, whatever is chosen and whatever other processes do: wherever a thread with the try of a clocked one
+/// is behind the wait of a tick among its own statements, and no function's body has the tick, no call is open in them.
+pub fn no_call_is_open_behind_the_wait_of_a_tick()
+    ensures { (design : Design) (script : List Command) → SoundDesign design
+        → (steps : ℕ) (chosen : List ℕ) (c : Config) → after steps chosen (start design script) ≡ Some c
+        → (p : ℕ) (t : Tick) → HasTick (arena c) t → IsInNoFunction (arena c) t → (w : IsBehindWait c p t)
+        → (b : Around) (x : Frame) (r : Residual) → settle (arena c) w.instance.residual ≡ trying b x r
+        → innermost r ≡ None }
+{}
+
 /// In every run of a sound design, whatever is chosen, whatever other processes do, and whatever the unwind blocks do: where by the code
 /// no try among a clocked thread's own statements has a handler for the exception of its try, and it throws that among them, with no
 /// call open, these begin again, from the first, before the thread leaves the stack (`thrown`). And where it is taken out of the wait of
-/// a tick among them, with no call open, a reset of the tick is then at its level and none before it, and the exception of that reset is
-/// the one of its try, they begin again so too (`at_level`).
+/// a tick among them, which no function's body has, a reset of the tick is then at its level and none before it, and the exception of
+/// that reset is the one of its try, they begin again so too (`at_level`).
 pub fn own_statements_begin_again_by_the_code()
     ensures thrown { (design : Design) (script : List Command) → SoundDesign design
         → (steps : ℕ) (chosen : List ℕ) (c : Config) → after steps chosen (start design script) ≡ Some c
@@ -40,9 +50,9 @@ pub fn own_statements_begin_again_by_the_code()
         → BeginsFirst c p b }
     ensures at_level { (design : Design) (script : List Command) → SoundDesign design
         → (steps : ℕ) (chosen : List ℕ) (x : Config) → after steps chosen (start design script) ≡ Some x
-        → (p : ℕ) (t : Tick) → HasTick (arena x) t → (w : IsBehindWait x p t) → step x ≡ takes → (d : Config) → taking x p ≡ Some d
+        → (p : ℕ) (t : Tick) → HasTick (arena x) t → IsInNoFunction (arena x) t → (w : IsBehindWait x p t) → step x ≡ takes → (d : Config) → taking x p ≡ Some d
         → (before : List Test) (y : Test) (behind : List Test) → t.tests ≡ before ++ y ∷ behind → NoneAtLevel x p before → IsAtLevel x p y
         → (b : Around) (f : Frame) (r : Residual) → HasClocked (arena x) b y.exception f.body → UncaughtIn (arena x) b y.exception
-        → settle (arena x) w.instance.residual ≡ trying b f r → innermost r ≡ None
+        → settle (arena x) w.instance.residual ≡ trying b f r
         → BeginsFirst d p b }
 {}
