@@ -28,7 +28,8 @@ use Rattle.laws_clocked.proofs.Levels.{levels-at}
 use Rattle.laws_clocked.proofs.Waking.{follows-at}
 use Rattle.laws_clocked.proofs.Counts.{counted-leaves}
 use Rattle.laws_clocked.proofs.BegunByCode.{begins-at_level}
-use Rattle.laws_ticked.specs.Coded.{AreApart, IsTestOf, IsTickOf, HasThread}
+use Rattle.laws_code.specs.OwnBlocks.{HaveOwnBlocks}
+use Rattle.laws_ticked.specs.Coded.{IsTestOf, IsTickOf, HasThread}
 use Rattle.laws_ticked.specs.Runs.{KeepsTick}
 
 zip_mapped : {A B : Type 0} (R S : A → B → Type 0) → ((x : A) (y : B) → R x y → S x y) → (xs : List A) (ys : List B) → AllZip R xs ys → AllZip S xs ys
@@ -60,7 +61,7 @@ inside_inside a b k n (deeper _ m _ s y is c) x = deeper b m n s (inside_inside 
 thread_apart : body_kind.Thread ≡ body_kind.Function → ⊥
 thread_apart is = cc
 
-module _ (design : Design) (script : List Command) (sound : SoundDesign design) (apart : AreApart design.code) (m : tree.Model) (items : List tree.Item) (place n : ℕ) (p : tree.ProcessItem) (block : tree.Block) (ts : List Tick) (h : HasThread m items place n p block ts design.code) where
+module _ (design : Design) (script : List Command) (sound : SoundDesign design) (apart : HaveOwnBlocks design.code) (m : tree.Model) (items : List tree.Item) (place n : ℕ) (p : tree.ProcessItem) (block : tree.Block) (ts : List Tick) (h : HasThread m items place n p block ts design.code) where
   abbrev IsOne : Tick → coded.Tick → Type 0
   IsOne = IsTickOf (arena_of design.code) h.exception (item_scope m.modules items p.name) p.body h.around.inside
 

@@ -6,13 +6,12 @@ use Rattle.code_rules.specs.ModelTree.Tree as tree
 use Rattle.code_rules.specs.ModelTree.declared.expressions.BinaryOp.TheVariants as op
 use Rattle.code_rules.specs.ModelTree.declared.types.TypeForm.TheVariants as type_form
 use Rattle.code_rules.specs.FlatDesign.Code as code
-use Rattle.code_rules.specs.FlatDesign.Code.{Arena, arena_of, block_at, body_at}
+use Rattle.code_rules.specs.FlatDesign.Code.{Arena, arena_of, block_at}
 use Rattle.code_rules.specs.FlatDesign.Reach.{Inside}
 use Rattle.code_rules.specs.FlatDesign.declared.names.NameUse.{NameUse}
 use Rattle.code_rules.specs.FlatDesign.declared.value_types.ValueType.TheVariants as type
 use Rattle.code_rules.specs.FlatDesign.declared.code.BodyKind.TheVariants as body_kind
 use Rattle.code_rules.specs.FlatDesign.declared.code.Code.{Code}
-use Rattle.code_rules.specs.FlatDesign.declared.code.CodeBody.{CodeBody}
 use Rattle.code_rules.specs.ModelRules.Scopes.{Scope, item_scope, local_named, with_local, use_of}
 use Rattle.code_rules.specs.ModelRules.Sites.{site, of_statement, block_sites}
 use Rattle.code_rules.specs.Deeds.{Home, exception_number}
@@ -23,10 +22,6 @@ use Rattle.laws_clocked.specs.Ticks as coded
 use Rattle.laws_clocked.specs.Ticks.{Test, HasTick}
 use Rattle.laws_clocked.specs.Again.{Around}
 use Rattle.laws_clocked.specs.Clocked.{HasClocked, UncaughtIn}
-
--- no block of the code stands inside two bodies
-abbrev pub AreApart : Code → Type 0
-AreApart c = (f g : ℕ) (x y : CodeBody) (n : ℕ) → body_at (arena_of c) f ≡ Some x → body_at (arena_of c) g ≡ Some y → Inside (arena_of c) x.block n → Inside (arena_of c) y.block n → f ≡ g
 
 -- ---- a tick
 

@@ -10,7 +10,8 @@ ghost use Rattle.tick_trees.specs.Ticks.{ticks, ticks_span};
 ghost use Rattle.laws_unwinding.specs.FlatDesign.Sound.{SoundDesign};
 ghost use Rattle.laws_unwinding.specs.FlatDesign.declared.design.Design.{Design};
 ghost use Rattle.laws_unwinding.specs.SimModel.declared.plain.Command.{Command};
-ghost use Rattle.laws_ticked.specs.Coded.{AreApart, HasThread};
+ghost use Rattle.laws_code.specs.OwnBlocks.{HaveOwnBlocks};
+ghost use Rattle.laws_ticked.specs.Coded.{HasThread};
 ghost use Rattle.laws_ticked.specs.Runs.{KeepsTick};
 
 /// In every run of a sound design whose code has a clocked thread of a tree, and no block inside two bodies, whatever is chosen, whatever
@@ -18,10 +19,10 @@ ghost use Rattle.laws_ticked.specs.Runs.{KeepsTick};
 /// is to (`coded`). So it is with each clocked thread of a model where the code of the design is that of the model's tree of ticks, as
 /// that of a text is (`ticked`).
 pub fn ticks_of_a_text_run_as_written()
-    ensures coded { (design : Design) (script : List Command) → SoundDesign design → AreApart design.code
+    ensures coded { (design : Design) (script : List Command) → SoundDesign design → HaveOwnBlocks design.code
         → (m : tree.Model) (items : List tree.Item) (place n : ℕ) (p : tree.ProcessItem) (block : tree.Block) (ts : List Tick) (h : HasThread m items place n p block ts design.code)
         → AllZip (KeepsTick design script h.around h.function) ts h.coded_ticks }
-    ensures ticked { (design : Design) (script : List Command) → SoundDesign design → AreApart design.code
+    ensures ticked { (design : Design) (script : List Command) → SoundDesign design → HaveOwnBlocks design.code
         → (r : Resolution) (m : tree.Model) → IsCodeOf (ticks r m) design.code
         → (place : ℕ) (x : tree.Module) → slice_get m.modules place ≡ Some x
         → (n line : ℕ) (p : tree.ProcessItem) → slice_get x.items n ≡ Some (tree.process line p)
