@@ -5,7 +5,7 @@ mod making;
 mod parts;
 mod processes;
 
-pub use making::{Apart, apart, first_kernel};
+pub use making::{SplitDesign, apart, first_kernel};
 
 /// What is passed on of kernel_bodies.
 pub mod kernel_bodies_api {

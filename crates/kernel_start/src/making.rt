@@ -92,7 +92,7 @@ fn assembled(design: Design, program: &Program, schedule: Schedule<Kept>, first:
 
 /// A design and its code, apart.
 #[derive(Drop)]
-pub struct Apart {
+pub struct SplitDesign {
     /// The design, with other code.
     pub design: Design,
     /// Its code.
@@ -100,13 +100,13 @@ pub struct Apart {
 }
 
 /// Takes the code out of a design.
-pub fn apart(alloc: Global, design: Design) -> Result<Apart, AllocError>
+pub fn apart(alloc: Global, design: Design) -> Result<SplitDesign, AllocError>
     requires { (b j : ℕ) (s : code.Statement) → IsIn (arena_of design.code) b s → Contains (inner_blocks s) j → j < b }
     ensures { IfOk result (λ x. record x.design { code = x.program.code } ≡ design) }
 {
     let Parted { design, code } = without_code(alloc, design);
     match Program::new(alloc, code) {
-        Ok(program) => Ok(Apart { design, program }),
+        Ok(program) => Ok(SplitDesign { design, program }),
         Err(_) => Err(AllocError),
     }
 }

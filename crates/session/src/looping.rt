@@ -20,7 +20,7 @@ use crate::recording::{record_begin, record_step, record_turn};
 use flat_design::{Choices, Design};
 use kernel_runs::{Made, make_step};
 use kernel_start::kernel_sound_api::SoundKernel;
-use kernel_start::{Apart, apart, first_kernel};
+use kernel_start::{SplitDesign, apart, first_kernel};
 use laws_reached::kernel_phases_api::Choosing;
 use laws_reached::runs_begin;
 use std::alloc::Global;
@@ -85,14 +85,7 @@ fn run_on<S: Shelf, O: Sink>(
             Ok(()) => {}
             Err(_) => return cut_between(choices, steps, vcd, list, &mut held, shelf, out),
         }
-        match make_step(
-            k,
-            alloc,
-            script,
-            &mut place,
-            &mut choosing,
-            &mut events,
-        ) {
+        match make_step(k, alloc, script, &mut place, &mut choosing, &mut events) {
             Made::Went(told) => {
                 steps += 1;
                 match record_step(
@@ -218,7 +211,7 @@ pub fn run_session<S: Shelf, O: Sink>(
     ensures cause { OneRose (O.faults out.old) (O.faults out.new) (S.writes shelf.old) (S.writes shelf.new) (result.stop ≡ Stop.WriteFault) }
 {
     runs_begin();
-    let Apart { design, program } = match apart(alloc, design) {
+    let SplitDesign { design, program } = match apart(alloc, design) {
         Ok(parted) => parted,
         Err(_) => return Outcome::cut(Trouble::NoMemory, Choices::new(alloc), 0),
     };
