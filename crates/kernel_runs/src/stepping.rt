@@ -84,12 +84,7 @@ fn go_to_next_time(k: &mut Kernel, events: &mut Vec<u32>) -> Made
 }
 
 /// The step of the phase.
-fn go_on<C: Chooser>(
-    k: &mut Kernel,
-    alloc: Global,
-    chooser: &mut C,
-    events: &mut Vec<u32>,
-) -> Made
+fn go_on<C: Chooser>(k: &mut Kernel, alloc: Global, chooser: &mut C, events: &mut Vec<u32>) -> Made
     requires sound { IsSound k.old }
     requires asked { MayStep k.old }
     requires room { k.old.made < 2 ^ 31 }
@@ -170,12 +165,5 @@ pub fn make_step<C: Chooser>(
     ensures refused { result ≡ Made.NoMemory → k.new.kernel.made ≡ k.old.kernel.made }
     ensures faulted { (f : RunFault) → result ≡ Made.Fault f → k.new.kernel.made ≡ k.old.kernel.made }
 {
-    make(
-        &mut k.kernel,
-        alloc,
-        script,
-        place,
-        chooser,
-        events,
-    )
+    make(&mut k.kernel, alloc, script, place, chooser, events)
 }
