@@ -64,7 +64,7 @@ fn first_cycle() -> Cycle
 
 /// The parts together, Idle at time 0.
 fn assembled(design: Design, program: &Program, schedule: Schedule<Kept>, first: First) -> Kernel
-    ensures parts { result ≡ record { design = design; program = program; cycle = result.cycle; schedule = schedule; parents = first.parents; events = first.events; channels = first.channels; transactions = first.transactions; variables = first.variables; memories = first.memories; made = 0 } }
+    ensures parts { result ≡ record { design = design; program = program.entry; cycle = result.cycle; schedule = schedule; parents = first.parents; events = first.events; channels = first.channels; transactions = first.transactions; variables = first.variables; memories = first.memories; made = 0 } }
     ensures cycle { cycle_of result.cycle ≡ first_cycle }
 {
     let First {
