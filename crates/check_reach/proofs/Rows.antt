@@ -52,8 +52,8 @@ past_rows (r ∷ rows) zero h = absurd (omega (arith, h))
 past_rows (r ∷ rows) (suc n) h = past_rows rows n (omega (arith, h))
 
 row_within : (p : ℕ → Bool) (count : ℕ) (edges : List Edge) (rows : List (List ℕ)) (n : ℕ) → length rows ≡ count → ((k : ℕ) → k < count → row_of rows k ≡ targets edges k)
-    → list_all p (targets edges n) ≡ true → (n < count) ⊎ (count ≤ n) → list_all p (row_of rows n) ≡ true
-row_within p count edges rows n many are h (inl below) = ap (list_all p) (are n below) ∙ h
+    → (n < count → list_all p (targets edges n) ≡ true) → (n < count) ⊎ (count ≤ n) → list_all p (row_of rows n) ≡ true
+row_within p count edges rows n many are h (inl below) = ap (list_all p) (are n below) ∙ h below
 row_within p count edges rows n many are h (inr past) = ap (list_all p) (past_rows rows n (omega (arith, many, past)))
 
 -- where nothing waits the marks are spread
@@ -64,6 +64,6 @@ is_spread count edges rows roots marks many are u = record {
   has_roots = u.has_roots;
   closed = λ n below marked. ap (list_all (is_marked marks)) (sym (are n below)) ∙ u.followed n below marked;
   least = λ other has closed.
-      let h = u.least other has (λ n is. row_within other count edges rows n many are (closed n is) (cases_lt n count)) in
+      let h = u.least other has (λ n is. row_within other count edges rows n many are (λ below. closed n below is) (cases_lt n count)) in
       λ n below marked. h.0 n (omega (arith, below, u.as_many)) marked;
 }

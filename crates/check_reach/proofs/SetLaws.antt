@@ -28,7 +28,7 @@ module _ (items : List tree.Item) (count : ℕ) (many : count ≡ length items) 
         subst (λ n. is_process_of items kind n ≡ true) (sym (number_back items w.0 k w.2)) (named_process items kind w.0 w.1)
 
     marked_is : (k : ℕ) → k < count → is_marked marks k ≡ true → is_that k ≡ true
-    marked_is = is.least is_that (list_from is_that (numbers_of items names) numbered) (λ k h. refl)
+    marked_is = is.least is_that (list_from is_that (numbers_of items names) numbered) (λ k below h. refl)
 
     has_process : (n : List ℕ) (o : Option ℕ) → number_of items n ≡ o → marked_at marks o ≡ true → is_process_of items kind n ≡ true
     has_process n None e h = cc

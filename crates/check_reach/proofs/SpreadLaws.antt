@@ -87,7 +87,7 @@ module _ (leads : Body → Body → Bool) (fs : List Body) (number : List ℕ �
       (all_at (λ (b : Body). is_next leads fs set b ≡ true → is_among set b.name ≡ true) fs least.closed f.1 f.3 next)
 
   marked_inside : (k : ℕ) → k < count → is_marked marks k ≡ true → inside k ≡ true
-  marked_inside = is.least inside (list_from inside numbers root_inside) (λ k h. list_from inside (targets edges k) (next_inside k h))
+  marked_inside = is.least inside (list_from inside numbers root_inside) (λ k below h. list_from inside (targets edges k) (next_inside k h))
 
   -- the functions that are marked
   abbrev is_marked_body : Body → Bool

@@ -17,10 +17,10 @@ targets [] n = []
 targets (e ∷ es) n = target_if (e.source == n) e.target (targets es n)
 
 -- The marks of the least set of numbers below a count that has some numbers, and with each number those to which edges lead
--- from it.
+-- from it. Edges from other numbers lead nowhere.
 pub record IsSpread (count : ℕ) (edges : List Edge) (roots : List ℕ) (marks : List Bool) : Type 0 where
   pub as_many : length marks ≡ count
   pub has_roots : list_all (is_marked marks) roots ≡ true
   pub closed : (n : ℕ) → n < count → is_marked marks n ≡ true → list_all (is_marked marks) (targets edges n) ≡ true
-  pub least : (other : ℕ → Bool) → list_all other roots ≡ true → ((n : ℕ) → other n ≡ true → list_all other (targets edges n) ≡ true)
+  pub least : (other : ℕ → Bool) → list_all other roots ≡ true → ((n : ℕ) → n < count → other n ≡ true → list_all other (targets edges n) ≡ true)
       → (n : ℕ) → n < count → is_marked marks n ≡ true → other n ≡ true
