@@ -12,7 +12,7 @@ returns-in-Err-clause-ran g c = rw (c.cut.ensures, c.new.ensures)
     (never_began c.args.plan (start c.args.design c.args.script.now) (AreNames g.S.Shelf.stands c.args.shelf.now c.args.plan.vcd c.args.plan.choices) _)
 
 pub first_kernel-requires : goal.first_kernel-requires
-first_kernel-requires g c = subst (λ (d : Design). length d.processes ≤ MAX_LIVE) (sym c.in-Ok.ensures) c.requires.few
+first_kernel-requires g c = record { few = subst (λ (d : Design). length d.processes ≤ MAX_LIVE) (sym c.in-Ok.ensures) c.requires.few }
 
 pub run_on-requires-clause-begun : goal.run_on-requires-clause-begun
 run_on-requires-clause-begun g c = record {
