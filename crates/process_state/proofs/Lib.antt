@@ -7,3 +7,4 @@ pub mod Unwinding
 pub mod Returning
 pub mod Leave
 pub mod Showing
+pub mod Drawn

@@ -6,6 +6,8 @@ mod body;
 mod laws;
 mod shown;
 mod starting;
+#[cfg(test)]
+mod tests;
 mod unwind;
 
 pub use body::Body;
