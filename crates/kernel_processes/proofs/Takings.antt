@@ -11,6 +11,7 @@ use Rattle.instance_table.specs.declared.instances.Deadline.TheVariants as due
 use Rattle.timed_queue.specs.SimTime.declared.moments.Time.{Time}
 use Rattle.timed_queue.specs.Timed as timed
 use Rattle.timed_queue.specs.Timed.{Timed}
+use Rattle.timed_queue.proofs.MapLemmas.{same_gets}
 use Rattle.kernel_processes.specs.Seen.{Seen, seen, is_on, as_instance, shown_at, deadline_of}
 use Rattle.kernel_processes.specs.Sound.{Fits, FitsAs, IsSound, IsOnce, time_of}
 use Rattle.kernel_processes.specs.Moves.{Changes}
@@ -183,6 +184,20 @@ module _ {B : Type 0} where
 
     pub no_times : s.deadlines.times ≡ map.empty → HasNoTime s
     no_times empty = record { none = λ q i t shown at. true≢false (ap is_some (sym (in_queue q i t shown at) ∙ ap (λ m. map.get m q) empty ∙ map.get-empty nat_cmp q)) }
+
+    -- and what is in the queue is shown
+    queued_is_shown : HasNoTime s → (q : ℕ) (t : Time) → map.get s.deadlines.times q ≡ Some t → (o : Option (Entry (Process B))) → map.get s.table.live q ≡ o → ⊥
+    queued_is_shown nobody q t queued None none = true≢false (ap is_some (sym queued ∙ (subst (λ o. FitsAs o (seen s q)) none (sound.each q)).time))
+    queued_is_shown nobody q t queued (Some z) some = nobody.none q (as_instance z (seen s q).wait) t.0
+        (ap (option_map (λ z. as_instance z (seen s q).wait)) some)
+        (shown_as z.deadline t (sym (subst (λ o. FitsAs o (seen s q)) some (sound.each q)).time ∙ queued))
+
+    none_queued : HasNoTime s → (q : ℕ) (o : Option Time) → map.get s.deadlines.times q ≡ o → o ≡ None
+    none_queued nobody q None queued = refl
+    none_queued nobody q (Some t) queued = absurd (queued_is_shown nobody q t queued (map.get s.table.live q) refl)
+
+    pub no_queue : HasNoTime s → s.deadlines.times ≡ map.empty
+    no_queue nobody = same_gets map.empty s.deadlines.times (λ q. none_queued nobody q (map.get s.deadlines.times q) refl ∙ sym (map.get-empty nat_cmp q))
 
     pub no_times_before : (t : Time) → ((q : ℕ) (u : Time) → map.get s.deadlines.times q ≡ Some u → t.0 ≤ u.0) → HasNoTimeBefore s t.0
     no_times_before t from = record { least = λ q i u shown at. from q (record { 0 = u }) (in_queue q i u shown at) }

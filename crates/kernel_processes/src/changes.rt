@@ -1,5 +1,5 @@
 //! What a part of a schedule is changed by, for one instance at a time.
-ghost use Rattle.std.specs.Prelude.{◌≡◌, ◌≤◌, ◌<◌, ◌-◌, ◌^◌, ◌+◌, true, false, not, ◌||◌, Some, None, OnOk, IfSome, option_map, length};
+ghost use Rattle.std.specs.Prelude.{◌≡◌, ◌≤◌, ◌<◌, ◌-◌, ◌^◌, ◌+◌, true, false, not, ◌||◌, Some, None, OnOk, IfSome, IsSome, option_map, length};
 ghost use Rattle.std.specs.FinMap as map;
 ghost use Rattle.std.specs.FinSet as set;
 ghost use Rattle.instance_table.specs.declared.instances.Waiting.TheVariants as waiting;
@@ -88,7 +88,8 @@ fn events_of<'a>(wait: &'a Wait, sensitive: &'a [Ev]) -> &'a [Ev]
 
 /// How many events there are in a wait of an instance, where they are not too many to be counted.
 pub fn count_events<B>(s: &Schedule<B>, p: u32, wait: &Wait) -> Option<u32>
-    ensures { IfSome result (λ n. n ≡ length (events_of wait.now (sensitive_of (map.get s.now.table.live p)))) }
+    ensures counted { IfSome result (λ n. n ≡ length (events_of wait.now (sensitive_of (map.get s.now.table.live p)))) }
+    ensures few { length (events_of wait.now (sensitive_of (map.get s.now.table.live p))) < 2 ^ 32 → IsSome result }
 {
     match s.table.get(p) {
         Some(x) => u32::try_from(events_of(wait, x.body.sensitive.as_slice()).len()).ok(),

@@ -1,5 +1,5 @@
 //! Waits that end by time.
-ghost use Rattle.std.specs.Prelude.{◌≡◌, ◌+◌, ◌≤◌, ◌<◌, [], IfNone, IfSome, length, option_map, vec_capacity};
+ghost use Rattle.std.specs.Prelude.{◌≡◌, ◌+◌, ◌≤◌, ◌<◌, [], IfNone, IfSome, IsNone, length, option_map, vec_capacity};
 ghost use Rattle.std.specs.FinMap as map;
 ghost use Rattle.std.specs.FinSet as set;
 ghost use Rattle.sim_model.specs.Phases.{is_zero_timeout, is_due_at};
@@ -86,6 +86,7 @@ pub fn wake_due<B>(s: &mut Schedule<B>)
 pub fn not_before<B>(s: &Schedule<B>) -> Option<Time>
     requires { IsSound s.now }
     ensures none { IfNone result (HasNoTime s.now) }
+    ensures nobody { HasNoTime s.now → IsNone result }
     ensures bound { IfSome result (λ t. HasNoTimeBefore s.now t.0) }
 {
     match s.deadlines.not_before() {

@@ -7,4 +7,3 @@ pub mod Unwinding
 pub mod Returning
 pub mod Leave
 pub mod Showing
-pub mod Drawn

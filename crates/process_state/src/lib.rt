@@ -6,8 +6,6 @@ mod body;
 mod laws;
 mod shown;
 mod starting;
-#[cfg(test)]
-mod tests;
 mod unwind;
 
 pub use body::Body;

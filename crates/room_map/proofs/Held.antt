@@ -8,6 +8,17 @@ use Rattle.room_map.specs.Shape.{Shape, Bare, Fork, is_at, entries, height, time
 use Rattle.room_map.specs.Nodes.{top, node_over, IsHeld, Under, Changed, AreSides, AreThree, height_in, height_at}
 use Rattle.room_map.proofs.Sizes.{at_itself, is_max, at_some}
 
+pub slice_get-set_same : {X : Type 0} (xs : List X) (i : ℕ) (w : X) → i < length xs → slice_get (set xs i w) i ≡ Some w
+slice_get-set_same [] i w h = absurd (omega arith)
+slice_get-set_same (x ∷ xs) zero w h = refl
+slice_get-set_same (x ∷ xs) (suc i) w h = slice_get-set_same xs i w (omega arith)
+
+-- a place within the list has an item
+pub item_there : {X : Type 0} (xs : List X) (i : ℕ) → i < length xs → slice_get xs i ≡ None → ⊥
+item_there [] i h none = omega arith
+item_there (x ∷ xs) zero h none = cc
+item_there (x ∷ xs) (suc i) h none = item_there xs i (omega arith) none
+
 pub slice_get-set_other : {X : Type 0} (xs : List X) (i j : ℕ) (w : X) → (j ≡ i → ⊥) → slice_get (set xs i w) j ≡ slice_get xs j
 slice_get-set_other [] i j w apart = refl
 slice_get-set_other (x ∷ xs) zero zero w apart = absurd (apart refl)
@@ -75,6 +86,14 @@ module _ {K V : Type 0} where
   pub bare : {ns : List (Node K V)} {i : ℕ} (t : Shape K V) → Under ns i t → slice_get ns i ≡ None → t ≡ Bare
   bare Bare u none = refl
   bare {ns} {i} (Fork j l k v r) u none = absurd (no_node (node_over l k v r) (sym (u.held.0) ∙ ap (slice_get ns) (sym u.is_top) ∙ none))
+
+  -- the uppermost node is there
+  pub fork_there : {ns : List (Node K V)} {i j : ℕ} {l r : Shape K V} {k : K} {v : V} → Under ns i (Fork j l k v r) → slice_get ns i ≡ None → ⊥
+  fork_there {ns} {i} {j} {l} {r} {k} {v} u none = no_node (node_over l k v r) (sym (u.held.0) ∙ ap (slice_get ns) (sym u.is_top) ∙ none)
+
+  pub high_there : {ns : List (Node K V)} {i : ℕ} (h : ℕ) (t : Shape K V) → Under ns i t → height t ≡ h + 2 → slice_get ns i ≡ None → ⊥
+  high_there h Bare u high none = omega (arith, high)
+  high_there h (Fork j l k v r) u high none = fork_there u none
 
   pub node_of : {ns : List (Node K V)} {i j : ℕ} {n : Node K V} {l r : Shape K V} {k : K} {v : V} → Under ns i (Fork j l k v r) → slice_get ns i ≡ Some n → IsNode ns n l k v r
   node_of {ns} {i} {j} {n} {l} {r} {k} {v} u there =
@@ -204,6 +223,24 @@ module _ {K V : Type 0} where
 
   pub lower_right : {ns : List (Node K V)} {i : ℕ} {n : Node K V} (t : Shape K V) → Under ns i t → IsOver ns i t n → height_at ns n.right < height_at ns i
   lower_right t u o = let m = is_max (height o.l) (height o.r) in omega (arith, height_of t u, ap height o.is, height_of o.r o.node.right)
+
+  pub below_left : {ns : List (Node K V)} {i : ℕ} {n : Node K V} (t : Shape K V) → Under ns i t → slice_get ns i ≡ Some n → height_at ns n.left < height_at ns i
+  below_left t u there = lower_left t u (forked t u there)
+
+  pub below_right : {ns : List (Node K V)} {i : ℕ} {n : Node K V} (t : Shape K V) → Under ns i t → slice_get ns i ≡ Some n → height_at ns n.right < height_at ns i
+  below_right t u there = lower_right t u (forked t u there)
+
+  pub count_of : {ns : List (Node K V)} {i : ℕ} {n : Node K V} (t : Shape K V) → Under ns i t → slice_get ns i ≡ Some n → n.count ≡ length (entries t)
+  count_of {ns} {i} {n} t u there = over (forked t u there)
+    where
+      over : IsOver ns i t n → n.count ≡ length (entries t)
+      over o = ap {A = Node K V} (λ n. n.count) o.node.node ∙ sym (ap (λ t. length (entries t)) o.is ∙ length-fork i o.l n.key n.value o.r)
+
+  pub height_in_node : {ns : List (Node K V)} {i : ℕ} {n : Node K V} (t : Shape K V) → Under ns i t → slice_get ns i ≡ Some n → n.height ≡ height t
+  height_in_node {ns} {i} {n} t u there = over (forked t u there)
+    where
+      over : IsOver ns i t n → n.height ≡ height t
+      over o = ap {A = Node K V} (λ n. n.height) o.node.node ∙ sym (ap height o.is)
 
   -- a place of a tree that is held is there
   pub held_there : (ns : List (Node K V)) (t : Shape K V) (q : ℕ) → IsHeld ns t → 0 < times q t → q < length ns

@@ -37,6 +37,9 @@ module _ {K V : Type 0} {R : K → K → Ordering} {ns : List (Node K V)} {root 
   pub kept_tree : IsKept R ns root free spare t → tree ns root ≡ t
   kept_tree k = tree_is (length ns) ns root t k.under (omega (arith, height-le t, k.all))
 
+  pub few_kept : IsKept R ns root free spare t → length (entries t) + spare < 2 ^ 32
+  few_kept k = subst (λ (x : ℕ). x < 2 ^ 32) (sym k.all) k.under.few
+
   pub kept_as : IsKept R ns root free spare t → IsKept R ns root free spare (tree ns root)
   kept_as k = subst (IsKept R ns root free spare) (sym (kept_tree k)) k
 

@@ -11,3 +11,7 @@ pub mod Leavings
 pub mod Chains
 pub mod Depths
 pub mod Kept
+pub mod Sides
+pub mod Results
+pub mod Stacks
+pub mod Looks

@@ -1,42 +1,23 @@
-use Rattle.std.proofs.Common.{rules, ◌≡◌, Some, sym, ◌∙◌}
-use Rattle.std.specs.Prelude.{slice_get}
-use Rattle.room_map.proofs.Held.{forked, lower_left, lower_right}
-use Rattle.room_map.proofs.Cuts.{cut_over, left_rises, right_rises, first_left, first_right, first_here}
+use Rattle.std.proofs.Common.{rules, sym, ◌∙◌}
+use Rattle.room_map.proofs.Held.{below_left, below_right}
+use Rattle.room_map.proofs.Looks.{under_left, under_right, first_on_left, first_on_right, first_at_node}
 use Rattle.room_map.proofs.finding.+first_not_below.Goals as goal
 
 pub first_not_below-requires : goal.first_not_below-requires
 first_not_below-requires g t c κs within =
-    let there : slice_get c.args.nodes.now c.args.at ≡ Some c.in-Some.node = sym c.node_at.ensures ∙ c.in-Some.is in
-    let o = forked c.requires.0 c.requires.1 there in
-    let lower = lower_right c.requires.0 c.requires.1 o in
-    (search rules, (within.0, (within.1, (o.r, o.node.right))))
+    let lower = below_right c.requires.0 c.requires.1 (sym c.node_at.ensures ∙ c.in-Some.is) in
+    (search rules, (within.0, (within.1, under_right c.requires.1 (sym c.node_at.ensures ∙ c.in-Some.is))))
 
 pub first_not_below-requires-in_default : goal.first_not_below-requires-in_default
 first_not_below-requires-in_default g t c κs within =
-    let there : slice_get c.args.nodes.now c.args.at ≡ Some c.in-Some.node = sym c.node_at.ensures ∙ c.in-Some.is in
-    let o = forked c.requires.0 c.requires.1 there in
-    let lower = lower_left c.requires.0 c.requires.1 o in
-    (search rules, (within.0, (within.1, (o.l, o.node.left))))
+    let lower = below_left c.requires.0 c.requires.1 (sym c.node_at.ensures ∙ c.in-Some.is) in
+    (search rules, (within.0, (within.1, under_left c.requires.1 (sym c.node_at.ensures ∙ c.in-Some.is))))
 
 pub returns-in-Less : goal.returns-in-Less
-returns-in-Less g t c = λ t u rises.
-    let there : slice_get c.args.nodes.now c.args.at ≡ Some c.in-Some.node = sym c.node_at.ensures ∙ c.in-Some.is in
-    let o = forked t u there in
-    let cut = cut_over g.K.Ord.cmp o rises in
-    c.first_not_below.ensures o.r o.node.right (right_rises g.met.K.Ord.total cut) ∙ sym (first_right g.met.K.Ord.total c.args.key cut (sym c.cmp.ensures ∙ c.in-Less.is))
+returns-in-Less g t c = λ t u rises. first_on_right g.met.K.Ord.total u rises (sym c.node_at.ensures ∙ c.in-Some.is) (sym c.cmp.ensures ∙ c.in-Less.is) c.first_not_below.ensures
 
 pub returns-in-Some-first_not_below : goal.returns-in-Some-first_not_below
-returns-in-Some-first_not_below g t c = λ t u rises.
-    let there : slice_get c.args.nodes.now c.args.at ≡ Some c.in-Some.node = sym c.node_at.ensures ∙ c.in-Some.is in
-    let o = forked t u there in
-    let ord = g.met.K.Ord.total in
-    let cut = cut_over g.K.Ord.cmp o rises in
-    sym (first_left ord c.args.key c.in-Some-first_not_below.entry cut (sym (c.first_not_below-in_default.ensures o.l o.node.left (left_rises ord cut)) ∙ c.in-Some-first_not_below.is))
+returns-in-Some-first_not_below g t c = λ t u rises. first_on_left g.met.K.Ord.total c.args.key u rises (sym c.node_at.ensures ∙ c.in-Some.is) c.first_not_below-in_default.ensures c.in-Some-first_not_below.is
 
 pub returns-in-None-first_not_below : goal.returns-in-None-first_not_below
-returns-in-None-first_not_below g t c = λ t u rises.
-    let there : slice_get c.args.nodes.now c.args.at ≡ Some c.in-Some.node = sym c.node_at.ensures ∙ c.in-Some.is in
-    let o = forked t u there in
-    let ord = g.met.K.Ord.total in
-    let cut = cut_over g.K.Ord.cmp o rises in
-    sym (first_here ord c.args.key cut (λ h. c.in_default.not-Less (c.cmp.ensures ∙ h)) (sym (c.first_not_below-in_default.ensures o.l o.node.left (left_rises ord cut)) ∙ c.in-None-first_not_below.is))
+returns-in-None-first_not_below g t c = λ t u rises. first_at_node g.met.K.Ord.total u rises (sym c.node_at.ensures ∙ c.in-Some.is) (λ h. c.in_default.not-Less (c.cmp.ensures ∙ h)) c.first_not_below-in_default.ensures c.in-None-first_not_below.is
