@@ -1,3 +1,4 @@
 pub mod Places
 pub mod Served
 pub mod OneAnswer
+pub mod Added

@@ -2,11 +2,11 @@
 use Rattle.std.proofs.Common.{◌≡◌, ℕ, ◌<◌, List, [], Option, None, Some, length, get_or, take, refl, sym, ap, ◌∙◌, subst, arith}
 use Rattle.std.specs.Prelude.{Contains, option_map}
 use Rattle.std.proofs.lemmas.List.{same_lists, get_or_default}
-use Rattle.place_order.proofs.OneOrder.{same_order}
-use Rattle.dmi_map.specs.PayloadPool.declared.payload.Payload.{Payload}
-use Rattle.dmi_map.specs.PayloadPool.declared.payload.TheConstants.{IGNORE, INCOMPLETE}
-use Rattle.dmi_map.specs.Accesses.{accessed}
-use Rattle.bus_router.specs.AddressMap.declared.TargetRange.{TargetRange}
+use Rattle.bus_router.proofs.DmiMap.OneOrder.{same_order}
+use Rattle.bus_router.specs.PayloadPool.declared.payload.Payload.{Payload}
+use Rattle.bus_router.specs.PayloadPool.declared.payload.TheConstants.{IGNORE, INCOMPLETE}
+use Rattle.bus_router.specs.DmiMap.Accesses.{accessed}
+use Rattle.bus_router.specs.DmiMap.declared.ranges.TargetRange.{TargetRange}
 use Rattle.bus_router.specs.TrafficFile.declared.Bus.{Bus}
 use Rattle.bus_router.specs.TrafficFile.Traffic.{CanRun, home_of, range_of_line}
 use Rattle.bus_router.specs.Times.{Table}

@@ -4,13 +4,13 @@ use Rattle.std.specs.Prelude.{find}
 use Rattle.std.specs.Option.{option_map_or}
 use Rattle.std.proofs.lemmas.Bool.{cases_lt, and_parts, leb-true}
 use Rattle.std.proofs.lemmas.List.{get_or_append_left, get_or_push}
-use Rattle.bus_router.specs.AddressMap.declared.TargetRange.{TargetRange}
-use Rattle.bus_router.specs.AddressMap.Ranges.{has}
+use Rattle.bus_router.specs.DmiMap.declared.ranges.TargetRange.{TargetRange}
+use Rattle.bus_router.specs.DmiMap.Ranges.{has}
 use Rattle.bus_router.specs.TrafficFile.declared.Bus.{Bus}
 use Rattle.bus_router.specs.TrafficFile.Traffic.{line_at}
-use Rattle.bus_router.specs.TrafficWords.declared.BusAction.{BusAction}
-use Rattle.bus_router.specs.TrafficWords.declared.BusAction.TheVariants.{Get, Put}
-use Rattle.dmi_map.specs.PayloadPool.declared.payload.Payload.{Payload}
+use Rattle.bus_router.specs.TextLines.declared.actions.BusAction.{BusAction}
+use Rattle.bus_router.specs.TextLines.declared.actions.BusAction.TheVariants.{Get, Put}
+use Rattle.bus_router.specs.PayloadPool.declared.payload.Payload.{Payload}
 use Rattle.bus_answers.specs.Answers.{asked_by, asked, low_of}
 
 -- one more at the end

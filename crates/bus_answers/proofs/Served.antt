@@ -6,12 +6,12 @@ use Rattle.std.proofs.lemmas.Bool.Decides.{nat_tests}
 use Rattle.std.proofs.lemmas.List.{get_or-set_same, get_or-set_other, length-set}
 use Rattle.std.proofs.lemmas.List.Elements.{Contains-get_or}
 use Rattle.std.proofs.lemmas.List.Sums.{fold_more}
-use Rattle.place_order.specs.declared.Rank.{Rank}
-use Rattle.place_order.specs.Ranks.{is_before}
-use Rattle.dmi_map.specs.PayloadPool.declared.payload.Payload.{Payload}
-use Rattle.dmi_map.specs.PayloadPool.declared.payload.TheConstants.{IGNORE, INCOMPLETE, ADDRESS}
-use Rattle.dmi_map.specs.Accesses.{accessed, memory_accessed}
-use Rattle.bus_router.specs.AddressMap.declared.TargetRange.{TargetRange}
+use Rattle.bus_router.specs.DmiMap.declared.order.Rank.{Rank}
+use Rattle.bus_router.specs.DmiMap.Ranks.{is_before}
+use Rattle.bus_router.specs.PayloadPool.declared.payload.Payload.{Payload}
+use Rattle.bus_router.specs.PayloadPool.declared.payload.TheConstants.{IGNORE, INCOMPLETE, ADDRESS}
+use Rattle.bus_router.specs.DmiMap.Accesses.{accessed, memory_accessed}
+use Rattle.bus_router.specs.DmiMap.declared.ranges.TargetRange.{TargetRange}
 use Rattle.bus_router.specs.TrafficFile.declared.Bus.{Bus}
 use Rattle.bus_router.specs.TrafficFile.Traffic.{target_at, home_of, range_of_line}
 use Rattle.bus_router.specs.Times.{Table}

@@ -4,15 +4,15 @@
 -- as those before it left it; the first finds bytes 0. An access whose address no memory has is answered with ADDRESS.
 use Rattle.std.specs.Prelude.{◌≡◌, ℕ, ◌<◌, ◌↔◌, List, [], Option, None, Some, length, replicate, take, fold, Contains, slice_index, slice_index_or, if◌then◌else◌}
 use Rattle.std.specs.Option.{option_map_or}
-use Rattle.place_order.specs.declared.Rank.{Rank}
-use Rattle.place_order.specs.Ranks.{AreInOrder}
-use Rattle.dmi_map.specs.PayloadPool.declared.payload.Payload.{Payload}
-use Rattle.dmi_map.specs.PayloadPool.declared.payload.TheConstants.{READ, WRITE, IGNORE, INCOMPLETE, ADDRESS}
-use Rattle.dmi_map.specs.Accesses.{accessed, memory_accessed}
-use Rattle.bus_router.specs.AddressMap.declared.TargetRange.{TargetRange}
+use Rattle.bus_router.specs.DmiMap.declared.order.Rank.{Rank}
+use Rattle.bus_router.specs.DmiMap.Ranks.{AreInOrder}
+use Rattle.bus_router.specs.PayloadPool.declared.payload.Payload.{Payload}
+use Rattle.bus_router.specs.PayloadPool.declared.payload.TheConstants.{READ, WRITE, IGNORE, INCOMPLETE, ADDRESS}
+use Rattle.bus_router.specs.DmiMap.Accesses.{accessed, memory_accessed}
+use Rattle.bus_router.specs.DmiMap.declared.ranges.TargetRange.{TargetRange}
 use Rattle.bus_router.specs.TrafficFile.declared.Bus.{Bus}
-use Rattle.bus_router.specs.TrafficWords.declared.BusAction.{BusAction}
-use Rattle.bus_router.specs.TrafficWords.declared.BusAction.TheVariants.{Get, Put}
+use Rattle.bus_router.specs.TextLines.declared.actions.BusAction.{BusAction}
+use Rattle.bus_router.specs.TextLines.declared.actions.BusAction.TheVariants.{Get, Put}
 use Rattle.bus_router.specs.TrafficFile.Traffic.{line_at, target_at, range_of_line, home_of}
 use Rattle.bus_router.specs.declared.rows.BusRow.{BusRow}
 use Rattle.bus_router.specs.Times.{Table}

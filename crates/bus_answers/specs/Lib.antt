@@ -1,2 +1,4 @@
 pub mod Answers
 pub mod Serving
+pub mod Pools
+pub mod PayloadPool

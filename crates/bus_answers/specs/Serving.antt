@@ -1,9 +1,9 @@
 -- The answers while they are made. No public clause cites this module.
 use Rattle.std.specs.Prelude.{◌≡◌, ◌≢◌, ℕ, ◌<◌, List, Option, None, Some, length, take, slice_index}
-use Rattle.dmi_map.specs.PayloadPool.declared.payload.Payload.{Payload}
-use Rattle.dmi_map.specs.PayloadPool.declared.payload.TheConstants.{ADDRESS}
-use Rattle.dmi_map.specs.Accesses.{accessed}
-use Rattle.bus_router.specs.AddressMap.declared.TargetRange.{TargetRange}
+use Rattle.bus_router.specs.PayloadPool.declared.payload.Payload.{Payload}
+use Rattle.bus_router.specs.PayloadPool.declared.payload.TheConstants.{ADDRESS}
+use Rattle.bus_router.specs.DmiMap.Accesses.{accessed}
+use Rattle.bus_router.specs.DmiMap.declared.ranges.TargetRange.{TargetRange}
 use Rattle.bus_router.specs.TrafficFile.declared.Bus.{Bus}
 use Rattle.bus_router.specs.TrafficFile.Traffic.{range_of_line}
 use Rattle.bus_router.specs.Times.{Table}

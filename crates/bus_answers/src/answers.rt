@@ -8,11 +8,10 @@ ghost use Rattle.bus_answers.specs.Serving.{HomesSofar};
 use crate::asking::first_payloads;
 use crate::homes::{homes_of, order_at, ranks_of};
 use crate::serving::serve_all;
-use bus_router::address_map_api::TargetRange;
+use bus_router::dmi_map_api::{Rank, TargetRange};
+use bus_router::payload_pool_api::Payload;
 use bus_router::traffic_file_api::Bus;
 use bus_router::{BusRow, target_at};
-use dmi_map::payload_pool_api::Payload;
-use place_order::Rank;
 use std::alloc::{AllocError, Global};
 
 /// A memory in which each byte is 0.

@@ -1,15 +1,15 @@
 //! What accesses ask for.
 ghost use Rattle.std.specs.Prelude.{◌≡◌, ◌<◌, ◌≤◌, IfOk, length, replicate};
-ghost use Rattle.bus_router.specs.TrafficWords.Words.{length_of};
+ghost use Rattle.bus_router.specs.TextLines.Words.{length_of};
 ghost use Rattle.bus_router.specs.TrafficFile.Traffic.{range_of_line, CanRun};
 ghost use Rattle.bus_answers.specs.Answers.{asked_by, AreHomes};
 ghost use Rattle.bus_answers.specs.Serving.{first_by, AreFirst};
 
-use bus_router::address_map_api::TargetRange;
+use bus_router::dmi_map_api::TargetRange;
 use bus_router::line_at;
+use bus_router::payload_pool_api::{ADDRESS, Bytes, INCOMPLETE, Payload, READ, WRITE};
+use bus_router::text_lines_api::BusAction;
 use bus_router::traffic_file_api::Bus;
-use bus_router::traffic_words_api::BusAction;
-use dmi_map::payload_pool_api::{ADDRESS, Bytes, INCOMPLETE, Payload, READ, WRITE};
 use std::alloc::{AllocError, Global};
 
 fn zeros(alloc: Global, len: u16) -> Result<Bytes, AllocError>

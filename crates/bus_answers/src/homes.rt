@@ -4,10 +4,9 @@ ghost use Rattle.bus_router.specs.TrafficFile.Traffic.{range_of_line};
 ghost use Rattle.bus_answers.specs.Answers.{served_rank, AreHomes, IsServiceOrder};
 ghost use Rattle.bus_router.specs.Times.{row_at};
 
-use bus_router::address_map_api::TargetRange;
+use bus_router::dmi_map_api::{Rank, TargetRange, put_in_order};
 use bus_router::traffic_file_api::Bus;
 use bus_router::{BusRow, line_at};
-use place_order::{Rank, put_in_order};
 use std::alloc::{AllocError, Global};
 
 /// The range of the home of access k.

@@ -1,5 +1,5 @@
 ghost use Rattle.std.specs.Prelude.{◌≡◌, ℕ, List};
-ghost use Rattle.dmi_map.specs.PayloadPool.declared.payload.Payload.{Payload};
+ghost use Rattle.bus_router.specs.PayloadPool.declared.payload.Payload.{Payload};
 ghost use Rattle.bus_router.specs.TrafficFile.declared.Bus.{Bus};
 ghost use Rattle.bus_router.specs.TrafficFile.Traffic.{CanRun};
 ghost use Rattle.bus_router.specs.Times.{Table};

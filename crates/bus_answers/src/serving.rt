@@ -1,14 +1,13 @@
 //! Accesses carried out at a memory.
 ghost use Rattle.std.specs.Prelude.{◌≡◌, ℕ, ◌<◌, ◌≤◌, length, slice_index, slice_set};
 ghost use Rattle.std.specs.Option.{option_map_or};
-ghost use Rattle.dmi_map.specs.Accesses.{accessed, memory_accessed};
+ghost use Rattle.bus_router.specs.DmiMap.Accesses.{accessed, memory_accessed};
 ghost use Rattle.bus_answers.specs.Answers.{asked, payload_at, AreHomes};
 ghost use Rattle.bus_answers.specs.Serving.{ArePlaces, ServedSofar};
 
-use bus_router::address_map_api::TargetRange;
+use bus_router::dmi_map_api::{TargetRange, direct};
+use bus_router::payload_pool_api::Payload;
 use bus_router::traffic_file_api::Bus;
-use dmi_map::direct;
-use dmi_map::payload_pool_api::Payload;
 
 fn low_of(home: Option<TargetRange>) -> u64
     ensures { result ≡ option_map_or (λ range. range.low) home 0 }

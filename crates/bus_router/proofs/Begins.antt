@@ -9,7 +9,7 @@ use Rattle.traffic_file.specs.declared.Bus.{Bus}
 use Rattle.traffic_file.specs.Traffic.{line_at, initiator_of, CanRun}
 use Rattle.bus_router.specs.declared.rows.BusRow.{BusRow}
 use Rattle.bus_router.specs.Times.{Table, row_at, IsHeld, IsAtOnce}
-use Rattle.bus_router.specs.Sofar.{Rises, Fits}
+use Rattle.bus_router.specs.TableSofar.{Rises, Fits}
 use Rattle.bus_router.specs.Making.{IsDone, IsWaiting, IsFresh, IsBegun, IsSettled, Follows, Queues, Making, Returning, done_count, limit, waiting_row, direct_row}
 use Rattle.bus_router.specs.Holding.{Premises}
 use Rattle.bus_router.proofs.Orders.{LastAt, last_at}

@@ -1,6 +1,6 @@
 -- A grant is there in each table that has the same rows for the earlier accesses of its initiator.
 use Rattle.std.proofs.Common.{◌≡◌, ℕ, ◌<◌, ◌≤◌, sym, ap, ◌∙◌, subst}
-use Rattle.traffic_file.specs.AddressMap.declared.TargetRange.{TargetRange}
+use Rattle.traffic_file.specs.DmiMap.declared.ranges.TargetRange.{TargetRange}
 use Rattle.traffic_file.specs.declared.Bus.{Bus}
 use Rattle.traffic_file.specs.Traffic.{initiator_of}
 use Rattle.bus_router.specs.declared.rows.BusRow.{BusRow}

@@ -3,12 +3,12 @@ use Rattle.std.proofs.Common.{◌≡◌, ℕ, suc, ◌+◌, ◌<◌, ◌≤◌, 
 use Rattle.std.specs.Prelude.{find, count_by, nat_lt, nat_le, slice_index_or}
 use Rattle.std.proofs.lemmas.Bool.{cases_order, and_from}
 use Rattle.std.proofs.lemmas.List.Sums.{sum_by-cons}
-use Rattle.traffic_file.specs.AddressMap.declared.TargetRange.{TargetRange}
-use Rattle.traffic_file.specs.AddressMap.Ranges.{has, range_of, AreApart}
+use Rattle.traffic_file.specs.DmiMap.declared.ranges.TargetRange.{TargetRange}
+use Rattle.traffic_file.specs.DmiMap.Ranges.{has, range_of, AreApart}
 use Rattle.traffic_file.specs.declared.Bus.{Bus}
 use Rattle.traffic_file.specs.Traffic.{line_at, initiator_at, invalidate_at, range_at, initiator_of, range_of_line, CanRun}
 use Rattle.bus_router.specs.Times.{Table, HoldsAll, IsLeft, IsHeld}
-use Rattle.bus_router.specs.Sofar.{TimedSofar}
+use Rattle.bus_router.specs.TableSofar.{TimedSofar}
 use Rattle.bus_router.specs.Making.{IsDone}
 use Rattle.bus_router.specs.Holding.{Brings, LastBrings, NoneBrings}
 use Rattle.bus_router.proofs.Sofar.{comes_back}

@@ -10,4 +10,9 @@ pub mod Begins
 pub mod Serves
 pub mod Held
 pub mod Plans
+pub mod Regions
+pub mod Found
+pub mod OneSet
 pub mod TrafficFile
+pub mod PayloadPool
+pub mod DmiMap

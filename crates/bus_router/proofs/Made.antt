@@ -6,7 +6,7 @@ use Rattle.traffic_file.specs.declared.Bus.{Bus}
 use Rattle.traffic_file.specs.Traffic.{line_at, initiator_of}
 use Rattle.bus_router.specs.declared.rows.BusRow.{BusRow}
 use Rattle.bus_router.specs.Times.{Table, Earlier, IsFirst, IsBefore}
-use Rattle.bus_router.specs.Sofar.{IsAtSofar, TimedSofar, Fits}
+use Rattle.bus_router.specs.TableSofar.{IsAtSofar, TimedSofar, Fits}
 use Rattle.bus_router.specs.Making.{IsDone, IsWaiting, IsFresh, IsBegun, IsKept, Made, IsBehindWaiting, IsSettled, AreFresh, Follows}
 use Rattle.bus_router.proofs.Next.{apart, row_of_done, done_too, done_before, waits_before, waits_too, earlier_too, at_too, at_before, begun_too, timed_next, timed_still}
 

@@ -6,7 +6,7 @@ use Rattle.traffic_file.specs.declared.Bus.{Bus}
 use Rattle.traffic_file.specs.Traffic.{line_at, initiator_of, home_of}
 use Rattle.bus_router.specs.declared.rows.BusRow.{BusRow}
 use Rattle.bus_router.specs.Times.{Table, Earlier, IsHeld, IsAtOnce, IsNowhere, IsServed}
-use Rattle.bus_router.specs.Sofar.{IsAtSofar, IsFirstSofar, IsBeforeSofar, Rises, TimedSofar, Fits}
+use Rattle.bus_router.specs.TableSofar.{IsAtSofar, IsFirstSofar, IsBeforeSofar, Rises, TimedSofar, Fits}
 use Rattle.bus_router.specs.Making.{IsDone, IsWaiting, IsBegun}
 use Rattle.bus_router.proofs.Orders.{asymmetric}
 use Rattle.bus_router.proofs.Grants.{held_in_other}

@@ -8,7 +8,7 @@ use Rattle.traffic_file.specs.declared.Bus.{Bus}
 use Rattle.traffic_file.specs.Traffic.{line_at, target_at, initiator_of, home_of, CanRun}
 use Rattle.bus_router.specs.declared.rows.BusRow.{BusRow}
 use Rattle.bus_router.specs.Times.{Table, row_at, Earlier, IsHeld, IsNowhere, IsServed}
-use Rattle.bus_router.specs.Sofar.{IsAtSofar, IsFirstSofar, IsBeforeSofar, Rises, Fits}
+use Rattle.bus_router.specs.TableSofar.{IsAtSofar, IsFirstSofar, IsBeforeSofar, Rises, Fits}
 use Rattle.bus_router.specs.Making.{IsDone, IsBegun, IsKept, Serving, Returning, done_count, limit, nowhere_row, home_row, ServedNowhere, ServedAt, IsServedNow}
 use Rattle.bus_router.proofs.Next.{apart, row_of_done, earlier_too, held_before}
 use Rattle.bus_router.proofs.Made.{made_served, kept_too, kept_here, settled_too, fresh_too, follows_done, behind_waiting}

@@ -5,7 +5,7 @@ use Rattle.std.proofs.lemmas.Bool.{cases_eq, cases_lt, cases_order}
 use Rattle.traffic_file.specs.declared.Bus.{Bus}
 use Rattle.traffic_file.specs.Traffic.{line_at, initiator_of, home_of}
 use Rattle.bus_router.specs.Times.{Table, IsAt, Earlier, IsFirstAt, IsBeforeAt, Timed}
-use Rattle.bus_router.specs.Sofar.{IsAtSofar, Rises, TimedSofar}
+use Rattle.bus_router.specs.TableSofar.{IsAtSofar, Rises, TimedSofar}
 use Rattle.bus_router.proofs.Orders.{LastAt, last_at, asymmetric, latest_below}
 
 -- ---- once all are done

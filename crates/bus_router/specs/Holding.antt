@@ -1,10 +1,10 @@
 -- The last access that brought an initiator a grant of a range. No public clause cites this module.
 use Rattle.std.specs.Prelude.{◌≡◌, ℕ, ◌<◌, ◌≤◌, false}
-use Rattle.traffic_file.specs.AddressMap.declared.TargetRange.{TargetRange}
+use Rattle.traffic_file.specs.DmiMap.declared.ranges.TargetRange.{TargetRange}
 use Rattle.traffic_file.specs.declared.Bus.{Bus}
 use Rattle.traffic_file.specs.Traffic.{line_at, initiator_of}
 use Rattle.bus_router.specs.Times.{Table, HoldsAll}
-use Rattle.bus_router.specs.Sofar.{TimedSofar}
+use Rattle.bus_router.specs.TableSofar.{TimedSofar}
 use Rattle.bus_router.specs.Making.{IsDone}
 
 -- access j of the initiator went through the router, with all its bytes in the range

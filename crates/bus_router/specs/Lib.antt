@@ -1,7 +1,10 @@
 pub mod Times
-pub mod Sofar
+pub mod TableSofar
 pub mod Making
 pub mod Holding
+pub mod Leaving
+pub mod GrantsSofar
 pub mod TrafficFile
-pub mod TrafficWords
-pub mod AddressMap
+pub mod TextLines
+pub mod DmiMap
+pub mod PayloadPool

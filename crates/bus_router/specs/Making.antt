@@ -10,7 +10,7 @@ use Rattle.traffic_file.specs.Traffic.{line_at, target_at, initiator_of, home_of
 use Rattle.bus_router.specs.declared.rows.BusRow.{BusRow}
 use Rattle.bus_router.specs.declared.plan.Plan.{Plan}
 use Rattle.bus_router.specs.Times.{Table, row_at, IsFirst, IsBefore, Earlier, IsHeld}
-use Rattle.bus_router.specs.Sofar.{IsAtSofar, TimedSofar}
+use Rattle.bus_router.specs.TableSofar.{IsAtSofar, TimedSofar}
 
 -- ---- one access
 

@@ -4,11 +4,11 @@
 -- waits there until its home has served the access before it, is served for its home's latency, and takes the delay on its way
 -- back. An initiator that keeps grants reaches a memory directly where it holds one: then all is done at once.
 use Rattle.std.specs.Prelude.{◌≡◌, ◌≢◌, ℕ, ◌+◌, ◌<◌, ◌≤◌, ◌↔◌, ◌⊎◌, Bool, true, false, ◌&&◌, nat_le, nat_lt, List, None, Some, max, length, slice_index_or}
-use Rattle.traffic_file.specs.AddressMap.declared.TargetRange.{TargetRange}
+use Rattle.traffic_file.specs.DmiMap.declared.ranges.TargetRange.{TargetRange}
 use Rattle.traffic_file.specs.declared.Bus.{Bus}
 use Rattle.traffic_file.specs.declared.BusLine.{BusLine}
 use Rattle.traffic_file.specs.declared.Invalidate.{Invalidate}
-use Rattle.traffic_file.specs.TrafficWords.Words.{length_of}
+use Rattle.traffic_file.specs.TextLines.Words.{length_of}
 use Rattle.traffic_file.specs.Traffic.{line_at, target_at, initiator_at, invalidate_at, initiator_of, range_of_line, home_of}
 use Rattle.bus_router.specs.declared.rows.BusRow.{BusRow}
 

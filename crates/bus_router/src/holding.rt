@@ -2,14 +2,14 @@
 ghost use Rattle.std.specs.Prelude.{◌≡◌, ℕ, ◌<◌, ◌≤◌, ◌↔◌, IsTrue, IfNone, IfSome, length};
 ghost use Rattle.traffic_file.specs.Traffic.{initiator_of, CanRun};
 ghost use Rattle.bus_router.specs.Times.{row_at, IsLeft, IsHeld};
-ghost use Rattle.bus_router.specs.Sofar.{TimedSofar};
+ghost use Rattle.bus_router.specs.TableSofar.{TimedSofar};
 ghost use Rattle.bus_router.specs.Making.{IsDone};
 ghost use Rattle.bus_router.specs.Holding.{Brings, NoneBrings, LastBrings, Premises};
 
 use crate::places::{holds_all, initiator_at, line_at, reaches};
 use crate::rows::BusRow;
 use traffic_file::Bus;
-use traffic_file::address_map_api::TargetRange;
+use traffic_file::dmi_map_api::TargetRange;
 
 // Whether no invalidation with a time from `from` to `to` shares an address with the range.
 pub(crate) fn is_left(bus: &Bus, range: &TargetRange, from: u64, to: u64) -> bool

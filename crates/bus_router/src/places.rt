@@ -1,11 +1,11 @@
 //! What stands at the places of a bus.
 ghost use Rattle.std.specs.Prelude.{◌≡◌, ◌<◌, ◌↔◌, IsTrue, length, max};
-ghost use Rattle.traffic_file.specs.TrafficWords.Words as words;
+ghost use Rattle.traffic_file.specs.TextLines.Words as words;
 ghost use Rattle.traffic_file.specs.Traffic as traffic;
 ghost use Rattle.bus_router.specs.Times as times;
 
-use traffic_file::address_map_api::TargetRange;
-use traffic_file::traffic_words_api::BusAction;
+use traffic_file::dmi_map_api::TargetRange;
+use traffic_file::text_lines_api::BusAction;
 use traffic_file::{Bus, BusInitiator, BusLine, BusTarget, Invalidate};
 
 /// Access k, counted from 0.

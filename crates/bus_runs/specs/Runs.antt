@@ -3,13 +3,13 @@ use Rattle.std.specs.Prelude.{◌≡◌, ℕ, List, Ok}
 use Rattle.bus_router.specs.TrafficFile.declared.Bus.{Bus}
 use Rattle.bus_router.specs.TrafficFile.BusText.{bus_of}
 use Rattle.bus_router.specs.Times.{Table, row_at, IsTableOf}
-use Rattle.dmi_map.specs.PayloadPool.Payloads.{Payloads}
-use Rattle.dmi_map.specs.PayloadPool.declared.payload.Payload.{Payload}
+use Rattle.bus_answers.specs.PayloadPool.Payloads.{Payloads}
+use Rattle.bus_answers.specs.PayloadPool.declared.payload.Payload.{Payload}
 use Rattle.bus_answers.specs.Answers.{AreAnswers}
-use Rattle.bus_grants.specs.Leaving.{AreLeft}
-use Rattle.bus_pools.specs.Pools.{payload_with, IsPoolOf}
-use Rattle.hop_entries.specs.Entries.{AreHops}
-use Rattle.bus_text.specs.Lines.{IsTextOf}
+use Rattle.bus_router.specs.Leaving.{AreLeft}
+use Rattle.bus_answers.specs.Pools.{payload_with, IsPoolOf}
+use Rattle.bus_runs.specs.Entries.{AreHops}
+use Rattle.result_texts.specs.Lines.{IsTextOf}
 use Rattle.bus_runs.specs.declared.runs.BusRun.{BusRun}
 
 -- the pool has the payloads of all accesses, answered by the table

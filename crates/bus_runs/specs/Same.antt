@@ -1,8 +1,8 @@
 -- Runs that are the same: their times, the entries of their hops, their payloads, and their grants in any order.
 use Rattle.std.specs.Prelude.{◌≡◌, ℕ, count_by}
-use Rattle.dmi_map.specs.declared.grants.Region.{Region}
-use Rattle.dmi_map.specs.Regions.{same}
-use Rattle.dmi_map.specs.PayloadPool.Payloads.{payload_of}
+use Rattle.bus_router.specs.DmiMap.declared.grants.Region.{Region}
+use Rattle.bus_router.specs.DmiMap.Regions.{same}
+use Rattle.bus_answers.specs.PayloadPool.Payloads.{payload_of}
 use Rattle.bus_runs.specs.declared.runs.BusRun.{BusRun}
 
 pub record AreSameRuns (one other : BusRun) : Type 0 where

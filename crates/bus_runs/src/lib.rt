@@ -1,15 +1,27 @@
+//! What is called and returned on a hop of a router, and that nothing of it breaks a rule of the base protocol.
+//!
+//! What is called and returned on each hop of a router.
+//!
 //! Runs of traffic through a router.
 #![tactic(auto)]
 
-mod laws;
+mod entries;
+mod entry_laws;
+mod hop_laws;
+mod hops;
+mod run_laws;
 mod runs;
 mod texts;
 
-pub use laws::{one_run, one_run_text, one_written_text};
+pub use entries::{BusEntry, BusHop, BusHops};
+pub use entry_laws::{each_access_has_its_entries, no_entry_breaks_a_rule, one_list_of_hops};
+pub use hop_laws::no_rule_is_broken;
+pub use hops::hops_of;
+pub use run_laws::{one_run, one_run_text, one_written_text};
 pub use runs::{BusRun, run_bus};
 pub use texts::{bus_text, traffic_text};
 
-/// What is passed on of bus_text.
-pub mod bus_text_api {
-    pub use bus_text::refusal_line;
+/// What is passed on of result_texts.
+pub mod result_texts_api {
+    pub use result_texts::bus_refusal_line;
 }

@@ -4,14 +4,12 @@ ghost use Rattle.bus_router.specs.TrafficFile.Traffic.{CanRun};
 ghost use Rattle.bus_router.specs.Times.{row_at};
 ghost use Rattle.bus_runs.specs.Runs.{AreAnswersIn, IsRunOf};
 
-use bus_answers::answers_of;
-use bus_grants::grants_of;
-use bus_pools::pool_of;
+use crate::{BusHops, hops_of};
+use bus_answers::payload_pool_api::Pool;
+use bus_answers::{answers_of, pool_of};
+use bus_router::dmi_map_api::Grants;
 use bus_router::traffic_file_api::Bus;
-use bus_router::{BusRow, BusRows, times_of};
-use dmi_map::Grants;
-use dmi_map::payload_pool_api::Pool;
-use hop_entries::{BusHops, hops_of};
+use bus_router::{BusRow, BusRows, grants_of, times_of};
 use std::alloc::{AllocError, Global};
 
 /// A run of all accesses of a bus.

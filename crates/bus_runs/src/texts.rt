@@ -1,15 +1,15 @@
 //! The text of a run.
 ghost use Rattle.std.specs.Prelude.{◌≡◌, IfOk, IfErr, IsOkUnless};
-ghost use Rattle.bus_pools.specs.Pools.{payload_with};
+ghost use Rattle.bus_answers.specs.Pools.{payload_with};
 ghost use Rattle.bus_router.specs.TrafficFile.BusText.{bus_of};
 ghost use Rattle.bus_router.specs.TrafficFile.Stops.{IfSyntax, IfRefused, IsRefusedSo};
 ghost use Rattle.bus_router.specs.TrafficFile.Traffic.{CanRun};
-ghost use Rattle.bus_text.specs.Lines.{IsTextOf};
+ghost use Rattle.result_texts.specs.Lines.{IsTextOf};
 ghost use Rattle.bus_runs.specs.Runs.{IsRunOf, IsRunText, IsWrittenFor};
 
 use crate::runs::{BusRun, run_bus};
 use bus_router::traffic_file_api::{Bus, BusStop, read_bus};
-use bus_text::text_of;
+use result_texts::text_of;
 use std::alloc::{AllocError, Global};
 
 /// The text of a run of this bus: a line for each access in the order of responses, and the last time.

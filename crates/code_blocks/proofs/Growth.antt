@@ -10,7 +10,7 @@ use Rattle.flat_design.specs.Reach.{inner_blocks, IsIn}
 use Rattle.flat_design.specs.declared.code.Statement.{Statement}
 use Rattle.flat_design.specs.declared.code.Code.{Code}
 use Rattle.code_deeds.specs.CodeRules.Numbered.{AtBlock}
-use Rattle.laws_code.proofs.LawsRules.Coded.{same_some}
+use Rattle.laws_code.proofs.Coded.{same_some}
 use Rattle.laws_code.proofs.TypedBlocks.{each_of}
 use Rattle.laws_code.proofs.Bodies.{slice_behind}
 use Rattle.code_blocks.specs.declared.laid.Laid.{Laid}

@@ -7,7 +7,7 @@ use Rattle.flat_design.specs.Code as code
 use Rattle.flat_design.specs.Code.{Arena, statement_at}
 use Rattle.flat_design.specs.Reach.{Inside, itself, deeper, IsIn, inner_blocks}
 use Rattle.code_deeds.specs.CodeRules.Numbered.{AreFirst, IsCoded}
-use Rattle.laws_code.proofs.LawsRules.Coded.{same_some}
+use Rattle.laws_code.proofs.Coded.{same_some}
 use Rattle.laws_code.proofs.Plain.{NoneHasBlocks, Only}
 use Rattle.code_blocks.specs.declared.laid.Laid.{Laid}
 use Rattle.code_blocks.specs.Laid.{Adds, FromNowOn, Grows, HangsFrom, HangsOnlyFromThere, OnlyFrom, StandsInside}

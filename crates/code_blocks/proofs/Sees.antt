@@ -15,7 +15,7 @@ use Rattle.flat_design.specs.Code as code
 use Rattle.code_deeds.specs.ModelRules.Scopes.{Scope, behind}
 use Rattle.code_deeds.specs.CodeRules.Deeds.{Home}
 use Rattle.code_deeds.specs.CodeRules.Numbered.{IsCoded, IsStatement}
-use Rattle.laws_code.specs.LawsRules.HasCode.{HasCode}
+use Rattle.laws_code.specs.HasCode.{HasCode}
 use Rattle.code_blocks.specs.declared.laid.Laid.{Laid}
 use Rattle.code_blocks.specs.Laid.{Adds}
 

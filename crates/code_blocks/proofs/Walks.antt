@@ -10,7 +10,7 @@ use Rattle.flat_design.specs.declared.code.Handler.{Handler}
 use Rattle.code_deeds.specs.ModelRules.Scopes.{Scope, behind, locals_in_block, locals_in_handlers, past}
 use Rattle.code_deeds.specs.CodeRules.Deeds.{Home, exception_number}
 use Rattle.code_deeds.specs.CodeRules.Numbered.{AreHandlers, AtBlock, IsBlock, IsStatement}
-use Rattle.laws_code.specs.LawsRules.HasCode.{BlockHasCode, HandlersHaveCode, HasCode, IsThere}
+use Rattle.laws_code.specs.HasCode.{BlockHasCode, HandlersHaveCode, HasCode, IsThere}
 use Rattle.check_statements.specs.Behind.{behind_all}
 use Rattle.check_statements.proofs.Behind.{past_past}
 use Rattle.code_blocks.specs.declared.laid.Laid.{Laid}

@@ -1,5 +1,4 @@
 pub mod Laid
 pub mod CodeTerms
 pub mod CodeDeeds
-pub mod LawsRules
 pub mod LawsCode

@@ -3,7 +3,7 @@ ghost use Rattle.model_tree.specs.Views.{body_of, statement_of};
 ghost use Rattle.flat_design.specs.Reach.{Inside};
 ghost use Rattle.code_deeds.specs.ModelRules.Scopes.{behind, in_unwind, locals_in_block, past};
 ghost use Rattle.code_deeds.specs.CodeRules.Numbered.{AtBlock, IsBlock, IsStatement};
-ghost use Rattle.laws_code.specs.LawsRules.HasCode.{BlockHasCode, HasCode};
+ghost use Rattle.laws_code.specs.HasCode.{BlockHasCode, HasCode};
 ghost use Rattle.check_statements.specs.CheckNames.Places.{scope_of};
 ghost use Rattle.code_deeds.specs.Homes.{IsHome, home_of};
 ghost use Rattle.code_blocks.specs.Laid.{Adds, EachFrom, FromNowOn, Grows, HangsFrom, HangsOnlyFromThere, IsNested, IsNext, OnlyFrom};

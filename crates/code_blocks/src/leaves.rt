@@ -6,7 +6,7 @@ ghost use Rattle.code_deeds.specs.ModelRules.Scopes.{with_local};
 ghost use Rattle.code_deeds.specs.CodeRules.Deeds as deeds;
 ghost use Rattle.code_deeds.specs.CodeRules.Numbered.{IsCoded, var_code as var_in};
 ghost use Rattle.code_deeds.specs.CodeRules.Terms as terms;
-ghost use Rattle.laws_code.specs.LawsRules.HasCode.{IsThere};
+ghost use Rattle.laws_code.specs.HasCode.{IsThere};
 ghost use Rattle.laws_code.proofs.Plain.{NoneHasBlocks, Only};
 ghost use Rattle.check_statements.specs.CheckNames.Places.{scope_of};
 ghost use Rattle.code_deeds.specs.CodeTerms.Statements.{statements_of};

@@ -20,7 +20,7 @@ pub mod code_terms_api {
     };
 }
 
-/// What is passed on of laws_rules.
-pub mod laws_rules_api {
-    pub use laws_code::laws_rules_api::sound_models_have_code;
+/// What is passed on of laws_code.
+pub mod laws_code_api {
+    pub use laws_code::sound_models_have_code;
 }

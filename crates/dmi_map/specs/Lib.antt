@@ -1,3 +1,5 @@
+pub mod Ranks
+pub mod Ranges
 pub mod Regions
 pub mod Accesses
 pub mod PayloadPool

@@ -11,7 +11,7 @@ use super::objects::objects_of_tree;
 use binding::bind;
 use binding::design_rules_api::Bindings;
 use flat_design::Objects;
-use laws_design::laws_objects_api::sound_models_are_formed;
+use laws_design::sound_models_are_formed;
 use model_tree::{CheckStop, Tree};
 use std::alloc::Global;
 

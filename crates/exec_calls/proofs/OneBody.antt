@@ -16,8 +16,8 @@ use Rattle.exec_data.specs.SimModel.declared.plain.Via.{Via}
 use Rattle.exec_data.specs.LogicValues.declared.kinds.Value.{Value}
 use Rattle.exec_data.specs.ProcessBodies.Bodies as bodies
 use Rattle.exec_data.specs.ProcessBodies.declared.body.Body.{Body}
-use Rattle.exec_data.specs.ProcessBodies.calls.starting.EnterStop.{EnterStop}
-use Rattle.exec_data.specs.ProcessBodies.calls.starting.EnterStop.TheVariants as stop
+use Rattle.exec_data.specs.ProcessState.declared.starting.EnterStop.{EnterStop}
+use Rattle.exec_data.specs.ProcessState.declared.starting.EnterStop.TheVariants as stop
 use Rattle.exec_data.specs.KernelProcesses.Seen.{body_at as kept_at}
 use Rattle.exec_data.specs.KernelProcesses.declared.parts.Process.{Process}
 use Rattle.exec_data.specs.KernelProcesses.Moved.{PutsBody}

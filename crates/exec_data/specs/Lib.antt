@@ -18,3 +18,4 @@ pub mod KernelProcesses
 pub mod KernelTransactions
 pub mod KernelState
 pub mod KernelView
+pub mod ProcessState

@@ -1,3 +1,2 @@
 pub use Rattle.kernel_view.specs.ProcessBodies.Bodies as Bodies
 pub use Rattle.kernel_view.specs.ProcessBodies.declared as declared
-pub use Rattle.kernel_view.specs.ProcessBodies.calls as calls

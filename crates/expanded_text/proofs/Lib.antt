@@ -1,3 +1,4 @@
+mod OneForm
 pub mod Blanks
 pub mod Spelled
 pub mod Reading

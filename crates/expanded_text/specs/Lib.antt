@@ -1,2 +1,4 @@
+pub mod Named
+pub mod Clocked
 pub mod Page
 pub mod Becomes

@@ -16,7 +16,7 @@ use crate::evaluation::evaluate;
 use kernel_phases::kernel_state_api::Kernel;
 use kernel_phases::sim_model_api::{Command, Phase};
 use kernel_phases::{Chooser, delta, initialize, timed};
-use kernel_sound::SoundKernel;
+use kernel_start::SoundKernel;
 use std::alloc::{AllocError, Global};
 
 /// Room for all events in a list without members.

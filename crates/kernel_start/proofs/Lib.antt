@@ -1,2 +1,3 @@
+mod Cleaned
 pub mod FirstOnes
 pub mod Together

@@ -1,3 +1,5 @@
+pub mod OneProof
+pub mod Clean
 pub mod Made
 pub mod InstanceTable
 pub mod KernelBodies

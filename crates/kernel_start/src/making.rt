@@ -9,9 +9,9 @@ ghost use Rattle.kernel_state.specs.SimModel.declared.plain.Command.{Command};
 ghost use Rattle.kernel_state.specs.Kernel.{StandsFor, cycle_of};
 ghost use Rattle.kernel_start.specs.Made.{first_cycle};
 
+use crate::SoundKernel;
 use crate::parts::{First, first_parts};
 use crate::processes::first_processes;
-use kernel_sound::SoundKernel;
 use kernel_state::flat_design_api::{Code, Design};
 use kernel_state::kernel_bodies_api::Program;
 use kernel_state::kernel_processes_api::Schedule;

@@ -21,3 +21,4 @@ pub mod KernelProcesses
 pub mod KernelEvents
 pub mod KernelChannels
 pub mod KernelTransactions
+pub mod ProcessState

@@ -16,3 +16,4 @@ pub mod KernelProcesses
 pub mod KernelChannels
 pub mod KernelTransactions
 pub mod KernelState
+pub mod ProcessState

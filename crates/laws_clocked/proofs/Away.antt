@@ -2,28 +2,28 @@
 use Rattle.std.proofs.Common.{◌≡◌, ◌≢◌, ◌⊎◌, ◌||◌, ℕ, suc, Bool, true, false, cond, List, [], ◌∷◌, ◌++◌, drop, length, map, slice_get, Option, Some, None, option_map, refl, sym, ap, ◌∙◌, subst, arith, inl, inr, ⊎_elim, true≢false}
 use Rattle.std.proofs.lemmas.Bool.{cases_eq}
 use Rattle.std.proofs.lemmas.Option.{none-some, slice_get-map}
-use Rattle.laws_unwinding.specs.FlatDesign.Code.{Arena}
-use Rattle.laws_unwinding.specs.FlatDesign.declared.code.Handler.{Handler}
-use Rattle.laws_unwinding.specs.FlatDesign.declared.design.Design.{Design}
-use Rattle.laws_unwinding.specs.FlatDesign.declared.design.ProcessPart.{ProcessPart}
-use Rattle.laws_unwinding.specs.SimModel.Residual.{Residual, skip, one, batch, seq, owing, guard, try_, frame, shell, run, goal, followed, has_goal, settle}
-use Rattle.laws_unwinding.specs.SimModel.Unwinding.{unw, catches, handles, handler_block, handler_of, handled, raise, left_by_unw, left_by_raise}
-use Rattle.laws_unwinding.specs.SimModel.Configuration.{Config, Instance, Deadline, no_deadline, arena, change, change_instance, with_residual, with_runnable}
-use Rattle.laws_unwinding.specs.SimModel.Waits.{freed}
-use Rattle.laws_unwinding.specs.SimModel.Calls.{with_left, with_entry, new_instance, added, runnable_unless}
-use Rattle.laws_unwinding.specs.SimModel.Control.{is_top, pushed, pushed_unless_top}
-use Rattle.laws_unwinding.specs.SimModel.Storing.{passes}
-use Rattle.laws_unwinding.specs.SimModel.Phases.{without_deadline, is_zero_timeout, is_due_at, initialize_each}
-use Rattle.laws_unwinding.specs.SimModel.Statements.{settled_in}
-use Rattle.laws_unwinding.specs.SimModel.Clean.{times}
-use Rattle.laws_unwinding.specs.SimModel.declared.plain.Goal.{Goal}
-use Rattle.laws_unwinding.specs.SimModel.declared.plain.Goal.TheVariants as goal_of
-use Rattle.laws_unwinding.specs.SimModel.declared.plain.Via.{Via}
-use Rattle.laws_unwinding.proofs.LawsRuns.Changes.{change-here, change-other, last-other, past-end}
-use Rattle.laws_unwinding.proofs.LawsRuns.Times.{times-here, times-other, times-drop}
-use Rattle.laws_moves.specs.Moves as move
-use Rattle.laws_moves.specs.Moves.{Move, May, made, Moves, StepMoves, in_turn, between, initializing, moving_now, TakingMoves, of_none, of_one, time_moved, turn_taken}
-use Rattle.laws_moves.proofs.Kept.{EachKeeps, moves-keep}
+use Rattle.laws_runs.specs.FlatDesign.Code.{Arena}
+use Rattle.laws_runs.specs.FlatDesign.declared.code.Handler.{Handler}
+use Rattle.laws_runs.specs.FlatDesign.declared.design.Design.{Design}
+use Rattle.laws_runs.specs.FlatDesign.declared.design.ProcessPart.{ProcessPart}
+use Rattle.laws_runs.specs.SimModel.Residual.{Residual, skip, one, batch, seq, owing, guard, try_, frame, shell, run, goal, followed, has_goal, settle}
+use Rattle.laws_runs.specs.SimModel.Unwinding.{unw, catches, handles, handler_block, handler_of, handled, raise, left_by_unw, left_by_raise}
+use Rattle.laws_runs.specs.SimModel.Configuration.{Config, Instance, Deadline, no_deadline, arena, change, change_instance, with_residual, with_runnable}
+use Rattle.laws_runs.specs.SimModel.Waits.{freed}
+use Rattle.laws_runs.specs.SimModel.Calls.{with_left, with_entry, new_instance, added, runnable_unless}
+use Rattle.laws_runs.specs.SimModel.Control.{is_top, pushed, pushed_unless_top}
+use Rattle.laws_runs.specs.SimModel.Storing.{passes}
+use Rattle.laws_runs.specs.SimModel.Phases.{without_deadline, is_zero_timeout, is_due_at, initialize_each}
+use Rattle.laws_runs.specs.SimModel.Statements.{settled_in}
+use Rattle.laws_runs.specs.SimModel.Clean.{times}
+use Rattle.laws_runs.specs.SimModel.declared.plain.Goal.{Goal}
+use Rattle.laws_runs.specs.SimModel.declared.plain.Goal.TheVariants as goal_of
+use Rattle.laws_runs.specs.SimModel.declared.plain.Via.{Via}
+use Rattle.laws_runs.proofs.Changes.{change-here, change-other, last-other, past-end}
+use Rattle.laws_runs.proofs.Times.{times-here, times-other, times-drop}
+use Rattle.laws_runs.specs.Moves as move
+use Rattle.laws_runs.specs.Moves.{Move, May, made, Moves, StepMoves, in_turn, between, initializing, moving_now, TakingMoves, of_none, of_one, time_moved, turn_taken}
+use Rattle.laws_runs.proofs.MovesKeep.{EachKeeps, moves-keep}
 
 -- ---- an exception that is caught has a goal
 

@@ -2,20 +2,20 @@
 use Rattle.std.proofs.Common.{◌≡◌, ◌+◌, ℕ, suc, true, false, List, [], ◌∷◌, ◌++◌, length, slice_get, Some, refl, sym, ap, ◌∙◌, subst, arith}
 use Rattle.std.specs.Prelude.{Ok}
 use Rattle.std.proofs.lemmas.Option.{same_Some}
-use Rattle.laws_unwinding.specs.LogicValues.declared.kinds.Value.{Value}
-use Rattle.laws_unwinding.specs.FlatDesign.Code as code
-use Rattle.laws_unwinding.specs.FlatDesign.Sound.{SoundDesign}
-use Rattle.laws_unwinding.specs.FlatDesign.declared.design.Design.{Design}
-use Rattle.laws_unwinding.specs.SimModel.Values.{truth}
-use Rattle.laws_unwinding.specs.SimModel.Residual.{Residual, Frame, skip, seq, statements, block, settle, put}
-use Rattle.laws_unwinding.specs.SimModel.Configuration.{Config, Instance, arena, instance_at, with_residual}
-use Rattle.laws_unwinding.specs.SimModel.Reading.{here, val}
-use Rattle.laws_unwinding.specs.SimModel.Statements.{settled_in}
-use Rattle.laws_unwinding.specs.SimModel.Steps.{takes, step, taking}
-use Rattle.laws_unwinding.specs.SimModel.Clean.{times}
-use Rattle.laws_unwinding.specs.SimModel.declared.plain.Command.{Command}
-use Rattle.laws_unwinding.proofs.MarkedRuns.{marked-after}
-use Rattle.laws_moves.proofs.RunSteps.{takes-empty}
+use Rattle.laws_runs.specs.LogicValues.declared.kinds.Value.{Value}
+use Rattle.laws_runs.specs.FlatDesign.Code as code
+use Rattle.laws_runs.specs.FlatDesign.Sound.{SoundDesign}
+use Rattle.laws_runs.specs.FlatDesign.declared.design.Design.{Design}
+use Rattle.laws_runs.specs.SimModel.Values.{truth}
+use Rattle.laws_runs.specs.SimModel.Residual.{Residual, Frame, skip, seq, statements, block, settle, put}
+use Rattle.laws_runs.specs.SimModel.Configuration.{Config, Instance, arena, instance_at, with_residual}
+use Rattle.laws_runs.specs.SimModel.Reading.{here, val}
+use Rattle.laws_runs.specs.SimModel.Statements.{settled_in}
+use Rattle.laws_runs.specs.SimModel.Steps.{takes, step, taking}
+use Rattle.laws_runs.specs.SimModel.Clean.{times}
+use Rattle.laws_runs.specs.SimModel.declared.plain.Command.{Command}
+use Rattle.laws_runs.proofs.MarkedRuns.{marked-after}
+use Rattle.laws_runs.proofs.RunSteps.{takes-empty}
 use Rattle.laws_clocked.specs.Spots.{IsLeft}
 use Rattle.laws_clocked.specs.Ticks.{Test, Tick, behind, IsTest, AreTests, HasTick, left_at, checking}
 use Rattle.laws_clocked.specs.Turns.{ComesTo}

@@ -1,14 +1,14 @@
 -- A clocked thread's own statements begin again where by the code no try among them has a handler for the exception.
 use Rattle.std.proofs.Common.{◌≡◌, ℕ, List, ◌∷◌, ◌++◌, Some, None, refl}
-use Rattle.laws_unwinding.specs.FlatDesign.Code as code
-use Rattle.laws_unwinding.specs.FlatDesign.Code.{statement_at}
-use Rattle.laws_unwinding.specs.FlatDesign.Sound.{SoundDesign}
-use Rattle.laws_unwinding.specs.FlatDesign.declared.design.Design.{Design}
-use Rattle.laws_unwinding.specs.SimModel.Residual.{Residual, Frame, settle, next_of, statement, innermost}
-use Rattle.laws_unwinding.specs.SimModel.Configuration.{Config, arena, start}
-use Rattle.laws_unwinding.specs.SimModel.Steps.{step, takes, taking}
-use Rattle.laws_unwinding.specs.SimModel.Runs.{after}
-use Rattle.laws_unwinding.specs.SimModel.declared.plain.Command.{Command}
+use Rattle.laws_runs.specs.FlatDesign.Code as code
+use Rattle.laws_runs.specs.FlatDesign.Code.{statement_at}
+use Rattle.laws_runs.specs.FlatDesign.Sound.{SoundDesign}
+use Rattle.laws_runs.specs.FlatDesign.declared.design.Design.{Design}
+use Rattle.laws_runs.specs.SimModel.Residual.{Residual, Frame, settle, next_of, statement, innermost}
+use Rattle.laws_runs.specs.SimModel.Configuration.{Config, arena, start}
+use Rattle.laws_runs.specs.SimModel.Steps.{step, takes, taking}
+use Rattle.laws_runs.specs.SimModel.Runs.{after}
+use Rattle.laws_runs.specs.SimModel.declared.plain.Command.{Command}
 use Rattle.laws_clocked.specs.Ticks.{Test, Tick, HasTick, IsInNoFunction}
 use Rattle.laws_clocked.specs.Turns.{IsBehindWait}
 use Rattle.laws_clocked.specs.Levels.{NoneAtLevel, IsAtLevel}

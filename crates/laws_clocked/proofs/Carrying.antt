@@ -2,51 +2,51 @@
 use Rattle.std.proofs.Common.{◌≡◌, ◌≢◌, ◌||◌, ◌&&◌, not, ℕ, suc, ◌==◌, ◌+◌, Bool, true, false, cond, List, [], ◌∷◌, ◌++◌, length, slice_get, Option, Some, None, refl}
 use Rattle.std.specs.Prelude.{Result, Ok, Err, is_some}
 use Rattle.std.specs.Result.{IfOk}
-use Rattle.laws_unwinding.specs.LogicValues.declared.kinds.Value.{Value}
-use Rattle.laws_unwinding.specs.LogicValues.declared.kinds.Value.TheVariants as value
-use Rattle.laws_unwinding.specs.EventCore.declared.event.Ev.{Ev}
-use Rattle.laws_unwinding.specs.EventCore.declared.event.Ev.TheVariants as ev
-use Rattle.laws_unwinding.specs.EventCore.declared.notifications.When.TheVariants as when
-use Rattle.laws_unwinding.specs.SignalChannel.declared.signal.Signal.{Signal}
-use Rattle.laws_unwinding.specs.SignalChannel.declared.signal.WriterConflict.{WriterConflict}
-use Rattle.laws_unwinding.specs.SignalChannel.Signals.{conflict_of}
-use Rattle.laws_unwinding.specs.FifoSync.Fifos.{Queued, readable, free, after_read, after_write}
-use Rattle.laws_unwinding.specs.FifoSync.Locks.{locked_by, unlocked_by, is_owner, is_used_up, is_unlocked}
-use Rattle.laws_unwinding.specs.QuantumKeeper.declared.keeper.Keeper.{Keeper}
-use Rattle.laws_unwinding.specs.TransportPhases.History.{Entry, Call, BCall, broken}
-use Rattle.laws_unwinding.specs.TransportPhases.declared.phases.Rule.{Rule}
-use Rattle.laws_unwinding.specs.ModelTree.declared.statements.Control.{Control}
-use Rattle.laws_unwinding.specs.ModelTree.declared.statements.Control.TheVariants as control
-use Rattle.laws_unwinding.specs.FlatDesign.Code as code
-use Rattle.laws_unwinding.specs.FlatDesign.Code.{Term, DestinationTerm, AwaitTerm, ArgumentTerm, SpawnTerm, ChannelTerm, Statement}
-use Rattle.laws_unwinding.specs.FlatDesign.declared.value_types.ValueType.{ValueType}
-use Rattle.laws_unwinding.specs.FlatDesign.declared.names.NameUse.{NameUse}
-use Rattle.laws_unwinding.specs.FlatDesign.declared.names.NameUse.TheVariants as name_use
-use Rattle.laws_unwinding.specs.FlatDesign.declared.names.EventMember.TheVariants as event
-use Rattle.laws_unwinding.specs.FlatDesign.declared.code.Handler.{Handler}
-use Rattle.laws_unwinding.specs.FlatDesign.declared.code.Controlled.{Controlled}
-use Rattle.laws_unwinding.specs.FlatDesign.declared.code.Store.{Store as Target}
-use Rattle.laws_unwinding.specs.FlatDesign.declared.design.ChannelId.{ChannelId}
-use Rattle.laws_unwinding.specs.FlatDesign.declared.design.ChannelId.TheVariants as channel
-use Rattle.laws_unwinding.specs.FlatDesign.declared.design.Denoted.{Denoted}
-use Rattle.laws_unwinding.specs.FlatDesign.declared.design.Denoted.TheVariants as denoted
-use Rattle.laws_unwinding.specs.FlatDesign.declared.faults.RunFault.{RunFault}
-use Rattle.laws_unwinding.specs.FlatDesign.declared.faults.RunFault.TheVariants as fault
-use Rattle.laws_unwinding.specs.SimModel.Values.{on_ok, moment, truth}
-use Rattle.laws_unwinding.specs.SimModel.Residual.{Residual, Frame, batch, guard, try_, block, entered, put, skip, has_goal}
-use Rattle.laws_unwinding.specs.SimModel.Unwinding.{raise, catches, left_by_raise, left_by_unw, returned, return_marks}
-use Rattle.laws_unwinding.specs.SimModel.Configuration.{Config, Instance, Wait, Deadline, arena, change_instance, instance_at, with_residual, with_runnable, with_marks}
-use Rattle.laws_unwinding.specs.SimModel.Reading.{Here, val, denotes, place_in, payload_number, live_payload}
-use Rattle.laws_unwinding.specs.SimModel.Waits.{fire, holds, without, notify, waits, leaves_stack}
-use Rattle.laws_unwinding.specs.SimModel.Storing.{passes, set_local, set_denoted, set_name, stored, stored_if, set_memory, chosen, looped, do_var, do_assign, do_print, do_if, do_while}
-use Rattle.laws_unwinding.specs.SimModel.Waiting.{when_after, channel_event, on_event, event_number, notified_now, cancelled, do_wait, do_next_trigger, do_notify_after}
-use Rattle.laws_unwinding.specs.SimModel.Channels.{set_fifo, set_mutex, set_semaphore, blocks, written_unless, write_signal, write_channel, write_fifo, do_write, fifo_of, with_fifo, read_value, read_fifo, do_read, nb_read_value, nb_read_fifo, do_nb_read, nb_write_fifo, do_nb_write, answered, lock_mutex, lock_at, do_lock, trylock_mutex, trylock_at, do_trylock, unlock_mutex, unlock_at, do_unlock, sem_wait_value, sem_wait_at, do_sem_wait, sem_trywait_value, sem_trywait_at, do_sem_trywait, post_value, post_at, do_post, mutex_of, semaphore_of, taken_from, channel_in}
-use Rattle.laws_unwinding.specs.SimModel.Calls.{enters, do_guard, do_try, final_value, given_back, call_ends, handle_stored, with_left, thrown, do_call, do_return, do_spawn, spawns, added, new_instance, runnable_unless}
-use Rattle.laws_unwinding.specs.SimModel.Transport.{path_of_call, int_of, value_named, is_complete, with_keeper, kept, on_keeper, do_make, do_acquire, do_release, do_carry, b_transport_on, nb_transport_on, judged_by, judged, enters_handler, may_enter_handler, blocking_handler, nonblocking_handler, history, socket_of, do_qk_global, do_qk_inc, do_qk_set, do_qk_reset}
-use Rattle.laws_unwinding.specs.SimModel.Control.{target_of, is_top, is_below_top, is_thread, with_kept, yields, pushed, unwinds, injected, controlled_by, throws_at, unless_ended, control_call, throw_call, with_owed, do_control, do_throw_it}
-use Rattle.laws_unwinding.specs.SimModel.Statements.{do_statement}
-use Rattle.laws_unwinding.specs.SimModel.declared.plain.Goal.TheVariants as goal_of
-use Rattle.laws_unwinding.specs.SimModel.declared.plain.Via.{Via}
+use Rattle.laws_runs.specs.LogicValues.declared.kinds.Value.{Value}
+use Rattle.laws_runs.specs.LogicValues.declared.kinds.Value.TheVariants as value
+use Rattle.laws_runs.specs.EventCore.declared.event.Ev.{Ev}
+use Rattle.laws_runs.specs.EventCore.declared.event.Ev.TheVariants as ev
+use Rattle.laws_runs.specs.EventCore.declared.notifications.When.TheVariants as when
+use Rattle.laws_runs.specs.SignalChannel.declared.signal.Signal.{Signal}
+use Rattle.laws_runs.specs.SignalChannel.declared.signal.WriterConflict.{WriterConflict}
+use Rattle.laws_runs.specs.SignalChannel.Signals.{conflict_of}
+use Rattle.laws_runs.specs.FifoSync.Fifos.{Queued, readable, free, after_read, after_write}
+use Rattle.laws_runs.specs.FifoSync.Locks.{locked_by, unlocked_by, is_owner, is_used_up, is_unlocked}
+use Rattle.laws_runs.specs.QuantumKeeper.declared.keeper.Keeper.{Keeper}
+use Rattle.laws_runs.specs.TransportPhases.History.{Entry, Call, BCall, broken}
+use Rattle.laws_runs.specs.TransportPhases.declared.phases.Rule.{Rule}
+use Rattle.laws_runs.specs.ModelTree.declared.statements.Control.{Control}
+use Rattle.laws_runs.specs.ModelTree.declared.statements.Control.TheVariants as control
+use Rattle.laws_runs.specs.FlatDesign.Code as code
+use Rattle.laws_runs.specs.FlatDesign.Code.{Term, DestinationTerm, AwaitTerm, ArgumentTerm, SpawnTerm, ChannelTerm, Statement}
+use Rattle.laws_runs.specs.FlatDesign.declared.value_types.ValueType.{ValueType}
+use Rattle.laws_runs.specs.FlatDesign.declared.names.NameUse.{NameUse}
+use Rattle.laws_runs.specs.FlatDesign.declared.names.NameUse.TheVariants as name_use
+use Rattle.laws_runs.specs.FlatDesign.declared.names.EventMember.TheVariants as event
+use Rattle.laws_runs.specs.FlatDesign.declared.code.Handler.{Handler}
+use Rattle.laws_runs.specs.FlatDesign.declared.code.Controlled.{Controlled}
+use Rattle.laws_runs.specs.FlatDesign.declared.code.Store.{Store as Target}
+use Rattle.laws_runs.specs.FlatDesign.declared.design.ChannelId.{ChannelId}
+use Rattle.laws_runs.specs.FlatDesign.declared.design.ChannelId.TheVariants as channel
+use Rattle.laws_runs.specs.FlatDesign.declared.design.Denoted.{Denoted}
+use Rattle.laws_runs.specs.FlatDesign.declared.design.Denoted.TheVariants as denoted
+use Rattle.laws_runs.specs.FlatDesign.declared.faults.RunFault.{RunFault}
+use Rattle.laws_runs.specs.FlatDesign.declared.faults.RunFault.TheVariants as fault
+use Rattle.laws_runs.specs.SimModel.Values.{on_ok, moment, truth}
+use Rattle.laws_runs.specs.SimModel.Residual.{Residual, Frame, batch, guard, try_, block, entered, put, skip, has_goal}
+use Rattle.laws_runs.specs.SimModel.Unwinding.{raise, catches, left_by_raise, left_by_unw, returned, return_marks}
+use Rattle.laws_runs.specs.SimModel.Configuration.{Config, Instance, Wait, Deadline, arena, change_instance, instance_at, with_residual, with_runnable, with_marks}
+use Rattle.laws_runs.specs.SimModel.Reading.{Here, val, denotes, place_in, payload_number, live_payload}
+use Rattle.laws_runs.specs.SimModel.Waits.{fire, holds, without, notify, waits, leaves_stack}
+use Rattle.laws_runs.specs.SimModel.Storing.{passes, set_local, set_denoted, set_name, stored, stored_if, set_memory, chosen, looped, do_var, do_assign, do_print, do_if, do_while}
+use Rattle.laws_runs.specs.SimModel.Waiting.{when_after, channel_event, on_event, event_number, notified_now, cancelled, do_wait, do_next_trigger, do_notify_after}
+use Rattle.laws_runs.specs.SimModel.Channels.{set_fifo, set_mutex, set_semaphore, blocks, written_unless, write_signal, write_channel, write_fifo, do_write, fifo_of, with_fifo, read_value, read_fifo, do_read, nb_read_value, nb_read_fifo, do_nb_read, nb_write_fifo, do_nb_write, answered, lock_mutex, lock_at, do_lock, trylock_mutex, trylock_at, do_trylock, unlock_mutex, unlock_at, do_unlock, sem_wait_value, sem_wait_at, do_sem_wait, sem_trywait_value, sem_trywait_at, do_sem_trywait, post_value, post_at, do_post, mutex_of, semaphore_of, taken_from, channel_in}
+use Rattle.laws_runs.specs.SimModel.Calls.{enters, do_guard, do_try, final_value, given_back, call_ends, handle_stored, with_left, thrown, do_call, do_return, do_spawn, spawns, added, new_instance, runnable_unless}
+use Rattle.laws_runs.specs.SimModel.Transport.{path_of_call, int_of, value_named, is_complete, with_keeper, kept, on_keeper, do_make, do_acquire, do_release, do_carry, b_transport_on, nb_transport_on, judged_by, judged, enters_handler, may_enter_handler, blocking_handler, nonblocking_handler, history, socket_of, do_qk_global, do_qk_inc, do_qk_set, do_qk_reset}
+use Rattle.laws_runs.specs.SimModel.Control.{target_of, is_top, is_below_top, is_thread, with_kept, yields, pushed, unwinds, injected, controlled_by, throws_at, unless_ended, control_call, throw_call, with_owed, do_control, do_throw_it}
+use Rattle.laws_runs.specs.SimModel.Statements.{do_statement}
+use Rattle.laws_runs.specs.SimModel.declared.plain.Goal.TheVariants as goal_of
+use Rattle.laws_runs.specs.SimModel.declared.plain.Via.{Via}
 use Rattle.laws_clocked.specs.Fired.{of_channel, by_owner, by_unlock, by_value, by_post, channel_named, by_statement, fixed}
 use Rattle.laws_clocked.proofs.Away.{raise-goal}
 use Rattle.laws_clocked.proofs.Rousing.{Rests, Quiet, rests_if, other, more, left_rests, fire_one-rests, goes_stays, goes_pushed, unwinds_rests, suspends, keeps, resumes, disables_}

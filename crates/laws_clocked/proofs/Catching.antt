@@ -1,26 +1,26 @@
 -- An exception comes to the try around a clocked thread's own statements, and these begin again.
 use Rattle.std.proofs.Common.{◌≡◌, ◌||◌, ℕ, suc, Bool, true, false, cond, List, [], ◌∷◌, slice_get, Option, Some, refl, ap, ◌∙◌, subst}
 use Rattle.std.specs.Prelude.{Result, Ok, Err, is_some, unwrap_or}
-use Rattle.laws_unwinding.specs.LogicValues.declared.kinds.Value.{Value}
-use Rattle.laws_unwinding.specs.LogicValues.declared.kinds.Value.TheVariants as value
-use Rattle.laws_unwinding.specs.TransportPhases.History.{Left}
-use Rattle.laws_unwinding.specs.FlatDesign.Code as code
-use Rattle.laws_unwinding.specs.FlatDesign.Code.{Arena, statement_at}
-use Rattle.laws_unwinding.specs.FlatDesign.declared.names.NameUse.TheVariants as name_use
-use Rattle.laws_unwinding.specs.FlatDesign.declared.code.Handler.{Handler}
-use Rattle.laws_unwinding.specs.FlatDesign.declared.faults.RunFault.{RunFault}
-use Rattle.laws_unwinding.specs.FlatDesign.declared.faults.RunFault.TheVariants as fault
-use Rattle.laws_unwinding.specs.SimModel.Values.{on_ok, truth, widened}
-use Rattle.laws_unwinding.specs.SimModel.Residual.{Residual, Frame, skip, one, seq, try_, frame, goal, followed, statements, block, settle, put, next_of, in_frame, statement}
-use Rattle.laws_unwinding.specs.SimModel.Unwinding.{unw, catches, handles, handler_of, handler_block, raise, left_by_unw, left_by_raise}
-use Rattle.laws_unwinding.specs.SimModel.Configuration.{Config, Instance, arena, with_residual}
-use Rattle.laws_unwinding.specs.SimModel.Reading.{here, val}
-use Rattle.laws_unwinding.specs.SimModel.Storing.{looped}
-use Rattle.laws_unwinding.specs.SimModel.Calls.{with_left, with_entry, thrown}
-use Rattle.laws_unwinding.specs.SimModel.Statements.{settled_in, step_by, do_next}
-use Rattle.laws_unwinding.specs.SimModel.Steps.{step, went, as_outcome}
-use Rattle.laws_unwinding.specs.SimModel.declared.plain.Goal.TheVariants as goal_of
-use Rattle.laws_unwinding.specs.SimModel.declared.plain.Via.{Via}
+use Rattle.laws_runs.specs.LogicValues.declared.kinds.Value.{Value}
+use Rattle.laws_runs.specs.LogicValues.declared.kinds.Value.TheVariants as value
+use Rattle.laws_runs.specs.TransportPhases.History.{Left}
+use Rattle.laws_runs.specs.FlatDesign.Code as code
+use Rattle.laws_runs.specs.FlatDesign.Code.{Arena, statement_at}
+use Rattle.laws_runs.specs.FlatDesign.declared.names.NameUse.TheVariants as name_use
+use Rattle.laws_runs.specs.FlatDesign.declared.code.Handler.{Handler}
+use Rattle.laws_runs.specs.FlatDesign.declared.faults.RunFault.{RunFault}
+use Rattle.laws_runs.specs.FlatDesign.declared.faults.RunFault.TheVariants as fault
+use Rattle.laws_runs.specs.SimModel.Values.{on_ok, truth, widened}
+use Rattle.laws_runs.specs.SimModel.Residual.{Residual, Frame, skip, one, seq, try_, frame, goal, followed, statements, block, settle, put, next_of, in_frame, statement}
+use Rattle.laws_runs.specs.SimModel.Unwinding.{unw, catches, handles, handler_of, handler_block, raise, left_by_unw, left_by_raise}
+use Rattle.laws_runs.specs.SimModel.Configuration.{Config, Instance, arena, with_residual}
+use Rattle.laws_runs.specs.SimModel.Reading.{here, val}
+use Rattle.laws_runs.specs.SimModel.Storing.{looped}
+use Rattle.laws_runs.specs.SimModel.Calls.{with_left, with_entry, thrown}
+use Rattle.laws_runs.specs.SimModel.Statements.{settled_in, step_by, do_next}
+use Rattle.laws_runs.specs.SimModel.Steps.{step, went, as_outcome}
+use Rattle.laws_runs.specs.SimModel.declared.plain.Goal.TheVariants as goal_of
+use Rattle.laws_runs.specs.SimModel.declared.plain.Via.{Via}
 use Rattle.laws_clocked.specs.Again.{Around, HasAround, trying, unwinding, StandsAt, no_step, one_more, IsCaught, BeginsAgain}
 use Rattle.laws_clocked.proofs.OwnSteps.{step-top, changed-at, carries}
 

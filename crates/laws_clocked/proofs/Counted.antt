@@ -1,8 +1,8 @@
 -- A tick of a thread in a run, where its count is told.
 use Rattle.std.specs.Prelude.{◌≡◌, ℕ, List, Some}
-use Rattle.laws_unwinding.specs.LogicValues.declared.kinds.Value.{Value}
-use Rattle.laws_unwinding.specs.SimModel.Configuration.{Config, Instance, arena, instance_at}
-use Rattle.laws_unwinding.specs.SimModel.Runs.{after}
+use Rattle.laws_runs.specs.LogicValues.declared.kinds.Value.{Value}
+use Rattle.laws_runs.specs.SimModel.Configuration.{Config, Instance, arena, instance_at}
+use Rattle.laws_runs.specs.SimModel.Runs.{after}
 use Rattle.laws_clocked.specs.Ticks.{Tick, IsIn, entering, checking}
 use Rattle.laws_clocked.specs.Turns.{ComesTo, IsLeaving, IsNotUnwound, EachBefore, EachUpTo}
 

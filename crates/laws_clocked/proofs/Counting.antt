@@ -2,18 +2,18 @@
 use Rattle.std.proofs.Common.{◌≡◌, ◌^◌, ◌<◌, ℕ, suc, Bool, true, false, pos, Some, refl, ap, ◌∙◌, arith}
 use Rattle.std.specs.Prelude.{Result, Ok, slice_get, unwrap_or, int_lt}
 use Rattle.std.proofs.lemmas.Int.{ints}
-use Rattle.laws_unwinding.specs.LogicValues.declared.kinds.Sign.TheVariants as sign
-use Rattle.laws_unwinding.specs.LogicValues.declared.kinds.Value.{Value}
-use Rattle.laws_unwinding.specs.LogicValues.declared.kinds.Value.TheVariants as value
-use Rattle.laws_unwinding.specs.LogicValues.Integers.{is_less, difference_of, cut_of}
-use Rattle.laws_unwinding.specs.ModelTree.declared.expressions.BinaryOp.TheVariants as op
-use Rattle.laws_unwinding.specs.FlatDesign.Code as code
-use Rattle.laws_unwinding.specs.FlatDesign.declared.value_types.ValueType.TheVariants as type
-use Rattle.laws_unwinding.specs.FlatDesign.declared.faults.RunFault.{RunFault}
-use Rattle.laws_unwinding.specs.SimModel.Values.{on_ok, bits, widened, bool_value, unsigned, cut_to}
-use Rattle.laws_unwinding.specs.SimModel.Residual.{Frame, Residual, innermost}
-use Rattle.laws_unwinding.specs.SimModel.Configuration.{Config, Instance}
-use Rattle.laws_unwinding.specs.SimModel.Reading.{here, locals_of, val}
+use Rattle.laws_runs.specs.LogicValues.declared.kinds.Sign.TheVariants as sign
+use Rattle.laws_runs.specs.LogicValues.declared.kinds.Value.{Value}
+use Rattle.laws_runs.specs.LogicValues.declared.kinds.Value.TheVariants as value
+use Rattle.laws_runs.specs.LogicValues.Integers.{is_less, difference_of, cut_of}
+use Rattle.laws_runs.specs.ModelTree.declared.expressions.BinaryOp.TheVariants as op
+use Rattle.laws_runs.specs.FlatDesign.Code as code
+use Rattle.laws_runs.specs.FlatDesign.declared.value_types.ValueType.TheVariants as type
+use Rattle.laws_runs.specs.FlatDesign.declared.faults.RunFault.{RunFault}
+use Rattle.laws_runs.specs.SimModel.Values.{on_ok, bits, widened, bool_value, unsigned, cut_to}
+use Rattle.laws_runs.specs.SimModel.Residual.{Frame, Residual, innermost}
+use Rattle.laws_runs.specs.SimModel.Configuration.{Config, Instance}
+use Rattle.laws_runs.specs.SimModel.Reading.{here, locals_of, val}
 use Rattle.laws_clocked.specs.Ticks.{Tick, count_of}
 
 -- ---- numbers

@@ -1,24 +1,24 @@
 -- In every run of a sound design, a thread that stands inside a tick has a local variable that counts it.
 use Rattle.std.proofs.Common.{◌≡◌, ◌⊎◌, ℕ, zero, true, false, List, [], ◌∷◌, slice_get, get_or, Option, Some, None, option_map, refl, ap, subst, arith, inl, inr, ⊎_elim}
 use Rattle.std.proofs.lemmas.Option.{none-some, slice_get_within, slice_get-get_or}
-use Rattle.laws_unwinding.specs.LogicValues.declared.kinds.Value.{Value}
-use Rattle.laws_unwinding.specs.LogicValues.declared.kinds.Value.TheVariants as value
-use Rattle.laws_unwinding.specs.ModelTree.declared.expressions.BinaryOp.TheVariants as op
-use Rattle.laws_unwinding.specs.FlatDesign.Code as code
-use Rattle.laws_unwinding.specs.FlatDesign.Code.{body_at}
-use Rattle.laws_unwinding.specs.FlatDesign.Typed.{EachOf, NameType}
-use Rattle.laws_unwinding.specs.FlatDesign.Sound.{SoundDesign}
-use Rattle.laws_unwinding.specs.FlatDesign.declared.code.CodeBody.{CodeBody}
-use Rattle.laws_unwinding.specs.FlatDesign.declared.code.Local.{Local}
-use Rattle.laws_unwinding.specs.FlatDesign.declared.names.NameUse.TheVariants as name_use
-use Rattle.laws_unwinding.specs.FlatDesign.declared.design.Design.{Design}
-use Rattle.laws_unwinding.specs.FlatDesign.declared.value_types.ValueType.{ValueType}
-use Rattle.laws_unwinding.specs.FlatDesign.declared.value_types.ValueType.TheVariants as type
-use Rattle.laws_unwinding.specs.SimModel.Residual.{Residual, Frame, seq, statements, settle, or_frame, innermost}
-use Rattle.laws_unwinding.specs.SimModel.Configuration.{Config, arena, start}
-use Rattle.laws_unwinding.specs.SimModel.Runs.{after}
-use Rattle.laws_unwinding.specs.SimModel.declared.plain.Command.{Command}
-use Rattle.laws_unwinding.specs.LawsRuns.Standing.{code_of}
+use Rattle.laws_runs.specs.LogicValues.declared.kinds.Value.{Value}
+use Rattle.laws_runs.specs.LogicValues.declared.kinds.Value.TheVariants as value
+use Rattle.laws_runs.specs.ModelTree.declared.expressions.BinaryOp.TheVariants as op
+use Rattle.laws_runs.specs.FlatDesign.Code as code
+use Rattle.laws_runs.specs.FlatDesign.Code.{body_at}
+use Rattle.laws_runs.specs.FlatDesign.Typed.{EachOf, NameType}
+use Rattle.laws_runs.specs.FlatDesign.Sound.{SoundDesign}
+use Rattle.laws_runs.specs.FlatDesign.declared.code.CodeBody.{CodeBody}
+use Rattle.laws_runs.specs.FlatDesign.declared.code.Local.{Local}
+use Rattle.laws_runs.specs.FlatDesign.declared.names.NameUse.TheVariants as name_use
+use Rattle.laws_runs.specs.FlatDesign.declared.design.Design.{Design}
+use Rattle.laws_runs.specs.FlatDesign.declared.value_types.ValueType.{ValueType}
+use Rattle.laws_runs.specs.FlatDesign.declared.value_types.ValueType.TheVariants as type
+use Rattle.laws_runs.specs.SimModel.Residual.{Residual, Frame, seq, statements, settle, or_frame, innermost}
+use Rattle.laws_runs.specs.SimModel.Configuration.{Config, arena, start}
+use Rattle.laws_runs.specs.SimModel.Runs.{after}
+use Rattle.laws_runs.specs.SimModel.declared.plain.Command.{Command}
+use Rattle.laws_runs.specs.Standing.{code_of}
 use Rattle.laws_clocked.specs.Spots.{Shows, itself, followed_by, guarded, tried, called}
 use Rattle.laws_clocked.specs.Ticks.{Tick, HasTick, behind, count_of, left_at, entering, checking, IsIn}
 use Rattle.laws_clocked.specs.Turns.{LeavesNormally, IsBehindWait}

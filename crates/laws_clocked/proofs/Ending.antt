@@ -3,52 +3,52 @@ use Rattle.std.proofs.Common.{◌≡◌, ◌≢◌, ℕ, ◌==◌, Bool, true, f
 use Rattle.std.specs.Prelude.{Result, Ok, Err, unwrap_or}
 use Rattle.std.specs.Result.{IfOk}
 use Rattle.std.proofs.lemmas.Option.{none-some, same_Some}
-use Rattle.laws_unwinding.specs.LogicValues.declared.kinds.Value.TheVariants as value
-use Rattle.laws_unwinding.specs.LogicValues.declared.kinds.Value.{Value}
-use Rattle.laws_unwinding.specs.SimTime.declared.moments.Time.{Time}
-use Rattle.laws_unwinding.specs.ModelTree.declared.items.ProcessKind.{ProcessKind}
-use Rattle.laws_unwinding.specs.ModelTree.declared.items.ProcessKind.TheVariants as process
-use Rattle.laws_unwinding.specs.EventCore.declared.event.Ev.{Ev}
-use Rattle.laws_unwinding.specs.EventCore.declared.event.Ev.TheVariants as ev
-use Rattle.laws_unwinding.specs.EventCore.declared.notifications.Pending.{Pending}
-use Rattle.laws_unwinding.specs.SignalChannel.Drivers.{Driven}
-use Rattle.laws_unwinding.specs.SignalChannel.declared.signal.Signal.{Signal}
-use Rattle.laws_unwinding.specs.SignalChannel.declared.signal.Changed.{Changed}
-use Rattle.laws_unwinding.specs.FifoSync.Fifos.{Queued}
-use Rattle.laws_unwinding.specs.TransportPhases.History.{Entry, Return, BReturn, broken}
-use Rattle.laws_unwinding.specs.TransportPhases.declared.phases.Rule.{Rule}
-use Rattle.laws_unwinding.specs.FlatDesign.Code as code
-use Rattle.laws_unwinding.specs.FlatDesign.Code.{Statement, statement_at}
-use Rattle.laws_unwinding.specs.FlatDesign.declared.design.SignalPart.{SignalPart}
-use Rattle.laws_unwinding.specs.FlatDesign.declared.design.ResolvedPart.{ResolvedPart}
-use Rattle.laws_unwinding.specs.FlatDesign.declared.design.FifoPart.{FifoPart}
-use Rattle.laws_unwinding.specs.FlatDesign.declared.design.Visible.{Visible}
-use Rattle.laws_unwinding.specs.FlatDesign.declared.design.VisibleId.{VisibleId}
-use Rattle.laws_unwinding.specs.FlatDesign.declared.design.VisibleId.TheVariants as visible_id
-use Rattle.laws_unwinding.specs.FlatDesign.declared.faults.RunFault.{RunFault}
-use Rattle.laws_unwinding.specs.SimModel.Values.{on_ok, time_within}
-use Rattle.laws_unwinding.specs.SimModel.Residual as residual
-use Rattle.laws_unwinding.specs.SimModel.Residual.{Residual, Frame, Next, skip, begun, settle, put, next_of, taken_off}
-use Rattle.laws_unwinding.specs.SimModel.Configuration.{Config, Instance, Deadline, no_deadline, arena, instance_at, change_instance, with_residual, with_phase}
-use Rattle.laws_unwinding.specs.SimModel.Reading.{Here, here}
-use Rattle.laws_unwinding.specs.SimModel.Waits.{fire, fire_all, leaves_stack}
-use Rattle.laws_unwinding.specs.SimModel.Storing.{passes, set_name, stored_if}
-use Rattle.laws_unwinding.specs.SimModel.Calls.{answer_of, final_value}
-use Rattle.laws_unwinding.specs.SimModel.Transport.{int_of, history, judged, judged_by, judged_return, for_freed, b_transport_ends, nb_transport_ends, complete_now}
-use Rattle.laws_unwinding.specs.SimModel.Control.{ended_instance, begins, stays_kept, reaches_goal, done_by}
-use Rattle.laws_unwinding.specs.SimModel.Statements.{via_ends, hands_back, handed_back, calling_statement, owed_call, owed_by, on_statement, do_next, settled_in, step_by, statement_step}
-use Rattle.laws_unwinding.specs.SimModel.Phases.{unchanged, notified_if, announced, announce_signals, announce_resolved, announce_fifos, was_some, update_phase, update_step, session_stopped, due_events, without_pending, without_deadline, fire_due, is_delta, is_zero_timeout, is_at, is_due_at, is_past, phase_at, now_becomes, with_snapshot, run_over, fired_at, timed_at, earliest}
-use Rattle.laws_unwinding.specs.SimModel.Steps.{Outcome, went, faulted, takes, ended, as_outcome, shows, sets, sets_visible, run_begun, begin_run, carry_out, next_command, evaluate, step_in, step, instance_taken, taken_if, taking}
-use Rattle.laws_unwinding.specs.SimModel.declared.plain.Command.{Command}
-use Rattle.laws_unwinding.specs.SimModel.declared.plain.Command.TheVariants as command
-use Rattle.laws_unwinding.specs.SimModel.declared.plain.Goal.{Goal}
-use Rattle.laws_unwinding.specs.SimModel.declared.plain.Goal.TheVariants as goal_of
-use Rattle.laws_unwinding.specs.SimModel.declared.plain.Phase.{Phase}
-use Rattle.laws_unwinding.specs.SimModel.declared.plain.Phase.TheVariants as phase
-use Rattle.laws_unwinding.specs.SimModel.declared.plain.Via.{Via}
-use Rattle.laws_unwinding.specs.SimModel.Clean.{times}
-use Rattle.laws_unwinding.proofs.LawsRuns.Times.{times-here}
-use Rattle.laws_moves.specs.Moves.{IsLater}
+use Rattle.laws_runs.specs.LogicValues.declared.kinds.Value.TheVariants as value
+use Rattle.laws_runs.specs.LogicValues.declared.kinds.Value.{Value}
+use Rattle.laws_runs.specs.SimTime.declared.moments.Time.{Time}
+use Rattle.laws_runs.specs.ModelTree.declared.items.ProcessKind.{ProcessKind}
+use Rattle.laws_runs.specs.ModelTree.declared.items.ProcessKind.TheVariants as process
+use Rattle.laws_runs.specs.EventCore.declared.event.Ev.{Ev}
+use Rattle.laws_runs.specs.EventCore.declared.event.Ev.TheVariants as ev
+use Rattle.laws_runs.specs.EventCore.declared.notifications.Pending.{Pending}
+use Rattle.laws_runs.specs.SignalChannel.Drivers.{Driven}
+use Rattle.laws_runs.specs.SignalChannel.declared.signal.Signal.{Signal}
+use Rattle.laws_runs.specs.SignalChannel.declared.signal.Changed.{Changed}
+use Rattle.laws_runs.specs.FifoSync.Fifos.{Queued}
+use Rattle.laws_runs.specs.TransportPhases.History.{Entry, Return, BReturn, broken}
+use Rattle.laws_runs.specs.TransportPhases.declared.phases.Rule.{Rule}
+use Rattle.laws_runs.specs.FlatDesign.Code as code
+use Rattle.laws_runs.specs.FlatDesign.Code.{Statement, statement_at}
+use Rattle.laws_runs.specs.FlatDesign.declared.design.SignalPart.{SignalPart}
+use Rattle.laws_runs.specs.FlatDesign.declared.design.ResolvedPart.{ResolvedPart}
+use Rattle.laws_runs.specs.FlatDesign.declared.design.FifoPart.{FifoPart}
+use Rattle.laws_runs.specs.FlatDesign.declared.design.Visible.{Visible}
+use Rattle.laws_runs.specs.FlatDesign.declared.design.VisibleId.{VisibleId}
+use Rattle.laws_runs.specs.FlatDesign.declared.design.VisibleId.TheVariants as visible_id
+use Rattle.laws_runs.specs.FlatDesign.declared.faults.RunFault.{RunFault}
+use Rattle.laws_runs.specs.SimModel.Values.{on_ok, time_within}
+use Rattle.laws_runs.specs.SimModel.Residual as residual
+use Rattle.laws_runs.specs.SimModel.Residual.{Residual, Frame, Next, skip, begun, settle, put, next_of, taken_off}
+use Rattle.laws_runs.specs.SimModel.Configuration.{Config, Instance, Deadline, no_deadline, arena, instance_at, change_instance, with_residual, with_phase}
+use Rattle.laws_runs.specs.SimModel.Reading.{Here, here}
+use Rattle.laws_runs.specs.SimModel.Waits.{fire, fire_all, leaves_stack}
+use Rattle.laws_runs.specs.SimModel.Storing.{passes, set_name, stored_if}
+use Rattle.laws_runs.specs.SimModel.Calls.{answer_of, final_value}
+use Rattle.laws_runs.specs.SimModel.Transport.{int_of, history, judged, judged_by, judged_return, for_freed, b_transport_ends, nb_transport_ends, complete_now}
+use Rattle.laws_runs.specs.SimModel.Control.{ended_instance, begins, stays_kept, reaches_goal, done_by}
+use Rattle.laws_runs.specs.SimModel.Statements.{via_ends, hands_back, handed_back, calling_statement, owed_call, owed_by, on_statement, do_next, settled_in, step_by, statement_step}
+use Rattle.laws_runs.specs.SimModel.Phases.{unchanged, notified_if, announced, announce_signals, announce_resolved, announce_fifos, was_some, update_phase, update_step, session_stopped, due_events, without_pending, without_deadline, fire_due, is_delta, is_zero_timeout, is_at, is_due_at, is_past, phase_at, now_becomes, with_snapshot, run_over, fired_at, timed_at, earliest}
+use Rattle.laws_runs.specs.SimModel.Steps.{Outcome, went, faulted, takes, ended, as_outcome, shows, sets, sets_visible, run_begun, begin_run, carry_out, next_command, evaluate, step_in, step, instance_taken, taken_if, taking}
+use Rattle.laws_runs.specs.SimModel.declared.plain.Command.{Command}
+use Rattle.laws_runs.specs.SimModel.declared.plain.Command.TheVariants as command
+use Rattle.laws_runs.specs.SimModel.declared.plain.Goal.{Goal}
+use Rattle.laws_runs.specs.SimModel.declared.plain.Goal.TheVariants as goal_of
+use Rattle.laws_runs.specs.SimModel.declared.plain.Phase.{Phase}
+use Rattle.laws_runs.specs.SimModel.declared.plain.Phase.TheVariants as phase
+use Rattle.laws_runs.specs.SimModel.declared.plain.Via.{Via}
+use Rattle.laws_runs.specs.SimModel.Clean.{times}
+use Rattle.laws_runs.proofs.Times.{times-here}
+use Rattle.laws_runs.specs.Moves.{IsLater}
 use Rattle.laws_clocked.specs.Fired.{by_statement_if, by_end, by_goal, by_next, in_turn_of, in_evaluation, at_time, in_phase, fires_of}
 use Rattle.laws_clocked.proofs.Rousing.{IsStill, RestsIn, Rests, Quiet, rests_if, fire_one-rests, fire_all-rests, due-rests, freed-rests}
 use Rattle.laws_clocked.proofs.Carrying.{if_went-ok, own, passed, placed, name_rests, stored_if_rests, call_ends_rests, control_rests, throw_rests, form_rests}

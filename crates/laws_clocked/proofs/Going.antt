@@ -1,7 +1,7 @@
 -- What is left of a thread inside a tick, from statement to statement.
 use Rattle.std.proofs.Common.{◌≡◌, ℕ, List, [], ◌∷◌, None, option_map, refl, sym, ap, ◌∙◌, subst}
-use Rattle.laws_unwinding.specs.FlatDesign.Code.{Arena, block_at}
-use Rattle.laws_unwinding.specs.SimModel.Residual.{Residual, Frame, skip, one, seq, followed, statements, block, settle, put, next_of, statement, innermost, in_innermost}
+use Rattle.laws_runs.specs.FlatDesign.Code.{Arena, block_at}
+use Rattle.laws_runs.specs.SimModel.Residual.{Residual, Frame, skip, one, seq, followed, statements, block, settle, put, next_of, statement, innermost, in_innermost}
 use Rattle.laws_clocked.specs.Spots.{IsLeft, Shows}
 use Rattle.laws_clocked.specs.Ticks.{Test, Tick, behind, IsTest, HasTick, Spot, left_at, entering, declaring, testing, waiting, checking}
 use Rattle.laws_clocked.proofs.Showing.{shows-next, shows-put, shows-settled, shows-set, innermost-set, innermost-followed, innermost-put, innermost-settled}

@@ -4,27 +4,27 @@ use Rattle.std.proofs.Common.{◌≡◌, ◌⊎◌, ◌<◌, ℕ, zero, suc, Boo
 use Rattle.std.specs.Prelude.{Ok}
 use Rattle.std.specs.Result.{IfOk}
 use Rattle.std.proofs.lemmas.Option.{none-some, same_Some}
-use Rattle.laws_unwinding.specs.LogicValues.declared.kinds.Value.{Value}
-use Rattle.laws_unwinding.specs.FlatDesign.Code.{Arena}
-use Rattle.laws_unwinding.specs.FlatDesign.Sound.{SoundDesign}
-use Rattle.laws_unwinding.specs.FlatDesign.declared.design.Design.{Design}
-use Rattle.laws_unwinding.specs.SimModel.Values.{truth}
-use Rattle.laws_unwinding.specs.SimModel.Residual as residual
-use Rattle.laws_unwinding.specs.SimModel.Residual.{Residual, Frame, Next, skip, seq, frame, goal, settle, next_of, statement, in_frame, before_goal}
-use Rattle.laws_unwinding.specs.SimModel.Configuration.{Config, Instance, arena, instance_at, with_residual}
-use Rattle.laws_unwinding.specs.SimModel.Statements.{settled_in, do_next, step_by, statement_step}
-use Rattle.laws_unwinding.specs.SimModel.Steps.{Outcome, went, faulted, takes, ended, step}
-use Rattle.laws_unwinding.specs.SimModel.Runs.{after, and_then}
-use Rattle.laws_unwinding.specs.SimModel.Clean.{times}
-use Rattle.laws_unwinding.specs.SimModel.declared.plain.Command.{Command}
-use Rattle.laws_unwinding.specs.SimModel.declared.plain.Goal.{Goal}
-use Rattle.laws_unwinding.specs.SimModel.declared.plain.Goal.TheVariants as goal_of
-use Rattle.laws_unwinding.proofs.LawsRuns.Tight.{IsTight, settle-tight}
-use Rattle.laws_unwinding.proofs.Parts.{IsOver, IsInner}
-use Rattle.laws_unwinding.proofs.Roots.{IsRooted, rooted-over, settle-rooted}
-use Rattle.laws_unwinding.proofs.KeptRuns.{sound-run}
-use Rattle.laws_unwinding.proofs.MarkedRuns.{marked-after}
-use Rattle.laws_moves.proofs.RunSteps.{takes-empty}
+use Rattle.laws_runs.specs.LogicValues.declared.kinds.Value.{Value}
+use Rattle.laws_runs.specs.FlatDesign.Code.{Arena}
+use Rattle.laws_runs.specs.FlatDesign.Sound.{SoundDesign}
+use Rattle.laws_runs.specs.FlatDesign.declared.design.Design.{Design}
+use Rattle.laws_runs.specs.SimModel.Values.{truth}
+use Rattle.laws_runs.specs.SimModel.Residual as residual
+use Rattle.laws_runs.specs.SimModel.Residual.{Residual, Frame, Next, skip, seq, frame, goal, settle, next_of, statement, in_frame, before_goal}
+use Rattle.laws_runs.specs.SimModel.Configuration.{Config, Instance, arena, instance_at, with_residual}
+use Rattle.laws_runs.specs.SimModel.Statements.{settled_in, do_next, step_by, statement_step}
+use Rattle.laws_runs.specs.SimModel.Steps.{Outcome, went, faulted, takes, ended, step}
+use Rattle.laws_runs.specs.SimModel.Runs.{after, and_then}
+use Rattle.laws_runs.specs.SimModel.Clean.{times}
+use Rattle.laws_runs.specs.SimModel.declared.plain.Command.{Command}
+use Rattle.laws_runs.specs.SimModel.declared.plain.Goal.{Goal}
+use Rattle.laws_runs.specs.SimModel.declared.plain.Goal.TheVariants as goal_of
+use Rattle.laws_runs.proofs.Tight.{IsTight, settle-tight}
+use Rattle.laws_runs.proofs.GoalParts.{IsOver, IsInner}
+use Rattle.laws_runs.proofs.Roots.{IsRooted, rooted-over, settle-rooted}
+use Rattle.laws_runs.proofs.KeptRuns.{sound-run}
+use Rattle.laws_runs.proofs.MarkedRuns.{marked-after}
+use Rattle.laws_runs.proofs.RunSteps.{takes-empty}
 use Rattle.laws_clocked.specs.Spots.{IsLeft}
 use Rattle.laws_clocked.specs.Again.{injected_into, IsHeldBack, BeginsUnlessHeldBack, Around, StandsAt, StaysOrBegins, stays_on, BeginsFirst}
 use Rattle.laws_clocked.proofs.OwnSteps.{settled-at}
@@ -36,15 +36,15 @@ use Rattle.laws_clocked.proofs.PlacedMoves.{placed-after}
 use Rattle.laws_clocked.proofs.Keeping.{IsKeeping, Keeps, next-keeps}
 use Rattle.laws_clocked.proofs.Storing.{LeftSo}
 use Rattle.laws_clocked.proofs.Undoing.{spared-next, spared-leaves}
-use Rattle.laws_unwinding.specs.SimModel.Residual.{one, has_goal, put}
-use Rattle.laws_unwinding.specs.SimModel.Unwinding.{returned}
-use Rattle.laws_unwinding.specs.SimModel.Storing.{passes}
-use Rattle.laws_unwinding.specs.SimModel.Control.{stays_kept}
-use Rattle.laws_unwinding.specs.SimModel.Steps.{as_outcome}
-use Rattle.laws_unwinding.specs.LawsRuns.Standing.{IsStanding}
-use Rattle.laws_unwinding.proofs.Fine.{fine-at}
-use Rattle.laws_unwinding.proofs.Roots.{IsBare, over_skip, over_frame, over_goal}
-use Rattle.laws_unwinding.proofs.Runs.{goals-after}
+use Rattle.laws_runs.specs.SimModel.Residual.{one, has_goal, put}
+use Rattle.laws_runs.specs.SimModel.Unwinding.{returned}
+use Rattle.laws_runs.specs.SimModel.Storing.{passes}
+use Rattle.laws_runs.specs.SimModel.Control.{stays_kept}
+use Rattle.laws_runs.specs.SimModel.Steps.{as_outcome}
+use Rattle.laws_runs.specs.Standing.{IsStanding}
+use Rattle.laws_runs.proofs.Fine.{fine-at}
+use Rattle.laws_runs.proofs.Roots.{IsBare, over_skip, over_frame, over_goal}
+use Rattle.laws_runs.proofs.GoalRuns.{goals-after}
 use Rattle.laws_clocked.proofs.OwnSteps.{step-top, changed-at}
 use Rattle.laws_clocked.proofs.Catching.{loop-begins}
 use Rattle.laws_clocked.proofs.Owed.{left_goal}

@@ -4,37 +4,37 @@ use Rattle.std.proofs.Common.{◌≡◌, ◌⊎◌, ℕ, Bool, true, false, cond
 use Rattle.std.specs.Prelude.{Result, Ok, Err}
 use Rattle.std.specs.Result.{IfOk}
 use Rattle.std.proofs.lemmas.Option.{none-some, same_Some}
-use Rattle.laws_unwinding.specs.LogicValues.declared.kinds.Value.{Value}
-use Rattle.laws_unwinding.specs.LogicValues.declared.kinds.Value.TheVariants as value
-use Rattle.laws_unwinding.specs.ModelTree.declared.items.ProcessKind.{ProcessKind}
-use Rattle.laws_unwinding.specs.ModelTree.declared.items.ProcessKind.TheVariants as process
-use Rattle.laws_unwinding.specs.EventCore.declared.event.Ev.TheVariants as ev
-use Rattle.laws_unwinding.specs.TransportPhases.History.{Entry, Return, BReturn, broken}
-use Rattle.laws_unwinding.specs.TransportPhases.declared.phases.Rule.{Rule}
-use Rattle.laws_unwinding.specs.FlatDesign.Code as code
-use Rattle.laws_unwinding.specs.FlatDesign.Code.{Arena, ArgumentTerm, DestinationTerm, Statement, statement_at}
-use Rattle.laws_unwinding.specs.FlatDesign.declared.names.NameUse.{NameUse}
-use Rattle.laws_unwinding.specs.FlatDesign.declared.names.NameUse.TheVariants as name_use
-use Rattle.laws_unwinding.specs.FlatDesign.declared.code.Store.{Store as Target}
-use Rattle.laws_unwinding.specs.FlatDesign.declared.faults.RunFault.{RunFault}
-use Rattle.laws_unwinding.specs.SimModel.Residual as residual
-use Rattle.laws_unwinding.specs.SimModel.Residual.{Residual, Frame, Next, skip, one, batch, seq, owing, guard, try_, frame, shell, run, goal, followed, changed_if, or_frame, innermost, in_innermost, taken_off, frame_or, goal_or, put, next_of}
-use Rattle.laws_unwinding.specs.SimModel.Unwinding.{raise, has_exit, returned}
-use Rattle.laws_unwinding.specs.SimModel.Storing.{passes, with_local, set_name, stored_if}
-use Rattle.laws_unwinding.specs.SimModel.Configuration.{Config, Instance, arena, instance_at, change_instance, with_residual}
-use Rattle.laws_unwinding.specs.SimModel.Reading.{Here, here}
-use Rattle.laws_unwinding.specs.SimModel.Waits.{leaves_stack}
-use Rattle.laws_unwinding.specs.SimModel.Values.{on_ok}
-use Rattle.laws_unwinding.specs.SimModel.Calls.{call_ends, answer_of, final_value}
-use Rattle.laws_unwinding.specs.SimModel.Transport.{int_of, history, judged, judged_by, judged_return, for_freed, b_transport_ends, nb_transport_ends, complete_now}
-use Rattle.laws_unwinding.specs.SimModel.Control.{ended_instance, stays_kept, reaches_goal, done_by}
-use Rattle.laws_unwinding.specs.SimModel.Statements.{do_statement, leaves_call, via_ends, hands_back, handed_back, calling_statement, owed_call, owed_by, on_statement, do_next}
-use Rattle.laws_unwinding.specs.SimModel.declared.plain.Goal.{Goal}
-use Rattle.laws_unwinding.specs.SimModel.declared.plain.Goal.TheVariants as goal_of
-use Rattle.laws_unwinding.specs.SimModel.declared.plain.Via.{Via}
-use Rattle.laws_unwinding.proofs.LawsRuns.Changes.{set-other}
-use Rattle.laws_unwinding.proofs.Parts.{IsInner}
-use Rattle.laws_unwinding.proofs.LawsRuns.MarkLemmas.{before_statement, frame_statement}
+use Rattle.laws_runs.specs.LogicValues.declared.kinds.Value.{Value}
+use Rattle.laws_runs.specs.LogicValues.declared.kinds.Value.TheVariants as value
+use Rattle.laws_runs.specs.ModelTree.declared.items.ProcessKind.{ProcessKind}
+use Rattle.laws_runs.specs.ModelTree.declared.items.ProcessKind.TheVariants as process
+use Rattle.laws_runs.specs.EventCore.declared.event.Ev.TheVariants as ev
+use Rattle.laws_runs.specs.TransportPhases.History.{Entry, Return, BReturn, broken}
+use Rattle.laws_runs.specs.TransportPhases.declared.phases.Rule.{Rule}
+use Rattle.laws_runs.specs.FlatDesign.Code as code
+use Rattle.laws_runs.specs.FlatDesign.Code.{Arena, ArgumentTerm, DestinationTerm, Statement, statement_at}
+use Rattle.laws_runs.specs.FlatDesign.declared.names.NameUse.{NameUse}
+use Rattle.laws_runs.specs.FlatDesign.declared.names.NameUse.TheVariants as name_use
+use Rattle.laws_runs.specs.FlatDesign.declared.code.Store.{Store as Target}
+use Rattle.laws_runs.specs.FlatDesign.declared.faults.RunFault.{RunFault}
+use Rattle.laws_runs.specs.SimModel.Residual as residual
+use Rattle.laws_runs.specs.SimModel.Residual.{Residual, Frame, Next, skip, one, batch, seq, owing, guard, try_, frame, shell, run, goal, followed, changed_if, or_frame, innermost, in_innermost, taken_off, frame_or, goal_or, put, next_of}
+use Rattle.laws_runs.specs.SimModel.Unwinding.{raise, has_exit, returned}
+use Rattle.laws_runs.specs.SimModel.Storing.{passes, with_local, set_name, stored_if}
+use Rattle.laws_runs.specs.SimModel.Configuration.{Config, Instance, arena, instance_at, change_instance, with_residual}
+use Rattle.laws_runs.specs.SimModel.Reading.{Here, here}
+use Rattle.laws_runs.specs.SimModel.Waits.{leaves_stack}
+use Rattle.laws_runs.specs.SimModel.Values.{on_ok}
+use Rattle.laws_runs.specs.SimModel.Calls.{call_ends, answer_of, final_value}
+use Rattle.laws_runs.specs.SimModel.Transport.{int_of, history, judged, judged_by, judged_return, for_freed, b_transport_ends, nb_transport_ends, complete_now}
+use Rattle.laws_runs.specs.SimModel.Control.{ended_instance, stays_kept, reaches_goal, done_by}
+use Rattle.laws_runs.specs.SimModel.Statements.{do_statement, leaves_call, via_ends, hands_back, handed_back, calling_statement, owed_call, owed_by, on_statement, do_next}
+use Rattle.laws_runs.specs.SimModel.declared.plain.Goal.{Goal}
+use Rattle.laws_runs.specs.SimModel.declared.plain.Goal.TheVariants as goal_of
+use Rattle.laws_runs.specs.SimModel.declared.plain.Via.{Via}
+use Rattle.laws_runs.proofs.Changes.{set-other}
+use Rattle.laws_runs.proofs.GoalParts.{IsInner}
+use Rattle.laws_runs.proofs.MarkLemmas.{before_statement, frame_statement}
 use Rattle.laws_clocked.specs.Stores.{StoresTo, StoresIf, StoresTarget, StoresArguments, StoresDestination, OnlyStores}
 use Rattle.laws_clocked.proofs.Storing.{IsKeptUnwound, IsKeptSet, LeftSo, changed_here, flagged, becomes, if_held, fire-held, moved_held, control_held, throw_held, name_held, stored_if_held, call_ends_held, form-held}
 

@@ -3,21 +3,21 @@
 use Rattle.std.proofs.Common.{◌≡◌, ◌+◌, ◌-◌, ◌<◌, ℕ, zero, suc, Bool, true, false, List, [], ◌∷◌, ◌++◌, slice_get, Option, Some, None, refl, sym, ap, ◌∙◌, subst, arith}
 use Rattle.std.specs.Prelude.{Result, Ok, Err}
 use Rattle.std.proofs.lemmas.Option.{none-some, same_Some}
-use Rattle.laws_unwinding.specs.LogicValues.declared.kinds.Value.{Value}
-use Rattle.laws_unwinding.specs.FlatDesign.Code.{Arena}
-use Rattle.laws_unwinding.specs.FlatDesign.Sound.{SoundDesign}
-use Rattle.laws_unwinding.specs.FlatDesign.declared.design.Design.{Design}
-use Rattle.laws_unwinding.specs.FlatDesign.declared.faults.RunFault.{RunFault}
-use Rattle.laws_unwinding.specs.SimModel.Values.{on_ok, truth}
-use Rattle.laws_unwinding.specs.SimModel.Residual.{Residual, skip, seq, statements, block, settle, put, innermost, within}
-use Rattle.laws_unwinding.specs.SimModel.Configuration.{Config, Instance, Processes, Trace, arena, change, instance_at, with_residual}
-use Rattle.laws_unwinding.specs.SimModel.Reading.{here, has_ended, val}
-use Rattle.laws_unwinding.specs.SimModel.Storing.{chosen}
-use Rattle.laws_unwinding.specs.SimModel.Statements.{settled_in, statement_step}
-use Rattle.laws_unwinding.specs.SimModel.Steps.{Outcome, went, faulted, takes, ended, as_outcome, step, taking}
-use Rattle.laws_unwinding.specs.SimModel.Runs.{after, and_then, took}
-use Rattle.laws_unwinding.specs.SimModel.declared.plain.Command.{Command}
-use Rattle.laws_moves.proofs.RunSteps.{takes-empty}
+use Rattle.laws_runs.specs.LogicValues.declared.kinds.Value.{Value}
+use Rattle.laws_runs.specs.FlatDesign.Code.{Arena}
+use Rattle.laws_runs.specs.FlatDesign.Sound.{SoundDesign}
+use Rattle.laws_runs.specs.FlatDesign.declared.design.Design.{Design}
+use Rattle.laws_runs.specs.FlatDesign.declared.faults.RunFault.{RunFault}
+use Rattle.laws_runs.specs.SimModel.Values.{on_ok, truth}
+use Rattle.laws_runs.specs.SimModel.Residual.{Residual, skip, seq, statements, block, settle, put, innermost, within}
+use Rattle.laws_runs.specs.SimModel.Configuration.{Config, Instance, Processes, Trace, arena, change, instance_at, with_residual}
+use Rattle.laws_runs.specs.SimModel.Reading.{here, has_ended, val}
+use Rattle.laws_runs.specs.SimModel.Storing.{chosen}
+use Rattle.laws_runs.specs.SimModel.Statements.{settled_in, statement_step}
+use Rattle.laws_runs.specs.SimModel.Steps.{Outcome, went, faulted, takes, ended, as_outcome, step, taking}
+use Rattle.laws_runs.specs.SimModel.Runs.{after, and_then, took}
+use Rattle.laws_runs.specs.SimModel.declared.plain.Command.{Command}
+use Rattle.laws_runs.proofs.RunSteps.{takes-empty}
 use Rattle.laws_clocked.specs.Spots.{Shows}
 use Rattle.laws_clocked.specs.Ticks.{Test, Tick, behind, IsTest, AreTests, HasTick, left_at, checking}
 use Rattle.laws_clocked.specs.Turns.{ComesTo, IsLeaving, IsNotUnwound}

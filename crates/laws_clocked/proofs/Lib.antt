@@ -39,3 +39,16 @@ pub mod Resetting
 pub mod Injecting
 pub mod NoCalls
 pub mod BegunByCode
+pub mod Lookups
+pub mod Reading
+pub mod Variables
+pub mod Tests
+pub mod CodeTicking
+pub mod Walk
+pub mod Around
+pub mod Bodies
+pub mod Retiming
+pub mod CodeStoring
+pub mod CodeSparing
+pub mod InCode
+pub mod Running

@@ -5,35 +5,35 @@ use Rattle.std.specs.Result.{IfOk}
 use Rattle.std.proofs.lemmas.Bool.{cases_eq}
 use Rattle.std.proofs.lemmas.List.Elements.{Contains-append_left}
 use Rattle.std.proofs.lemmas.Option.{none-some, same_Some}
-use Rattle.laws_unwinding.specs.LogicValues.declared.kinds.Value.{Value}
-use Rattle.laws_unwinding.specs.LogicValues.declared.kinds.Value.TheVariants as value
-use Rattle.laws_unwinding.specs.EventCore.declared.event.Ev.{Ev}
-use Rattle.laws_unwinding.specs.EventCore.declared.event.Ev.TheVariants as ev
-use Rattle.laws_unwinding.specs.ModelTree.declared.items.ProcessKind.{ProcessKind}
-use Rattle.laws_unwinding.specs.ModelTree.declared.items.ProcessKind.TheVariants as process
-use Rattle.laws_unwinding.specs.FlatDesign.Code as code
-use Rattle.laws_unwinding.specs.FlatDesign.Code.{Statement, arena_of, block_at, body_at, statement_at}
-use Rattle.laws_unwinding.specs.FlatDesign.Typed.{EachOf}
-use Rattle.laws_unwinding.specs.FlatDesign.declared.value_types.ValueType.TheVariants as type
-use Rattle.laws_unwinding.specs.FlatDesign.declared.code.CodeBody.{CodeBody}
-use Rattle.laws_unwinding.specs.FlatDesign.declared.design.Design.{Design}
-use Rattle.laws_unwinding.specs.FlatDesign.declared.faults.RunFault.{RunFault}
-use Rattle.laws_unwinding.specs.SimModel.Values.{truth, widened, cut_to}
-use Rattle.laws_unwinding.specs.SimModel.Residual as residual
-use Rattle.laws_unwinding.specs.SimModel.Residual.{Residual, Frame, Next, skip, one, batch, seq, owing, guard, try_, frame, shell, run, goal, followed, statements, block, changed_if, innermost, in_innermost, taken_off, frame_or, goal_or, put, next_of, entered_in, begun}
-use Rattle.laws_unwinding.specs.SimModel.Unwinding.{has_exit, returned}
-use Rattle.laws_unwinding.specs.SimModel.Configuration.{Config, Instance, arena, instance_at, change_instance, with_residual}
-use Rattle.laws_unwinding.specs.SimModel.Reading.{here}
-use Rattle.laws_unwinding.specs.SimModel.Waits.{fire, leaves_stack}
-use Rattle.laws_unwinding.specs.SimModel.Storing.{passes, with_local, set_local, looped, first_value}
-use Rattle.laws_unwinding.specs.SimModel.Control.{ended_instance, stays_kept, begins, ends, restarts, reaches_goal, done_by}
-use Rattle.laws_unwinding.specs.SimModel.Statements.{do_statement, leaves_call, calling_statement, owed_call, owed_by, on_statement, do_next}
-use Rattle.laws_unwinding.specs.SimModel.declared.plain.Goal.{Goal}
-use Rattle.laws_unwinding.specs.SimModel.declared.plain.Goal.TheVariants as goal_of
-use Rattle.laws_unwinding.proofs.LawsRuns.Changes.{change-here}
-use Rattle.laws_unwinding.proofs.LawsRuns.MarkLemmas.{before_statement, frame_statement}
-use Rattle.laws_unwinding.proofs.Parts.{IsInner}
-use Rattle.laws_moves.proofs.Wakes.{fire-keeps}
+use Rattle.laws_runs.specs.LogicValues.declared.kinds.Value.{Value}
+use Rattle.laws_runs.specs.LogicValues.declared.kinds.Value.TheVariants as value
+use Rattle.laws_runs.specs.EventCore.declared.event.Ev.{Ev}
+use Rattle.laws_runs.specs.EventCore.declared.event.Ev.TheVariants as ev
+use Rattle.laws_runs.specs.ModelTree.declared.items.ProcessKind.{ProcessKind}
+use Rattle.laws_runs.specs.ModelTree.declared.items.ProcessKind.TheVariants as process
+use Rattle.laws_runs.specs.FlatDesign.Code as code
+use Rattle.laws_runs.specs.FlatDesign.Code.{Statement, arena_of, block_at, body_at, statement_at}
+use Rattle.laws_runs.specs.FlatDesign.Typed.{EachOf}
+use Rattle.laws_runs.specs.FlatDesign.declared.value_types.ValueType.TheVariants as type
+use Rattle.laws_runs.specs.FlatDesign.declared.code.CodeBody.{CodeBody}
+use Rattle.laws_runs.specs.FlatDesign.declared.design.Design.{Design}
+use Rattle.laws_runs.specs.FlatDesign.declared.faults.RunFault.{RunFault}
+use Rattle.laws_runs.specs.SimModel.Values.{truth, widened, cut_to}
+use Rattle.laws_runs.specs.SimModel.Residual as residual
+use Rattle.laws_runs.specs.SimModel.Residual.{Residual, Frame, Next, skip, one, batch, seq, owing, guard, try_, frame, shell, run, goal, followed, statements, block, changed_if, innermost, in_innermost, taken_off, frame_or, goal_or, put, next_of, entered_in, begun}
+use Rattle.laws_runs.specs.SimModel.Unwinding.{has_exit, returned}
+use Rattle.laws_runs.specs.SimModel.Configuration.{Config, Instance, arena, instance_at, change_instance, with_residual}
+use Rattle.laws_runs.specs.SimModel.Reading.{here}
+use Rattle.laws_runs.specs.SimModel.Waits.{fire, leaves_stack}
+use Rattle.laws_runs.specs.SimModel.Storing.{passes, with_local, set_local, looped, first_value}
+use Rattle.laws_runs.specs.SimModel.Control.{ended_instance, stays_kept, begins, ends, restarts, reaches_goal, done_by}
+use Rattle.laws_runs.specs.SimModel.Statements.{do_statement, leaves_call, calling_statement, owed_call, owed_by, on_statement, do_next}
+use Rattle.laws_runs.specs.SimModel.declared.plain.Goal.{Goal}
+use Rattle.laws_runs.specs.SimModel.declared.plain.Goal.TheVariants as goal_of
+use Rattle.laws_runs.proofs.Changes.{change-here}
+use Rattle.laws_runs.proofs.MarkLemmas.{before_statement, frame_statement}
+use Rattle.laws_runs.proofs.GoalParts.{IsInner}
+use Rattle.laws_runs.proofs.WakeMoves.{fire-keeps}
 use Rattle.laws_clocked.specs.Stores.{OnlyStores}
 use Rattle.laws_clocked.specs.Again.{Around}
 use Rattle.laws_clocked.specs.Clocked.{HasClocked}

@@ -1,19 +1,19 @@
 -- Where a thread is behind the wait of a tick that stands in no function's body, no call is open in what is left of its own body.
 use Rattle.std.proofs.Common.{◌≡◌, ℕ, zero, false, List, ◌∷◌, [], Some, None, refl, subst, arith}
-use Rattle.laws_unwinding.specs.FlatDesign.Code as code
-use Rattle.laws_unwinding.specs.FlatDesign.Code.{body_at}
-use Rattle.laws_unwinding.specs.FlatDesign.Reach.{deeper}
-use Rattle.laws_unwinding.specs.FlatDesign.Sound.{SoundDesign}
-use Rattle.laws_unwinding.specs.FlatDesign.declared.code.BodyKind.TheVariants as body_kind
-use Rattle.laws_unwinding.specs.FlatDesign.declared.code.CodeBody.{CodeBody}
-use Rattle.laws_unwinding.specs.FlatDesign.declared.design.Design.{Design}
-use Rattle.laws_unwinding.specs.FlatDesign.declared.value_types.ValueType.TheVariants as type
-use Rattle.laws_unwinding.specs.ModelTree.declared.expressions.BinaryOp.TheVariants as op
-use Rattle.laws_unwinding.specs.SimModel.Residual.{Residual, Frame, settle, innermost}
-use Rattle.laws_unwinding.specs.SimModel.Configuration.{Config, arena, start}
-use Rattle.laws_unwinding.specs.SimModel.Runs.{after}
-use Rattle.laws_unwinding.specs.SimModel.declared.plain.Command.{Command}
-use Rattle.laws_unwinding.specs.LawsRuns.Standing.{code_of}
+use Rattle.laws_runs.specs.FlatDesign.Code as code
+use Rattle.laws_runs.specs.FlatDesign.Code.{body_at}
+use Rattle.laws_runs.specs.FlatDesign.Reach.{deeper}
+use Rattle.laws_runs.specs.FlatDesign.Sound.{SoundDesign}
+use Rattle.laws_runs.specs.FlatDesign.declared.code.BodyKind.TheVariants as body_kind
+use Rattle.laws_runs.specs.FlatDesign.declared.code.CodeBody.{CodeBody}
+use Rattle.laws_runs.specs.FlatDesign.declared.design.Design.{Design}
+use Rattle.laws_runs.specs.FlatDesign.declared.value_types.ValueType.TheVariants as type
+use Rattle.laws_runs.specs.ModelTree.declared.expressions.BinaryOp.TheVariants as op
+use Rattle.laws_runs.specs.SimModel.Residual.{Residual, Frame, settle, innermost}
+use Rattle.laws_runs.specs.SimModel.Configuration.{Config, arena, start}
+use Rattle.laws_runs.specs.SimModel.Runs.{after}
+use Rattle.laws_runs.specs.SimModel.declared.plain.Command.{Command}
+use Rattle.laws_runs.specs.Standing.{code_of}
 use Rattle.laws_clocked.specs.Spots.{Shows, itself, followed_by, guarded, tried, called}
 use Rattle.laws_clocked.specs.Ticks.{Tick, HasTick, IsInNoFunction, behind, count_of, left_at, checking}
 use Rattle.laws_clocked.specs.Turns.{IsBehindWait}

@@ -1,11 +1,11 @@
 -- What is left of a thread's own statements that are unwound: unwind blocks, and calls that are left; and as these go on, the rest stays.
 use Rattle.std.proofs.Common.{◌≡◌, ℕ, Bool, true, false, cond, [], ◌∷◌, Option, refl, ap, inl, inr, ◌⊎◌}
-use Rattle.laws_unwinding.specs.LogicValues.declared.kinds.Value.{Value}
-use Rattle.laws_unwinding.specs.FlatDesign.Code.{Arena}
-use Rattle.laws_unwinding.specs.SimModel.Residual.{Residual, Frame, skip, one, batch, seq, owing, guard, try_, frame, shell, run, goal, block, in_run, then_owed, in_shell, settle, goal_or, put, taken_off, Next, in_frame, before_goal, next_of, statement, owes, leaves, done, reaches, nothing, innermost, changed_if, in_innermost}
-use Rattle.laws_unwinding.specs.SimModel.Unwinding.{unw, has_exit, returned}
-use Rattle.laws_unwinding.specs.SimModel.declared.plain.Goal.{Goal}
-use Rattle.laws_unwinding.specs.SimModel.declared.plain.Goal.TheVariants as goal_of
+use Rattle.laws_runs.specs.LogicValues.declared.kinds.Value.{Value}
+use Rattle.laws_runs.specs.FlatDesign.Code.{Arena}
+use Rattle.laws_runs.specs.SimModel.Residual.{Residual, Frame, skip, one, batch, seq, owing, guard, try_, frame, shell, run, goal, block, in_run, then_owed, in_shell, settle, goal_or, put, taken_off, Next, in_frame, before_goal, next_of, statement, owes, leaves, done, reaches, nothing, innermost, changed_if, in_innermost}
+use Rattle.laws_runs.specs.SimModel.Unwinding.{unw, has_exit, returned}
+use Rattle.laws_runs.specs.SimModel.declared.plain.Goal.{Goal}
+use Rattle.laws_runs.specs.SimModel.declared.plain.Goal.TheVariants as goal_of
 use Rattle.laws_clocked.specs.Spots.{IsLeft}
 use Rattle.laws_clocked.specs.Again.{Around, unwinding}
 

@@ -1,19 +1,19 @@
 -- What a step of a thread inside a tick makes, by the statement that comes next.
 use Rattle.std.proofs.Common.{◌≡◌, ℕ, false, cond, List, ◌∷◌, Some, None, ap, ◌∙◌}
 use Rattle.std.specs.Prelude.{Result, Ok}
-use Rattle.laws_unwinding.specs.LogicValues.declared.kinds.Value.{Value}
-use Rattle.laws_unwinding.specs.FlatDesign.Code as code
-use Rattle.laws_unwinding.specs.FlatDesign.Code.{Statement, statement_at}
-use Rattle.laws_unwinding.specs.FlatDesign.declared.faults.RunFault.{RunFault}
-use Rattle.laws_unwinding.specs.SimModel.Values.{on_ok, truth}
-use Rattle.laws_unwinding.specs.SimModel.Residual.{Residual, settle, next_of, statement, put}
-use Rattle.laws_unwinding.specs.SimModel.Configuration.{Config, Instance, arena, instance_at, change_instance, with_residual}
-use Rattle.laws_unwinding.specs.SimModel.Reading.{Here, here, val}
-use Rattle.laws_unwinding.specs.SimModel.Storing.{chosen, looped, stored, passes}
-use Rattle.laws_unwinding.specs.SimModel.Statements.{settled_in, do_statement, do_next, on_statement, step_by, statement_step}
-use Rattle.laws_unwinding.specs.SimModel.Steps.{went, faulted, ended, as_outcome, step, step_in, evaluate}
-use Rattle.laws_unwinding.specs.SimModel.declared.plain.Phase.TheVariants as phase
-use Rattle.laws_unwinding.proofs.LawsRuns.Changes.{change-here}
+use Rattle.laws_runs.specs.LogicValues.declared.kinds.Value.{Value}
+use Rattle.laws_runs.specs.FlatDesign.Code as code
+use Rattle.laws_runs.specs.FlatDesign.Code.{Statement, statement_at}
+use Rattle.laws_runs.specs.FlatDesign.declared.faults.RunFault.{RunFault}
+use Rattle.laws_runs.specs.SimModel.Values.{on_ok, truth}
+use Rattle.laws_runs.specs.SimModel.Residual.{Residual, settle, next_of, statement, put}
+use Rattle.laws_runs.specs.SimModel.Configuration.{Config, Instance, arena, instance_at, change_instance, with_residual}
+use Rattle.laws_runs.specs.SimModel.Reading.{Here, here, val}
+use Rattle.laws_runs.specs.SimModel.Storing.{chosen, looped, stored, passes}
+use Rattle.laws_runs.specs.SimModel.Statements.{settled_in, do_statement, do_next, on_statement, step_by, statement_step}
+use Rattle.laws_runs.specs.SimModel.Steps.{went, faulted, ended, as_outcome, step, step_in, evaluate}
+use Rattle.laws_runs.specs.SimModel.declared.plain.Phase.TheVariants as phase
+use Rattle.laws_runs.proofs.Changes.{change-here}
 
 -- ---- a step of the one on top of the stack
 

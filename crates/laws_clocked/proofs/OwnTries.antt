@@ -1,12 +1,12 @@
 -- No try among a clocked thread's own statements catches an exception for which none of them has a handler.
 use Rattle.std.proofs.Common.{◌≡◌, ◌||◌, ℕ, false, List, [], ◌∷◌, ◌++◌, Option, Some, None, inl, inr, refl, sym, ap, ◌∙◌, subst}
 use Rattle.std.proofs.lemmas.Option.{none-some}
-use Rattle.laws_unwinding.specs.FlatDesign.Code as code
-use Rattle.laws_unwinding.specs.FlatDesign.Code.{Arena}
-use Rattle.laws_unwinding.specs.FlatDesign.Reach.{Holds}
-use Rattle.laws_unwinding.specs.FlatDesign.declared.code.Handler.{Handler}
-use Rattle.laws_unwinding.specs.SimModel.Residual.{Residual, Frame, skip, one, batch, seq, owing, guard, try_, frame, shell, run, goal, or_frame, innermost}
-use Rattle.laws_unwinding.specs.SimModel.Unwinding.{catches, handles}
+use Rattle.laws_runs.specs.FlatDesign.Code as code
+use Rattle.laws_runs.specs.FlatDesign.Code.{Arena}
+use Rattle.laws_runs.specs.FlatDesign.Reach.{Holds}
+use Rattle.laws_runs.specs.FlatDesign.declared.code.Handler.{Handler}
+use Rattle.laws_runs.specs.SimModel.Residual.{Residual, Frame, skip, one, batch, seq, owing, guard, try_, frame, shell, run, goal, or_frame, innermost}
+use Rattle.laws_runs.specs.SimModel.Unwinding.{catches, handles}
 use Rattle.laws_clocked.specs.Again.{Around}
 use Rattle.laws_clocked.specs.Clocked.{HasClocked, UncaughtIn}
 use Rattle.laws_clocked.proofs.Undoing.{call_or}

@@ -1,23 +1,23 @@
 -- What each statement is that is left in the call in place of a body, not counting those of the calls that it made, while the body goes on;
 -- and each try that stands around what is left there.
 use Rattle.std.proofs.Common.{◌≡◌, ◌⊎◌, ◌==◌, ℕ, zero, suc, Bool, true, false, cond, List, [], ◌∷◌, map, Contains, Option, Some, None, refl, sym, ap, ◌∙◌, subst, arith, inl, inr, ⊎_elim}
-use Rattle.laws_unwinding.specs.LogicValues.declared.kinds.Value.{Value}
-use Rattle.laws_unwinding.specs.FlatDesign.Code as code
-use Rattle.laws_unwinding.specs.FlatDesign.Code.{Arena, Statement, block_at, body_at, statement_at}
-use Rattle.laws_unwinding.specs.FlatDesign.Typed.{EachOf}
-use Rattle.laws_unwinding.specs.FlatDesign.Reach.{Inside, itself, deeper, inner_blocks}
-use Rattle.laws_unwinding.specs.FlatDesign.declared.code.CodeBody.{CodeBody}
-use Rattle.laws_unwinding.specs.FlatDesign.declared.code.Handler.{Handler}
-use Rattle.laws_unwinding.specs.SimModel.Residual.{Residual, Frame, skip, one, batch, seq, owing, guard, try_, frame, shell, run, goal, followed, statements, block, then_on, in_run, then_owed, in_guard, in_try, in_shell, settle, changed_if, innermost, in_innermost, taken_off, frame_or, goal_or, put, next_of, statement, leaves, in_frame, entered_in}
-use Rattle.laws_unwinding.specs.SimModel.Unwinding.{unw, catches, handles, handler_block, handler_of, handled, raise, has_exit, returned}
-use Rattle.laws_unwinding.specs.SimModel.Configuration.{Config, arena}
-use Rattle.laws_unwinding.specs.SimModel.Storing.{with_local}
-use Rattle.laws_unwinding.specs.SimModel.Clean.{EachInBlock, EachInHandlers}
-use Rattle.laws_unwinding.specs.SimModel.declared.plain.Goal.{Goal}
-use Rattle.laws_unwinding.specs.SimModel.declared.plain.Via.{Via}
-use Rattle.laws_unwinding.proofs.LawsRuns.Blocks.{each-from}
-use Rattle.laws_unwinding.proofs.LawsRuns.MarkLemmas.{before_statement, frame_statement}
-use Rattle.laws_moves.specs.Moves.{Gives, chooses, loops, tries, calls, controls, throws}
+use Rattle.laws_runs.specs.LogicValues.declared.kinds.Value.{Value}
+use Rattle.laws_runs.specs.FlatDesign.Code as code
+use Rattle.laws_runs.specs.FlatDesign.Code.{Arena, Statement, block_at, body_at, statement_at}
+use Rattle.laws_runs.specs.FlatDesign.Typed.{EachOf}
+use Rattle.laws_runs.specs.FlatDesign.Reach.{Inside, itself, deeper, inner_blocks}
+use Rattle.laws_runs.specs.FlatDesign.declared.code.CodeBody.{CodeBody}
+use Rattle.laws_runs.specs.FlatDesign.declared.code.Handler.{Handler}
+use Rattle.laws_runs.specs.SimModel.Residual.{Residual, Frame, skip, one, batch, seq, owing, guard, try_, frame, shell, run, goal, followed, statements, block, then_on, in_run, then_owed, in_guard, in_try, in_shell, settle, changed_if, innermost, in_innermost, taken_off, frame_or, goal_or, put, next_of, statement, leaves, in_frame, entered_in}
+use Rattle.laws_runs.specs.SimModel.Unwinding.{unw, catches, handles, handler_block, handler_of, handled, raise, has_exit, returned}
+use Rattle.laws_runs.specs.SimModel.Configuration.{Config, arena}
+use Rattle.laws_runs.specs.SimModel.Storing.{with_local}
+use Rattle.laws_runs.specs.SimModel.Clean.{EachInBlock, EachInHandlers}
+use Rattle.laws_runs.specs.SimModel.declared.plain.Goal.{Goal}
+use Rattle.laws_runs.specs.SimModel.declared.plain.Via.{Via}
+use Rattle.laws_runs.proofs.Blocks.{each-from}
+use Rattle.laws_runs.proofs.MarkLemmas.{before_statement, frame_statement}
+use Rattle.laws_runs.specs.Moves.{Gives, chooses, loops, tries, calls, controls, throws}
 use Rattle.laws_clocked.specs.Again.{Around}
 use Rattle.laws_clocked.specs.Clocked.{SparesIt}
 use Rattle.laws_clocked.proofs.Storing.{IsGiven, gives, guards, hops}

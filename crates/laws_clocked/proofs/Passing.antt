@@ -2,35 +2,35 @@
 use Rattle.std.proofs.Common.{◌≡◌, ◌≢◌, ◌<◌, ◌≤◌, ◌^◌, ℕ, zero, suc, Bool, true, false, cond, List, [], ◌∷◌, drop, slice_get, Some, None, option_map, refl, sym, ap, ◌∙◌, subst, arith, inl, ⊎_elim, true≢false}
 use Rattle.std.specs.Prelude.{⊤, Result, Ok, Err}
 use Rattle.std.proofs.lemmas.Option.{none-some, same_Some}
-use Rattle.laws_unwinding.specs.LogicValues.declared.kinds.Value.{Value}
-use Rattle.laws_unwinding.specs.LogicValues.declared.kinds.Value.TheVariants as value
-use Rattle.laws_unwinding.specs.LogicValues.Integers.{difference_of}
-use Rattle.laws_unwinding.specs.FlatDesign.Code as code
-use Rattle.laws_unwinding.specs.FlatDesign.Code.{Arena, Statement, arena_of, statement_at}
-use Rattle.laws_unwinding.specs.FlatDesign.declared.value_types.ValueType.TheVariants as type
-use Rattle.laws_unwinding.specs.FlatDesign.declared.design.Design.{Design}
-use Rattle.laws_unwinding.specs.FlatDesign.declared.faults.RunFault.{RunFault}
-use Rattle.laws_unwinding.specs.FlatDesign.declared.faults.RunFault.TheVariants as fault
-use Rattle.laws_unwinding.specs.SimModel.Values.{on_ok, bits, truth, bool_value, unsigned, cut_to}
-use Rattle.laws_unwinding.specs.SimModel.Residual.{Residual, Frame, skip, seq, followed, statements, block, settle, put, next_of, statement, innermost, in_innermost, has_goal}
-use Rattle.laws_unwinding.specs.SimModel.Unwinding.{catches, raise, left_by_raise}
-use Rattle.laws_unwinding.specs.SimModel.Configuration.{Config, Instance, Processes, waits_statically, no_deadline, arena, instance_at, change_instance, with_residual, with_runnable, with_stack, with_told, turn}
-use Rattle.laws_unwinding.specs.SimModel.Waits.{holds, waits, without}
-use Rattle.laws_unwinding.specs.SimModel.Reading.{here, val}
-use Rattle.laws_unwinding.specs.SimModel.Storing.{passes, with_local, set_local, chosen}
-use Rattle.laws_unwinding.specs.SimModel.Calls.{with_left, with_entry}
-use Rattle.laws_unwinding.specs.SimModel.Control.{begins}
-use Rattle.laws_unwinding.specs.SimModel.Statements.{settled_in, statement_step}
-use Rattle.laws_unwinding.specs.SimModel.Steps.{went, takes, ended, as_outcome, step, step_in, next_command, carry_out, turn_line, instance_taken, taken_if, taking}
-use Rattle.laws_unwinding.specs.SimModel.Clean.{times}
-use Rattle.laws_unwinding.specs.SimModel.declared.plain.Command.{Command}
-use Rattle.laws_unwinding.specs.SimModel.declared.plain.Phase.{Phase}
-use Rattle.laws_unwinding.specs.SimModel.declared.plain.Phase.TheVariants as phase
-use Rattle.laws_unwinding.specs.SimModel.declared.plain.Goal.TheVariants as goal_of
-use Rattle.laws_unwinding.specs.SimModel.declared.plain.Via.{Via}
-use Rattle.laws_unwinding.proofs.LawsRuns.Changes.{set-here}
-use Rattle.laws_unwinding.proofs.LawsRuns.Times.{times-here}
-use Rattle.laws_moves.proofs.RunSteps.{step-moves, taking-moves, takes-empty}
+use Rattle.laws_runs.specs.LogicValues.declared.kinds.Value.{Value}
+use Rattle.laws_runs.specs.LogicValues.declared.kinds.Value.TheVariants as value
+use Rattle.laws_runs.specs.LogicValues.Integers.{difference_of}
+use Rattle.laws_runs.specs.FlatDesign.Code as code
+use Rattle.laws_runs.specs.FlatDesign.Code.{Arena, Statement, arena_of, statement_at}
+use Rattle.laws_runs.specs.FlatDesign.declared.value_types.ValueType.TheVariants as type
+use Rattle.laws_runs.specs.FlatDesign.declared.design.Design.{Design}
+use Rattle.laws_runs.specs.FlatDesign.declared.faults.RunFault.{RunFault}
+use Rattle.laws_runs.specs.FlatDesign.declared.faults.RunFault.TheVariants as fault
+use Rattle.laws_runs.specs.SimModel.Values.{on_ok, bits, truth, bool_value, unsigned, cut_to}
+use Rattle.laws_runs.specs.SimModel.Residual.{Residual, Frame, skip, seq, followed, statements, block, settle, put, next_of, statement, innermost, in_innermost, has_goal}
+use Rattle.laws_runs.specs.SimModel.Unwinding.{catches, raise, left_by_raise}
+use Rattle.laws_runs.specs.SimModel.Configuration.{Config, Instance, Processes, waits_statically, no_deadline, arena, instance_at, change_instance, with_residual, with_runnable, with_stack, with_told, turn}
+use Rattle.laws_runs.specs.SimModel.Waits.{holds, waits, without}
+use Rattle.laws_runs.specs.SimModel.Reading.{here, val}
+use Rattle.laws_runs.specs.SimModel.Storing.{passes, with_local, set_local, chosen}
+use Rattle.laws_runs.specs.SimModel.Calls.{with_left, with_entry}
+use Rattle.laws_runs.specs.SimModel.Control.{begins}
+use Rattle.laws_runs.specs.SimModel.Statements.{settled_in, statement_step}
+use Rattle.laws_runs.specs.SimModel.Steps.{went, takes, ended, as_outcome, step, step_in, next_command, carry_out, turn_line, instance_taken, taken_if, taking}
+use Rattle.laws_runs.specs.SimModel.Clean.{times}
+use Rattle.laws_runs.specs.SimModel.declared.plain.Command.{Command}
+use Rattle.laws_runs.specs.SimModel.declared.plain.Phase.{Phase}
+use Rattle.laws_runs.specs.SimModel.declared.plain.Phase.TheVariants as phase
+use Rattle.laws_runs.specs.SimModel.declared.plain.Goal.TheVariants as goal_of
+use Rattle.laws_runs.specs.SimModel.declared.plain.Via.{Via}
+use Rattle.laws_runs.proofs.Changes.{set-here}
+use Rattle.laws_runs.proofs.Times.{times-here}
+use Rattle.laws_runs.proofs.RunSteps.{step-moves, taking-moves, takes-empty}
 use Rattle.laws_clocked.specs.Spots.{Shows}
 use Rattle.laws_clocked.specs.Ticks.{Test, Tick, behind, IsTest, AreTests, HasTick, Spot, left_at, entering, declaring, testing, waiting, checking, IsIn}
 use Rattle.laws_clocked.specs.Turns.{ComesTo, IsLeaving, IsNotUnwound}

@@ -3,27 +3,27 @@
 use Rattle.std.proofs.Common.{◌≡◌, ◌≤◌, ◌==◌, ℕ, zero, suc, Bool, true, false, cond, List, [], ◌∷◌, length, Contains, Option, Some, None, refl, sym, ◌∙◌, subst, arith}
 use Rattle.std.proofs.lemmas.List.{length-map, length-set}
 use Rattle.std.proofs.lemmas.Option.{none-some, same_Some}
-use Rattle.laws_unwinding.specs.LogicValues.declared.kinds.Value.{Value}
-use Rattle.laws_unwinding.specs.FlatDesign.Code as code
-use Rattle.laws_unwinding.specs.FlatDesign.Code.{Statement, block_at, body_at, statement_at}
-use Rattle.laws_unwinding.specs.FlatDesign.ValueTypes.{default_value}
-use Rattle.laws_unwinding.specs.FlatDesign.Typed.{EachOf}
-use Rattle.laws_unwinding.specs.FlatDesign.Reach.{Inside, itself, deeper, Holds, InBody, inner_blocks}
-use Rattle.laws_unwinding.specs.FlatDesign.Sound.{IsHomeOf}
-use Rattle.laws_unwinding.specs.FlatDesign.declared.code.BodyKind.TheVariants as body_kind
-use Rattle.laws_unwinding.specs.FlatDesign.declared.code.CodeBody.{CodeBody}
-use Rattle.laws_unwinding.specs.FlatDesign.declared.code.Handler.{Handler}
-use Rattle.laws_unwinding.specs.FlatDesign.declared.code.Local.{Local}
-use Rattle.laws_unwinding.specs.FlatDesign.declared.design.Design.{Design}
-use Rattle.laws_unwinding.specs.SimModel.Residual.{Residual, Frame, skip, one, batch, seq, owing, guard, try_, frame, shell, run, goal, followed, statements, block, then_on, in_run, then_owed, in_guard, in_try, in_shell, settle, changed_if, innermost, in_innermost, taken_off, frame_or, goal_or, put, next_of, statement, first_locals, entered_in, entered}
-use Rattle.laws_unwinding.specs.SimModel.Unwinding.{unw, catches, handles, handler_block, handler_of, handled, raise, has_exit, returned}
-use Rattle.laws_unwinding.specs.SimModel.Storing.{with_local}
-use Rattle.laws_unwinding.specs.SimModel.Clean.{EachInBlock, EachInHandlers}
-use Rattle.laws_unwinding.specs.SimModel.declared.plain.Goal.{Goal}
-use Rattle.laws_unwinding.specs.SimModel.declared.plain.Via.{Via}
-use Rattle.laws_unwinding.specs.LawsRuns.Standing.{code_of}
-use Rattle.laws_unwinding.proofs.LawsRuns.Blocks.{each-from}
-use Rattle.laws_unwinding.proofs.LawsRuns.MarkLemmas.{before_statement, frame_statement}
+use Rattle.laws_runs.specs.LogicValues.declared.kinds.Value.{Value}
+use Rattle.laws_runs.specs.FlatDesign.Code as code
+use Rattle.laws_runs.specs.FlatDesign.Code.{Statement, block_at, body_at, statement_at}
+use Rattle.laws_runs.specs.FlatDesign.ValueTypes.{default_value}
+use Rattle.laws_runs.specs.FlatDesign.Typed.{EachOf}
+use Rattle.laws_runs.specs.FlatDesign.Reach.{Inside, itself, deeper, Holds, InBody, inner_blocks}
+use Rattle.laws_runs.specs.FlatDesign.Sound.{IsHomeOf}
+use Rattle.laws_runs.specs.FlatDesign.declared.code.BodyKind.TheVariants as body_kind
+use Rattle.laws_runs.specs.FlatDesign.declared.code.CodeBody.{CodeBody}
+use Rattle.laws_runs.specs.FlatDesign.declared.code.Handler.{Handler}
+use Rattle.laws_runs.specs.FlatDesign.declared.code.Local.{Local}
+use Rattle.laws_runs.specs.FlatDesign.declared.design.Design.{Design}
+use Rattle.laws_runs.specs.SimModel.Residual.{Residual, Frame, skip, one, batch, seq, owing, guard, try_, frame, shell, run, goal, followed, statements, block, then_on, in_run, then_owed, in_guard, in_try, in_shell, settle, changed_if, innermost, in_innermost, taken_off, frame_or, goal_or, put, next_of, statement, first_locals, entered_in, entered}
+use Rattle.laws_runs.specs.SimModel.Unwinding.{unw, catches, handles, handler_block, handler_of, handled, raise, has_exit, returned}
+use Rattle.laws_runs.specs.SimModel.Storing.{with_local}
+use Rattle.laws_runs.specs.SimModel.Clean.{EachInBlock, EachInHandlers}
+use Rattle.laws_runs.specs.SimModel.declared.plain.Goal.{Goal}
+use Rattle.laws_runs.specs.SimModel.declared.plain.Via.{Via}
+use Rattle.laws_runs.specs.Standing.{code_of}
+use Rattle.laws_runs.proofs.Blocks.{each-from}
+use Rattle.laws_runs.proofs.MarkLemmas.{before_statement, frame_statement}
 
 same_statement : (n m : ℕ) → statement n ≡ statement m → n ≡ m
 same_statement n m e = cc

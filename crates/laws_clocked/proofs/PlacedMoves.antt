@@ -1,46 +1,46 @@
 -- Each move of a run of a sound design leaves what is left of each instance in its place.
 use Rattle.std.proofs.Common.{◌≡◌, ℕ, zero, suc, Bool, true, false, cond, List, [], ◌∷◌, ◌++◌, map, slice_get, Contains, Option, Some, None, option_map, refl, sym, ap, ◌∙◌, subst, arith, inl, inr}
 use Rattle.std.proofs.lemmas.Option.{none-some, same_Some, slice_get-map}
-use Rattle.laws_unwinding.specs.LogicValues.declared.kinds.Value.{Value}
-use Rattle.laws_unwinding.specs.FlatDesign.Code as code
-use Rattle.laws_unwinding.specs.FlatDesign.Code.{Statement, statement_at, body_at, block_at}
-use Rattle.laws_unwinding.specs.FlatDesign.Reach.{inner_blocks}
-use Rattle.laws_unwinding.specs.FlatDesign.Sound.{SoundDesign, IsHomeOf, HandlerFits}
-use Rattle.laws_unwinding.specs.FlatDesign.declared.code.BodyKind.TheVariants as body_kind
-use Rattle.laws_unwinding.specs.FlatDesign.declared.code.CodeBody.{CodeBody}
-use Rattle.laws_unwinding.specs.FlatDesign.declared.code.Handler.{Handler}
-use Rattle.laws_unwinding.specs.FlatDesign.declared.design.Hop.{Hop}
-use Rattle.laws_unwinding.specs.FlatDesign.declared.design.ProcessPart.{ProcessPart}
-use Rattle.laws_unwinding.specs.FlatDesign.declared.design.Design.{Design}
-use Rattle.laws_unwinding.specs.SimModel.Residual.{Residual, skip, guard, goal, block, settle, entered, begun, put, taken_off, next_of, statement}
-use Rattle.laws_unwinding.specs.SimModel.Unwinding.{unw, raise, returned, left_by_unw, left_by_raise}
-use Rattle.laws_unwinding.specs.SimModel.Configuration.{Config, Instance, Deadline, waits_for_all, no_deadline, arena, instance_at, change, change_instance, with_residual, with_runnable, first_instance, start}
-use Rattle.laws_unwinding.specs.SimModel.Waits.{freed, without}
-use Rattle.laws_unwinding.specs.SimModel.Storing.{passes}
-use Rattle.laws_unwinding.specs.SimModel.Calls.{with_left, new_instance, added, runnable_unless}
-use Rattle.laws_unwinding.specs.SimModel.Transport.{blocking_handler, nonblocking_handler}
-use Rattle.laws_unwinding.specs.SimModel.Control.{is_top, pushed, pushed_unless_top, ended_instance}
-use Rattle.laws_unwinding.specs.SimModel.Statements.{settled_in}
-use Rattle.laws_unwinding.specs.SimModel.Phases.{initialize_each, without_deadline, is_zero_timeout, is_due_at}
-use Rattle.laws_unwinding.specs.SimModel.Steps.{Outcome, went, faulted, takes, ended, step}
-use Rattle.laws_unwinding.specs.SimModel.Runs.{after}
-use Rattle.laws_unwinding.specs.SimModel.Clean.{times, EachInBlock, EachInHandlers}
-use Rattle.laws_unwinding.specs.SimModel.declared.plain.Command.{Command}
-use Rattle.laws_unwinding.specs.SimModel.declared.plain.Goal.TheVariants as goal_of
-use Rattle.laws_unwinding.specs.SimModel.declared.plain.Via.{Via}
-use Rattle.laws_unwinding.specs.LawsRuns.Standing.{code_of}
-use Rattle.laws_unwinding.proofs.Each.{Each, each-change, each-last, each-map}
-use Rattle.laws_unwinding.proofs.Fine.{fine-at, stack-fine}
-use Rattle.laws_unwinding.proofs.Moves.{Sound, same-sound}
-use Rattle.laws_unwinding.proofs.MovesFine.{each-sound}
-use Rattle.laws_unwinding.proofs.Parts.{Parts}
-use Rattle.laws_unwinding.proofs.KeptMoves.{left-parts}
-use Rattle.laws_unwinding.proofs.Runs.{holds-after}
-use Rattle.laws_unwinding.proofs.Steps.{IfWent, goes-to, settled-sound, step-sound, taking-sound, start-sound, takes-empty}
-use Rattle.laws_moves.specs.Moves as move
-use Rattle.laws_moves.specs.Moves.{made, with_suspended, InTurn, Gives, chooses, loops, tries, calls, controls, throws, Moves, time_moved, turn_taken, StepMoves, in_turn, between, initializing, moving_now, TakingMoves, of_none, of_one}
-use Rattle.laws_moves.proofs.Kept.{EachKeeps, moves-keep}
-use Rattle.laws_moves.proofs.RunSteps.{taken-moves}
+use Rattle.laws_runs.specs.LogicValues.declared.kinds.Value.{Value}
+use Rattle.laws_runs.specs.FlatDesign.Code as code
+use Rattle.laws_runs.specs.FlatDesign.Code.{Statement, statement_at, body_at, block_at}
+use Rattle.laws_runs.specs.FlatDesign.Reach.{inner_blocks}
+use Rattle.laws_runs.specs.FlatDesign.Sound.{SoundDesign, IsHomeOf, HandlerFits}
+use Rattle.laws_runs.specs.FlatDesign.declared.code.BodyKind.TheVariants as body_kind
+use Rattle.laws_runs.specs.FlatDesign.declared.code.CodeBody.{CodeBody}
+use Rattle.laws_runs.specs.FlatDesign.declared.code.Handler.{Handler}
+use Rattle.laws_runs.specs.FlatDesign.declared.design.Hop.{Hop}
+use Rattle.laws_runs.specs.FlatDesign.declared.design.ProcessPart.{ProcessPart}
+use Rattle.laws_runs.specs.FlatDesign.declared.design.Design.{Design}
+use Rattle.laws_runs.specs.SimModel.Residual.{Residual, skip, guard, goal, block, settle, entered, begun, put, taken_off, next_of, statement}
+use Rattle.laws_runs.specs.SimModel.Unwinding.{unw, raise, returned, left_by_unw, left_by_raise}
+use Rattle.laws_runs.specs.SimModel.Configuration.{Config, Instance, Deadline, waits_for_all, no_deadline, arena, instance_at, change, change_instance, with_residual, with_runnable, first_instance, start}
+use Rattle.laws_runs.specs.SimModel.Waits.{freed, without}
+use Rattle.laws_runs.specs.SimModel.Storing.{passes}
+use Rattle.laws_runs.specs.SimModel.Calls.{with_left, new_instance, added, runnable_unless}
+use Rattle.laws_runs.specs.SimModel.Transport.{blocking_handler, nonblocking_handler}
+use Rattle.laws_runs.specs.SimModel.Control.{is_top, pushed, pushed_unless_top, ended_instance}
+use Rattle.laws_runs.specs.SimModel.Statements.{settled_in}
+use Rattle.laws_runs.specs.SimModel.Phases.{initialize_each, without_deadline, is_zero_timeout, is_due_at}
+use Rattle.laws_runs.specs.SimModel.Steps.{Outcome, went, faulted, takes, ended, step}
+use Rattle.laws_runs.specs.SimModel.Runs.{after}
+use Rattle.laws_runs.specs.SimModel.Clean.{times, EachInBlock, EachInHandlers}
+use Rattle.laws_runs.specs.SimModel.declared.plain.Command.{Command}
+use Rattle.laws_runs.specs.SimModel.declared.plain.Goal.TheVariants as goal_of
+use Rattle.laws_runs.specs.SimModel.declared.plain.Via.{Via}
+use Rattle.laws_runs.specs.Standing.{code_of}
+use Rattle.laws_runs.proofs.Each.{Each, each-change, each-last, each-map}
+use Rattle.laws_runs.proofs.Fine.{fine-at, stack-fine}
+use Rattle.laws_runs.proofs.GoalMoves.{Sound, same-sound}
+use Rattle.laws_runs.proofs.MovesFine.{each-sound}
+use Rattle.laws_runs.proofs.GoalParts.{Parts}
+use Rattle.laws_runs.proofs.KeptMoves.{left-parts}
+use Rattle.laws_runs.proofs.GoalRuns.{holds-after}
+use Rattle.laws_runs.proofs.GoalSteps.{IfWent, goes-to, settled-sound, step-sound, taking-sound, start-sound, takes-empty}
+use Rattle.laws_runs.specs.Moves as move
+use Rattle.laws_runs.specs.Moves.{made, with_suspended, InTurn, Gives, chooses, loops, tries, calls, controls, throws, Moves, time_moved, turn_taken, StepMoves, in_turn, between, initializing, moving_now, TakingMoves, of_none, of_one}
+use Rattle.laws_runs.proofs.MovesKeep.{EachKeeps, moves-keep}
+use Rattle.laws_runs.proofs.RunSteps.{taken-moves}
 use Rattle.laws_clocked.proofs.Placed.{HasBody, IsOf, IsCallOf, IsCallee, Placed, stands-inside, inner-of, undoing-of, followed-placed, statements-placed, settle-placed, put-placed, past-placed, off-placed, local-placed, returned-placed, unw-placed, raise-placed, entered-placed}
 
 -- ---- instances

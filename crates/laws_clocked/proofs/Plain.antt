@@ -1,8 +1,8 @@
 -- What stands around what is left, where that is no guard and no try that catches an exception.
 use Rattle.std.proofs.Common.{◌≡◌, ◌||◌, ℕ, false, List, [], ◌∷◌, refl, sym, ap, ◌∙◌, subst}
-use Rattle.laws_unwinding.specs.FlatDesign.Code.{Arena}
-use Rattle.laws_unwinding.specs.SimModel.Residual.{Residual, Frame, skip, seq, frame, followed, statements, then_on, in_shell, settle, put, next_of, statement}
-use Rattle.laws_unwinding.specs.SimModel.Unwinding.{unw, catches, handles}
+use Rattle.laws_runs.specs.FlatDesign.Code.{Arena}
+use Rattle.laws_runs.specs.SimModel.Residual.{Residual, Frame, skip, seq, frame, followed, statements, then_on, in_shell, settle, put, next_of, statement}
+use Rattle.laws_runs.specs.SimModel.Unwinding.{unw, catches, handles}
 use Rattle.laws_clocked.specs.Spots.{IsLeft, Shows, itself, followed_by, tried, called}
 use Rattle.laws_clocked.specs.Again.{Around, trying, IsPlain, plain, plain_followed, plain_tried, plain_called}
 use Rattle.laws_clocked.proofs.Showing.{next-left, shows-left, left_frame, left_then, left_try}

@@ -2,38 +2,38 @@
 use Rattle.std.proofs.Common.{◌≡◌, ◌⊎◌, ◌<◌, ℕ, zero, suc, Bool, true, false, cond, List, [], ◌∷◌, slice_get, get_or, Option, Some, None, refl, sym, ap, ◌∙◌, subst, arith, inl, inr, ⊎_elim}
 use Rattle.std.specs.Prelude.{Ok}
 use Rattle.std.proofs.lemmas.Option.{none-some, same_Some, slice_get_within, slice_get-get_or}
-use Rattle.laws_unwinding.specs.LogicValues.declared.kinds.Value.{Value}
-use Rattle.laws_unwinding.specs.LogicValues.declared.kinds.Value.TheVariants as value
-use Rattle.laws_unwinding.specs.EventCore.declared.event.Ev.{Ev}
-use Rattle.laws_unwinding.specs.EventCore.declared.event.Ev.TheVariants as ev
-use Rattle.laws_unwinding.specs.FlatDesign.Code as code
-use Rattle.laws_unwinding.specs.FlatDesign.Code.{Arena, arena_of, block_at, body_at}
-use Rattle.laws_unwinding.specs.FlatDesign.Sound.{SoundDesign}
-use Rattle.laws_unwinding.specs.FlatDesign.declared.design.Design.{Design}
-use Rattle.laws_unwinding.specs.FlatDesign.declared.code.CodeBody.{CodeBody}
-use Rattle.laws_unwinding.specs.FlatDesign.declared.value_types.ValueType.TheVariants as type
-use Rattle.laws_unwinding.specs.SimModel.Residual.{Residual, Frame, skip, one, seq, owing, shell, run, frame, goal, statements, settle, put, next_of, in_innermost, has_goal, begun, entered_in, frame_of}
-use Rattle.laws_unwinding.specs.SimModel.Configuration.{Config, Instance, arena, instance_at}
-use Rattle.laws_unwinding.specs.SimModel.Waits.{fire}
-use Rattle.laws_unwinding.specs.SimModel.Storing.{passes, with_local, set_local, first_value}
-use Rattle.laws_unwinding.specs.SimModel.Control.{begins, stays_kept}
-use Rattle.laws_unwinding.specs.SimModel.Statements.{settled_in}
-use Rattle.laws_unwinding.specs.SimModel.Steps.{Outcome, went, faulted, takes, ended, as_outcome, step}
-use Rattle.laws_unwinding.specs.SimModel.Runs.{after, and_then}
-use Rattle.laws_unwinding.specs.SimModel.Clean.{times}
-use Rattle.laws_unwinding.specs.SimModel.declared.plain.Command.{Command}
-use Rattle.laws_unwinding.specs.SimModel.declared.plain.Goal.{Goal}
-use Rattle.laws_unwinding.specs.SimModel.declared.plain.Goal.TheVariants as goal_of
-use Rattle.laws_unwinding.specs.LawsRuns.Standing.{IsUnwinding, IsStanding}
-use Rattle.laws_unwinding.proofs.LawsRuns.Changes.{set-here, change-here}
-use Rattle.laws_unwinding.proofs.LawsRuns.MarkLemmas.{before_statement}
-use Rattle.laws_unwinding.proofs.Fine.{fine-at}
-use Rattle.laws_unwinding.proofs.Roots.{IsBare, over_skip, over_frame, over_goal}
-use Rattle.laws_unwinding.proofs.Runs.{goals-after}
-use Rattle.laws_unwinding.proofs.KeptRuns.{sound-run}
-use Rattle.laws_unwinding.proofs.MarkedRuns.{marked-after}
-use Rattle.laws_moves.proofs.RunSteps.{step-moves, takes-empty}
-use Rattle.laws_moves.proofs.Wakes.{fire-keeps}
+use Rattle.laws_runs.specs.LogicValues.declared.kinds.Value.{Value}
+use Rattle.laws_runs.specs.LogicValues.declared.kinds.Value.TheVariants as value
+use Rattle.laws_runs.specs.EventCore.declared.event.Ev.{Ev}
+use Rattle.laws_runs.specs.EventCore.declared.event.Ev.TheVariants as ev
+use Rattle.laws_runs.specs.FlatDesign.Code as code
+use Rattle.laws_runs.specs.FlatDesign.Code.{Arena, arena_of, block_at, body_at}
+use Rattle.laws_runs.specs.FlatDesign.Sound.{SoundDesign}
+use Rattle.laws_runs.specs.FlatDesign.declared.design.Design.{Design}
+use Rattle.laws_runs.specs.FlatDesign.declared.code.CodeBody.{CodeBody}
+use Rattle.laws_runs.specs.FlatDesign.declared.value_types.ValueType.TheVariants as type
+use Rattle.laws_runs.specs.SimModel.Residual.{Residual, Frame, skip, one, seq, owing, shell, run, frame, goal, statements, settle, put, next_of, in_innermost, has_goal, begun, entered_in, frame_of}
+use Rattle.laws_runs.specs.SimModel.Configuration.{Config, Instance, arena, instance_at}
+use Rattle.laws_runs.specs.SimModel.Waits.{fire}
+use Rattle.laws_runs.specs.SimModel.Storing.{passes, with_local, set_local, first_value}
+use Rattle.laws_runs.specs.SimModel.Control.{begins, stays_kept}
+use Rattle.laws_runs.specs.SimModel.Statements.{settled_in}
+use Rattle.laws_runs.specs.SimModel.Steps.{Outcome, went, faulted, takes, ended, as_outcome, step}
+use Rattle.laws_runs.specs.SimModel.Runs.{after, and_then}
+use Rattle.laws_runs.specs.SimModel.Clean.{times}
+use Rattle.laws_runs.specs.SimModel.declared.plain.Command.{Command}
+use Rattle.laws_runs.specs.SimModel.declared.plain.Goal.{Goal}
+use Rattle.laws_runs.specs.SimModel.declared.plain.Goal.TheVariants as goal_of
+use Rattle.laws_runs.specs.Standing.{IsUnwinding, IsStanding}
+use Rattle.laws_runs.proofs.Changes.{set-here, change-here}
+use Rattle.laws_runs.proofs.MarkLemmas.{before_statement}
+use Rattle.laws_runs.proofs.Fine.{fine-at}
+use Rattle.laws_runs.proofs.Roots.{IsBare, over_skip, over_frame, over_goal}
+use Rattle.laws_runs.proofs.GoalRuns.{goals-after}
+use Rattle.laws_runs.proofs.KeptRuns.{sound-run}
+use Rattle.laws_runs.proofs.MarkedRuns.{marked-after}
+use Rattle.laws_runs.proofs.RunSteps.{step-moves, takes-empty}
+use Rattle.laws_runs.proofs.WakeMoves.{fire-keeps}
 use Rattle.laws_clocked.specs.Spots.{IsLeft}
 use Rattle.laws_clocked.specs.Again.{Around, StandsAt, StaysOrBegins, stays_on, BeginsFirst, IsHeldBack, BeginsUnlessHeldBack}
 use Rattle.laws_clocked.specs.Clocked.{HasClocked}

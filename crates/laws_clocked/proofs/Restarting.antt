@@ -2,17 +2,17 @@
 use Rattle.std.proofs.Common.{◌≡◌, ℕ, true, false, cond, List, slice_get, Some, refl, ap, ◌∙◌, subst, ⊎_elim}
 use Rattle.std.specs.Prelude.{Ok}
 use Rattle.std.proofs.lemmas.Bool.{cases_eq}
-use Rattle.laws_unwinding.specs.EventCore.declared.event.Ev.TheVariants as ev
-use Rattle.laws_unwinding.specs.FlatDesign.Code.{arena_of}
-use Rattle.laws_unwinding.specs.FlatDesign.declared.design.Design.{Design}
-use Rattle.laws_unwinding.specs.SimModel.Residual.{Residual, reaches, settle, next_of, skip, begun}
-use Rattle.laws_unwinding.specs.SimModel.Configuration.{Config, Instance, arena, change, change_instance, instance_at}
-use Rattle.laws_unwinding.specs.SimModel.Waits.{fire}
-use Rattle.laws_unwinding.specs.SimModel.Control.{begins, stays_kept}
-use Rattle.laws_unwinding.specs.SimModel.Statements.{settled_in, do_next, step_by, statement_step}
-use Rattle.laws_unwinding.specs.SimModel.declared.plain.Goal.TheVariants as goal_of
-use Rattle.laws_unwinding.proofs.LawsRuns.Changes.{change-here, change-other}
-use Rattle.laws_moves.proofs.Wakes.{WakesKeep, fire-keeps}
+use Rattle.laws_runs.specs.EventCore.declared.event.Ev.TheVariants as ev
+use Rattle.laws_runs.specs.FlatDesign.Code.{arena_of}
+use Rattle.laws_runs.specs.FlatDesign.declared.design.Design.{Design}
+use Rattle.laws_runs.specs.SimModel.Residual.{Residual, reaches, settle, next_of, skip, begun}
+use Rattle.laws_runs.specs.SimModel.Configuration.{Config, Instance, arena, change, change_instance, instance_at}
+use Rattle.laws_runs.specs.SimModel.Waits.{fire}
+use Rattle.laws_runs.specs.SimModel.Control.{begins, stays_kept}
+use Rattle.laws_runs.specs.SimModel.Statements.{settled_in, do_next, step_by, statement_step}
+use Rattle.laws_runs.specs.SimModel.declared.plain.Goal.TheVariants as goal_of
+use Rattle.laws_runs.proofs.Changes.{change-here, change-other}
+use Rattle.laws_runs.proofs.WakeMoves.{WakesKeep, fire-keeps}
 use Rattle.laws_clocked.specs.Resets.{BeginsAnew}
 
 -- ---- an event takes nobody away, and moves nobody on the stack

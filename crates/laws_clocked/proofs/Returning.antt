@@ -4,31 +4,31 @@ use Rattle.std.proofs.Common.{◌≡◌, ◌<◌, ℕ, zero, suc, true, false, L
 use Rattle.std.specs.Prelude.{Ok}
 use Rattle.std.specs.Result.{IfOk}
 use Rattle.std.proofs.lemmas.Option.{none-some, same_Some}
-use Rattle.laws_unwinding.specs.LogicValues.declared.kinds.Value.{Value}
-use Rattle.laws_unwinding.specs.FlatDesign.Code as code
-use Rattle.laws_unwinding.specs.FlatDesign.Code.{Arena, arena_of, statement_at}
-use Rattle.laws_unwinding.specs.FlatDesign.Sound.{SoundDesign}
-use Rattle.laws_unwinding.specs.FlatDesign.declared.design.Design.{Design}
-use Rattle.laws_unwinding.specs.SimModel.Values.{truth}
-use Rattle.laws_unwinding.specs.SimModel.Residual as residual
-use Rattle.laws_unwinding.specs.SimModel.Residual.{Residual, Frame, Next, skip, seq, frame, goal, settle, next_of, statement, in_frame, before_goal}
-use Rattle.laws_unwinding.specs.SimModel.Unwinding.{unw, catches, left_by_unw}
-use Rattle.laws_unwinding.specs.SimModel.Configuration.{Config, Instance, arena, instance_at, with_residual}
-use Rattle.laws_unwinding.specs.SimModel.Calls.{with_left}
-use Rattle.laws_unwinding.specs.SimModel.Statements.{settled_in, do_next, step_by, statement_step, calling_statement}
-use Rattle.laws_unwinding.specs.SimModel.Steps.{Outcome, went, faulted, takes, ended, step}
-use Rattle.laws_unwinding.specs.SimModel.Runs.{after, and_then}
-use Rattle.laws_unwinding.specs.SimModel.Clean.{times}
-use Rattle.laws_unwinding.specs.SimModel.declared.plain.Command.{Command}
-use Rattle.laws_unwinding.specs.SimModel.declared.plain.Goal.{Goal}
-use Rattle.laws_unwinding.specs.SimModel.declared.plain.Goal.TheVariants as goal_of
-use Rattle.laws_unwinding.proofs.LawsRuns.Times.{times-here}
-use Rattle.laws_unwinding.proofs.LawsRuns.Tight.{IsTight, settle-tight}
-use Rattle.laws_unwinding.proofs.Parts.{IsOver, IsInner}
-use Rattle.laws_unwinding.proofs.Roots.{IsRooted, rooted-over, settle-rooted}
-use Rattle.laws_unwinding.proofs.KeptRuns.{sound-run}
-use Rattle.laws_unwinding.proofs.MarkedRuns.{marked-after}
-use Rattle.laws_moves.proofs.RunSteps.{step-moves, takes-empty}
+use Rattle.laws_runs.specs.LogicValues.declared.kinds.Value.{Value}
+use Rattle.laws_runs.specs.FlatDesign.Code as code
+use Rattle.laws_runs.specs.FlatDesign.Code.{Arena, arena_of, statement_at}
+use Rattle.laws_runs.specs.FlatDesign.Sound.{SoundDesign}
+use Rattle.laws_runs.specs.FlatDesign.declared.design.Design.{Design}
+use Rattle.laws_runs.specs.SimModel.Values.{truth}
+use Rattle.laws_runs.specs.SimModel.Residual as residual
+use Rattle.laws_runs.specs.SimModel.Residual.{Residual, Frame, Next, skip, seq, frame, goal, settle, next_of, statement, in_frame, before_goal}
+use Rattle.laws_runs.specs.SimModel.Unwinding.{unw, catches, left_by_unw}
+use Rattle.laws_runs.specs.SimModel.Configuration.{Config, Instance, arena, instance_at, with_residual}
+use Rattle.laws_runs.specs.SimModel.Calls.{with_left}
+use Rattle.laws_runs.specs.SimModel.Statements.{settled_in, do_next, step_by, statement_step, calling_statement}
+use Rattle.laws_runs.specs.SimModel.Steps.{Outcome, went, faulted, takes, ended, step}
+use Rattle.laws_runs.specs.SimModel.Runs.{after, and_then}
+use Rattle.laws_runs.specs.SimModel.Clean.{times}
+use Rattle.laws_runs.specs.SimModel.declared.plain.Command.{Command}
+use Rattle.laws_runs.specs.SimModel.declared.plain.Goal.{Goal}
+use Rattle.laws_runs.specs.SimModel.declared.plain.Goal.TheVariants as goal_of
+use Rattle.laws_runs.proofs.Times.{times-here}
+use Rattle.laws_runs.proofs.Tight.{IsTight, settle-tight}
+use Rattle.laws_runs.proofs.GoalParts.{IsOver, IsInner}
+use Rattle.laws_runs.proofs.Roots.{IsRooted, rooted-over, settle-rooted}
+use Rattle.laws_runs.proofs.KeptRuns.{sound-run}
+use Rattle.laws_runs.proofs.MarkedRuns.{marked-after}
+use Rattle.laws_runs.proofs.RunSteps.{step-moves, takes-empty}
 use Rattle.laws_clocked.specs.Spots.{IsLeft}
 use Rattle.laws_clocked.specs.Stores.{UnwindsSpare}
 use Rattle.laws_clocked.specs.Again.{Around, HasAround, trying, unwinding, StandsAt, Stays, no_step, one_more, IsBegun, StaysOrBegins, stays_on, begun_at, BeginsFirst}

@@ -5,38 +5,38 @@ use Rattle.std.specs.Prelude.{Result, Ok, Err}
 use Rattle.std.specs.Result.{IfOk}
 use Rattle.std.proofs.lemmas.Bool.{cases_eq}
 use Rattle.std.proofs.lemmas.Option.{none-some, same_Some, slice_get-map}
-use Rattle.laws_unwinding.specs.LogicValues.declared.kinds.Value.{Value}
-use Rattle.laws_unwinding.specs.FlatDesign.Code.{Arena}
-use Rattle.laws_unwinding.specs.FlatDesign.Sound.{SoundDesign}
-use Rattle.laws_unwinding.specs.FlatDesign.declared.design.Design.{Design}
-use Rattle.laws_unwinding.specs.FlatDesign.declared.design.ProcessPart.{ProcessPart}
-use Rattle.laws_unwinding.specs.FlatDesign.declared.faults.RunFault.{RunFault}
-use Rattle.laws_unwinding.specs.SimModel.Residual.{Residual, Frame, skip, one, seq, try_, frame, goal, settle, next_of, innermost, begun}
-use Rattle.laws_unwinding.specs.SimModel.Unwinding.{catches, raise}
-use Rattle.laws_unwinding.specs.SimModel.Configuration.{Config, Instance, arena, instance_at, change_instance, with_runnable, first_instance, start}
-use Rattle.laws_unwinding.specs.SimModel.Waits.{freed}
-use Rattle.laws_unwinding.specs.SimModel.Phases.{initialize_each}
-use Rattle.laws_unwinding.specs.SimModel.Statements.{settled_in, do_next, step_by, statement_step}
-use Rattle.laws_unwinding.specs.SimModel.Steps.{Outcome, went, faulted, takes, ended, as_outcome, step, step_in, taking}
-use Rattle.laws_unwinding.specs.SimModel.Runs.{after}
-use Rattle.laws_unwinding.specs.SimModel.declared.plain.Command.{Command}
-use Rattle.laws_unwinding.specs.SimModel.declared.plain.Goal.{Goal}
-use Rattle.laws_unwinding.specs.SimModel.declared.plain.Goal.TheVariants as goal_of
-use Rattle.laws_unwinding.specs.SimModel.declared.plain.Phase.TheVariants as phase
-use Rattle.laws_unwinding.specs.LawsRuns.Standing.{code_of}
-use Rattle.laws_unwinding.proofs.Moves.{Sound}
-use Rattle.laws_unwinding.proofs.Parts.{Parts, parts, Kept, Alike, IsKept, IsKeptBetween, IsKeptByTakings, changed_in}
-use Rattle.laws_unwinding.proofs.KeptStatements.{moves-kept}
-use Rattle.laws_unwinding.proofs.KeptMoves.{each-between}
-use Rattle.laws_unwinding.proofs.KeptSteps.{taking-kept}
-use Rattle.laws_unwinding.proofs.Runs.{holds-after}
-use Rattle.laws_unwinding.proofs.Steps.{IfWent, settled-sound, takes-empty}
-use Rattle.laws_unwinding.proofs.KeptRuns.{sound-run}
-use Rattle.laws_unwinding.proofs.MarkedRuns.{marked-after}
-use Rattle.laws_unwinding.proofs.Roots.{IsRooted, settle-rooted}
-use Rattle.laws_moves.specs.Moves.{Moves, StepMoves, in_turn, between, initializing, moving_now, time_moved}
-use Rattle.laws_moves.proofs.Kept.{moves-keep}
-use Rattle.laws_moves.proofs.RunSteps.{step-moves}
+use Rattle.laws_runs.specs.LogicValues.declared.kinds.Value.{Value}
+use Rattle.laws_runs.specs.FlatDesign.Code.{Arena}
+use Rattle.laws_runs.specs.FlatDesign.Sound.{SoundDesign}
+use Rattle.laws_runs.specs.FlatDesign.declared.design.Design.{Design}
+use Rattle.laws_runs.specs.FlatDesign.declared.design.ProcessPart.{ProcessPart}
+use Rattle.laws_runs.specs.FlatDesign.declared.faults.RunFault.{RunFault}
+use Rattle.laws_runs.specs.SimModel.Residual.{Residual, Frame, skip, one, seq, try_, frame, goal, settle, next_of, innermost, begun}
+use Rattle.laws_runs.specs.SimModel.Unwinding.{catches, raise}
+use Rattle.laws_runs.specs.SimModel.Configuration.{Config, Instance, arena, instance_at, change_instance, with_runnable, first_instance, start}
+use Rattle.laws_runs.specs.SimModel.Waits.{freed}
+use Rattle.laws_runs.specs.SimModel.Phases.{initialize_each}
+use Rattle.laws_runs.specs.SimModel.Statements.{settled_in, do_next, step_by, statement_step}
+use Rattle.laws_runs.specs.SimModel.Steps.{Outcome, went, faulted, takes, ended, as_outcome, step, step_in, taking}
+use Rattle.laws_runs.specs.SimModel.Runs.{after}
+use Rattle.laws_runs.specs.SimModel.declared.plain.Command.{Command}
+use Rattle.laws_runs.specs.SimModel.declared.plain.Goal.{Goal}
+use Rattle.laws_runs.specs.SimModel.declared.plain.Goal.TheVariants as goal_of
+use Rattle.laws_runs.specs.SimModel.declared.plain.Phase.TheVariants as phase
+use Rattle.laws_runs.specs.Standing.{code_of}
+use Rattle.laws_runs.proofs.GoalMoves.{Sound}
+use Rattle.laws_runs.proofs.GoalParts.{Parts, parts, Kept, Alike, IsKept, IsKeptBetween, IsKeptByTakings, changed_in}
+use Rattle.laws_runs.proofs.KeptStatements.{moves-kept}
+use Rattle.laws_runs.proofs.KeptMoves.{each-between}
+use Rattle.laws_runs.proofs.KeptSteps.{taking-kept}
+use Rattle.laws_runs.proofs.GoalRuns.{holds-after}
+use Rattle.laws_runs.proofs.GoalSteps.{IfWent, settled-sound, takes-empty}
+use Rattle.laws_runs.proofs.KeptRuns.{sound-run}
+use Rattle.laws_runs.proofs.MarkedRuns.{marked-after}
+use Rattle.laws_runs.proofs.Roots.{IsRooted, settle-rooted}
+use Rattle.laws_runs.specs.Moves.{Moves, StepMoves, in_turn, between, initializing, moving_now, time_moved}
+use Rattle.laws_runs.proofs.MovesKeep.{moves-keep}
+use Rattle.laws_runs.proofs.RunSteps.{step-moves}
 use Rattle.laws_clocked.specs.Again.{Around, trying, unwinding, injected_into}
 use Rattle.laws_clocked.specs.Clocked.{HasClocked, UncaughtIn, AsksTrue}
 use Rattle.laws_clocked.proofs.OwnSteps.{step-top, settled-at}

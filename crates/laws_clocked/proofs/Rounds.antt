@@ -1,15 +1,15 @@
 -- What is left of a clocked thread, at each place of its body: where it is among its own statements, and where an exception unwinds these,
 -- each of them is such a one, and the variable that its loop asks is true.
 use Rattle.std.proofs.Common.{◌≡◌, ◌⊎◌, ◌==◌, ℕ, Bool, true, false, cond, List, [], ◌∷◌, ◌++◌, slice_get, Option, Some, None, refl, sym, ap, ◌∙◌, subst, inl, inr, ⊎_elim}
-use Rattle.laws_unwinding.specs.LogicValues.declared.kinds.Value.{Value}
-use Rattle.laws_unwinding.specs.FlatDesign.Code.{Arena}
-use Rattle.laws_unwinding.specs.FlatDesign.Typed.{EachOf}
-use Rattle.laws_unwinding.specs.SimModel.Values.{truth}
-use Rattle.laws_unwinding.specs.SimModel.Residual.{Residual, Frame, skip, one, batch, seq, owing, guard, try_, frame, shell, run, goal, followed, then_on, in_try, settle, in_innermost, taken_off, put, next_of, statement}
-use Rattle.laws_unwinding.specs.SimModel.Unwinding.{unw, catches, handles, handler_block, handler_of, handled, raise, returned}
-use Rattle.laws_unwinding.specs.SimModel.Storing.{with_local}
-use Rattle.laws_unwinding.specs.SimModel.declared.plain.Goal.{Goal}
-use Rattle.laws_unwinding.proofs.Parts.{IsInner}
+use Rattle.laws_runs.specs.LogicValues.declared.kinds.Value.{Value}
+use Rattle.laws_runs.specs.FlatDesign.Code.{Arena}
+use Rattle.laws_runs.specs.FlatDesign.Typed.{EachOf}
+use Rattle.laws_runs.specs.SimModel.Values.{truth}
+use Rattle.laws_runs.specs.SimModel.Residual.{Residual, Frame, skip, one, batch, seq, owing, guard, try_, frame, shell, run, goal, followed, then_on, in_try, settle, in_innermost, taken_off, put, next_of, statement}
+use Rattle.laws_runs.specs.SimModel.Unwinding.{unw, catches, handles, handler_block, handler_of, handled, raise, returned}
+use Rattle.laws_runs.specs.SimModel.Storing.{with_local}
+use Rattle.laws_runs.specs.SimModel.declared.plain.Goal.{Goal}
+use Rattle.laws_runs.proofs.GoalParts.{IsInner}
 use Rattle.laws_clocked.specs.Again.{Around}
 use Rattle.laws_clocked.specs.Clocked.{HasClocked}
 use Rattle.laws_clocked.proofs.Storing.{IsKeptUnwound}

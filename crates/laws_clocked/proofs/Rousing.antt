@@ -3,18 +3,18 @@ use Rattle.std.proofs.Common.{◌≡◌, ◌≢◌, ◌≤◌, ◌-◌, ◌⊎�
 use Rattle.std.specs.List.{list_any}
 use Rattle.std.proofs.lemmas.Bool.{cases_eq}
 use Rattle.std.proofs.lemmas.Option.{none-some, slice_get-map, same_Some}
-use Rattle.laws_unwinding.specs.EventCore.declared.event.Ev.{Ev}
-use Rattle.laws_unwinding.specs.SimModel.Residual.{Residual, goal, has_goal}
-use Rattle.laws_unwinding.specs.SimModel.Unwinding.{unw}
-use Rattle.laws_unwinding.specs.SimModel.Configuration.{Config, Instance, Wait, waits_for_nothing, waits_statically, waits_for_any, waits_for_all, Deadline, no_deadline, change, change_instance, instance_at, with_residual, with_runnable}
-use Rattle.laws_unwinding.specs.SimModel.Waits.{is_among, struck, joined, freed, is_active, woken, wake_instance, wake, left_of_all, reaches, reach_instance, fire_each, fire, fire_all, wake_all}
-use Rattle.laws_unwinding.specs.SimModel.Calls.{with_left, with_entry}
-use Rattle.laws_unwinding.specs.SimModel.Phases.{without_deadline, due_instances}
-use Rattle.laws_unwinding.specs.SimModel.Control.{is_top, pushed, pushed_unless_top}
-use Rattle.laws_unwinding.specs.SimModel.declared.plain.Goal.{Goal}
-use Rattle.laws_unwinding.specs.SimModel.declared.plain.Via.{Via}
-use Rattle.laws_unwinding.proofs.LawsRuns.Changes.{change-here, change-other, last-other, past-end}
-use Rattle.laws_moves.proofs.Wakes.{WakesKeep, fire-keeps, wake-keeps}
+use Rattle.laws_runs.specs.EventCore.declared.event.Ev.{Ev}
+use Rattle.laws_runs.specs.SimModel.Residual.{Residual, goal, has_goal}
+use Rattle.laws_runs.specs.SimModel.Unwinding.{unw}
+use Rattle.laws_runs.specs.SimModel.Configuration.{Config, Instance, Wait, waits_for_nothing, waits_statically, waits_for_any, waits_for_all, Deadline, no_deadline, change, change_instance, instance_at, with_residual, with_runnable}
+use Rattle.laws_runs.specs.SimModel.Waits.{is_among, struck, joined, freed, is_active, woken, wake_instance, wake, left_of_all, reaches, reach_instance, fire_each, fire, fire_all, wake_all}
+use Rattle.laws_runs.specs.SimModel.Calls.{with_left, with_entry}
+use Rattle.laws_runs.specs.SimModel.Phases.{without_deadline, due_instances}
+use Rattle.laws_runs.specs.SimModel.Control.{is_top, pushed, pushed_unless_top}
+use Rattle.laws_runs.specs.SimModel.declared.plain.Goal.{Goal}
+use Rattle.laws_runs.specs.SimModel.declared.plain.Via.{Via}
+use Rattle.laws_runs.proofs.Changes.{change-here, change-other, last-other, past-end}
+use Rattle.laws_runs.proofs.WakeMoves.{WakesKeep, fire-keeps, wake-keeps}
 
 or_false : (a b : Bool) → (a || b) ≡ false → (a ≡ false) × (b ≡ false)
 or_false true b h = absurd (true≢false h)

@@ -1,26 +1,26 @@
 -- No step and no taking changes the design, and so no run does.
 use Rattle.std.proofs.Common.{◌≡◌, ◌++◌, ℕ, suc, Bool, true, false, cond, List, [], ◌∷◌, length, Option, Some, None, refl}
-use Rattle.laws_unwinding.specs.FlatDesign.declared.design.Design.{Design}
-use Rattle.laws_unwinding.specs.FlatDesign.declared.design.ProcessPart.{ProcessPart}
-use Rattle.laws_unwinding.specs.SimModel.Residual.{goal}
-use Rattle.laws_unwinding.specs.SimModel.Unwinding.{unw, raise, left_by_unw, left_by_raise}
-use Rattle.laws_unwinding.specs.SimModel.Configuration.{Config, arena, change_instance, with_residual, with_runnable, start}
-use Rattle.laws_unwinding.specs.SimModel.Waits.{freed}
-use Rattle.laws_unwinding.specs.SimModel.Storing.{passes}
-use Rattle.laws_unwinding.specs.SimModel.Calls.{with_left, with_entry, new_instance, added, runnable_unless}
-use Rattle.laws_unwinding.specs.SimModel.Control.{is_top, pushed, pushed_unless_top}
-use Rattle.laws_unwinding.specs.SimModel.Statements.{settled_in}
-use Rattle.laws_unwinding.specs.SimModel.Phases.{initialize_each}
-use Rattle.laws_unwinding.specs.SimModel.Runs.{after}
-use Rattle.laws_unwinding.specs.SimModel.declared.plain.Command.{Command}
-use Rattle.laws_unwinding.specs.SimModel.declared.plain.Goal.TheVariants as goal_of
-use Rattle.laws_unwinding.specs.SimModel.declared.plain.Via.{Via}
-use Rattle.laws_unwinding.proofs.Runs.{holds-after}
-use Rattle.laws_unwinding.proofs.Steps.{goes-to}
-use Rattle.laws_moves.specs.Moves as move
-use Rattle.laws_moves.specs.Moves.{Moves, StepMoves, in_turn, between, initializing, moving_now, TakingMoves, of_none, of_one, time_moved, turn_taken}
-use Rattle.laws_moves.proofs.Kept.{EachKeeps, moves-keep}
-use Rattle.laws_moves.proofs.RunSteps.{taking-moves}
+use Rattle.laws_runs.specs.FlatDesign.declared.design.Design.{Design}
+use Rattle.laws_runs.specs.FlatDesign.declared.design.ProcessPart.{ProcessPart}
+use Rattle.laws_runs.specs.SimModel.Residual.{goal}
+use Rattle.laws_runs.specs.SimModel.Unwinding.{unw, raise, left_by_unw, left_by_raise}
+use Rattle.laws_runs.specs.SimModel.Configuration.{Config, arena, change_instance, with_residual, with_runnable, start}
+use Rattle.laws_runs.specs.SimModel.Waits.{freed}
+use Rattle.laws_runs.specs.SimModel.Storing.{passes}
+use Rattle.laws_runs.specs.SimModel.Calls.{with_left, with_entry, new_instance, added, runnable_unless}
+use Rattle.laws_runs.specs.SimModel.Control.{is_top, pushed, pushed_unless_top}
+use Rattle.laws_runs.specs.SimModel.Statements.{settled_in}
+use Rattle.laws_runs.specs.SimModel.Phases.{initialize_each}
+use Rattle.laws_runs.specs.SimModel.Runs.{after}
+use Rattle.laws_runs.specs.SimModel.declared.plain.Command.{Command}
+use Rattle.laws_runs.specs.SimModel.declared.plain.Goal.TheVariants as goal_of
+use Rattle.laws_runs.specs.SimModel.declared.plain.Via.{Via}
+use Rattle.laws_runs.proofs.GoalRuns.{holds-after}
+use Rattle.laws_runs.proofs.GoalSteps.{goes-to}
+use Rattle.laws_runs.specs.Moves as move
+use Rattle.laws_runs.specs.Moves.{Moves, StepMoves, in_turn, between, initializing, moving_now, TakingMoves, of_none, of_one, time_moved, turn_taken}
+use Rattle.laws_runs.proofs.MovesKeep.{EachKeeps, moves-keep}
+use Rattle.laws_runs.proofs.RunSteps.{taking-moves}
 
 module _ (design : Design) where
   abbrev Is : Config → Type 0

@@ -3,25 +3,25 @@
 use Rattle.std.proofs.Common.{◌≡◌, ℕ, cond, List, length, Option, Some, None, refl, sym, ap, ◌∙◌, ⊎_elim, subst}
 use Rattle.std.specs.Prelude.{Result, Ok, Err, is_some, slice_get}
 use Rattle.std.proofs.lemmas.Bool.{cases_eq}
-use Rattle.laws_unwinding.specs.LogicValues.declared.kinds.Value.{Value}
-use Rattle.laws_unwinding.specs.PayloadPool.declared.payload.Payload.{Payload}
-use Rattle.laws_unwinding.specs.FlatDesign.Code as code
-use Rattle.laws_unwinding.specs.FlatDesign.Code.{Term}
-use Rattle.laws_unwinding.specs.FlatDesign.Denotes.{denoted_at}
-use Rattle.laws_unwinding.specs.FlatDesign.declared.names.NameUse.{NameUse}
-use Rattle.laws_unwinding.specs.FlatDesign.declared.names.NameUse.TheVariants as name_use
-use Rattle.laws_unwinding.specs.FlatDesign.declared.names.Member.{Member}
-use Rattle.laws_unwinding.specs.FlatDesign.declared.names.Member.TheVariants as member
-use Rattle.laws_unwinding.specs.FlatDesign.declared.design.ChannelId.{ChannelId}
-use Rattle.laws_unwinding.specs.FlatDesign.declared.design.ChannelId.TheVariants as channel
-use Rattle.laws_unwinding.specs.FlatDesign.declared.design.Denoted.{Denoted}
-use Rattle.laws_unwinding.specs.FlatDesign.declared.design.Denoted.TheVariants as denoted
-use Rattle.laws_unwinding.specs.FlatDesign.declared.faults.RunFault.{RunFault}
-use Rattle.laws_unwinding.specs.SimModel.Values.{on_ok, bits, truth, process_handle, payload_handle, widened, unsigned, bool_value, unary, binary, decides, digit_at, digits_between, converted, joined_digits}
-use Rattle.laws_unwinding.specs.SimModel.Residual.{Residual, innermost, within}
-use Rattle.laws_unwinding.specs.SimModel.Configuration.{Config, Instance, Processes, Trace, change, instance_at}
-use Rattle.laws_unwinding.specs.SimModel.Reading.{Here, here, home_of_via, locals_of, channel_of, channel_here, channel_value, read_denoted, read_name, handle_in, process_of, payload_handle_of, not_empty, payload_number, live_payload, payload_here, has_ended, field_value, channel_member, member_of_channel, keeper_number, keeper_at, keeper_here, keeper_member, is_live, member_value, byte_in, memory_number, memory_at, payload_bytes, read_wide, val}
-use Rattle.laws_unwinding.proofs.LawsRuns.Changes.{change-here, change-other, change-none}
+use Rattle.laws_runs.specs.LogicValues.declared.kinds.Value.{Value}
+use Rattle.laws_runs.specs.PayloadPool.declared.payload.Payload.{Payload}
+use Rattle.laws_runs.specs.FlatDesign.Code as code
+use Rattle.laws_runs.specs.FlatDesign.Code.{Term}
+use Rattle.laws_runs.specs.FlatDesign.Denotes.{denoted_at}
+use Rattle.laws_runs.specs.FlatDesign.declared.names.NameUse.{NameUse}
+use Rattle.laws_runs.specs.FlatDesign.declared.names.NameUse.TheVariants as name_use
+use Rattle.laws_runs.specs.FlatDesign.declared.names.Member.{Member}
+use Rattle.laws_runs.specs.FlatDesign.declared.names.Member.TheVariants as member
+use Rattle.laws_runs.specs.FlatDesign.declared.design.ChannelId.{ChannelId}
+use Rattle.laws_runs.specs.FlatDesign.declared.design.ChannelId.TheVariants as channel
+use Rattle.laws_runs.specs.FlatDesign.declared.design.Denoted.{Denoted}
+use Rattle.laws_runs.specs.FlatDesign.declared.design.Denoted.TheVariants as denoted
+use Rattle.laws_runs.specs.FlatDesign.declared.faults.RunFault.{RunFault}
+use Rattle.laws_runs.specs.SimModel.Values.{on_ok, bits, truth, process_handle, payload_handle, widened, unsigned, bool_value, unary, binary, decides, digit_at, digits_between, converted, joined_digits}
+use Rattle.laws_runs.specs.SimModel.Residual.{Residual, innermost, within}
+use Rattle.laws_runs.specs.SimModel.Configuration.{Config, Instance, Processes, Trace, change, instance_at}
+use Rattle.laws_runs.specs.SimModel.Reading.{Here, here, home_of_via, locals_of, channel_of, channel_here, channel_value, read_denoted, read_name, handle_in, process_of, payload_handle_of, not_empty, payload_number, live_payload, payload_here, has_ended, field_value, channel_member, member_of_channel, keeper_number, keeper_at, keeper_here, keeper_member, is_live, member_value, byte_in, memory_number, memory_at, payload_bytes, read_wide, val}
+use Rattle.laws_runs.proofs.Changes.{change-here, change-other, change-none}
 
 -- on from one value by two ways that agree
 ok_like : {A B : Type 0} (m : Result A RunFault) (f g : A → Result B RunFault) → ((x : A) → f x ≡ g x) → on_ok m f ≡ on_ok m g

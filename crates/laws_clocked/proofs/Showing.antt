@@ -1,8 +1,8 @@
 -- What shows of what is left of a body, as that goes on.
 use Rattle.std.proofs.Common.{◌≡◌, ℕ, false, List, [], ◌∷◌, Option, Some, None, option_map, refl, sym, ap, ◌∙◌, subst}
-use Rattle.laws_unwinding.specs.FlatDesign.Code.{Arena}
-use Rattle.laws_unwinding.specs.FlatDesign.declared.code.Handler.{Handler}
-use Rattle.laws_unwinding.specs.SimModel.Residual.{Residual, Frame, skip, one, batch, seq, owing, guard, try_, frame, shell, run, goal, followed, then_on, in_guard, in_try, settle, frame_or, put, next_of, has_goal, statement, in_frame, nothing, innermost, or_frame, changed_if, in_innermost, or_via, within}
+use Rattle.laws_runs.specs.FlatDesign.Code.{Arena}
+use Rattle.laws_runs.specs.FlatDesign.declared.code.Handler.{Handler}
+use Rattle.laws_runs.specs.SimModel.Residual.{Residual, Frame, skip, one, batch, seq, owing, guard, try_, frame, shell, run, goal, followed, then_on, in_guard, in_try, settle, frame_or, put, next_of, has_goal, statement, in_frame, nothing, innermost, or_frame, changed_if, in_innermost, or_via, within}
 use Rattle.laws_clocked.specs.Spots.{IsLeft, Shows, itself, followed_by, guarded, tried, called}
 
 -- ---- what has a statement in place is left

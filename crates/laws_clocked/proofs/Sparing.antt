@@ -1,15 +1,15 @@
 -- The unwind blocks of a clocked thread's body store to other local variables than the one that its loop asks.
 use Rattle.std.proofs.Common.{◌≡◌, ◌⊎◌, ◌<◌, ℕ, zero, suc, true, false, List, [], ◌∷◌, ◌++◌, map, length, slice_index_or, Contains, Some, refl, sym, ap, ◌∙◌, subst, arith, inl, inr, ⊎_elim}
 use Rattle.std.proofs.lemmas.Option.{same_Some}
-use Rattle.laws_unwinding.specs.LogicValues.declared.kinds.Value.TheVariants as value
-use Rattle.laws_unwinding.specs.FlatDesign.Code as code
-use Rattle.laws_unwinding.specs.FlatDesign.Code.{Arena, Statement, block_at, statement_at}
-use Rattle.laws_unwinding.specs.FlatDesign.Reach.{Inside, itself, deeper, IsIn, InBody, inner_blocks}
-use Rattle.laws_unwinding.specs.FlatDesign.Typed.{EachOf}
-use Rattle.laws_unwinding.specs.FlatDesign.declared.code.CodeBody.{CodeBody}
-use Rattle.laws_unwinding.specs.FlatDesign.declared.code.Handler.{Handler}
-use Rattle.laws_unwinding.specs.FlatDesign.declared.names.NameUse.TheVariants as name_use
-use Rattle.laws_unwinding.specs.FlatDesign.declared.value_types.ValueType.TheVariants as type
+use Rattle.laws_runs.specs.LogicValues.declared.kinds.Value.TheVariants as value
+use Rattle.laws_runs.specs.FlatDesign.Code as code
+use Rattle.laws_runs.specs.FlatDesign.Code.{Arena, Statement, block_at, statement_at}
+use Rattle.laws_runs.specs.FlatDesign.Reach.{Inside, itself, deeper, IsIn, InBody, inner_blocks}
+use Rattle.laws_runs.specs.FlatDesign.Typed.{EachOf}
+use Rattle.laws_runs.specs.FlatDesign.declared.code.CodeBody.{CodeBody}
+use Rattle.laws_runs.specs.FlatDesign.declared.code.Handler.{Handler}
+use Rattle.laws_runs.specs.FlatDesign.declared.names.NameUse.TheVariants as name_use
+use Rattle.laws_runs.specs.FlatDesign.declared.value_types.ValueType.TheVariants as type
 use Rattle.laws_clocked.specs.Stores.{UnwindsSpare}
 use Rattle.laws_clocked.specs.Again.{Around}
 use Rattle.laws_clocked.specs.Clocked.{SparesIt, HasClocked}

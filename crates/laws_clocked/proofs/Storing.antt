@@ -4,60 +4,60 @@ use Rattle.std.proofs.lemmas.Bool.{cases_eq}
 use Rattle.std.proofs.lemmas.Option.{none-some, same_Some}
 use Rattle.std.specs.Prelude.{Result, Ok, Err, is_some}
 use Rattle.std.specs.Result.{IfOk}
-use Rattle.laws_unwinding.specs.LogicValues.declared.kinds.Value.{Value}
-use Rattle.laws_unwinding.specs.LogicValues.declared.kinds.Value.TheVariants as value
-use Rattle.laws_unwinding.specs.EventCore.declared.event.Ev.{Ev}
-use Rattle.laws_unwinding.specs.EventCore.declared.event.Ev.TheVariants as ev
-use Rattle.laws_unwinding.specs.EventCore.declared.notifications.When.TheVariants as when
-use Rattle.laws_unwinding.specs.SignalChannel.declared.signal.Signal.{Signal}
-use Rattle.laws_unwinding.specs.SignalChannel.declared.signal.WriterConflict.{WriterConflict}
-use Rattle.laws_unwinding.specs.SignalChannel.Signals.{conflict_of}
-use Rattle.laws_unwinding.specs.FifoSync.Fifos.{Queued, readable, free, after_read, after_write}
-use Rattle.laws_unwinding.specs.FifoSync.Locks.{locked_by, unlocked_by, is_owner, is_used_up, is_unlocked}
-use Rattle.laws_unwinding.specs.QuantumKeeper.declared.keeper.Keeper.{Keeper}
-use Rattle.laws_unwinding.specs.TransportPhases.History.{Entry, Call, BCall, broken}
-use Rattle.laws_unwinding.specs.TransportPhases.declared.phases.Rule.{Rule}
-use Rattle.laws_unwinding.specs.ModelTree.declared.statements.Control.{Control}
-use Rattle.laws_unwinding.specs.ModelTree.declared.statements.Control.TheVariants as control
-use Rattle.laws_unwinding.specs.FlatDesign.Code as code
-use Rattle.laws_unwinding.specs.FlatDesign.Code.{statement_at, Term, DestinationTerm, AwaitTerm, ArgumentTerm, SpawnTerm, ChannelTerm, Statement, Arena, body_at}
-use Rattle.laws_unwinding.specs.FlatDesign.declared.value_types.ValueType.{ValueType}
-use Rattle.laws_unwinding.specs.FlatDesign.declared.names.NameUse.{NameUse}
-use Rattle.laws_unwinding.specs.FlatDesign.declared.names.NameUse.TheVariants as name_use
-use Rattle.laws_unwinding.specs.FlatDesign.declared.names.EventMember.TheVariants as event
-use Rattle.laws_unwinding.specs.FlatDesign.declared.code.Controlled.{Controlled}
-use Rattle.laws_unwinding.specs.FlatDesign.declared.code.Store.{Store as Target}
-use Rattle.laws_unwinding.specs.FlatDesign.declared.design.ChannelId.{ChannelId}
-use Rattle.laws_unwinding.specs.FlatDesign.declared.design.ChannelId.TheVariants as channel
-use Rattle.laws_unwinding.specs.FlatDesign.declared.design.Denoted.{Denoted}
-use Rattle.laws_unwinding.specs.FlatDesign.declared.design.Denoted.TheVariants as denoted
-use Rattle.laws_unwinding.specs.FlatDesign.declared.faults.RunFault.{RunFault}
-use Rattle.laws_unwinding.specs.FlatDesign.declared.faults.RunFault.TheVariants as fault
-use Rattle.laws_unwinding.specs.SimModel.Values.{on_ok, moment, truth, bits, index_within}
-use Rattle.laws_unwinding.specs.SimModel.Residual.{Residual, Frame, batch, guard, try_, block, entered, put, skip, has_goal, goal, innermost, in_innermost}
-use Rattle.laws_unwinding.specs.SimModel.Unwinding.{raise, catches, left_by_raise, left_by_unw, unw, returned}
-use Rattle.laws_unwinding.specs.SimModel.Configuration.{Config, Instance, arena, change_instance, instance_at, with_residual, with_runnable, change, waits_for_all}
-use Rattle.laws_unwinding.specs.SimModel.Payloads.{with_made}
-use Rattle.laws_unwinding.specs.SimModel.Reading.{Here, val, denotes, place_in, payload_number, live_payload, val_if, memory_here, keeper_at}
-use Rattle.laws_unwinding.specs.SimModel.Waits.{fire, holds, without, notify, leaves_stack}
-use Rattle.laws_unwinding.specs.SimModel.Storing.{passes, set_local, set_denoted, set_name, stored, stored_if, set_memory, chosen, looped, do_var, do_assign, do_print, do_if, do_while, with_local}
-use Rattle.laws_unwinding.specs.SimModel.Waiting.{when_after, channel_event, on_event, event_number, notified_now, cancelled, do_wait, do_next_trigger, do_notify_after, awaited}
-use Rattle.laws_unwinding.specs.SimModel.Channels.{set_fifo, set_mutex, set_semaphore, blocks, written_unless, write_signal, write_channel, write_fifo, do_write, fifo_of, fifo_here, with_fifo, read_value, read_fifo, nb_read_value, nb_read_fifo, nb_write_fifo, do_nb_write, answered, lock_mutex, lock_at, trylock_mutex, trylock_at, unlock_mutex, unlock_at, sem_wait_value, sem_wait_at, sem_trywait_value, sem_trywait_at, post_value, post_at, mutex_of, semaphore_of, taken_from, channel_in}
-use Rattle.laws_unwinding.specs.SimModel.Calls.{final_value, given_back, call_ends, handle_stored, with_left, thrown, do_call, do_return, do_spawn, spawns, added, new_instance, runnable_unless, locals_in, argument_values, may_enter, answer_type, cut_answer, first_arguments, may_spawn}
-use Rattle.laws_unwinding.specs.SimModel.Transport.{path_of_call, int_of, value_named, is_complete, with_keeper, kept, on_keeper, do_make, do_acquire, do_release, do_carry, b_transport_on, nb_transport_on, judged_by, enters_handler, may_enter_handler, blocking_handler, nonblocking_handler, history, socket_of, do_qk_global, do_qk_inc, do_qk_set, do_qk_reset, with_pool, size_within, size_or, may_make, keeper_named}
-use Rattle.laws_unwinding.specs.SimModel.Control.{target_of, is_top, is_below_top, is_thread, with_kept, yields, pushed, unwinds, injected, controlled_by, throws_at, unless_ended, control_call, throw_call, with_owed, do_control, do_throw_it, targets}
-use Rattle.laws_unwinding.specs.SimModel.Statements.{do_statement}
-use Rattle.laws_unwinding.specs.SimModel.declared.plain.Goal.{Goal}
-use Rattle.laws_unwinding.specs.SimModel.declared.plain.Goal.TheVariants as goal_of
-use Rattle.laws_unwinding.specs.SimModel.declared.plain.Via.{Via}
-use Rattle.laws_unwinding.specs.SimModel.Waits.{freed}
-use Rattle.laws_unwinding.specs.SimModel.Control.{pushed_unless_top}
-use Rattle.laws_unwinding.proofs.LawsRuns.Changes.{change-here, change-other, change-none, last-here, last-other}
-use Rattle.laws_unwinding.proofs.Parts.{Parts, IsInner}
-use Rattle.laws_unwinding.proofs.KeptMoves.{left-parts}
-use Rattle.laws_moves.specs.Moves as move
-use Rattle.laws_moves.specs.Moves.{Gives}
-use Rattle.laws_moves.proofs.Wakes.{fire-keeps}
+use Rattle.laws_runs.specs.LogicValues.declared.kinds.Value.{Value}
+use Rattle.laws_runs.specs.LogicValues.declared.kinds.Value.TheVariants as value
+use Rattle.laws_runs.specs.EventCore.declared.event.Ev.{Ev}
+use Rattle.laws_runs.specs.EventCore.declared.event.Ev.TheVariants as ev
+use Rattle.laws_runs.specs.EventCore.declared.notifications.When.TheVariants as when
+use Rattle.laws_runs.specs.SignalChannel.declared.signal.Signal.{Signal}
+use Rattle.laws_runs.specs.SignalChannel.declared.signal.WriterConflict.{WriterConflict}
+use Rattle.laws_runs.specs.SignalChannel.Signals.{conflict_of}
+use Rattle.laws_runs.specs.FifoSync.Fifos.{Queued, readable, free, after_read, after_write}
+use Rattle.laws_runs.specs.FifoSync.Locks.{locked_by, unlocked_by, is_owner, is_used_up, is_unlocked}
+use Rattle.laws_runs.specs.QuantumKeeper.declared.keeper.Keeper.{Keeper}
+use Rattle.laws_runs.specs.TransportPhases.History.{Entry, Call, BCall, broken}
+use Rattle.laws_runs.specs.TransportPhases.declared.phases.Rule.{Rule}
+use Rattle.laws_runs.specs.ModelTree.declared.statements.Control.{Control}
+use Rattle.laws_runs.specs.ModelTree.declared.statements.Control.TheVariants as control
+use Rattle.laws_runs.specs.FlatDesign.Code as code
+use Rattle.laws_runs.specs.FlatDesign.Code.{statement_at, Term, DestinationTerm, AwaitTerm, ArgumentTerm, SpawnTerm, ChannelTerm, Statement, Arena, body_at}
+use Rattle.laws_runs.specs.FlatDesign.declared.value_types.ValueType.{ValueType}
+use Rattle.laws_runs.specs.FlatDesign.declared.names.NameUse.{NameUse}
+use Rattle.laws_runs.specs.FlatDesign.declared.names.NameUse.TheVariants as name_use
+use Rattle.laws_runs.specs.FlatDesign.declared.names.EventMember.TheVariants as event
+use Rattle.laws_runs.specs.FlatDesign.declared.code.Controlled.{Controlled}
+use Rattle.laws_runs.specs.FlatDesign.declared.code.Store.{Store as Target}
+use Rattle.laws_runs.specs.FlatDesign.declared.design.ChannelId.{ChannelId}
+use Rattle.laws_runs.specs.FlatDesign.declared.design.ChannelId.TheVariants as channel
+use Rattle.laws_runs.specs.FlatDesign.declared.design.Denoted.{Denoted}
+use Rattle.laws_runs.specs.FlatDesign.declared.design.Denoted.TheVariants as denoted
+use Rattle.laws_runs.specs.FlatDesign.declared.faults.RunFault.{RunFault}
+use Rattle.laws_runs.specs.FlatDesign.declared.faults.RunFault.TheVariants as fault
+use Rattle.laws_runs.specs.SimModel.Values.{on_ok, moment, truth, bits, index_within}
+use Rattle.laws_runs.specs.SimModel.Residual.{Residual, Frame, batch, guard, try_, block, entered, put, skip, has_goal, goal, innermost, in_innermost}
+use Rattle.laws_runs.specs.SimModel.Unwinding.{raise, catches, left_by_raise, left_by_unw, unw, returned}
+use Rattle.laws_runs.specs.SimModel.Configuration.{Config, Instance, arena, change_instance, instance_at, with_residual, with_runnable, change, waits_for_all}
+use Rattle.laws_runs.specs.SimModel.Payloads.{with_made}
+use Rattle.laws_runs.specs.SimModel.Reading.{Here, val, denotes, place_in, payload_number, live_payload, val_if, memory_here, keeper_at}
+use Rattle.laws_runs.specs.SimModel.Waits.{fire, holds, without, notify, leaves_stack}
+use Rattle.laws_runs.specs.SimModel.Storing.{passes, set_local, set_denoted, set_name, stored, stored_if, set_memory, chosen, looped, do_var, do_assign, do_print, do_if, do_while, with_local}
+use Rattle.laws_runs.specs.SimModel.Waiting.{when_after, channel_event, on_event, event_number, notified_now, cancelled, do_wait, do_next_trigger, do_notify_after, awaited}
+use Rattle.laws_runs.specs.SimModel.Channels.{set_fifo, set_mutex, set_semaphore, blocks, written_unless, write_signal, write_channel, write_fifo, do_write, fifo_of, fifo_here, with_fifo, read_value, read_fifo, nb_read_value, nb_read_fifo, nb_write_fifo, do_nb_write, answered, lock_mutex, lock_at, trylock_mutex, trylock_at, unlock_mutex, unlock_at, sem_wait_value, sem_wait_at, sem_trywait_value, sem_trywait_at, post_value, post_at, mutex_of, semaphore_of, taken_from, channel_in}
+use Rattle.laws_runs.specs.SimModel.Calls.{final_value, given_back, call_ends, handle_stored, with_left, thrown, do_call, do_return, do_spawn, spawns, added, new_instance, runnable_unless, locals_in, argument_values, may_enter, answer_type, cut_answer, first_arguments, may_spawn}
+use Rattle.laws_runs.specs.SimModel.Transport.{path_of_call, int_of, value_named, is_complete, with_keeper, kept, on_keeper, do_make, do_acquire, do_release, do_carry, b_transport_on, nb_transport_on, judged_by, enters_handler, may_enter_handler, blocking_handler, nonblocking_handler, history, socket_of, do_qk_global, do_qk_inc, do_qk_set, do_qk_reset, with_pool, size_within, size_or, may_make, keeper_named}
+use Rattle.laws_runs.specs.SimModel.Control.{target_of, is_top, is_below_top, is_thread, with_kept, yields, pushed, unwinds, injected, controlled_by, throws_at, unless_ended, control_call, throw_call, with_owed, do_control, do_throw_it, targets}
+use Rattle.laws_runs.specs.SimModel.Statements.{do_statement}
+use Rattle.laws_runs.specs.SimModel.declared.plain.Goal.{Goal}
+use Rattle.laws_runs.specs.SimModel.declared.plain.Goal.TheVariants as goal_of
+use Rattle.laws_runs.specs.SimModel.declared.plain.Via.{Via}
+use Rattle.laws_runs.specs.SimModel.Waits.{freed}
+use Rattle.laws_runs.specs.SimModel.Control.{pushed_unless_top}
+use Rattle.laws_runs.proofs.Changes.{change-here, change-other, change-none, last-here, last-other}
+use Rattle.laws_runs.proofs.GoalParts.{Parts, IsInner}
+use Rattle.laws_runs.proofs.KeptMoves.{left-parts}
+use Rattle.laws_runs.specs.Moves as move
+use Rattle.laws_runs.specs.Moves.{Gives}
+use Rattle.laws_runs.proofs.WakeMoves.{fire-keeps}
 use Rattle.laws_clocked.specs.Stores.{StoresTo, StoresIf, StoresTarget, StoresArguments, StoresDestination, OnlyStores}
 
 -- what is kept where all is unwound, and where an exception is raised

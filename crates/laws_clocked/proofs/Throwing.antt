@@ -2,22 +2,22 @@
 use Rattle.std.proofs.Common.{◌≡◌, ℕ, suc, Bool, true, false, List, [], ◌∷◌, ◌++◌, length, Some, None, refl, sym, ap, ◌∙◌, subst}
 use Rattle.std.specs.Prelude.{Result, Ok}
 use Rattle.std.proofs.lemmas.Option.{same_Some}
-use Rattle.laws_unwinding.specs.LogicValues.declared.kinds.Value.{Value}
-use Rattle.laws_unwinding.specs.FlatDesign.Sound.{SoundDesign}
-use Rattle.laws_unwinding.specs.FlatDesign.declared.design.Design.{Design}
-use Rattle.laws_unwinding.specs.FlatDesign.declared.faults.RunFault.{RunFault}
-use Rattle.laws_unwinding.specs.SimModel.Values.{on_ok, truth}
-use Rattle.laws_unwinding.specs.SimModel.Residual.{Residual, skip, seq, statements, block, settle, put, has_goal}
-use Rattle.laws_unwinding.specs.SimModel.Configuration.{Config, Instance, arena, instance_at, with_residual}
-use Rattle.laws_unwinding.specs.SimModel.Reading.{here, val}
-use Rattle.laws_unwinding.specs.SimModel.Storing.{chosen}
-use Rattle.laws_unwinding.specs.SimModel.Statements.{settled_in, statement_step}
-use Rattle.laws_unwinding.specs.SimModel.Steps.{went, takes, as_outcome, step, taking}
-use Rattle.laws_unwinding.specs.SimModel.Runs.{after, and_then}
-use Rattle.laws_unwinding.specs.SimModel.Clean.{times}
-use Rattle.laws_unwinding.specs.SimModel.declared.plain.Command.{Command}
-use Rattle.laws_unwinding.proofs.MarkedRuns.{marked-after}
-use Rattle.laws_moves.proofs.RunSteps.{takes-empty}
+use Rattle.laws_runs.specs.LogicValues.declared.kinds.Value.{Value}
+use Rattle.laws_runs.specs.FlatDesign.Sound.{SoundDesign}
+use Rattle.laws_runs.specs.FlatDesign.declared.design.Design.{Design}
+use Rattle.laws_runs.specs.FlatDesign.declared.faults.RunFault.{RunFault}
+use Rattle.laws_runs.specs.SimModel.Values.{on_ok, truth}
+use Rattle.laws_runs.specs.SimModel.Residual.{Residual, skip, seq, statements, block, settle, put, has_goal}
+use Rattle.laws_runs.specs.SimModel.Configuration.{Config, Instance, arena, instance_at, with_residual}
+use Rattle.laws_runs.specs.SimModel.Reading.{here, val}
+use Rattle.laws_runs.specs.SimModel.Storing.{chosen}
+use Rattle.laws_runs.specs.SimModel.Statements.{settled_in, statement_step}
+use Rattle.laws_runs.specs.SimModel.Steps.{went, takes, as_outcome, step, taking}
+use Rattle.laws_runs.specs.SimModel.Runs.{after, and_then}
+use Rattle.laws_runs.specs.SimModel.Clean.{times}
+use Rattle.laws_runs.specs.SimModel.declared.plain.Command.{Command}
+use Rattle.laws_runs.proofs.MarkedRuns.{marked-after}
+use Rattle.laws_runs.proofs.RunSteps.{takes-empty}
 use Rattle.laws_clocked.specs.Ticks.{Test, Tick, behind, IsTest, AreTests, HasTick, left_at, checking}
 use Rattle.laws_clocked.specs.Turns.{ComesTo}
 use Rattle.laws_clocked.proofs.Counted.{IsBehindCounted}

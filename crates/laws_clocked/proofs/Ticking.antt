@@ -2,21 +2,21 @@
 use Rattle.std.proofs.Common.{◌≡◌, ◌+◌, ◌≤◌, ℕ, zero, suc, Bool, true, false, List, [], ◌∷◌, ◌++◌, Option, Some, None, refl, sym, ap, ◌∙◌, subst, arith, ⊎_elim, true≢false, zero-add}
 use Rattle.std.proofs.lemmas.Bool.{cases_eq}
 use Rattle.std.proofs.lemmas.Option.{none-some, same_Some}
-use Rattle.laws_unwinding.specs.FlatDesign.Code.{arena_of}
-use Rattle.laws_unwinding.specs.FlatDesign.Sound.{SoundDesign}
-use Rattle.laws_unwinding.specs.FlatDesign.declared.design.Design.{Design}
-use Rattle.laws_unwinding.specs.SimModel.Residual.{Residual, skip, goal, settle, has_goal}
-use Rattle.laws_unwinding.specs.SimModel.Configuration.{Config, arena, start}
-use Rattle.laws_unwinding.specs.SimModel.Steps.{Outcome, went, faulted, takes, ended, step, taking}
-use Rattle.laws_unwinding.specs.SimModel.Runs.{after, and_then, took}
-use Rattle.laws_unwinding.specs.SimModel.Clean.{times}
-use Rattle.laws_unwinding.specs.SimModel.declared.plain.Command.{Command}
-use Rattle.laws_unwinding.proofs.LawsRuns.CleanRuns.{clean-after}
-use Rattle.laws_unwinding.proofs.LawsRuns.Splits.{joined, suc-sum}
-use Rattle.laws_unwinding.proofs.LawsRuns.Times.{times-here, times-other}
-use Rattle.laws_unwinding.proofs.Roots.{IsRooted}
-use Rattle.laws_unwinding.proofs.MarkedRuns.{marked-after}
-use Rattle.laws_moves.proofs.RunSteps.{step-moves, taking-moves}
+use Rattle.laws_runs.specs.FlatDesign.Code.{arena_of}
+use Rattle.laws_runs.specs.FlatDesign.Sound.{SoundDesign}
+use Rattle.laws_runs.specs.FlatDesign.declared.design.Design.{Design}
+use Rattle.laws_runs.specs.SimModel.Residual.{Residual, skip, goal, settle, has_goal}
+use Rattle.laws_runs.specs.SimModel.Configuration.{Config, arena, start}
+use Rattle.laws_runs.specs.SimModel.Steps.{Outcome, went, faulted, takes, ended, step, taking}
+use Rattle.laws_runs.specs.SimModel.Runs.{after, and_then, took}
+use Rattle.laws_runs.specs.SimModel.Clean.{times}
+use Rattle.laws_runs.specs.SimModel.declared.plain.Command.{Command}
+use Rattle.laws_runs.proofs.CleanRuns.{clean-after}
+use Rattle.laws_runs.proofs.Splits.{joined, suc-sum}
+use Rattle.laws_runs.proofs.Times.{times-here, times-other}
+use Rattle.laws_runs.proofs.Roots.{IsRooted}
+use Rattle.laws_runs.proofs.MarkedRuns.{marked-after}
+use Rattle.laws_runs.proofs.RunSteps.{step-moves, taking-moves}
 use Rattle.laws_clocked.specs.Spots.{IsLeft, Shows}
 use Rattle.laws_clocked.specs.Ticks.{Tick, HasTick, left_at, entering}
 use Rattle.laws_clocked.specs.Turns.{ComesTo, IsLeaving, IsNotUnwound, EachBefore, EachUpTo}

@@ -1,9 +1,9 @@
 -- What stands around what is left, where that is no try that catches an exception: guards stand there too.
 use Rattle.std.proofs.Common.{◌≡◌, ◌||◌, ℕ, Bool, true, false, List, [], ◌∷◌, refl, sym, ap, ◌∙◌, subst, true≢false}
-use Rattle.laws_unwinding.specs.FlatDesign.Code.{Arena}
-use Rattle.laws_unwinding.specs.FlatDesign.declared.code.Handler.{Handler}
-use Rattle.laws_unwinding.specs.SimModel.Residual.{Residual, Frame, seq, guard, try_, frame, followed, statements, settle, put, next_of, statement}
-use Rattle.laws_unwinding.specs.SimModel.Unwinding.{catches, handles}
+use Rattle.laws_runs.specs.FlatDesign.Code.{Arena}
+use Rattle.laws_runs.specs.FlatDesign.declared.code.Handler.{Handler}
+use Rattle.laws_runs.specs.SimModel.Residual.{Residual, Frame, seq, guard, try_, frame, followed, statements, settle, put, next_of, statement}
+use Rattle.laws_runs.specs.SimModel.Unwinding.{catches, handles}
 use Rattle.laws_clocked.specs.Spots.{IsLeft, Shows, itself, followed_by, guarded, tried, called}
 use Rattle.laws_clocked.specs.Again.{Around, trying}
 use Rattle.laws_clocked.proofs.Showing.{next-left, shows-left, left_frame, left_then, left_guard, left_try}

@@ -2,12 +2,12 @@
 -- unwind block made, or in an unwind block of the thread's body.
 use Rattle.std.proofs.Common.{◌≡◌, ◌⊎◌, ℕ, Bool, true, false, List, [], ◌∷◌, Option, Some, None, refl, sym, ap, ◌∙◌, subst, inl, inr, ⊎_elim}
 use Rattle.std.proofs.lemmas.Option.{none-some}
-use Rattle.laws_unwinding.specs.FlatDesign.Code.{Statement, statement_at}
-use Rattle.laws_unwinding.specs.FlatDesign.declared.design.Design.{Design}
-use Rattle.laws_unwinding.specs.SimModel.Residual.{Residual, Frame, Next, skip, one, batch, seq, owing, guard, try_, frame, shell, run, goal, followed, or_frame, innermost, frame_or, goal_or, put, next_of, in_frame, frame_end, before_goal, statement, owes, leaves, done, reaches, nothing}
-use Rattle.laws_unwinding.specs.SimModel.declared.plain.Goal.{Goal}
-use Rattle.laws_unwinding.specs.LawsRuns.Standing.{code_of}
-use Rattle.laws_unwinding.proofs.LawsRuns.MarkLemmas.{before_statement}
+use Rattle.laws_runs.specs.FlatDesign.Code.{Statement, statement_at}
+use Rattle.laws_runs.specs.FlatDesign.declared.design.Design.{Design}
+use Rattle.laws_runs.specs.SimModel.Residual.{Residual, Frame, Next, skip, one, batch, seq, owing, guard, try_, frame, shell, run, goal, followed, or_frame, innermost, frame_or, goal_or, put, next_of, in_frame, frame_end, before_goal, statement, owes, leaves, done, reaches, nothing}
+use Rattle.laws_runs.specs.SimModel.declared.plain.Goal.{Goal}
+use Rattle.laws_runs.specs.Standing.{code_of}
+use Rattle.laws_runs.proofs.MarkLemmas.{before_statement}
 use Rattle.laws_clocked.specs.Stores.{OnlyStores, UnwindsSpare}
 use Rattle.laws_clocked.proofs.Placed.{IsOf, IsCallOf, Placed}
 use Rattle.laws_clocked.proofs.Owed.{IsOwed}

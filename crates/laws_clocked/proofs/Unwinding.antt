@@ -3,41 +3,41 @@ use Rattle.std.proofs.Common.{◌≡◌, ◌≢◌, ◌⊎◌, ◌<◌, ℕ, zer
 use Rattle.std.specs.Prelude.{Ok}
 use Rattle.std.proofs.lemmas.Bool.{cases_eq}
 use Rattle.std.proofs.lemmas.Option.{none-some, same_Some, slice_get-map}
-use Rattle.laws_unwinding.specs.TransportPhases.History.{Left}
-use Rattle.laws_unwinding.specs.FlatDesign.Code as code
-use Rattle.laws_unwinding.specs.FlatDesign.Code.{Arena, statement_at}
-use Rattle.laws_unwinding.specs.FlatDesign.Sound.{SoundDesign}
-use Rattle.laws_unwinding.specs.FlatDesign.declared.design.Design.{Design}
-use Rattle.laws_unwinding.specs.FlatDesign.declared.design.ProcessPart.{ProcessPart}
-use Rattle.laws_unwinding.specs.SimModel.Residual.{Residual, Frame, skip, seq, try_, frame, goal, settle, put, taken_off, in_innermost, changed_if, innermost, next_of, statement, has_goal}
-use Rattle.laws_unwinding.specs.LogicValues.declared.kinds.Value.{Value}
-use Rattle.laws_unwinding.specs.SimModel.Unwinding.{unw, catches, left_by_unw, has_exit, returned}
-use Rattle.laws_unwinding.specs.SimModel.Storing.{with_local}
-use Rattle.laws_unwinding.specs.SimModel.Configuration.{Config, Instance, arena, instance_at, change, change_instance, with_residual, with_runnable}
-use Rattle.laws_unwinding.specs.SimModel.Waits.{freed}
-use Rattle.laws_unwinding.specs.SimModel.Calls.{with_left, with_entry}
-use Rattle.laws_unwinding.specs.SimModel.Phases.{initialize_each}
-use Rattle.laws_unwinding.specs.SimModel.Statements.{settled_in, statement_step}
-use Rattle.laws_unwinding.specs.SimModel.Steps.{Outcome, went, faulted, takes, ended, step, step_in}
-use Rattle.laws_unwinding.specs.SimModel.Runs.{after, and_then}
-use Rattle.laws_unwinding.specs.SimModel.Clean.{times}
-use Rattle.laws_unwinding.specs.SimModel.declared.plain.Command.{Command}
-use Rattle.laws_unwinding.specs.SimModel.declared.plain.Phase.TheVariants as phase
-use Rattle.laws_unwinding.specs.SimModel.declared.plain.Via.{Via}
-use Rattle.laws_unwinding.proofs.LawsRuns.Changes.{change-here, change-other, last-other, past-end}
-use Rattle.laws_unwinding.proofs.Moves.{Sound}
-use Rattle.laws_unwinding.proofs.Steps.{settled-sound}
-use Rattle.laws_unwinding.proofs.Parts.{Parts, parts, Kept, At, Alike, IsOver, IsKept, IsKeptBetween}
-use Rattle.laws_unwinding.proofs.Kept.{Marked, marked-kept, marked-settled}
-use Rattle.laws_unwinding.proofs.KeptStatements.{moves-kept}
-use Rattle.laws_unwinding.proofs.KeptMoves.{each-between}
-use Rattle.laws_unwinding.proofs.KeptRuns.{sound-run}
-use Rattle.laws_unwinding.proofs.Runs.{goals-after}
-use Rattle.laws_unwinding.proofs.Roots.{IsRooted, IsBare, over_skip, over_frame, over_goal, rooted-over}
-use Rattle.laws_unwinding.proofs.MarkedRuns.{marked-after}
-use Rattle.laws_moves.specs.Moves.{Moves, StepMoves, in_turn, between, initializing, moving_now, time_moved}
-use Rattle.laws_moves.proofs.Kept.{moves-keep}
-use Rattle.laws_moves.proofs.RunSteps.{step-moves, takes-empty}
+use Rattle.laws_runs.specs.TransportPhases.History.{Left}
+use Rattle.laws_runs.specs.FlatDesign.Code as code
+use Rattle.laws_runs.specs.FlatDesign.Code.{Arena, statement_at}
+use Rattle.laws_runs.specs.FlatDesign.Sound.{SoundDesign}
+use Rattle.laws_runs.specs.FlatDesign.declared.design.Design.{Design}
+use Rattle.laws_runs.specs.FlatDesign.declared.design.ProcessPart.{ProcessPart}
+use Rattle.laws_runs.specs.SimModel.Residual.{Residual, Frame, skip, seq, try_, frame, goal, settle, put, taken_off, in_innermost, changed_if, innermost, next_of, statement, has_goal}
+use Rattle.laws_runs.specs.LogicValues.declared.kinds.Value.{Value}
+use Rattle.laws_runs.specs.SimModel.Unwinding.{unw, catches, left_by_unw, has_exit, returned}
+use Rattle.laws_runs.specs.SimModel.Storing.{with_local}
+use Rattle.laws_runs.specs.SimModel.Configuration.{Config, Instance, arena, instance_at, change, change_instance, with_residual, with_runnable}
+use Rattle.laws_runs.specs.SimModel.Waits.{freed}
+use Rattle.laws_runs.specs.SimModel.Calls.{with_left, with_entry}
+use Rattle.laws_runs.specs.SimModel.Phases.{initialize_each}
+use Rattle.laws_runs.specs.SimModel.Statements.{settled_in, statement_step}
+use Rattle.laws_runs.specs.SimModel.Steps.{Outcome, went, faulted, takes, ended, step, step_in}
+use Rattle.laws_runs.specs.SimModel.Runs.{after, and_then}
+use Rattle.laws_runs.specs.SimModel.Clean.{times}
+use Rattle.laws_runs.specs.SimModel.declared.plain.Command.{Command}
+use Rattle.laws_runs.specs.SimModel.declared.plain.Phase.TheVariants as phase
+use Rattle.laws_runs.specs.SimModel.declared.plain.Via.{Via}
+use Rattle.laws_runs.proofs.Changes.{change-here, change-other, last-other, past-end}
+use Rattle.laws_runs.proofs.GoalMoves.{Sound}
+use Rattle.laws_runs.proofs.GoalSteps.{settled-sound}
+use Rattle.laws_runs.proofs.GoalParts.{Parts, parts, Kept, At, Alike, IsOver, IsKept, IsKeptBetween}
+use Rattle.laws_runs.proofs.NestingKept.{Marked, marked-kept, marked-settled}
+use Rattle.laws_runs.proofs.KeptStatements.{moves-kept}
+use Rattle.laws_runs.proofs.KeptMoves.{each-between}
+use Rattle.laws_runs.proofs.KeptRuns.{sound-run}
+use Rattle.laws_runs.proofs.GoalRuns.{goals-after}
+use Rattle.laws_runs.proofs.Roots.{IsRooted, IsBare, over_skip, over_frame, over_goal, rooted-over}
+use Rattle.laws_runs.proofs.MarkedRuns.{marked-after}
+use Rattle.laws_runs.specs.Moves.{Moves, StepMoves, in_turn, between, initializing, moving_now, time_moved}
+use Rattle.laws_runs.proofs.MovesKeep.{moves-keep}
+use Rattle.laws_runs.proofs.RunSteps.{step-moves, takes-empty}
 use Rattle.laws_clocked.specs.Spots.{IsLeft}
 use Rattle.laws_clocked.specs.Again.{Around, HasAround, trying, unwinding, StandsAt, Unwinds, goes_on, is_over}
 use Rattle.laws_clocked.proofs.OwnSteps.{changed-at}

@@ -3,24 +3,24 @@ use Rattle.std.proofs.Common.{◌≡◌, ◌≢◌, ◌⊎◌, ◌+◌, ◌-◌,
 use Rattle.std.proofs.lemmas.Bool.{cases_eq}
 use Rattle.std.proofs.lemmas.List.{append_assoc}
 use Rattle.std.proofs.lemmas.Option.{none-some, same_Some, slice_get-map}
-use Rattle.laws_unwinding.specs.FlatDesign.Sound.{SoundDesign}
-use Rattle.laws_unwinding.specs.FlatDesign.declared.design.Design.{Design}
-use Rattle.laws_unwinding.specs.FlatDesign.declared.design.ProcessPart.{ProcessPart}
-use Rattle.laws_unwinding.specs.SimModel.Residual.{has_goal}
-use Rattle.laws_unwinding.specs.SimModel.Configuration.{Config, Instance, Processes, Wait, waits_for_nothing, waits_statically, waits_for_any, waits_for_all, Deadline, no_deadline, next_delta, at_time, arena, instance_at, first_instance}
-use Rattle.laws_unwinding.specs.SimModel.Waits.{holds}
-use Rattle.laws_unwinding.specs.SimModel.Steps.{Outcome, went, faulted, takes, ended, step, taking, taken_if}
-use Rattle.laws_unwinding.specs.SimModel.Runs.{after, and_then, took}
-use Rattle.laws_unwinding.specs.SimModel.Clean.{times}
-use Rattle.laws_unwinding.specs.SimModel.declared.plain.Command.{Command}
-use Rattle.laws_unwinding.specs.SimModel.declared.plain.Phase.{Phase}
-use Rattle.laws_unwinding.specs.SimModel.declared.plain.Phase.TheVariants as phase
-use Rattle.laws_unwinding.proofs.LawsRuns.CleanRuns.{clean-after, good-after}
-use Rattle.laws_unwinding.proofs.LawsRuns.Splits.{joined, suc-sum}
-use Rattle.laws_unwinding.proofs.LawsRuns.Steps.{FitsPhase}
-use Rattle.laws_unwinding.proofs.LawsRuns.Times.{times-here, times-holds, times-last_other}
-use Rattle.laws_moves.specs.Moves.{IsLater}
-use Rattle.laws_moves.proofs.RunSteps.{takes-empty}
+use Rattle.laws_runs.specs.FlatDesign.Sound.{SoundDesign}
+use Rattle.laws_runs.specs.FlatDesign.declared.design.Design.{Design}
+use Rattle.laws_runs.specs.FlatDesign.declared.design.ProcessPart.{ProcessPart}
+use Rattle.laws_runs.specs.SimModel.Residual.{has_goal}
+use Rattle.laws_runs.specs.SimModel.Configuration.{Config, Instance, Processes, Wait, waits_for_nothing, waits_statically, waits_for_any, waits_for_all, Deadline, no_deadline, next_delta, at_time, arena, instance_at, first_instance}
+use Rattle.laws_runs.specs.SimModel.Waits.{holds}
+use Rattle.laws_runs.specs.SimModel.Steps.{Outcome, went, faulted, takes, ended, step, taking, taken_if}
+use Rattle.laws_runs.specs.SimModel.Runs.{after, and_then, took}
+use Rattle.laws_runs.specs.SimModel.Clean.{times}
+use Rattle.laws_runs.specs.SimModel.declared.plain.Command.{Command}
+use Rattle.laws_runs.specs.SimModel.declared.plain.Phase.{Phase}
+use Rattle.laws_runs.specs.SimModel.declared.plain.Phase.TheVariants as phase
+use Rattle.laws_runs.proofs.CleanRuns.{clean-after, good-after}
+use Rattle.laws_runs.proofs.Splits.{joined, suc-sum}
+use Rattle.laws_runs.proofs.StepsFit.{FitsPhase}
+use Rattle.laws_runs.proofs.Times.{times-here, times-holds, times-last_other}
+use Rattle.laws_runs.specs.Moves.{IsLater}
+use Rattle.laws_runs.proofs.RunSteps.{takes-empty}
 use Rattle.laws_clocked.specs.Fired.{fires_of}
 use Rattle.laws_clocked.specs.Ticks.{Tick, HasTick}
 use Rattle.laws_clocked.specs.Turns.{IsLeaving, IsNotUnwound}

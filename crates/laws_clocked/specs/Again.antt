@@ -1,18 +1,18 @@
 -- What a clocked thread has around its own statements in the code, so that a reset begins them again; and what is left of the thread there.
 use Rattle.std.specs.Prelude.{◌≡◌, ◌⊎◌, ◌<◌, ◌≤◌, ℕ, suc, true, false, List, [], ◌∷◌, ◌++◌, Some}
-use Rattle.laws_unwinding.specs.FlatDesign.Code as code
-use Rattle.laws_unwinding.specs.FlatDesign.Code.{Arena, block_at, statement_at}
-use Rattle.laws_unwinding.specs.FlatDesign.declared.names.NameUse.TheVariants as name_use
-use Rattle.laws_unwinding.specs.FlatDesign.declared.code.Handler.{Handler}
-use Rattle.laws_unwinding.specs.SimModel.Residual.{Residual, Frame, skip, seq, try_, frame, goal, statements, settle, next_of, statement, reaches}
-use Rattle.laws_unwinding.specs.SimModel.Unwinding.{handler_of, handles}
-use Rattle.laws_unwinding.specs.SimModel.Configuration.{Config, Instance, arena, instance_at}
-use Rattle.laws_unwinding.specs.SimModel.Steps.{step, went}
-use Rattle.laws_unwinding.specs.SimModel.Runs.{after}
-use Rattle.laws_unwinding.specs.SimModel.Clean.{times}
-use Rattle.laws_unwinding.specs.SimModel.declared.plain.Goal.{Goal}
-use Rattle.laws_unwinding.specs.SimModel.declared.plain.Goal.TheVariants as goal_of
-use Rattle.laws_unwinding.specs.SimModel.declared.plain.Phase.TheVariants as phase
+use Rattle.laws_runs.specs.FlatDesign.Code as code
+use Rattle.laws_runs.specs.FlatDesign.Code.{Arena, block_at, statement_at}
+use Rattle.laws_runs.specs.FlatDesign.declared.names.NameUse.TheVariants as name_use
+use Rattle.laws_runs.specs.FlatDesign.declared.code.Handler.{Handler}
+use Rattle.laws_runs.specs.SimModel.Residual.{Residual, Frame, skip, seq, try_, frame, goal, statements, settle, next_of, statement, reaches}
+use Rattle.laws_runs.specs.SimModel.Unwinding.{handler_of, handles}
+use Rattle.laws_runs.specs.SimModel.Configuration.{Config, Instance, arena, instance_at}
+use Rattle.laws_runs.specs.SimModel.Steps.{step, went}
+use Rattle.laws_runs.specs.SimModel.Runs.{after}
+use Rattle.laws_runs.specs.SimModel.Clean.{times}
+use Rattle.laws_runs.specs.SimModel.declared.plain.Goal.{Goal}
+use Rattle.laws_runs.specs.SimModel.declared.plain.Goal.TheVariants as goal_of
+use Rattle.laws_runs.specs.SimModel.declared.plain.Phase.TheVariants as phase
 
 -- ---- in the code
 

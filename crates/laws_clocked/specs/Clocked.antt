@@ -1,19 +1,19 @@
 -- The code of a clocked thread: its body declares a variable, and asks it in a loop; in that stands a try with the thread's own
 -- statements, of which the last alone stores to that variable.
 use Rattle.std.specs.Prelude.{◌≡◌, ℕ, true, false, List, [], ◌∷◌, ◌++◌, slice_get, Some, Contains}
-use Rattle.laws_unwinding.specs.LogicValues.declared.kinds.Value.{Value}
-use Rattle.laws_unwinding.specs.LogicValues.declared.kinds.Value.TheVariants as value
-use Rattle.laws_unwinding.specs.FlatDesign.Code as code
-use Rattle.laws_unwinding.specs.FlatDesign.Code.{Arena, Statement, block_at, body_at, statement_at}
-use Rattle.laws_unwinding.specs.FlatDesign.Reach.{Holds, inner_blocks}
-use Rattle.laws_unwinding.specs.FlatDesign.Typed.{EachOf}
-use Rattle.laws_unwinding.specs.FlatDesign.declared.names.NameUse.TheVariants as name_use
-use Rattle.laws_unwinding.specs.FlatDesign.declared.value_types.ValueType.TheVariants as type
-use Rattle.laws_unwinding.specs.FlatDesign.declared.code.CodeBody.{CodeBody}
-use Rattle.laws_unwinding.specs.FlatDesign.declared.code.Handler.{Handler}
-use Rattle.laws_unwinding.specs.SimModel.Values.{truth}
-use Rattle.laws_unwinding.specs.SimModel.Residual.{Frame}
-use Rattle.laws_unwinding.specs.SimModel.Unwinding.{handles}
+use Rattle.laws_runs.specs.LogicValues.declared.kinds.Value.{Value}
+use Rattle.laws_runs.specs.LogicValues.declared.kinds.Value.TheVariants as value
+use Rattle.laws_runs.specs.FlatDesign.Code as code
+use Rattle.laws_runs.specs.FlatDesign.Code.{Arena, Statement, block_at, body_at, statement_at}
+use Rattle.laws_runs.specs.FlatDesign.Reach.{Holds, inner_blocks}
+use Rattle.laws_runs.specs.FlatDesign.Typed.{EachOf}
+use Rattle.laws_runs.specs.FlatDesign.declared.names.NameUse.TheVariants as name_use
+use Rattle.laws_runs.specs.FlatDesign.declared.value_types.ValueType.TheVariants as type
+use Rattle.laws_runs.specs.FlatDesign.declared.code.CodeBody.{CodeBody}
+use Rattle.laws_runs.specs.FlatDesign.declared.code.Handler.{Handler}
+use Rattle.laws_runs.specs.SimModel.Values.{truth}
+use Rattle.laws_runs.specs.SimModel.Residual.{Frame}
+use Rattle.laws_runs.specs.SimModel.Unwinding.{handles}
 use Rattle.laws_clocked.specs.Again.{Around, HasAround}
 use Rattle.laws_clocked.specs.Stores.{OnlyStores}
 

@@ -2,30 +2,30 @@
 -- and of a post; that of an instance that ends, and that of one that a reset begins anew; and those that fall due.
 use Rattle.std.specs.Prelude.{ℕ, Bool, List, [], ◌∷◌, slice_get, Option, Some, None, Result, Ok, Err, if◌then◌else◌}
 use Rattle.std.specs.List.{list_any}
-use Rattle.laws_unwinding.specs.ModelTree.declared.items.ProcessKind.{ProcessKind}
-use Rattle.laws_unwinding.specs.ModelTree.declared.items.ProcessKind.TheVariants as process
-use Rattle.laws_unwinding.specs.EventCore.declared.event.Ev.{Ev}
-use Rattle.laws_unwinding.specs.EventCore.declared.event.Ev.TheVariants as ev
-use Rattle.laws_unwinding.specs.FifoSync.Locks.{is_owner}
-use Rattle.laws_unwinding.specs.FlatDesign.Code as code
-use Rattle.laws_unwinding.specs.FlatDesign.Code.{ChannelTerm, Statement, statement_at}
-use Rattle.laws_unwinding.specs.FlatDesign.declared.names.EventMember.TheVariants as event
-use Rattle.laws_unwinding.specs.FlatDesign.declared.design.ChannelId.{ChannelId}
-use Rattle.laws_unwinding.specs.FlatDesign.declared.faults.RunFault.{RunFault}
-use Rattle.laws_unwinding.specs.SimModel.Values.{on_ok}
-use Rattle.laws_unwinding.specs.SimModel.Residual as residual
-use Rattle.laws_unwinding.specs.SimModel.Residual.{Next, settle, next_of}
-use Rattle.laws_unwinding.specs.SimModel.Configuration.{Config, Instance, arena, instance_at}
-use Rattle.laws_unwinding.specs.SimModel.Reading.{Here, here, denotes, place_in}
-use Rattle.laws_unwinding.specs.SimModel.Waits.{is_among}
-use Rattle.laws_unwinding.specs.SimModel.Waiting.{channel_event, event_number}
-use Rattle.laws_unwinding.specs.SimModel.Channels.{channel_in, mutex_of, semaphore_of}
-use Rattle.laws_unwinding.specs.SimModel.Statements.{settled_in}
-use Rattle.laws_unwinding.specs.SimModel.Phases.{due_events, is_delta, is_at, is_past, earliest, update_phase, initialize_each}
-use Rattle.laws_unwinding.specs.SimModel.declared.plain.Goal.{Goal}
-use Rattle.laws_unwinding.specs.SimModel.declared.plain.Goal.TheVariants as goal_of
-use Rattle.laws_unwinding.specs.SimModel.declared.plain.Phase.{Phase}
-use Rattle.laws_unwinding.specs.SimModel.declared.plain.Phase.TheVariants as phase
+use Rattle.laws_runs.specs.ModelTree.declared.items.ProcessKind.{ProcessKind}
+use Rattle.laws_runs.specs.ModelTree.declared.items.ProcessKind.TheVariants as process
+use Rattle.laws_runs.specs.EventCore.declared.event.Ev.{Ev}
+use Rattle.laws_runs.specs.EventCore.declared.event.Ev.TheVariants as ev
+use Rattle.laws_runs.specs.FifoSync.Locks.{is_owner}
+use Rattle.laws_runs.specs.FlatDesign.Code as code
+use Rattle.laws_runs.specs.FlatDesign.Code.{ChannelTerm, Statement, statement_at}
+use Rattle.laws_runs.specs.FlatDesign.declared.names.EventMember.TheVariants as event
+use Rattle.laws_runs.specs.FlatDesign.declared.design.ChannelId.{ChannelId}
+use Rattle.laws_runs.specs.FlatDesign.declared.faults.RunFault.{RunFault}
+use Rattle.laws_runs.specs.SimModel.Values.{on_ok}
+use Rattle.laws_runs.specs.SimModel.Residual as residual
+use Rattle.laws_runs.specs.SimModel.Residual.{Next, settle, next_of}
+use Rattle.laws_runs.specs.SimModel.Configuration.{Config, Instance, arena, instance_at}
+use Rattle.laws_runs.specs.SimModel.Reading.{Here, here, denotes, place_in}
+use Rattle.laws_runs.specs.SimModel.Waits.{is_among}
+use Rattle.laws_runs.specs.SimModel.Waiting.{channel_event, event_number}
+use Rattle.laws_runs.specs.SimModel.Channels.{channel_in, mutex_of, semaphore_of}
+use Rattle.laws_runs.specs.SimModel.Statements.{settled_in}
+use Rattle.laws_runs.specs.SimModel.Phases.{due_events, is_delta, is_at, is_past, earliest, update_phase, initialize_each}
+use Rattle.laws_runs.specs.SimModel.declared.plain.Goal.{Goal}
+use Rattle.laws_runs.specs.SimModel.declared.plain.Goal.TheVariants as goal_of
+use Rattle.laws_runs.specs.SimModel.declared.plain.Phase.{Phase}
+use Rattle.laws_runs.specs.SimModel.declared.plain.Phase.TheVariants as phase
 
 -- ---- by a statement
 

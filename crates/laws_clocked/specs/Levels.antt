@@ -1,11 +1,11 @@
 -- A reset of a tick that is at its level, or not.
 use Rattle.std.specs.Prelude.{◌≡◌, ℕ, Bool, true, false, List, Some, Ok}
-use Rattle.laws_unwinding.specs.LogicValues.declared.kinds.Value.{Value}
-use Rattle.laws_unwinding.specs.FlatDesign.Typed.{EachOf}
-use Rattle.laws_unwinding.specs.SimModel.Values.{truth}
-use Rattle.laws_unwinding.specs.SimModel.Residual.{settle}
-use Rattle.laws_unwinding.specs.SimModel.Configuration.{Config, Instance, arena, instance_at}
-use Rattle.laws_unwinding.specs.SimModel.Reading.{here, val}
+use Rattle.laws_runs.specs.LogicValues.declared.kinds.Value.{Value}
+use Rattle.laws_runs.specs.FlatDesign.Typed.{EachOf}
+use Rattle.laws_runs.specs.SimModel.Values.{truth}
+use Rattle.laws_runs.specs.SimModel.Residual.{settle}
+use Rattle.laws_runs.specs.SimModel.Configuration.{Config, Instance, arena, instance_at}
+use Rattle.laws_runs.specs.SimModel.Reading.{here, val}
 use Rattle.laws_clocked.specs.Ticks.{Test}
 
 -- what the test of this reset asks has this answer where p stands

@@ -8,3 +8,5 @@ pub mod Wakes
 pub mod Again
 pub mod Stores
 pub mod Clocked
+pub mod Coded
+pub mod Runs

@@ -1,12 +1,12 @@
 -- What a reset at its level does, and what a reset does, once it has unwound all.
 use Rattle.std.specs.Prelude.{◌≡◌, ℕ, true, false, [], ◌∷◌, Some, Ok}
-use Rattle.laws_unwinding.specs.FlatDesign.Code as code
-use Rattle.laws_unwinding.specs.FlatDesign.Code.{statement_at}
-use Rattle.laws_unwinding.specs.SimModel.Residual.{begun, settle, next_of, statement}
-use Rattle.laws_unwinding.specs.SimModel.Configuration.{Config, Instance, arena, instance_at}
-use Rattle.laws_unwinding.specs.SimModel.Statements.{statement_step}
-use Rattle.laws_unwinding.specs.SimModel.Runs.{after}
-use Rattle.laws_unwinding.specs.SimModel.declared.plain.Phase.TheVariants as phase
+use Rattle.laws_runs.specs.FlatDesign.Code as code
+use Rattle.laws_runs.specs.FlatDesign.Code.{statement_at}
+use Rattle.laws_runs.specs.SimModel.Residual.{begun, settle, next_of, statement}
+use Rattle.laws_runs.specs.SimModel.Configuration.{Config, Instance, arena, instance_at}
+use Rattle.laws_runs.specs.SimModel.Statements.{statement_step}
+use Rattle.laws_runs.specs.SimModel.Runs.{after}
+use Rattle.laws_runs.specs.SimModel.declared.plain.Phase.TheVariants as phase
 use Rattle.laws_clocked.specs.Ticks.{Test}
 
 -- the step of p, which is i, begins its body anew, with its first arguments; p stays where it is on the stack

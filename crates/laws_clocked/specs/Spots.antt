@@ -1,7 +1,7 @@
 -- What shows of what is left of a body, where nothing is being unwound: its innermost part, and what stands around it.
 use Rattle.std.specs.Prelude.{⊤, ℕ, List}
-use Rattle.laws_unwinding.specs.FlatDesign.declared.code.Handler.{Handler}
-use Rattle.laws_unwinding.specs.SimModel.Residual.{Residual, Frame, skip, one, batch, seq, owing, guard, try_, frame, shell, run, goal}
+use Rattle.laws_runs.specs.FlatDesign.declared.code.Handler.{Handler}
+use Rattle.laws_runs.specs.SimModel.Residual.{Residual, Frame, skip, one, batch, seq, owing, guard, try_, frame, shell, run, goal}
 
 -- something is left
 abbrev pub IsLeft : Residual → Type 0

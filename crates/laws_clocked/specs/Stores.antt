@@ -1,12 +1,12 @@
 -- To which local variables of the call that it stands in a statement stores: in its step, and where a call that it made ends.
 use Rattle.std.specs.Prelude.{◌≡◌, ⊤, ℕ, List, [], ◌∷◌, Option, Some, None}
-use Rattle.laws_unwinding.specs.FlatDesign.Code as code
-use Rattle.laws_unwinding.specs.FlatDesign.Code.{ArgumentTerm, DestinationTerm, Statement, Arena, body_at}
-use Rattle.laws_unwinding.specs.FlatDesign.Reach.{Holds, InBody}
-use Rattle.laws_unwinding.specs.FlatDesign.declared.names.NameUse.{NameUse}
-use Rattle.laws_unwinding.specs.FlatDesign.declared.names.NameUse.TheVariants as name_use
-use Rattle.laws_unwinding.specs.FlatDesign.declared.code.CodeBody.{CodeBody}
-use Rattle.laws_unwinding.specs.FlatDesign.declared.code.Store.{Store as Target}
+use Rattle.laws_runs.specs.FlatDesign.Code as code
+use Rattle.laws_runs.specs.FlatDesign.Code.{ArgumentTerm, DestinationTerm, Statement, Arena, body_at}
+use Rattle.laws_runs.specs.FlatDesign.Reach.{Holds, InBody}
+use Rattle.laws_runs.specs.FlatDesign.declared.names.NameUse.{NameUse}
+use Rattle.laws_runs.specs.FlatDesign.declared.names.NameUse.TheVariants as name_use
+use Rattle.laws_runs.specs.FlatDesign.declared.code.CodeBody.{CodeBody}
+use Rattle.laws_runs.specs.FlatDesign.declared.code.Store.{Store as Target}
 
 -- of a name that is stored to: where it is a local variable, its number is so
 

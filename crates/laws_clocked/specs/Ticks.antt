@@ -1,18 +1,18 @@
 -- A tick in the code: which statements it is made of; and what is left of its thread inside it, at each of its statements.
 use Rattle.std.specs.Prelude.{◌≡◌, ⊤, ℕ, ◌^◌, ◌<◌, true, List, [], ◌∷◌, ◌++◌, slice_get, Some, None}
-use Rattle.laws_unwinding.specs.LogicValues.declared.kinds.Value.{Value}
-use Rattle.laws_unwinding.specs.LogicValues.declared.kinds.Value.TheVariants as value
-use Rattle.laws_unwinding.specs.ModelTree.declared.expressions.BinaryOp.TheVariants as op
-use Rattle.laws_unwinding.specs.FlatDesign.Code as code
-use Rattle.laws_unwinding.specs.FlatDesign.Code.{Arena, Term, block_at, body_at, statement_at}
-use Rattle.laws_unwinding.specs.FlatDesign.Reach.{Inside}
-use Rattle.laws_unwinding.specs.FlatDesign.declared.code.BodyKind.TheVariants as body_kind
-use Rattle.laws_unwinding.specs.FlatDesign.declared.code.CodeBody.{CodeBody}
-use Rattle.laws_unwinding.specs.FlatDesign.declared.names.NameUse.TheVariants as name_use
-use Rattle.laws_unwinding.specs.FlatDesign.declared.value_types.ValueType.{ValueType}
-use Rattle.laws_unwinding.specs.FlatDesign.declared.value_types.ValueType.TheVariants as type
-use Rattle.laws_unwinding.specs.SimModel.Values.{bits}
-use Rattle.laws_unwinding.specs.SimModel.Residual.{Residual, Frame, one, seq, followed, statements, settle, innermost}
+use Rattle.laws_runs.specs.LogicValues.declared.kinds.Value.{Value}
+use Rattle.laws_runs.specs.LogicValues.declared.kinds.Value.TheVariants as value
+use Rattle.laws_runs.specs.ModelTree.declared.expressions.BinaryOp.TheVariants as op
+use Rattle.laws_runs.specs.FlatDesign.Code as code
+use Rattle.laws_runs.specs.FlatDesign.Code.{Arena, Term, block_at, body_at, statement_at}
+use Rattle.laws_runs.specs.FlatDesign.Reach.{Inside}
+use Rattle.laws_runs.specs.FlatDesign.declared.code.BodyKind.TheVariants as body_kind
+use Rattle.laws_runs.specs.FlatDesign.declared.code.CodeBody.{CodeBody}
+use Rattle.laws_runs.specs.FlatDesign.declared.names.NameUse.TheVariants as name_use
+use Rattle.laws_runs.specs.FlatDesign.declared.value_types.ValueType.{ValueType}
+use Rattle.laws_runs.specs.FlatDesign.declared.value_types.ValueType.TheVariants as type
+use Rattle.laws_runs.specs.SimModel.Values.{bits}
+use Rattle.laws_runs.specs.SimModel.Residual.{Residual, Frame, one, seq, followed, statements, settle, innermost}
 use Rattle.laws_clocked.specs.Spots.{Shows}
 
 -- ---- in the code

@@ -1,11 +1,11 @@
 -- A tick of a thread in a run: where the thread stands in it, when it is left, and what is told of each taking in it.
 use Rattle.std.specs.Prelude.{◌≡◌, ◌<◌, ◌≤◌, ℕ, false, List, ◌∷◌, ◌++◌, Some}
-use Rattle.laws_unwinding.specs.LogicValues.declared.kinds.Value.{Value}
-use Rattle.laws_unwinding.specs.SimModel.Values.{bits}
-use Rattle.laws_unwinding.specs.SimModel.Residual.{settle, has_goal}
-use Rattle.laws_unwinding.specs.SimModel.Configuration.{Config, Instance, arena, instance_at}
-use Rattle.laws_unwinding.specs.SimModel.Runs.{after}
-use Rattle.laws_unwinding.specs.SimModel.declared.plain.Phase.TheVariants as phase
+use Rattle.laws_runs.specs.LogicValues.declared.kinds.Value.{Value}
+use Rattle.laws_runs.specs.SimModel.Values.{bits}
+use Rattle.laws_runs.specs.SimModel.Residual.{settle, has_goal}
+use Rattle.laws_runs.specs.SimModel.Configuration.{Config, Instance, arena, instance_at}
+use Rattle.laws_runs.specs.SimModel.Runs.{after}
+use Rattle.laws_runs.specs.SimModel.declared.plain.Phase.TheVariants as phase
 use Rattle.laws_clocked.specs.Spots.{Shows}
 use Rattle.laws_clocked.specs.Ticks.{Tick, Spot, IsIn, left_at, entering, testing, checking}
 

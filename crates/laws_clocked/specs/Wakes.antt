@@ -1,9 +1,9 @@
 -- The wake that a taking of a thread follows.
 use Rattle.std.specs.Prelude.{◌≡◌, ◌+◌, ℕ, suc, true, List, ◌++◌, Some}
-use Rattle.laws_unwinding.specs.SimModel.Configuration.{Config, Instance, waits_statically, no_deadline, instance_at}
-use Rattle.laws_unwinding.specs.SimModel.Steps.{went, step}
-use Rattle.laws_unwinding.specs.SimModel.Runs.{after}
-use Rattle.laws_unwinding.specs.SimModel.Clean.{times}
+use Rattle.laws_runs.specs.SimModel.Configuration.{Config, Instance, waits_statically, no_deadline, instance_at}
+use Rattle.laws_runs.specs.SimModel.Steps.{went, step}
+use Rattle.laws_runs.specs.SimModel.Runs.{after}
+use Rattle.laws_runs.specs.SimModel.Clean.{times}
 use Rattle.laws_clocked.specs.Fired.{fires_of}
 
 -- p waits for its static sensitivity alone

@@ -1,16 +1,16 @@
 //! A reset begins a clocked thread's own statements again before the thread leaves the stack.
 ghost use Rattle.std.specs.Prelude.{◌≡◌, ℕ, Bool, true, false, List, ◌∷◌, ◌++◌, Some};
-ghost use Rattle.laws_unwinding.specs.FlatDesign.Sound.{SoundDesign};
-ghost use Rattle.laws_unwinding.specs.FlatDesign.declared.design.Design.{Design};
-ghost use Rattle.laws_unwinding.specs.FlatDesign.Code as code;
-ghost use Rattle.laws_unwinding.specs.FlatDesign.Code.{statement_at};
-ghost use Rattle.laws_unwinding.specs.SimModel.Residual.{Residual, Frame, goal, settle, next_of, statement};
-ghost use Rattle.laws_unwinding.specs.SimModel.Unwinding.{catches};
-ghost use Rattle.laws_unwinding.specs.SimModel.Configuration.{Config, Instance, arena, instance_at, start};
-ghost use Rattle.laws_unwinding.specs.SimModel.Steps.{step, takes, taking};
-ghost use Rattle.laws_unwinding.specs.SimModel.Runs.{after};
-ghost use Rattle.laws_unwinding.specs.SimModel.declared.plain.Command.{Command};
-ghost use Rattle.laws_unwinding.specs.SimModel.declared.plain.Goal.TheVariants as goal_of;
+ghost use Rattle.laws_runs.specs.FlatDesign.Sound.{SoundDesign};
+ghost use Rattle.laws_runs.specs.FlatDesign.declared.design.Design.{Design};
+ghost use Rattle.laws_runs.specs.FlatDesign.Code as code;
+ghost use Rattle.laws_runs.specs.FlatDesign.Code.{statement_at};
+ghost use Rattle.laws_runs.specs.SimModel.Residual.{Residual, Frame, goal, settle, next_of, statement};
+ghost use Rattle.laws_runs.specs.SimModel.Unwinding.{catches};
+ghost use Rattle.laws_runs.specs.SimModel.Configuration.{Config, Instance, arena, instance_at, start};
+ghost use Rattle.laws_runs.specs.SimModel.Steps.{step, takes, taking};
+ghost use Rattle.laws_runs.specs.SimModel.Runs.{after};
+ghost use Rattle.laws_runs.specs.SimModel.declared.plain.Command.{Command};
+ghost use Rattle.laws_runs.specs.SimModel.declared.plain.Goal.TheVariants as goal_of;
 ghost use Rattle.laws_clocked.specs.Ticks.{Test, Tick, HasTick};
 ghost use Rattle.laws_clocked.specs.Turns.{IsBehindWait};
 ghost use Rattle.laws_clocked.specs.Levels.{NoneAtLevel, IsAtLevel};

@@ -1,13 +1,13 @@
 //! What a reset at its level does, and what a reset does, once it has unwound all.
 ghost use Rattle.std.specs.Prelude.{◌≡◌, ℕ, suc, false, List, ◌∷◌, ◌++◌, length, Some};
-ghost use Rattle.laws_unwinding.specs.FlatDesign.Sound.{SoundDesign};
-ghost use Rattle.laws_unwinding.specs.FlatDesign.declared.design.Design.{Design};
-ghost use Rattle.laws_unwinding.specs.SimModel.Residual.{settle, next_of, reaches};
-ghost use Rattle.laws_unwinding.specs.SimModel.Configuration.{Config, Instance, arena, instance_at, start};
-ghost use Rattle.laws_unwinding.specs.SimModel.Steps.{step, takes, taking};
-ghost use Rattle.laws_unwinding.specs.SimModel.Runs.{after};
-ghost use Rattle.laws_unwinding.specs.SimModel.declared.plain.Command.{Command};
-ghost use Rattle.laws_unwinding.specs.SimModel.declared.plain.Goal.TheVariants as goal_of;
+ghost use Rattle.laws_runs.specs.FlatDesign.Sound.{SoundDesign};
+ghost use Rattle.laws_runs.specs.FlatDesign.declared.design.Design.{Design};
+ghost use Rattle.laws_runs.specs.SimModel.Residual.{settle, next_of, reaches};
+ghost use Rattle.laws_runs.specs.SimModel.Configuration.{Config, Instance, arena, instance_at, start};
+ghost use Rattle.laws_runs.specs.SimModel.Steps.{step, takes, taking};
+ghost use Rattle.laws_runs.specs.SimModel.Runs.{after};
+ghost use Rattle.laws_runs.specs.SimModel.declared.plain.Command.{Command};
+ghost use Rattle.laws_runs.specs.SimModel.declared.plain.Goal.TheVariants as goal_of;
 ghost use Rattle.laws_clocked.specs.Ticks.{Test, Tick, HasTick};
 ghost use Rattle.laws_clocked.specs.Turns.{IsBehindWait};
 ghost use Rattle.laws_clocked.specs.Levels.{NoneAtLevel, IsAtLevel};

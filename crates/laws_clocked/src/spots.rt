@@ -1,7 +1,7 @@
 //! What shows of what is left of a body.
 ghost use Rattle.std.specs.Prelude.{◌≡◌, ℕ, List, [], ◌∷◌, None};
-ghost use Rattle.laws_unwinding.specs.FlatDesign.Code.{Arena};
-ghost use Rattle.laws_unwinding.specs.SimModel.Residual.{Residual, Frame, skip, followed, block, settle, put, next_of, statement, innermost, in_innermost};
+ghost use Rattle.laws_runs.specs.FlatDesign.Code.{Arena};
+ghost use Rattle.laws_runs.specs.SimModel.Residual.{Residual, Frame, skip, followed, block, settle, put, next_of, statement, innermost, in_innermost};
 ghost use Rattle.laws_clocked.specs.Spots.{Shows, IsLeft};
 ghost use Rattle.laws_clocked.specs.Ticks.{Test, Tick, HasTick, left_at, entering, declaring, testing, waiting, checking};
 

@@ -1,12 +1,12 @@
 //! How many takings a tick takes, and that no reset is at its level at any of them.
 ghost use Rattle.std.specs.Prelude.{◌≡◌, ◌<◌, ◌++◌, ℕ, Bool, List, ◌∷◌, Some};
-ghost use Rattle.laws_unwinding.specs.FlatDesign.Sound.{SoundDesign};
-ghost use Rattle.laws_unwinding.specs.FlatDesign.declared.design.Design.{Design};
-ghost use Rattle.laws_unwinding.specs.SimModel.Configuration.{Config, arena, start};
-ghost use Rattle.laws_unwinding.specs.SimModel.Steps.{step, takes};
-ghost use Rattle.laws_unwinding.specs.SimModel.Runs.{after};
-ghost use Rattle.laws_unwinding.specs.SimModel.Clean.{times};
-ghost use Rattle.laws_unwinding.specs.SimModel.declared.plain.Command.{Command};
+ghost use Rattle.laws_runs.specs.FlatDesign.Sound.{SoundDesign};
+ghost use Rattle.laws_runs.specs.FlatDesign.declared.design.Design.{Design};
+ghost use Rattle.laws_runs.specs.SimModel.Configuration.{Config, arena, start};
+ghost use Rattle.laws_runs.specs.SimModel.Steps.{step, takes};
+ghost use Rattle.laws_runs.specs.SimModel.Runs.{after};
+ghost use Rattle.laws_runs.specs.SimModel.Clean.{times};
+ghost use Rattle.laws_runs.specs.SimModel.declared.plain.Command.{Command};
 ghost use Rattle.laws_clocked.specs.Ticks.{Tick, HasTick};
 ghost use Rattle.laws_clocked.specs.Turns.{LeavesNormally};
 ghost use Rattle.laws_clocked.specs.Levels.{NoneAtLevel};

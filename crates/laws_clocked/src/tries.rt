@@ -1,15 +1,15 @@
 //! Where no try among a clocked thread's own statements catches an exception, by its code alone.
 ghost use Rattle.std.specs.Prelude.{◌≡◌, ℕ, Bool, false, List, ◌∷◌, ◌++◌, Some, None};
-ghost use Rattle.laws_unwinding.specs.FlatDesign.Sound.{SoundDesign};
-ghost use Rattle.laws_unwinding.specs.FlatDesign.declared.design.Design.{Design};
-ghost use Rattle.laws_unwinding.specs.FlatDesign.Code as code;
-ghost use Rattle.laws_unwinding.specs.FlatDesign.Code.{statement_at};
-ghost use Rattle.laws_unwinding.specs.SimModel.Residual.{Residual, Frame, settle, next_of, statement, innermost};
-ghost use Rattle.laws_unwinding.specs.SimModel.Unwinding.{catches};
-ghost use Rattle.laws_unwinding.specs.SimModel.Configuration.{Config, Instance, arena, instance_at, start};
-ghost use Rattle.laws_unwinding.specs.SimModel.Steps.{step, takes, taking};
-ghost use Rattle.laws_unwinding.specs.SimModel.Runs.{after};
-ghost use Rattle.laws_unwinding.specs.SimModel.declared.plain.Command.{Command};
+ghost use Rattle.laws_runs.specs.FlatDesign.Sound.{SoundDesign};
+ghost use Rattle.laws_runs.specs.FlatDesign.declared.design.Design.{Design};
+ghost use Rattle.laws_runs.specs.FlatDesign.Code as code;
+ghost use Rattle.laws_runs.specs.FlatDesign.Code.{statement_at};
+ghost use Rattle.laws_runs.specs.SimModel.Residual.{Residual, Frame, settle, next_of, statement, innermost};
+ghost use Rattle.laws_runs.specs.SimModel.Unwinding.{catches};
+ghost use Rattle.laws_runs.specs.SimModel.Configuration.{Config, Instance, arena, instance_at, start};
+ghost use Rattle.laws_runs.specs.SimModel.Steps.{step, takes, taking};
+ghost use Rattle.laws_runs.specs.SimModel.Runs.{after};
+ghost use Rattle.laws_runs.specs.SimModel.declared.plain.Command.{Command};
 ghost use Rattle.laws_clocked.specs.Ticks.{Test, Tick, HasTick, IsInNoFunction};
 ghost use Rattle.laws_clocked.specs.Turns.{IsBehindWait};
 ghost use Rattle.laws_clocked.specs.Levels.{NoneAtLevel, IsAtLevel};

@@ -3,51 +3,51 @@ use Rattle.std.proofs.Common.{◌≡◌, ◌⊎◌, inl, inr, ℕ, true, false, 
 use Rattle.std.proofs.lemmas.Bool.Decides.{nat_tests}
 use Rattle.std.specs.Prelude.{⊤, is_some, option_map, option_and_then, if◌then◌else◌}
 use Rattle.std.specs.List.{AllByRecursion}
-use Rattle.laws_rules.specs.ModelTree.Tree as tree
-use Rattle.laws_rules.specs.ModelTree.Limits.{fits, fits_option, fits_all, fits_index, fits_channel, fits_events, fits_notification, fits_target, fits_operation, fits_action, fits_var_type, fits_statement, within, option_name}
-use Rattle.laws_rules.specs.ModelTree.Leaves.{is_name, is_print_text}
-use Rattle.laws_rules.specs.ModelTree.declared.types.VarType.{VarType}
-use Rattle.laws_rules.specs.ModelTree.declared.statements.Who.{Who}
-use Rattle.laws_rules.specs.ModelTree.declared.statements.Who.TheVariants as who
-use Rattle.laws_rules.specs.FlatDesign.Code as code
-use Rattle.laws_rules.specs.FlatDesign.Code.{Term, ChannelTerm, DestinationTerm, Arena}
-use Rattle.laws_rules.specs.FlatDesign.Denotes.{Context, declared}
-use Rattle.laws_rules.specs.FlatDesign.Typed.{IsPayload, IsKeeper, IsMemory, IsEvent, IsProcess, IsSocket, IsForwardSocket, IsOfType, IsControlled, IsTyped, HasType, FitsIn, Gives, GivesInteger, GivesTime, IsPrinted, IfWritten, EachOf, Stores, StoresInteger, StoresTruth, UsesAs, AreArguments, AreFirstArguments, IsStaticUse, IsAwait, IsReturned, Offers, parameters_of as code_parameters}
-use Rattle.laws_rules.specs.FlatDesign.declared.value_types.ValueType.{ValueType}
-use Rattle.laws_rules.specs.FlatDesign.declared.value_types.ValueType.TheVariants as type
-use Rattle.laws_rules.specs.FlatDesign.declared.objects.LeadsTo.TheVariants as leads
-use Rattle.laws_rules.specs.FlatDesign.declared.code.Store.{Store}
-use Rattle.laws_rules.specs.FlatDesign.declared.code.Controlled.TheVariants as controlled
-use Rattle.laws_rules.specs.ModelRules.Meanings.{variable_type}
-use Rattle.laws_rules.specs.ModelRules.Scopes.{Scope, meaning_of, use_of, place_of, function_named}
-use Rattle.laws_rules.specs.ModelRules.Operators.{seen_as, is_integer, evaluated_as}
-use Rattle.laws_rules.specs.ModelRules.Types.{type_of}
-use Rattle.laws_rules.specs.ModelRules.Targets.{misfits, differ, written_type, taken_type, put_type, written_to, put_into, taken_from, to_variable, to_element, to_field, to_byte, member_assigned, destination, destination_of, destination_type, is_index, target_type, held_by, variable_named, answer_of, has_no_answer}
-use Rattle.laws_rules.specs.ModelRules.declared.meanings.Destination.{Destination}
-use Rattle.laws_rules.specs.ModelRules.declared.meanings.Destination.TheVariants as to
-use Rattle.laws_rules.specs.ModelRules.declared.meanings.Meaning.{Meaning}
-use Rattle.laws_rules.specs.ModelRules.declared.meanings.Meaning.TheVariants as meaning
-use Rattle.laws_rules.specs.ModelRules.declared.needs.Need.TheVariants as need_of
-use Rattle.laws_rules.specs.ModelRules.Sites as part
-use Rattle.laws_rules.specs.ModelRules.Sites.{Site, site, channel_sites, variable_type_sites, expression_sites, option_sites, argument_sites, events_sites, notification_sites, who_sites, operation_parts, action_parts, statement_sites}
-use Rattle.laws_rules.specs.ModelRules.Names.{first, is_memory, is_plain_event, is_keeper, is_initiator, is_target, goes_nowhere, optional, action_uses, target_need, unknown_use, wrong_use, unknown_assigned, wrong_assigned}
-use Rattle.laws_rules.specs.ModelRules.Values.{fails, option_type, parameters_of, called_parameters, arguments_differ, operation_differs, action_differs, statement_differs, result_differs, notification_differs, option_variable}
-use Rattle.laws_rules.specs.ModelRules.Calls.{same_bool, has_inout, inouts_wrong, count_differs}
-use Rattle.laws_rules.specs.ModelRules.Items.{is_pass}
-use Rattle.laws_rules.specs.ModelRules.Passes.{constructs, fault_of}
-use Rattle.laws_rules.proofs.ModelRules.Firsts.{or_none}
-use Rattle.laws_rules.specs.CodeRules.Terms.{term_of}
-use Rattle.laws_rules.specs.CodeRules.Deeds.{Home, with_two, with_three, with_four, if_written, single, store, channel_term, await_term, arguments, controlled_by, function_number, exception_number, spawned_kind, destination_term, operation_code, notification_code, synced, spawn_term, action_code}
-use Rattle.laws_rules.specs.CodeRules.Numbered.{var_code, assign_code, operate_code}
-use Rattle.laws_rules.specs.CodeRules.Bodies.{IsAnswer, thrown_in}
-use Rattle.laws_rules.specs.Known.{TypesAreKnown}
-use Rattle.laws_rules.specs.Met.{IsMet}
-use Rattle.laws_rules.proofs.Kept.{Keeps, keeps}
-use Rattle.laws_rules.proofs.NamesMet.{site_met}
-use Rattle.laws_rules.proofs.Typed.{neither, not_named, parts_none, head_none}
-use Rattle.laws_rules.specs.HasCode.{AreNumbered}
-use Rattle.laws_rules.proofs.Named.{is_function_named, has_number}
-use Rattle.laws_rules.proofs.Deeds.{member_leads}
+use Rattle.code_rules.specs.ModelTree.Tree as tree
+use Rattle.code_rules.specs.ModelTree.Limits.{fits, fits_option, fits_all, fits_index, fits_channel, fits_events, fits_notification, fits_target, fits_operation, fits_action, fits_var_type, fits_statement, within, option_name}
+use Rattle.code_rules.specs.ModelTree.Leaves.{is_name, is_print_text}
+use Rattle.code_rules.specs.ModelTree.declared.types.VarType.{VarType}
+use Rattle.code_rules.specs.ModelTree.declared.statements.Who.{Who}
+use Rattle.code_rules.specs.ModelTree.declared.statements.Who.TheVariants as who
+use Rattle.code_rules.specs.FlatDesign.Code as code
+use Rattle.code_rules.specs.FlatDesign.Code.{Term, ChannelTerm, DestinationTerm, Arena}
+use Rattle.code_rules.specs.FlatDesign.Denotes.{Context, declared}
+use Rattle.code_rules.specs.FlatDesign.Typed.{IsPayload, IsKeeper, IsMemory, IsEvent, IsProcess, IsSocket, IsForwardSocket, IsOfType, IsControlled, IsTyped, HasType, FitsIn, Gives, GivesInteger, GivesTime, IsPrinted, IfWritten, EachOf, Stores, StoresInteger, StoresTruth, UsesAs, AreArguments, AreFirstArguments, IsStaticUse, IsAwait, IsReturned, Offers, parameters_of as code_parameters}
+use Rattle.code_rules.specs.FlatDesign.declared.value_types.ValueType.{ValueType}
+use Rattle.code_rules.specs.FlatDesign.declared.value_types.ValueType.TheVariants as type
+use Rattle.code_rules.specs.FlatDesign.declared.objects.LeadsTo.TheVariants as leads
+use Rattle.code_rules.specs.FlatDesign.declared.code.Store.{Store}
+use Rattle.code_rules.specs.FlatDesign.declared.code.Controlled.TheVariants as controlled
+use Rattle.code_rules.specs.ModelRules.Meanings.{variable_type}
+use Rattle.code_rules.specs.ModelRules.Scopes.{Scope, meaning_of, use_of, place_of, function_named}
+use Rattle.code_rules.specs.ModelRules.Operators.{seen_as, is_integer, evaluated_as}
+use Rattle.code_rules.specs.ModelRules.Types.{type_of}
+use Rattle.code_rules.specs.ModelRules.Targets.{misfits, differ, written_type, taken_type, put_type, written_to, put_into, taken_from, to_variable, to_element, to_field, to_byte, member_assigned, destination, destination_of, destination_type, is_index, target_type, held_by, variable_named, answer_of, has_no_answer}
+use Rattle.code_rules.specs.ModelRules.declared.meanings.Destination.{Destination}
+use Rattle.code_rules.specs.ModelRules.declared.meanings.Destination.TheVariants as to
+use Rattle.code_rules.specs.ModelRules.declared.meanings.Meaning.{Meaning}
+use Rattle.code_rules.specs.ModelRules.declared.meanings.Meaning.TheVariants as meaning
+use Rattle.code_rules.specs.ModelRules.declared.needs.Need.TheVariants as need_of
+use Rattle.code_rules.specs.ModelRules.Sites as part
+use Rattle.code_rules.specs.ModelRules.Sites.{Site, site, channel_sites, variable_type_sites, expression_sites, option_sites, argument_sites, events_sites, notification_sites, who_sites, operation_parts, action_parts, statement_sites}
+use Rattle.code_rules.specs.ModelRules.Names.{first, is_memory, is_plain_event, is_keeper, is_initiator, is_target, goes_nowhere, optional, action_uses, target_need, unknown_use, wrong_use, unknown_assigned, wrong_assigned}
+use Rattle.code_rules.specs.ModelRules.Values.{fails, option_type, parameters_of, called_parameters, arguments_differ, operation_differs, action_differs, statement_differs, result_differs, notification_differs, option_variable}
+use Rattle.code_rules.specs.ModelRules.Calls.{same_bool, has_inout, inouts_wrong, count_differs}
+use Rattle.code_rules.specs.ModelRules.Items.{is_pass}
+use Rattle.code_rules.specs.ModelRules.Passes.{constructs, fault_of}
+use Rattle.code_rules.proofs.ModelRules.Firsts.{or_none}
+use Rattle.code_rules.specs.Terms.{term_of}
+use Rattle.code_rules.specs.Deeds.{Home, with_two, with_three, with_four, if_written, single, store, channel_term, await_term, arguments, controlled_by, function_number, exception_number, spawned_kind, destination_term, operation_code, notification_code, synced, spawn_term, action_code}
+use Rattle.code_rules.specs.Numbered.{var_code, assign_code, operate_code}
+use Rattle.code_rules.specs.Bodies.{IsAnswer, thrown_in}
+use Rattle.laws_code.specs.Known.{TypesAreKnown}
+use Rattle.laws_code.specs.Met.{IsMet}
+use Rattle.laws_code.proofs.Kept.{Keeps, keeps}
+use Rattle.laws_code.proofs.NamesMet.{site_met}
+use Rattle.laws_code.proofs.Typed.{neither, not_named, parts_none, head_none}
+use Rattle.laws_code.specs.HasCode.{AreNumbered}
+use Rattle.laws_code.proofs.Named.{is_function_named, has_number}
+use Rattle.laws_code.proofs.Deeds.{member_leads}
 use Rattle.laws_code.specs.Standing.{Standing, NamesStand}
 use Rattle.laws_code.specs.Functions.{FunctionStands, FunctionsStand, VariablesStand}
 use Rattle.laws_code.proofs.Has.{Has, map_has, bind_has, two_has, three_has, four_has, weaker}
@@ -324,7 +324,7 @@ module _ (s : Scope) (c : Context) (names : NamesStand s c) (known : TypesAreKno
   mapped_fine : {A : Type 0} (P : A → Type 0) (f : A → code.Statement) (o : Option A) → ((x : A) → P x → Fine (f x)) → Has P o → Has AllFine (single (option_map f o))
   mapped_fine P f o g k = single_fine (option_map f o) (map_has P Fine f o g k)
 
-  as_written : (z : ChannelTerm) (v : ValueType) → Rattle.laws_rules.specs.FlatDesign.Typed.PlaceFits c z.channel_name z.place
+  as_written : (z : ChannelTerm) (v : ValueType) → Rattle.code_rules.specs.FlatDesign.Typed.PlaceFits c z.channel_name z.place
       → Offers c.design (declared c z.channel_name) (leads.Out v) ⊎ Offers c.design (declared c z.channel_name) (leads.FifoOut v) → UsesAs c z (leads.Out v) ⊎ UsesAs c z (leads.FifoOut v)
   as_written z v p (inl o) = inl (o, p)
   as_written z v p (inr o) = inr (o, p)

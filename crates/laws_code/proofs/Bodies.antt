@@ -3,18 +3,18 @@ use Rattle.std.proofs.Common.{◌≡◌, ℕ, suc, ◌+◌, Bool, true, false, c
 use Rattle.std.specs.Prelude.{option_and_then, filter_map, bytes_eq, slice_get, position, nat_lt, option_to_list}
 use Rattle.std.specs.List.{AllByRecursion, IsDistinct, cons_option, position_or_len}
 use Rattle.std.proofs.lemmas.Slice.Eq.{bytes_eq-Decides}
-use Rattle.laws_rules.specs.ModelTree.Tree as tree
-use Rattle.laws_rules.specs.ModelTree.declared.types.Parameter.{Parameter}
-use Rattle.laws_rules.specs.FlatDesign.Code.{Arena}
-use Rattle.laws_rules.specs.FlatDesign.declared.code.CodeBody.{CodeBody}
-use Rattle.laws_rules.specs.FlatDesign.declared.code.Local.{Local}
-use Rattle.laws_rules.specs.ModelRules.Meanings.{Declared, declaration, declarations}
-use Rattle.laws_rules.specs.ModelRules.Scopes.{Scope, item_scope, function_named}
-use Rattle.laws_rules.specs.ModelRules.Distinct.{names_of}
-use Rattle.laws_rules.specs.CodeRules.Deeds.{Home, has_body, body_number}
-use Rattle.laws_rules.specs.CodeRules.Bodies as source
-use Rattle.laws_rules.specs.CodeRules.Bodies.{LocalSource, AreLocals, Source, source_of, source_locals, source_parameters, parameter_sources, IsBody, IsBodyIf, AreBodies, around_item, body_count}
-use Rattle.laws_rules.proofs.Coded.{same_some}
+use Rattle.code_rules.specs.ModelTree.Tree as tree
+use Rattle.code_rules.specs.ModelTree.declared.types.Parameter.{Parameter}
+use Rattle.code_rules.specs.FlatDesign.Code.{Arena}
+use Rattle.code_rules.specs.FlatDesign.declared.code.CodeBody.{CodeBody}
+use Rattle.code_rules.specs.FlatDesign.declared.code.Local.{Local}
+use Rattle.code_rules.specs.ModelRules.Meanings.{Declared, declaration, declarations}
+use Rattle.code_rules.specs.ModelRules.Scopes.{Scope, item_scope, function_named}
+use Rattle.code_rules.specs.ModelRules.Distinct.{names_of}
+use Rattle.code_rules.specs.Deeds.{Home, has_body, body_number}
+use Rattle.code_rules.specs.Bodies as source
+use Rattle.code_rules.specs.Bodies.{LocalSource, AreLocals, Source, source_of, source_locals, source_parameters, parameter_sources, IsBody, IsBodyIf, AreBodies, around_item, body_count}
+use Rattle.laws_code.proofs.Coded.{same_some}
 use Rattle.laws_code.specs.Functions.{AreParameters, FunctionsStand, VariablesStand}
 use Rattle.laws_code.proofs.Places.{mapped_is}
 

@@ -2,43 +2,43 @@
 use Rattle.std.proofs.Common.{◌≡◌, ◌⊎◌, inl, inr, ℕ, Bool, true, false, not, List, [], ◌∷◌, Option, Some, None, refl, sym, ◌∙◌, ap, subst, true≢false, length, arith}
 use Rattle.std.specs.Prelude.{is_some, is_none, option_map, option_and_then}
 use Rattle.std.specs.List.{AllByRecursion}
-use Rattle.laws_rules.specs.ModelTree.Tree as tree
-use Rattle.laws_rules.specs.ModelTree.Limits.{fits, fits_option, fits_all, fits_index}
-use Rattle.laws_rules.specs.ModelTree.declared.types.VarType.{VarType}
-use Rattle.laws_rules.specs.ModelTree.declared.types.Parameter.{Parameter}
-use Rattle.laws_rules.specs.FlatDesign.Code as code
-use Rattle.laws_rules.specs.FlatDesign.Code.{Term, ArgumentTerm, DestinationTerm, Arena}
-use Rattle.laws_rules.specs.FlatDesign.Denotes.{Context, declared, variable_type as code_type}
-use Rattle.laws_rules.specs.FlatDesign.Typed.{IsPayload, IsMemory, FitsIn, Gives, GivesInteger, IfWritten, Stores, StoresAnswer, IsArgument, AreArguments, AreFirstArguments, IsDestination, IsReturned, IsPrinted, field_type}
-use Rattle.laws_rules.specs.FlatDesign.declared.value_types.ValueType.{ValueType}
-use Rattle.laws_rules.specs.FlatDesign.declared.value_types.ValueType.TheVariants as type
-use Rattle.laws_rules.specs.FlatDesign.declared.names.Member.TheVariants as member
-use Rattle.laws_rules.specs.FlatDesign.declared.code.Local.{Local}
-use Rattle.laws_rules.specs.FlatDesign.declared.code.Store.{Store}
-use Rattle.laws_rules.specs.ModelRules.Meanings.{variable_type}
-use Rattle.laws_rules.specs.ModelRules.Scopes.{Scope, use_of, place_of}
-use Rattle.laws_rules.specs.ModelRules.Operators.{seen_as, is_integer, evaluated_as}
-use Rattle.laws_rules.specs.ModelRules.Types.{is_integer_type, type_of}
-use Rattle.laws_rules.specs.ModelRules.Targets.{misfits, differ, to_field, to_byte, member_assigned, destination_type, held_by, variable_named, result_type, gives_nothing}
-use Rattle.laws_rules.specs.ModelRules.declared.meanings.Destination.TheVariants as to
-use Rattle.laws_rules.specs.ModelRules.declared.meanings.ExpressionType.{ExpressionType}
-use Rattle.laws_rules.specs.ModelRules.declared.meanings.ExpressionType.TheVariants as t
-use Rattle.laws_rules.specs.ModelRules.declared.meanings.Meaning.{Meaning}
-use Rattle.laws_rules.specs.ModelRules.declared.meanings.Meaning.TheVariants as meaning
-use Rattle.laws_rules.specs.ModelRules.declared.meanings.ValueMember.{ValueMember}
-use Rattle.laws_rules.specs.ModelRules.declared.meanings.ValueMember.TheVariants as reached
-use Rattle.laws_rules.specs.ModelRules.declared.needs.Need.TheVariants as need_of
-use Rattle.laws_rules.specs.ModelRules.Sites.{channel_site, expression_sites, option_sites, argument_sites}
-use Rattle.laws_rules.specs.ModelRules.Names.{is_variable, is_memory, goes_nowhere, optional}
-use Rattle.laws_rules.specs.ModelRules.Values.{fails, option_type, argument_differs, arguments_differ, is_printed, result_differs}
-use Rattle.laws_rules.specs.ModelRules.Calls.{same_bool, has_inout, is_other_variable, is_no_inout, inout_wrong, inouts_wrong}
-use Rattle.laws_rules.specs.ModelRules.Passes.{constructs, fault_of}
-use Rattle.laws_rules.specs.CodeRules.Terms.{term_of}
-use Rattle.laws_rules.specs.CodeRules.Deeds.{if_written, each, store, argument, inout_argument, arguments, to_index, destination_term}
-use Rattle.laws_rules.specs.CodeRules.Bodies.{IsAnswer}
-use Rattle.laws_rules.specs.Known.{TypesAreKnown}
-use Rattle.laws_rules.specs.Met.{IsMet}
-use Rattle.laws_rules.proofs.Typed.{neither, parts_none, head_none, channel_kept}
+use Rattle.code_rules.specs.ModelTree.Tree as tree
+use Rattle.code_rules.specs.ModelTree.Limits.{fits, fits_option, fits_all, fits_index}
+use Rattle.code_rules.specs.ModelTree.declared.types.VarType.{VarType}
+use Rattle.code_rules.specs.ModelTree.declared.types.Parameter.{Parameter}
+use Rattle.code_rules.specs.FlatDesign.Code as code
+use Rattle.code_rules.specs.FlatDesign.Code.{Term, ArgumentTerm, DestinationTerm, Arena}
+use Rattle.code_rules.specs.FlatDesign.Denotes.{Context, declared, variable_type as code_type}
+use Rattle.code_rules.specs.FlatDesign.Typed.{IsPayload, IsMemory, FitsIn, Gives, GivesInteger, IfWritten, Stores, StoresAnswer, IsArgument, AreArguments, AreFirstArguments, IsDestination, IsReturned, IsPrinted, field_type}
+use Rattle.code_rules.specs.FlatDesign.declared.value_types.ValueType.{ValueType}
+use Rattle.code_rules.specs.FlatDesign.declared.value_types.ValueType.TheVariants as type
+use Rattle.code_rules.specs.FlatDesign.declared.names.Member.TheVariants as member
+use Rattle.code_rules.specs.FlatDesign.declared.code.Local.{Local}
+use Rattle.code_rules.specs.FlatDesign.declared.code.Store.{Store}
+use Rattle.code_rules.specs.ModelRules.Meanings.{variable_type}
+use Rattle.code_rules.specs.ModelRules.Scopes.{Scope, use_of, place_of}
+use Rattle.code_rules.specs.ModelRules.Operators.{seen_as, is_integer, evaluated_as}
+use Rattle.code_rules.specs.ModelRules.Types.{is_integer_type, type_of}
+use Rattle.code_rules.specs.ModelRules.Targets.{misfits, differ, to_field, to_byte, member_assigned, destination_type, held_by, variable_named, result_type, gives_nothing}
+use Rattle.code_rules.specs.ModelRules.declared.meanings.Destination.TheVariants as to
+use Rattle.code_rules.specs.ModelRules.declared.meanings.ExpressionType.{ExpressionType}
+use Rattle.code_rules.specs.ModelRules.declared.meanings.ExpressionType.TheVariants as t
+use Rattle.code_rules.specs.ModelRules.declared.meanings.Meaning.{Meaning}
+use Rattle.code_rules.specs.ModelRules.declared.meanings.Meaning.TheVariants as meaning
+use Rattle.code_rules.specs.ModelRules.declared.meanings.ValueMember.{ValueMember}
+use Rattle.code_rules.specs.ModelRules.declared.meanings.ValueMember.TheVariants as reached
+use Rattle.code_rules.specs.ModelRules.declared.needs.Need.TheVariants as need_of
+use Rattle.code_rules.specs.ModelRules.Sites.{channel_site, expression_sites, option_sites, argument_sites}
+use Rattle.code_rules.specs.ModelRules.Names.{is_variable, is_memory, goes_nowhere, optional}
+use Rattle.code_rules.specs.ModelRules.Values.{fails, option_type, argument_differs, arguments_differ, is_printed, result_differs}
+use Rattle.code_rules.specs.ModelRules.Calls.{same_bool, has_inout, is_other_variable, is_no_inout, inout_wrong, inouts_wrong}
+use Rattle.code_rules.specs.ModelRules.Passes.{constructs, fault_of}
+use Rattle.code_rules.specs.Terms.{term_of}
+use Rattle.code_rules.specs.Deeds.{if_written, each, store, argument, inout_argument, arguments, to_index, destination_term}
+use Rattle.code_rules.specs.Bodies.{IsAnswer}
+use Rattle.laws_code.specs.Known.{TypesAreKnown}
+use Rattle.laws_code.specs.Met.{IsMet}
+use Rattle.laws_code.proofs.Typed.{neither, parts_none, head_none, channel_kept}
 use Rattle.laws_code.specs.Standing.{Standing, NamesStand}
 use Rattle.laws_code.specs.Functions.{AreParameters}
 use Rattle.laws_code.proofs.Has.{Has, map_has, two_has, weaker}

@@ -1,38 +1,38 @@
 -- Variables, channels and events of statements are what the code asks of them.
 use Rattle.std.proofs.Common.{◌≡◌, ◌⊎◌, inl, inr, ℕ, zero, suc, Bool, true, false, ◌&&◌, ◌||◌, List, Option, Some, None, refl, sym, ◌∙◌, ap, subst, true≢false}
 use Rattle.std.specs.Prelude.{is_some, option_map, option_and_then, nat_le}
-use Rattle.laws_rules.specs.ModelTree.Tree as tree
-use Rattle.laws_rules.specs.ModelTree.Limits.{is_formed, token_count, token_limit, depth, fits, within}
-use Rattle.laws_rules.specs.FlatDesign.Code.{Term}
-use Rattle.laws_rules.specs.FlatDesign.Denotes.{Context, declared, variable_type, type_of_variable}
-use Rattle.laws_rules.specs.FlatDesign.Typed.{Offers, IsPort, IsProcess, IsPayload, HasType, FitsIn, Gives, GivesInteger, IfWritten, GivesTime}
-use Rattle.laws_rules.specs.FlatDesign.declared.value_types.ValueType.{ValueType}
-use Rattle.laws_rules.specs.FlatDesign.declared.value_types.ValueType.TheVariants as type
-use Rattle.laws_rules.specs.FlatDesign.declared.names.NameUse.{NameUse}
-use Rattle.laws_rules.specs.FlatDesign.declared.names.NameUse.TheVariants as name_use
-use Rattle.laws_rules.specs.FlatDesign.declared.objects.LeadsTo.TheVariants as leads
-use Rattle.laws_rules.specs.FlatDesign.declared.code.Store.{Store}
-use Rattle.laws_rules.specs.FlatDesign.declared.design.Denoted.{Denoted}
-use Rattle.laws_rules.specs.FlatDesign.declared.design.Design.{Design}
-use Rattle.laws_rules.specs.ModelRules.Scopes.{Scope, use_of, place_of}
-use Rattle.laws_rules.specs.ModelRules.Operators.{is_integer, is_time, evaluated_as}
-use Rattle.laws_rules.specs.ModelRules.Types.{is_port, type_of}
-use Rattle.laws_rules.specs.ModelRules.Targets.{takes, misfits, same_type, differ, written_type, taken_type, put_type, held_by, variable_named}
-use Rattle.laws_rules.specs.ModelRules.declared.meanings.ExpressionType.{ExpressionType}
-use Rattle.laws_rules.specs.ModelRules.declared.meanings.Meaning.{Meaning}
-use Rattle.laws_rules.specs.ModelRules.declared.meanings.Meaning.TheVariants as meaning
-use Rattle.laws_rules.specs.ModelRules.declared.needs.Need.TheVariants as need_of
-use Rattle.laws_rules.specs.ModelRules.Sites.{expression_sites}
-use Rattle.laws_rules.specs.ModelRules.Names.{Used, meets, is_variable, is_signal_written, is_fifo_written, is_fifo_read, is_mutex, is_semaphore, is_process, is_payload}
-use Rattle.laws_rules.specs.ModelRules.Values.{fails}
-use Rattle.laws_rules.specs.ModelRules.Passes.{constructs, fault_of}
-use Rattle.laws_rules.specs.CodeRules.Terms.{term_of}
-use Rattle.laws_rules.specs.CodeRules.Deeds.{with_two, if_written, store}
-use Rattle.laws_rules.specs.Known.{is_type_known, TypesAreKnown}
-use Rattle.laws_rules.specs.Met.{IsMet}
-use Rattle.laws_rules.proofs.Coded.{some_none}
-use Rattle.laws_rules.proofs.Typed.{typed, same_false}
-use Rattle.laws_rules.proofs.Named.{no_variable}
+use Rattle.code_rules.specs.ModelTree.Tree as tree
+use Rattle.code_rules.specs.ModelTree.Limits.{is_formed, token_count, token_limit, depth, fits, within}
+use Rattle.code_rules.specs.FlatDesign.Code.{Term}
+use Rattle.code_rules.specs.FlatDesign.Denotes.{Context, declared, variable_type, type_of_variable}
+use Rattle.code_rules.specs.FlatDesign.Typed.{Offers, IsPort, IsProcess, IsPayload, HasType, FitsIn, Gives, GivesInteger, IfWritten, GivesTime}
+use Rattle.code_rules.specs.FlatDesign.declared.value_types.ValueType.{ValueType}
+use Rattle.code_rules.specs.FlatDesign.declared.value_types.ValueType.TheVariants as type
+use Rattle.code_rules.specs.FlatDesign.declared.names.NameUse.{NameUse}
+use Rattle.code_rules.specs.FlatDesign.declared.names.NameUse.TheVariants as name_use
+use Rattle.code_rules.specs.FlatDesign.declared.objects.LeadsTo.TheVariants as leads
+use Rattle.code_rules.specs.FlatDesign.declared.code.Store.{Store}
+use Rattle.code_rules.specs.FlatDesign.declared.design.Denoted.{Denoted}
+use Rattle.code_rules.specs.FlatDesign.declared.design.Design.{Design}
+use Rattle.code_rules.specs.ModelRules.Scopes.{Scope, use_of, place_of}
+use Rattle.code_rules.specs.ModelRules.Operators.{is_integer, is_time, evaluated_as}
+use Rattle.code_rules.specs.ModelRules.Types.{is_port, type_of}
+use Rattle.code_rules.specs.ModelRules.Targets.{takes, misfits, same_type, differ, written_type, taken_type, put_type, held_by, variable_named}
+use Rattle.code_rules.specs.ModelRules.declared.meanings.ExpressionType.{ExpressionType}
+use Rattle.code_rules.specs.ModelRules.declared.meanings.Meaning.{Meaning}
+use Rattle.code_rules.specs.ModelRules.declared.meanings.Meaning.TheVariants as meaning
+use Rattle.code_rules.specs.ModelRules.declared.needs.Need.TheVariants as need_of
+use Rattle.code_rules.specs.ModelRules.Sites.{expression_sites}
+use Rattle.code_rules.specs.ModelRules.Names.{Used, meets, is_variable, is_signal_written, is_fifo_written, is_fifo_read, is_mutex, is_semaphore, is_process, is_payload}
+use Rattle.code_rules.specs.ModelRules.Values.{fails}
+use Rattle.code_rules.specs.ModelRules.Passes.{constructs, fault_of}
+use Rattle.code_rules.specs.Terms.{term_of}
+use Rattle.code_rules.specs.Deeds.{with_two, if_written, store}
+use Rattle.laws_code.specs.Known.{is_type_known, TypesAreKnown}
+use Rattle.laws_code.specs.Met.{IsMet}
+use Rattle.laws_code.proofs.Coded.{some_none}
+use Rattle.laws_code.proofs.Typed.{typed, same_false}
+use Rattle.laws_code.proofs.Named.{no_variable}
 use Rattle.laws_code.specs.Standing.{Standing, NamesStand}
 use Rattle.laws_code.proofs.Has.{Has, map_has}
 use Rattle.laws_code.proofs.Operands.{both_true, same_width, integer_type, takes_fit, time_type}

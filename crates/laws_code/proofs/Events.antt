@@ -2,44 +2,44 @@
 use Rattle.std.proofs.Common.{◌≡◌, ◌⊎◌, inl, inr, ℕ, Bool, true, false, not, ◌&&◌, List, [], ◌∷◌, Option, Some, None, refl, sym, ◌∙◌, ap, subst, true≢false}
 use Rattle.std.specs.Prelude.{option_map, option_and_then}
 use Rattle.std.specs.List.{AllByRecursion}
-use Rattle.laws_rules.specs.ModelTree.Tree as tree
-use Rattle.laws_rules.specs.ModelTree.Limits.{fits, fits_option, fits_place, fits_channel, fits_event, fits_events, fits_waiting, option_name, is_some_of}
-use Rattle.laws_rules.specs.ModelTree.Leaves.{is_name}
-use Rattle.laws_rules.specs.FlatDesign.Code as code
-use Rattle.laws_rules.specs.FlatDesign.Code.{Term, ChannelTerm, EventTerm, AwaitTerm}
-use Rattle.laws_rules.specs.FlatDesign.Denotes.{Context, declared, variable_type}
-use Rattle.laws_rules.specs.FlatDesign.Typed.{Offers, IsProcess, GivesInteger, IfWritten, EachOf, PlaceFits, UsesAs, HasEvent, HasLocalEvent, IsEventAt, IsEventUse, IsPlaceOfPort, IsStaticUse, GivesTime, IsAwait}
-use Rattle.laws_rules.specs.FlatDesign.declared.value_types.ValueType.{ValueType}
-use Rattle.laws_rules.specs.FlatDesign.declared.value_types.ValueType.TheVariants as type
-use Rattle.laws_rules.specs.FlatDesign.declared.names.NameUse.{NameUse}
-use Rattle.laws_rules.specs.FlatDesign.declared.names.NameUse.TheVariants as name_use
-use Rattle.laws_rules.specs.FlatDesign.declared.names.EventMember.{EventMember}
-use Rattle.laws_rules.specs.FlatDesign.declared.names.EventMember.TheVariants as event
-use Rattle.laws_rules.specs.FlatDesign.declared.objects.LeadsTo.{LeadsTo}
-use Rattle.laws_rules.specs.FlatDesign.declared.objects.LeadsTo.TheVariants as leads
-use Rattle.laws_rules.specs.FlatDesign.declared.design.Denoted.{Denoted}
-use Rattle.laws_rules.specs.ModelRules.Members.{variable_row, row_of, event_members, event_member, has_edges}
-use Rattle.laws_rules.specs.ModelRules.Scopes.{Scope, meaning_of}
-use Rattle.laws_rules.specs.ModelRules.Operators.{is_time}
-use Rattle.laws_rules.specs.ModelRules.Types.{is_port, with_place, channel_of}
-use Rattle.laws_rules.specs.ModelRules.declared.meanings.Meaning.{Meaning}
-use Rattle.laws_rules.specs.ModelRules.declared.meanings.Meaning.TheVariants as meaning
-use Rattle.laws_rules.specs.ModelRules.declared.meanings.Row.{Row}
-use Rattle.laws_rules.specs.ModelRules.declared.meanings.Row.TheVariants as row
-use Rattle.laws_rules.specs.ModelRules.declared.needs.Need.{Need}
-use Rattle.laws_rules.specs.ModelRules.Sites as part
-use Rattle.laws_rules.specs.ModelRules.Sites.{Site, site, channel_site, channel_sites, place_sites, expression_sites, option_sites, event_need, event_sites, events_sites, waiting_sites}
-use Rattle.laws_rules.specs.ModelRules.Names.{meets, row_lacks, is_event, lacks_edges, is_no_event, is_static, unknown_in_row, wrong_in_row, unknown_member, wrong_member}
-use Rattle.laws_rules.specs.ModelRules.Values.{fails, option_type, time_differs, waiting_differs}
-use Rattle.laws_rules.specs.ModelRules.Passes.{constructs, fault_at, fault_of}
-use Rattle.laws_rules.specs.CodeRules.Terms.{number, term_of}
-use Rattle.laws_rules.specs.CodeRules.Deeds.{with_two, with_three, if_written, each, place_term, channel_term, event_of, event_term, static_place, static_use, await_term}
-use Rattle.laws_rules.specs.Known.{TypesAreKnown}
-use Rattle.laws_rules.proofs.Kept.{keeps}
-use Rattle.laws_rules.proofs.Coded.{same_some}
-use Rattle.laws_rules.proofs.Typed.{neither, same_false, not_named, parts_none, head_none, and_true, IsChannelKept, channel_kept}
-use Rattle.laws_rules.proofs.Named.{no_variable}
-use Rattle.laws_rules.proofs.Deeds.{placed_right}
+use Rattle.code_rules.specs.ModelTree.Tree as tree
+use Rattle.code_rules.specs.ModelTree.Limits.{fits, fits_option, fits_place, fits_channel, fits_event, fits_events, fits_waiting, option_name, is_some_of}
+use Rattle.code_rules.specs.ModelTree.Leaves.{is_name}
+use Rattle.code_rules.specs.FlatDesign.Code as code
+use Rattle.code_rules.specs.FlatDesign.Code.{Term, ChannelTerm, EventTerm, AwaitTerm}
+use Rattle.code_rules.specs.FlatDesign.Denotes.{Context, declared, variable_type}
+use Rattle.code_rules.specs.FlatDesign.Typed.{Offers, IsProcess, GivesInteger, IfWritten, EachOf, PlaceFits, UsesAs, HasEvent, HasLocalEvent, IsEventAt, IsEventUse, IsPlaceOfPort, IsStaticUse, GivesTime, IsAwait}
+use Rattle.code_rules.specs.FlatDesign.declared.value_types.ValueType.{ValueType}
+use Rattle.code_rules.specs.FlatDesign.declared.value_types.ValueType.TheVariants as type
+use Rattle.code_rules.specs.FlatDesign.declared.names.NameUse.{NameUse}
+use Rattle.code_rules.specs.FlatDesign.declared.names.NameUse.TheVariants as name_use
+use Rattle.code_rules.specs.FlatDesign.declared.names.EventMember.{EventMember}
+use Rattle.code_rules.specs.FlatDesign.declared.names.EventMember.TheVariants as event
+use Rattle.code_rules.specs.FlatDesign.declared.objects.LeadsTo.{LeadsTo}
+use Rattle.code_rules.specs.FlatDesign.declared.objects.LeadsTo.TheVariants as leads
+use Rattle.code_rules.specs.FlatDesign.declared.design.Denoted.{Denoted}
+use Rattle.code_rules.specs.ModelRules.Members.{variable_row, row_of, event_members, event_member, has_edges}
+use Rattle.code_rules.specs.ModelRules.Scopes.{Scope, meaning_of}
+use Rattle.code_rules.specs.ModelRules.Operators.{is_time}
+use Rattle.code_rules.specs.ModelRules.Types.{is_port, with_place, channel_of}
+use Rattle.code_rules.specs.ModelRules.declared.meanings.Meaning.{Meaning}
+use Rattle.code_rules.specs.ModelRules.declared.meanings.Meaning.TheVariants as meaning
+use Rattle.code_rules.specs.ModelRules.declared.meanings.Row.{Row}
+use Rattle.code_rules.specs.ModelRules.declared.meanings.Row.TheVariants as row
+use Rattle.code_rules.specs.ModelRules.declared.needs.Need.{Need}
+use Rattle.code_rules.specs.ModelRules.Sites as part
+use Rattle.code_rules.specs.ModelRules.Sites.{Site, site, channel_site, channel_sites, place_sites, expression_sites, option_sites, event_need, event_sites, events_sites, waiting_sites}
+use Rattle.code_rules.specs.ModelRules.Names.{meets, row_lacks, is_event, lacks_edges, is_no_event, is_static, unknown_in_row, wrong_in_row, unknown_member, wrong_member}
+use Rattle.code_rules.specs.ModelRules.Values.{fails, option_type, time_differs, waiting_differs}
+use Rattle.code_rules.specs.ModelRules.Passes.{constructs, fault_at, fault_of}
+use Rattle.code_rules.specs.Terms.{number, term_of}
+use Rattle.code_rules.specs.Deeds.{with_two, with_three, if_written, each, place_term, channel_term, event_of, event_term, static_place, static_use, await_term}
+use Rattle.laws_code.specs.Known.{TypesAreKnown}
+use Rattle.laws_code.proofs.Kept.{keeps}
+use Rattle.laws_code.proofs.Coded.{same_some}
+use Rattle.laws_code.proofs.Typed.{neither, same_false, not_named, parts_none, head_none, and_true, IsChannelKept, channel_kept}
+use Rattle.laws_code.proofs.Named.{no_variable}
+use Rattle.laws_code.proofs.Deeds.{placed_right}
 use Rattle.laws_code.specs.Standing.{Standing, NamesStand}
 use Rattle.laws_code.proofs.Has.{Has, map_has, two_has}
 use Rattle.laws_code.proofs.Operands.{both_true}
@@ -167,7 +167,7 @@ module _ (c : Context) where
     port_by : (need : Need) (name : List ℕ) (e : tree.Expression) (kept : IsChannelKept s need name (tree.computed e)) → is_port kept.meaning_ ≡ true
     port_by need name e kept = same_false (is_port kept.meaning_) (neither (not (is_port kept.meaning_)) (is_static need) kept.right_place).0
 
-    computed_place : (n : ℕ) (e : tree.Expression) → fits_place n (tree.computed e) ≡ true → fault_of constructs (expression_sites s e) ≡ None → Rattle.laws_rules.specs.ModelRules.Values.place_differs s (tree.computed e) ≡ false → Has (GivesInteger c) (term_of s e)
+    computed_place : (n : ℕ) (e : tree.Expression) → fits_place n (tree.computed e) ≡ true → fault_of constructs (expression_sites s e) ≡ None → Rattle.code_rules.specs.ModelRules.Values.place_differs s (tree.computed e) ≡ false → Has (GivesInteger c) (term_of s e)
     computed_place n e h clean ok = let w = within_is n (λ m. fits m e) h in integer_there s c names known w.0 e w.1 clean ok
 
     place_there : (n : ℕ) (need : Need) (name : List ℕ) (place : tree.Place) (kept : IsChannelKept s need name place) (k : ℕ) → fits_place n place ≡ true → fault_of constructs (place_sites s place) ≡ None

@@ -2,22 +2,22 @@
 use Rattle.std.proofs.Common.{◌≡◌, ◌⊎◌, inl, inr, ℕ, Bool, true, false, List, Some, None, refl, sym, ◌∙◌, ap, subst}
 use Rattle.std.specs.Prelude.{slice_get}
 use Rattle.std.proofs.lemmas.Slice.Eq.{bytes_eq-Decides}
-use Rattle.laws_rules.specs.ModelTree.Tree as tree
-use Rattle.laws_rules.specs.ModelTree.declared.items.ProcessKind.{ProcessKind}
-use Rattle.laws_rules.specs.ModelTree.declared.items.ProcessKind.TheVariants as process
-use Rattle.laws_rules.specs.FlatDesign.Code as code
-use Rattle.laws_rules.specs.FlatDesign.Code.{arena_of, body_at}
-use Rattle.laws_rules.specs.FlatDesign.Reach.{InBody, Reached}
-use Rattle.laws_rules.specs.FlatDesign.Blocking.{DoesNotBlock, IsPlain, SetsNoTrigger}
-use Rattle.laws_rules.specs.FlatDesign.Sound.{IsHomeOf, IsSpawnedAs, IsMethodBody, IsThreadBody, IsNonblockingHandler, IsAnyHandler, EachReached}
-use Rattle.laws_rules.specs.FlatDesign.declared.code.BodyKind.TheVariants as body_kind
-use Rattle.laws_rules.specs.FlatDesign.declared.code.CodeBody.{CodeBody}
-use Rattle.laws_rules.specs.FlatDesign.declared.design.Design.{Design}
-use Rattle.laws_rules.specs.ModelRules.Passes.{first_fault}
-use Rattle.laws_rules.specs.ModelRules.Reach.{Body, Placed, bodies_in, statements_of, spawns, is_spawn_of, is_nonblocking_handler, is_handler, begun_from}
-use Rattle.laws_rules.specs.CodeRules.Deeds.{spawned_kind}
-use Rattle.laws_rules.specs.CodeRules.Bodies.{IsCodeOf}
-use Rattle.laws_rules.proofs.Coded.{same_some}
+use Rattle.code_rules.specs.ModelTree.Tree as tree
+use Rattle.code_rules.specs.ModelTree.declared.items.ProcessKind.{ProcessKind}
+use Rattle.code_rules.specs.ModelTree.declared.items.ProcessKind.TheVariants as process
+use Rattle.code_rules.specs.FlatDesign.Code as code
+use Rattle.code_rules.specs.FlatDesign.Code.{arena_of, body_at}
+use Rattle.code_rules.specs.FlatDesign.Reach.{InBody, Reached}
+use Rattle.code_rules.specs.FlatDesign.Blocking.{DoesNotBlock, IsPlain, SetsNoTrigger}
+use Rattle.code_rules.specs.FlatDesign.Sound.{IsHomeOf, IsSpawnedAs, IsMethodBody, IsThreadBody, IsNonblockingHandler, IsAnyHandler, EachReached}
+use Rattle.code_rules.specs.FlatDesign.declared.code.BodyKind.TheVariants as body_kind
+use Rattle.code_rules.specs.FlatDesign.declared.code.CodeBody.{CodeBody}
+use Rattle.code_rules.specs.FlatDesign.declared.design.Design.{Design}
+use Rattle.code_rules.specs.ModelRules.Passes.{first_fault}
+use Rattle.code_rules.specs.ModelRules.Reach.{Body, Placed, bodies_in, statements_of, spawns, is_spawn_of, is_nonblocking_handler, is_handler, begun_from}
+use Rattle.code_rules.specs.Deeds.{spawned_kind}
+use Rattle.code_rules.specs.Bodies.{IsCodeOf}
+use Rattle.laws_code.proofs.Coded.{same_some}
 use Rattle.laws_code.specs.Standing.{DesignStands}
 use Rattle.laws_code.specs.Bodies.{StatementsStand, IsNamedBy, HandlersStand}
 use Rattle.laws_code.proofs.Lists.{IsOf, of_any, or_right}
@@ -25,7 +25,7 @@ use Rattle.laws_code.proofs.Marks.{IsFrom, root_from, from_along, kind_along, sp
 use Rattle.laws_code.proofs.Leaves.{NamesIn}
 use Rattle.laws_code.proofs.ReachedBlocks.{IsCodeIn, held_in}
 use Rattle.laws_code.proofs.ReachedModels.{function_at, body_there}
-use Rattle.laws_code.proofs.Rules.{method_free, handler_free, thread_calm, unwind_plain}
+use Rattle.laws_code.proofs.ReachRules.{method_free, handler_free, thread_calm, unwind_plain}
 use Rattle.laws_code.proofs.Rooted.{IsOfClock, IsClockBody, clock_holds, clock_reaches, body_of_function, function_is, IsOfTree, tree_or_clock, reached}
 
 clock_calm : (f : code.Statement) → IsOfClock f → SetsNoTrigger f

@@ -2,8 +2,8 @@
 use Rattle.std.proofs.Common.{◌≡◌, List, [], ◌∷◌, Option, Some, refl, ◌∙◌, ap}
 use Rattle.std.specs.Prelude.{option_map, option_and_then}
 use Rattle.std.specs.List.{AllByRecursion}
-use Rattle.laws_rules.specs.CodeRules.Deeds.{with_two, with_three, with_four, each}
-use Rattle.laws_rules.specs.FlatDesign.Typed.{EachOf}
+use Rattle.code_rules.specs.Deeds.{with_two, with_three, with_four, each}
+use Rattle.code_rules.specs.FlatDesign.Typed.{EachOf}
 
 abbrev pub Has : {A : Type 0} → (A → Type 0) → Option A → Type 0
 Has {A} P o = (x : A) × (o ≡ Some x) × P x

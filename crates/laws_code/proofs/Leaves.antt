@@ -3,33 +3,33 @@ use Rattle.std.proofs.Common.{◌≡◌, ℕ, Bool, true, false, List, [], ◌�
 use Rattle.std.specs.Prelude.{⊤, bytes_eq, find, nat_lt, slice_get, option_map, option_and_then}
 use Rattle.std.specs.List.{AllByRecursion, position_or_len}
 use Rattle.std.proofs.lemmas.List.Folds.{find_at}
-use Rattle.laws_rules.specs.ModelTree.Tree as tree
-use Rattle.laws_rules.specs.FlatDesign.Code as code
-use Rattle.laws_rules.specs.FlatDesign.Code.{ChannelTerm}
-use Rattle.laws_rules.specs.FlatDesign.Denotes.{denoted_at}
-use Rattle.laws_rules.specs.FlatDesign.Typed.{EachOf}
-use Rattle.laws_rules.specs.FlatDesign.Blocking.{PortTakes, Takes, DoesNotBlock, IsPlain, SetsNoTrigger}
-use Rattle.laws_rules.specs.FlatDesign.declared.value_types.ValueType.{ValueType}
-use Rattle.laws_rules.specs.FlatDesign.declared.code.Store.{Store}
-use Rattle.laws_rules.specs.FlatDesign.declared.design.Denoted.{Denoted}
-use Rattle.laws_rules.specs.FlatDesign.declared.design.PortPart.{PortPart}
-use Rattle.laws_rules.specs.FlatDesign.declared.design.Design.{Design}
-use Rattle.laws_rules.specs.ModelRules.Meanings.{Declared, declarations}
-use Rattle.laws_rules.specs.ModelRules.Scopes.{Scope, is_declared, local_named, use_of, place_of}
-use Rattle.laws_rules.specs.ModelRules.Targets.{written_to, put_into, destination_of}
-use Rattle.laws_rules.specs.ModelRules.declared.meanings.Meaning.{Meaning}
-use Rattle.laws_rules.specs.ModelRules.declared.meanings.Meaning.TheVariants as meaning
-use Rattle.laws_rules.specs.ModelRules.declared.needs.Need.TheVariants as need_of
-use Rattle.laws_rules.specs.ModelRules.Sites.{channel_site, action_parts}
-use Rattle.laws_rules.specs.ModelRules.Names.{is_signal_written, is_fifo_written}
-use Rattle.laws_rules.specs.ModelRules.Passes.{constructs, fault_at}
-use Rattle.laws_rules.specs.ModelRules.Reach.{is_call_of, same_way, is_spawn_of, meaning_in, is_fifo, blocks_itself, is_next_trigger, is_throw, is_spawn, acts, transports}
-use Rattle.laws_rules.specs.CodeRules.Terms.{term_of}
-use Rattle.laws_rules.specs.CodeRules.Deeds.{Home, with_two, with_three, if_written, single, store, place_term, channel_term, await_term, call_arguments, controlled_by, spawned_kind, function_number, exception_number, each, static_use, destination_term, operation_code, notification_code, synced, spawn_term, action_code}
-use Rattle.laws_rules.specs.CodeRules.Numbered.{var_code, assign_code, operate_code}
-use Rattle.laws_rules.proofs.Coded.{same_some}
-use Rattle.laws_rules.proofs.Typed.{both_true, channel_kept}
-use Rattle.laws_rules.proofs.Named.{declared_by, no_variable}
+use Rattle.code_rules.specs.ModelTree.Tree as tree
+use Rattle.code_rules.specs.FlatDesign.Code as code
+use Rattle.code_rules.specs.FlatDesign.Code.{ChannelTerm}
+use Rattle.code_rules.specs.FlatDesign.Denotes.{denoted_at}
+use Rattle.code_rules.specs.FlatDesign.Typed.{EachOf}
+use Rattle.code_rules.specs.FlatDesign.Blocking.{PortTakes, Takes, DoesNotBlock, IsPlain, SetsNoTrigger}
+use Rattle.code_rules.specs.FlatDesign.declared.value_types.ValueType.{ValueType}
+use Rattle.code_rules.specs.FlatDesign.declared.code.Store.{Store}
+use Rattle.code_rules.specs.FlatDesign.declared.design.Denoted.{Denoted}
+use Rattle.code_rules.specs.FlatDesign.declared.design.PortPart.{PortPart}
+use Rattle.code_rules.specs.FlatDesign.declared.design.Design.{Design}
+use Rattle.code_rules.specs.ModelRules.Meanings.{Declared, declarations}
+use Rattle.code_rules.specs.ModelRules.Scopes.{Scope, is_declared, local_named, use_of, place_of}
+use Rattle.code_rules.specs.ModelRules.Targets.{written_to, put_into, destination_of}
+use Rattle.code_rules.specs.ModelRules.declared.meanings.Meaning.{Meaning}
+use Rattle.code_rules.specs.ModelRules.declared.meanings.Meaning.TheVariants as meaning
+use Rattle.code_rules.specs.ModelRules.declared.needs.Need.TheVariants as need_of
+use Rattle.code_rules.specs.ModelRules.Sites.{channel_site, action_parts}
+use Rattle.code_rules.specs.ModelRules.Names.{is_signal_written, is_fifo_written}
+use Rattle.code_rules.specs.ModelRules.Passes.{constructs, fault_at}
+use Rattle.code_rules.specs.ModelRules.Reach.{is_call_of, same_way, is_spawn_of, meaning_in, is_fifo, blocks_itself, is_next_trigger, is_throw, is_spawn, acts, transports}
+use Rattle.code_rules.specs.Terms.{term_of}
+use Rattle.code_rules.specs.Deeds.{Home, with_two, with_three, if_written, single, store, place_term, channel_term, await_term, call_arguments, controlled_by, spawned_kind, function_number, exception_number, each, static_use, destination_term, operation_code, notification_code, synced, spawn_term, action_code}
+use Rattle.code_rules.specs.Numbered.{var_code, assign_code, operate_code}
+use Rattle.laws_code.proofs.Coded.{same_some}
+use Rattle.laws_code.proofs.Typed.{both_true, channel_kept}
+use Rattle.laws_code.proofs.Named.{declared_by, no_variable}
 use Rattle.laws_code.specs.Standing.{Standing}
 use Rattle.laws_code.proofs.Places.{mapped_is}
 use Rattle.laws_code.proofs.Bodies.{pos_is}

@@ -1,3 +1,17 @@
+pub mod NamesMet
+pub mod Kept
+pub mod Typed
+pub mod Coded
+pub mod Passes
+pub mod Named
+pub mod Known
+pub mod Declared
+pub mod Exceptions
+pub mod Parts
+pub mod Deeds
+pub mod Blocks
+pub mod Models
+pub mod Everywhere
 pub mod Operands
 pub mod Has
 pub mod Places
@@ -17,6 +31,5 @@ pub mod Leaves
 pub mod ReachedBlocks
 pub mod ReachedModels
 pub mod Rooted
-pub mod Rules
+pub mod ReachRules
 pub mod Fields
-pub mod LawsRules

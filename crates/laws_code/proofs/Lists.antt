@@ -2,8 +2,8 @@
 use Rattle.std.proofs.Common.{◌≡◌, ◌⊎◌, inl, inr, ℕ, zero, suc, Bool, true, false, cond, ◌&&◌, ◌||◌, List, [], ◌∷◌, ◌++◌, Option, Some, None, refl, sym, ◌∙◌, ap, subst, true≢false}
 use Rattle.std.specs.Prelude.{slice_get, filter, filter_map, find, option_and_then}
 use Rattle.std.specs.List.{AllByRecursion, cons_option, list_any}
-use Rattle.laws_rules.specs.CodeRules.Deeds.{with_two, with_three, with_four}
-use Rattle.laws_rules.proofs.Coded.{same_some}
+use Rattle.code_rules.specs.Deeds.{with_two, with_three, with_four}
+use Rattle.laws_code.proofs.Coded.{same_some}
 
 -- x is one of these
 abbrev pub IsOf : {A : Type 0} → A → List A → Type 0

@@ -4,13 +4,13 @@ use Rattle.std.proofs.Common.{◌≡◌, ◌⊎◌, inl, inr, ℕ, Bool, true, f
 use Rattle.std.specs.Prelude.{bytes_eq}
 use Rattle.std.specs.List.{list_any}
 use Rattle.std.proofs.lemmas.Slice.Eq.{bytes_eq-Decides}
-use Rattle.laws_rules.specs.ModelTree.Tree as tree
-use Rattle.laws_rules.specs.FlatDesign.declared.code.BodyKind.{BodyKind}
-use Rattle.laws_rules.specs.FlatDesign.declared.code.BodyKind.TheVariants as body_kind
-use Rattle.laws_rules.specs.ModelRules.Reach.{Body, Names, Placed, bodies_in, is_of_kind, is_among, statements_of, is_call_of, calls, calls_unwinding, spawns, functions, is_next, is_caller, reached_from, begun_from, is_handler, roots, is_process_of}
-use Rattle.laws_rules.specs.ModelRules.Closed.{IsLeast}
-use Rattle.laws_rules.proofs.ModelRules.Closures.{named, is_least}
-use Rattle.laws_rules.proofs.Typed.{both_true}
+use Rattle.code_rules.specs.ModelTree.Tree as tree
+use Rattle.code_rules.specs.FlatDesign.declared.code.BodyKind.{BodyKind}
+use Rattle.code_rules.specs.FlatDesign.declared.code.BodyKind.TheVariants as body_kind
+use Rattle.code_rules.specs.ModelRules.Reach.{Body, Names, Placed, bodies_in, is_of_kind, is_among, statements_of, is_call_of, calls, calls_unwinding, spawns, functions, is_next, is_caller, reached_from, begun_from, is_handler, roots, is_process_of}
+use Rattle.code_rules.specs.ModelRules.Closed.{IsLeast}
+use Rattle.code_rules.proofs.ModelRules.Closures.{named, is_least}
+use Rattle.laws_code.proofs.Typed.{both_true}
 use Rattle.laws_code.proofs.Lists.{IsOf, of_all, of_any, of_filter, or_left, or_right}
 
 pub same_name : (name : List ℕ) → bytes_eq name name ≡ true

@@ -2,27 +2,27 @@
 use Rattle.std.proofs.Common.{◌≡◌, ◌≤◌, ◌<◌, ◌⊎◌, inl, inr, ℕ, ◌+◌, ◌-◌, ◌==◌, Bool, true, false, ◌&&◌, ◌||◌, Some, refl, sym, ap, subst, arith, nat_lt}
 use Rattle.std.proofs.lemmas.Bool.Decides.{nat_tests}
 use Rattle.std.specs.Prelude.{⊤, nat_le}
-use Rattle.laws_rules.specs.ModelTree.declared.expressions.UnaryOp.{UnaryOp}
-use Rattle.laws_rules.specs.ModelTree.declared.expressions.UnaryOp.TheVariants as unary_op
-use Rattle.laws_rules.specs.ModelTree.declared.expressions.BinaryOp.{BinaryOp}
-use Rattle.laws_rules.specs.ModelTree.declared.expressions.BinaryOp.TheVariants as op
-use Rattle.laws_rules.specs.ModelTree.declared.expressions.Conversion.{Conversion}
-use Rattle.laws_rules.specs.ModelTree.declared.expressions.Conversion.TheVariants as conversion
-use Rattle.laws_rules.specs.FlatDesign.Code as code
-use Rattle.laws_rules.specs.FlatDesign.Code.{Term}
-use Rattle.laws_rules.specs.FlatDesign.Denotes.{Context}
-use Rattle.laws_rules.specs.FlatDesign.Typed.{IsInteger, IsBitwise, IsCompared, IsQuantity, IsDigits, UnaryType, BinaryType, DigitType, DigitsType, ConvertType, HasType, FitsIn}
-use Rattle.laws_rules.specs.FlatDesign.ValueTypes.{in_expressions}
-use Rattle.laws_rules.specs.FlatDesign.declared.value_types.ValueType.{ValueType}
-use Rattle.laws_rules.specs.FlatDesign.declared.value_types.ValueType.TheVariants as type
-use Rattle.laws_rules.specs.LogicValues.declared.kinds.Value.TheVariants as value
-use Rattle.laws_rules.specs.ModelRules.Meanings.{is_width}
-use Rattle.laws_rules.specs.ModelRules.Operators.{option_if, seen_as, evaluated_as, is_integer, is_bool, is_logic, is_time, is_process, is_payload, is_vector_of, one_sign, quantities, bitwise, compared, truths, shifted, multiplied, operands, given, is_bitwise, unary_type, is_number_like, conversion_type, becomes_vector, concat_type, digit_type, is_within, slice_type}
-use Rattle.laws_rules.specs.ModelRules.Targets.{takes}
-use Rattle.laws_rules.specs.ModelRules.declared.meanings.ExpressionType.{ExpressionType}
-use Rattle.laws_rules.specs.ModelRules.declared.meanings.ExpressionType.TheVariants as t
-use Rattle.laws_rules.specs.CodeRules.Terms.{as_unsigned, taken_as, right_taken, converted_to}
-use Rattle.laws_rules.proofs.Coded.{same_some, if_some}
+use Rattle.code_rules.specs.ModelTree.declared.expressions.UnaryOp.{UnaryOp}
+use Rattle.code_rules.specs.ModelTree.declared.expressions.UnaryOp.TheVariants as unary_op
+use Rattle.code_rules.specs.ModelTree.declared.expressions.BinaryOp.{BinaryOp}
+use Rattle.code_rules.specs.ModelTree.declared.expressions.BinaryOp.TheVariants as op
+use Rattle.code_rules.specs.ModelTree.declared.expressions.Conversion.{Conversion}
+use Rattle.code_rules.specs.ModelTree.declared.expressions.Conversion.TheVariants as conversion
+use Rattle.code_rules.specs.FlatDesign.Code as code
+use Rattle.code_rules.specs.FlatDesign.Code.{Term}
+use Rattle.code_rules.specs.FlatDesign.Denotes.{Context}
+use Rattle.code_rules.specs.FlatDesign.Typed.{IsInteger, IsBitwise, IsCompared, IsQuantity, IsDigits, UnaryType, BinaryType, DigitType, DigitsType, ConvertType, HasType, FitsIn}
+use Rattle.code_rules.specs.FlatDesign.ValueTypes.{in_expressions}
+use Rattle.code_rules.specs.FlatDesign.declared.value_types.ValueType.{ValueType}
+use Rattle.code_rules.specs.FlatDesign.declared.value_types.ValueType.TheVariants as type
+use Rattle.code_rules.specs.LogicValues.declared.kinds.Value.TheVariants as value
+use Rattle.code_rules.specs.ModelRules.Meanings.{is_width}
+use Rattle.code_rules.specs.ModelRules.Operators.{option_if, seen_as, evaluated_as, is_integer, is_bool, is_logic, is_time, is_process, is_payload, is_vector_of, one_sign, quantities, bitwise, compared, truths, shifted, multiplied, operands, given, is_bitwise, unary_type, is_number_like, conversion_type, becomes_vector, concat_type, digit_type, is_within, slice_type}
+use Rattle.code_rules.specs.ModelRules.Targets.{takes}
+use Rattle.code_rules.specs.ModelRules.declared.meanings.ExpressionType.{ExpressionType}
+use Rattle.code_rules.specs.ModelRules.declared.meanings.ExpressionType.TheVariants as t
+use Rattle.code_rules.specs.Terms.{as_unsigned, taken_as, right_taken, converted_to}
+use Rattle.laws_code.proofs.Coded.{same_some, if_some}
 
 -- the type of a value that is read
 pub seen_type : (s : ValueType) → evaluated_as (seen_as s) ≡ in_expressions s

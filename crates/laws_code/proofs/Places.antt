@@ -4,23 +4,23 @@ use Rattle.std.specs.Prelude.{is_some, option_map, find, position, nat_lt}
 use Rattle.std.specs.List.{AllByRecursion, position_or_len}
 use Rattle.std.specs.Option.{option_or}
 use Rattle.std.proofs.lemmas.List.Folds.{find_at}
-use Rattle.laws_rules.specs.FlatDesign.Denotes.{Context, declared, variable_type}
-use Rattle.laws_rules.specs.FlatDesign.Typed.{PortOffers, Offers, IsPort}
-use Rattle.laws_rules.specs.FlatDesign.declared.value_types.ValueType.{ValueType}
-use Rattle.laws_rules.specs.FlatDesign.declared.value_types.ValueType.TheVariants as type
-use Rattle.laws_rules.specs.FlatDesign.declared.names.NameUse.{NameUse}
-use Rattle.laws_rules.specs.FlatDesign.declared.names.NameUse.TheVariants as name_use
-use Rattle.laws_rules.specs.FlatDesign.declared.objects.LeadsTo.{LeadsTo}
-use Rattle.laws_rules.specs.FlatDesign.declared.objects.LeadsTo.TheVariants as leads
-use Rattle.laws_rules.specs.FlatDesign.declared.design.Denoted.{Denoted}
-use Rattle.laws_rules.specs.FlatDesign.declared.design.Design.{Design}
-use Rattle.laws_rules.specs.ModelRules.Meanings.{Declared, declarations}
-use Rattle.laws_rules.specs.ModelRules.Scopes.{Scope, Local, is_declared, is_local, local_named, meaning_of, use_of, place_of}
-use Rattle.laws_rules.specs.ModelRules.declared.meanings.Meaning.{Meaning}
-use Rattle.laws_rules.specs.ModelRules.declared.meanings.Meaning.TheVariants as meaning
-use Rattle.laws_rules.specs.ModelRules.Names.{is_variable}
-use Rattle.laws_rules.proofs.Coded.{same_some, below, positioned}
-use Rattle.laws_rules.proofs.Named.{declared_by}
+use Rattle.code_rules.specs.FlatDesign.Denotes.{Context, declared, variable_type}
+use Rattle.code_rules.specs.FlatDesign.Typed.{PortOffers, Offers, IsPort}
+use Rattle.code_rules.specs.FlatDesign.declared.value_types.ValueType.{ValueType}
+use Rattle.code_rules.specs.FlatDesign.declared.value_types.ValueType.TheVariants as type
+use Rattle.code_rules.specs.FlatDesign.declared.names.NameUse.{NameUse}
+use Rattle.code_rules.specs.FlatDesign.declared.names.NameUse.TheVariants as name_use
+use Rattle.code_rules.specs.FlatDesign.declared.objects.LeadsTo.{LeadsTo}
+use Rattle.code_rules.specs.FlatDesign.declared.objects.LeadsTo.TheVariants as leads
+use Rattle.code_rules.specs.FlatDesign.declared.design.Denoted.{Denoted}
+use Rattle.code_rules.specs.FlatDesign.declared.design.Design.{Design}
+use Rattle.code_rules.specs.ModelRules.Meanings.{Declared, declarations}
+use Rattle.code_rules.specs.ModelRules.Scopes.{Scope, Local, is_declared, is_local, local_named, meaning_of, use_of, place_of}
+use Rattle.code_rules.specs.ModelRules.declared.meanings.Meaning.{Meaning}
+use Rattle.code_rules.specs.ModelRules.declared.meanings.Meaning.TheVariants as meaning
+use Rattle.code_rules.specs.ModelRules.Names.{is_variable}
+use Rattle.laws_code.proofs.Coded.{same_some, below, positioned}
+use Rattle.laws_code.proofs.Named.{declared_by}
 use Rattle.laws_code.specs.Standing.{IsSignal, IsFifo, IsPortTo, IsPortOf, Standing, LocalStands, NamesStand}
 use Rattle.laws_code.proofs.Has.{Has}
 

@@ -1,18 +1,18 @@
 -- The code of statements that hold no others has no inner blocks.
 use Rattle.std.proofs.Common.{◌≡◌, ℕ, List, [], ◌∷◌, Option, Some, None, refl, subst}
 use Rattle.std.specs.Prelude.{option_map, option_and_then}
-use Rattle.laws_rules.specs.ModelTree.Tree as tree
-use Rattle.laws_rules.specs.FlatDesign.Code as code
-use Rattle.laws_rules.specs.FlatDesign.Reach.{inner_blocks}
-use Rattle.laws_rules.specs.FlatDesign.Typed.{EachOf}
-use Rattle.laws_rules.specs.FlatDesign.declared.value_types.ValueType.{ValueType}
-use Rattle.laws_rules.specs.FlatDesign.declared.code.Store.{Store}
-use Rattle.laws_rules.specs.ModelRules.Scopes.{Scope, use_of, place_of}
-use Rattle.laws_rules.specs.ModelRules.Targets.{written_to, put_into, destination_of}
-use Rattle.laws_rules.specs.CodeRules.Terms.{term_of}
-use Rattle.laws_rules.specs.CodeRules.Deeds.{Home, with_two, with_three, with_four, if_written, single, store, channel_term, await_term, call_arguments, controlled_by, function_number, exception_number, destination_term, operation_code, notification_code, synced, spawn_term, action_code}
-use Rattle.laws_rules.specs.CodeRules.Numbered.{var_code, assign_code, operate_code}
-use Rattle.laws_rules.proofs.Coded.{same_some}
+use Rattle.code_rules.specs.ModelTree.Tree as tree
+use Rattle.code_rules.specs.FlatDesign.Code as code
+use Rattle.code_rules.specs.FlatDesign.Reach.{inner_blocks}
+use Rattle.code_rules.specs.FlatDesign.Typed.{EachOf}
+use Rattle.code_rules.specs.FlatDesign.declared.value_types.ValueType.{ValueType}
+use Rattle.code_rules.specs.FlatDesign.declared.code.Store.{Store}
+use Rattle.code_rules.specs.ModelRules.Scopes.{Scope, use_of, place_of}
+use Rattle.code_rules.specs.ModelRules.Targets.{written_to, put_into, destination_of}
+use Rattle.code_rules.specs.Terms.{term_of}
+use Rattle.code_rules.specs.Deeds.{Home, with_two, with_three, with_four, if_written, single, store, channel_term, await_term, call_arguments, controlled_by, function_number, exception_number, destination_term, operation_code, notification_code, synced, spawn_term, action_code}
+use Rattle.code_rules.specs.Numbered.{var_code, assign_code, operate_code}
+use Rattle.laws_code.proofs.Coded.{same_some}
 
 abbrev pub HasNoBlocks : code.Statement → Type 0
 HasNoBlocks f = inner_blocks f ≡ []

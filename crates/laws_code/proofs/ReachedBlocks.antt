@@ -2,21 +2,21 @@
 use Rattle.std.proofs.Common.{◌≡◌, inl, inr, ℕ, Bool, true, List, [], ◌∷◌, ◌++◌, map, Option, Some, None, refl, sym, ap, subst}
 use Rattle.std.specs.Prelude.{⊤, unwrap_or}
 use Rattle.std.specs.List.{AllByRecursion}
-use Rattle.laws_rules.specs.ModelTree.Tree as tree
-use Rattle.laws_rules.specs.FlatDesign.Code as code
-use Rattle.laws_rules.specs.FlatDesign.Code.{Arena, block_at, statement_at}
-use Rattle.laws_rules.specs.FlatDesign.Typed.{EachOf}
-use Rattle.laws_rules.specs.FlatDesign.Reach.{inner_blocks, listed, Holds}
-use Rattle.laws_rules.specs.FlatDesign.declared.code.Handler.{Handler}
-use Rattle.laws_rules.specs.ModelRules.Meanings.{variable_type}
-use Rattle.laws_rules.specs.ModelRules.Scopes.{Scope, locals_in_block, past, behind, in_unwind}
-use Rattle.laws_rules.specs.ModelRules.Sites as part
-use Rattle.laws_rules.specs.ModelRules.Sites.{Site, site, variable_type_sites, expression_sites, option_sites, action_parts, statement_sites, block_sites, else_sites, handler_sites}
-use Rattle.laws_rules.specs.ModelRules.Passes.{constructs, reaches, fault_at}
-use Rattle.laws_rules.specs.ModelRules.Reach.{Body, Placed, all_in_statement, all_in_block, all_in_else, all_in_handlers, statements_of}
-use Rattle.laws_rules.specs.CodeRules.Deeds.{Home, if_written, store, action_code}
-use Rattle.laws_rules.specs.CodeRules.Numbered.{AtBlock, IsCoded, IsStatement, IsBlock, IsElse, AreHandlers, var_code, assign_code, operate_code}
-use Rattle.laws_rules.proofs.Blocks.{all_parts}
+use Rattle.code_rules.specs.ModelTree.Tree as tree
+use Rattle.code_rules.specs.FlatDesign.Code as code
+use Rattle.code_rules.specs.FlatDesign.Code.{Arena, block_at, statement_at}
+use Rattle.code_rules.specs.FlatDesign.Typed.{EachOf}
+use Rattle.code_rules.specs.FlatDesign.Reach.{inner_blocks, listed, Holds}
+use Rattle.code_rules.specs.FlatDesign.declared.code.Handler.{Handler}
+use Rattle.code_rules.specs.ModelRules.Meanings.{variable_type}
+use Rattle.code_rules.specs.ModelRules.Scopes.{Scope, locals_in_block, past, behind, in_unwind}
+use Rattle.code_rules.specs.ModelRules.Sites as part
+use Rattle.code_rules.specs.ModelRules.Sites.{Site, site, variable_type_sites, expression_sites, option_sites, action_parts, statement_sites, block_sites, else_sites, handler_sites}
+use Rattle.code_rules.specs.ModelRules.Passes.{constructs, reaches, fault_at}
+use Rattle.code_rules.specs.ModelRules.Reach.{Body, Placed, all_in_statement, all_in_block, all_in_else, all_in_handlers, statements_of}
+use Rattle.code_rules.specs.Deeds.{Home, if_written, store, action_code}
+use Rattle.code_rules.specs.Numbered.{AtBlock, IsCoded, IsStatement, IsBlock, IsElse, AreHandlers, var_code, assign_code, operate_code}
+use Rattle.laws_code.proofs.Blocks.{all_parts}
 use Rattle.laws_code.proofs.Plain.{HasNoBlocks, NoneHasBlocks, var_plain, assign_plain, operate_plain, action_plain}
 use Rattle.laws_code.proofs.TypedBlocks.{firsts, held}
 use Rattle.laws_code.proofs.Lists.{IsOf, of_left, of_right}

@@ -2,21 +2,21 @@
 use Rattle.std.proofs.Common.{◌≡◌, inl, inr, ℕ, ◌+◌, List, [], ◌∷◌, ◌++◌, append_assoc, length, Option, Some, None, refl, sym, ◌∙◌, ap, subst, true, arith, length-append}
 use Rattle.std.specs.Prelude.{bytes_eq, slice_get, nat_lt, position, filter_map, option_and_then}
 use Rattle.std.specs.List.{AllByRecursion, IsDistinct, position_or_len}
-use Rattle.laws_rules.specs.ModelTree.Tree as tree
-use Rattle.laws_rules.specs.FlatDesign.Code.{Arena, body_at}
-use Rattle.laws_rules.specs.FlatDesign.declared.code.CodeBody.{CodeBody}
-use Rattle.laws_rules.specs.ModelRules.Scopes.{Scope, as_function, item_scope, functions_in, function_named}
-use Rattle.laws_rules.specs.ModelRules.Sites.{item_parts, item_sites, around_item, items_sites, module_sites, modules_sites, top_site, sites}
-use Rattle.laws_rules.specs.ModelRules.Names.{first}
-use Rattle.laws_rules.specs.ModelRules.Passes.{doubles, constructs, reaches, passes, fault_of, first_fault}
-use Rattle.laws_rules.specs.ModelRules.Distinct.{names_of, HasDistinctNames}
-use Rattle.laws_rules.proofs.ModelRules.Firsts.{or_none, each_none}
-use Rattle.laws_rules.proofs.ModelRules.Doubles.{distinct}
-use Rattle.laws_rules.specs.CodeRules.Deeds.{Home, has_body, body_number, function_number}
-use Rattle.laws_rules.specs.CodeRules.Bodies as source
-use Rattle.laws_rules.specs.CodeRules.Bodies.{Source, source_of, IsBody, IsBodyIf, AreBodies, body_count, exceptions_of, AreModules}
-use Rattle.laws_rules.proofs.Coded.{same_some}
-use Rattle.laws_rules.proofs.Blocks.{all_parts}
+use Rattle.code_rules.specs.ModelTree.Tree as tree
+use Rattle.code_rules.specs.FlatDesign.Code.{Arena, body_at}
+use Rattle.code_rules.specs.FlatDesign.declared.code.CodeBody.{CodeBody}
+use Rattle.code_rules.specs.ModelRules.Scopes.{Scope, as_function, item_scope, functions_in, function_named}
+use Rattle.code_rules.specs.ModelRules.Sites.{item_parts, item_sites, around_item, items_sites, module_sites, modules_sites, top_site, sites}
+use Rattle.code_rules.specs.ModelRules.Names.{first}
+use Rattle.code_rules.specs.ModelRules.Passes.{doubles, constructs, reaches, passes, fault_of, first_fault}
+use Rattle.code_rules.specs.ModelRules.Distinct.{names_of, HasDistinctNames}
+use Rattle.code_rules.proofs.ModelRules.Firsts.{or_none, each_none}
+use Rattle.code_rules.proofs.ModelRules.Doubles.{distinct}
+use Rattle.code_rules.specs.Deeds.{Home, has_body, body_number, function_number}
+use Rattle.code_rules.specs.Bodies as source
+use Rattle.code_rules.specs.Bodies.{Source, source_of, IsBody, IsBodyIf, AreBodies, body_count, exceptions_of, AreModules}
+use Rattle.laws_code.proofs.Coded.{same_some}
+use Rattle.laws_code.proofs.Blocks.{all_parts}
 use Rattle.laws_code.proofs.Places.{mapped_is}
 use Rattle.laws_code.proofs.Bodies.{function_body, used_bodies, slice_behind, pos_is}
 use Rattle.laws_code.proofs.Lists.{IsOf, at_slice, all_both, made_of, found_of, bound_is}

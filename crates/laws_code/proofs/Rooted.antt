@@ -3,28 +3,28 @@ use Rattle.std.proofs.Common.{◌≡◌, ◌⊎◌, inl, inr, ℕ, ◌==◌, Boo
 use Rattle.std.specs.Prelude.{⊤, unwrap_or, if◌then◌else◌}
 use Rattle.std.specs.List.{AllByRecursion}
 use Rattle.std.proofs.lemmas.Slice.Eq.{bytes_eq-Decides}
-use Rattle.laws_rules.specs.LogicValues.declared.kinds.Value.TheVariants as value
-use Rattle.laws_rules.specs.ModelTree.Tree as tree
-use Rattle.laws_rules.specs.ModelTree.declared.types.Parameter.{Parameter}
-use Rattle.laws_rules.specs.ModelTree.declared.items.ClockItem.{ClockItem}
-use Rattle.laws_rules.specs.ModelTree.declared.items.ProcessKind.{ProcessKind}
-use Rattle.laws_rules.specs.ModelTree.declared.items.ProcessKind.TheVariants as process
-use Rattle.laws_rules.specs.FlatDesign.Code as code
-use Rattle.laws_rules.specs.FlatDesign.Code.{Arena, block_at, statement_at, body_at}
-use Rattle.laws_rules.specs.FlatDesign.Typed.{EachOf}
-use Rattle.laws_rules.specs.FlatDesign.Reach as reach
-use Rattle.laws_rules.specs.FlatDesign.Reach.{inner_blocks, Holds, Reached}
-use Rattle.laws_rules.specs.FlatDesign.declared.code.BodyKind.TheVariants as body_kind
-use Rattle.laws_rules.specs.FlatDesign.declared.code.CodeBody.{CodeBody}
-use Rattle.laws_rules.specs.ModelRules.Scopes.{Scope, item_scope, with_local, with_parameters, place_of}
-use Rattle.laws_rules.specs.ModelRules.Sites.{parameter_sites, answer_sites, events_sites, block_sites, function_scope, around_item}
-use Rattle.laws_rules.specs.ModelRules.Reach.{Body, Placed, process_kind, body_of, bodies_in, all_in_block, statements_of, is_call_of}
-use Rattle.laws_rules.specs.CodeRules.Deeds.{Home}
-use Rattle.laws_rules.specs.CodeRules.Numbered.{AtBlock, AreFirst}
-use Rattle.laws_rules.specs.CodeRules.Bodies as source
-use Rattle.laws_rules.specs.CodeRules.Bodies.{Source, source_of, start_of, span_of, wait_for, write_truth, one_period, waits_first, IsClockBlock, IsBody}
-use Rattle.laws_rules.proofs.Coded.{same_some}
-use Rattle.laws_rules.proofs.Blocks.{all_parts}
+use Rattle.code_rules.specs.LogicValues.declared.kinds.Value.TheVariants as value
+use Rattle.code_rules.specs.ModelTree.Tree as tree
+use Rattle.code_rules.specs.ModelTree.declared.types.Parameter.{Parameter}
+use Rattle.code_rules.specs.ModelTree.declared.items.ClockItem.{ClockItem}
+use Rattle.code_rules.specs.ModelTree.declared.items.ProcessKind.{ProcessKind}
+use Rattle.code_rules.specs.ModelTree.declared.items.ProcessKind.TheVariants as process
+use Rattle.code_rules.specs.FlatDesign.Code as code
+use Rattle.code_rules.specs.FlatDesign.Code.{Arena, block_at, statement_at, body_at}
+use Rattle.code_rules.specs.FlatDesign.Typed.{EachOf}
+use Rattle.code_rules.specs.FlatDesign.Reach as reach
+use Rattle.code_rules.specs.FlatDesign.Reach.{inner_blocks, Holds, Reached}
+use Rattle.code_rules.specs.FlatDesign.declared.code.BodyKind.TheVariants as body_kind
+use Rattle.code_rules.specs.FlatDesign.declared.code.CodeBody.{CodeBody}
+use Rattle.code_rules.specs.ModelRules.Scopes.{Scope, item_scope, with_local, with_parameters, place_of}
+use Rattle.code_rules.specs.ModelRules.Sites.{parameter_sites, answer_sites, events_sites, block_sites, function_scope, around_item}
+use Rattle.code_rules.specs.ModelRules.Reach.{Body, Placed, process_kind, body_of, bodies_in, all_in_block, statements_of, is_call_of}
+use Rattle.code_rules.specs.Deeds.{Home}
+use Rattle.code_rules.specs.Numbered.{AtBlock, AreFirst}
+use Rattle.code_rules.specs.Bodies as source
+use Rattle.code_rules.specs.Bodies.{Source, source_of, start_of, span_of, wait_for, write_truth, one_period, waits_first, IsClockBlock, IsBody}
+use Rattle.laws_code.proofs.Coded.{same_some}
+use Rattle.laws_code.proofs.Blocks.{all_parts}
 use Rattle.laws_code.proofs.TypedBlocks.{firsts, held}
 use Rattle.laws_code.proofs.Lists.{IsOf, of_made}
 use Rattle.laws_code.proofs.Marks.{IsCaller, GoesAlong}

@@ -2,28 +2,28 @@
 use Rattle.std.proofs.Common.{◌≡◌, ◌⊎◌, inl, inr, ℕ, Bool, true, false, cond, List, [], ◌∷◌, Option, Some, None, refl, sym, ◌∙◌, ap, subst}
 use Rattle.std.specs.Prelude.{option_map, find, bytes_eq}
 use Rattle.std.specs.List.{AllByRecursion}
-use Rattle.laws_rules.specs.FlatDesign.Code as code
-use Rattle.laws_rules.specs.FlatDesign.Code.{Term}
-use Rattle.laws_rules.specs.FlatDesign.Denotes.{Context, declared, variable_type, type_of_variable}
-use Rattle.laws_rules.specs.FlatDesign.Typed.{Offers, IsProcess, IsPayload, UseOffers, MemberType, NameType, HasType, GivesInteger}
-use Rattle.laws_rules.specs.FlatDesign.ValueTypes.{in_expressions}
-use Rattle.laws_rules.specs.FlatDesign.declared.value_types.ValueType.{ValueType}
-use Rattle.laws_rules.specs.FlatDesign.declared.value_types.ValueType.TheVariants as type
-use Rattle.laws_rules.specs.FlatDesign.declared.names.NameUse.{NameUse}
-use Rattle.laws_rules.specs.FlatDesign.declared.names.NameUse.TheVariants as name_use
-use Rattle.laws_rules.specs.FlatDesign.declared.objects.LeadsTo.TheVariants as leads
-use Rattle.laws_rules.specs.ModelRules.Members.{variable_row, row_of, value_members, entry, member_type}
-use Rattle.laws_rules.specs.ModelRules.Operators.{seen_as, evaluated_as}
-use Rattle.laws_rules.specs.ModelRules.Types.{value_of, is_port}
-use Rattle.laws_rules.specs.ModelRules.declared.meanings.ExpressionType.{ExpressionType}
-use Rattle.laws_rules.specs.ModelRules.declared.meanings.ExpressionType.TheVariants as t
-use Rattle.laws_rules.specs.ModelRules.declared.meanings.Meaning.{Meaning}
-use Rattle.laws_rules.specs.ModelRules.declared.meanings.Meaning.TheVariants as meaning
-use Rattle.laws_rules.specs.ModelRules.declared.meanings.Row.{Row}
-use Rattle.laws_rules.specs.ModelRules.declared.meanings.Row.TheVariants as row
-use Rattle.laws_rules.specs.ModelRules.declared.meanings.ValueMember.{ValueMember}
-use Rattle.laws_rules.specs.ModelRules.declared.meanings.ValueMember.TheVariants as reached
-use Rattle.laws_rules.proofs.Coded.{same_some}
+use Rattle.code_rules.specs.FlatDesign.Code as code
+use Rattle.code_rules.specs.FlatDesign.Code.{Term}
+use Rattle.code_rules.specs.FlatDesign.Denotes.{Context, declared, variable_type, type_of_variable}
+use Rattle.code_rules.specs.FlatDesign.Typed.{Offers, IsProcess, IsPayload, UseOffers, MemberType, NameType, HasType, GivesInteger}
+use Rattle.code_rules.specs.FlatDesign.ValueTypes.{in_expressions}
+use Rattle.code_rules.specs.FlatDesign.declared.value_types.ValueType.{ValueType}
+use Rattle.code_rules.specs.FlatDesign.declared.value_types.ValueType.TheVariants as type
+use Rattle.code_rules.specs.FlatDesign.declared.names.NameUse.{NameUse}
+use Rattle.code_rules.specs.FlatDesign.declared.names.NameUse.TheVariants as name_use
+use Rattle.code_rules.specs.FlatDesign.declared.objects.LeadsTo.TheVariants as leads
+use Rattle.code_rules.specs.ModelRules.Members.{variable_row, row_of, value_members, entry, member_type}
+use Rattle.code_rules.specs.ModelRules.Operators.{seen_as, evaluated_as}
+use Rattle.code_rules.specs.ModelRules.Types.{value_of, is_port}
+use Rattle.code_rules.specs.ModelRules.declared.meanings.ExpressionType.{ExpressionType}
+use Rattle.code_rules.specs.ModelRules.declared.meanings.ExpressionType.TheVariants as t
+use Rattle.code_rules.specs.ModelRules.declared.meanings.Meaning.{Meaning}
+use Rattle.code_rules.specs.ModelRules.declared.meanings.Meaning.TheVariants as meaning
+use Rattle.code_rules.specs.ModelRules.declared.meanings.Row.{Row}
+use Rattle.code_rules.specs.ModelRules.declared.meanings.Row.TheVariants as row
+use Rattle.code_rules.specs.ModelRules.declared.meanings.ValueMember.{ValueMember}
+use Rattle.code_rules.specs.ModelRules.declared.meanings.ValueMember.TheVariants as reached
+use Rattle.laws_code.proofs.Coded.{same_some}
 use Rattle.laws_code.specs.Standing.{Standing}
 use Rattle.laws_code.proofs.Operands.{seen_type}
 use Rattle.laws_code.proofs.Places.{UseStands, signal_offers, fifo_offers, port_offers, port_is, resolved_offers, in_offers, out_offers}

@@ -3,35 +3,35 @@ use Rattle.std.proofs.Common.{◌≡◌, ◌≤◌, ◌<◌, inl, ℕ, suc, Bool
 use Rattle.std.proofs.lemmas.Bool.Decides.{nat_tests}
 use Rattle.std.proofs.lemmas.List.{length-take}
 use Rattle.std.specs.Prelude.{⊤, nat_le, option_map, option_and_then, if◌then◌else◌}
-use Rattle.laws_rules.specs.LogicValues.declared.kinds.Digit.{Digit}
-use Rattle.laws_rules.specs.LogicValues.declared.kinds.Value.TheVariants as value
-use Rattle.laws_rules.specs.LogicValues.Planes.{clipped}
-use Rattle.laws_rules.specs.ModelTree.Tree as tree
-use Rattle.laws_rules.specs.ModelTree.Limits.{is_number, is_formed, primary_level, chain_level, operand_level, level}
-use Rattle.laws_rules.specs.ModelTree.Leaves.{is_name}
-use Rattle.laws_rules.specs.ModelTree.declared.expressions.BinaryOp.{BinaryOp}
-use Rattle.laws_rules.specs.FlatDesign.Code as code
-use Rattle.laws_rules.specs.FlatDesign.Code.{Term}
-use Rattle.laws_rules.specs.FlatDesign.Denotes.{Context}
-use Rattle.laws_rules.specs.FlatDesign.Typed.{IsInteger, IsPayload, HasType, GivesInteger}
-use Rattle.laws_rules.specs.FlatDesign.declared.value_types.ValueType.TheVariants as type
-use Rattle.laws_rules.specs.FlatDesign.declared.names.NameUse.{NameUse}
-use Rattle.laws_rules.specs.FlatDesign.declared.names.NameUse.TheVariants as name_use
-use Rattle.laws_rules.specs.ModelRules.Meanings.{is_width}
-use Rattle.laws_rules.specs.ModelRules.Members.{row_of, value_member, value_members}
-use Rattle.laws_rules.specs.ModelRules.Scopes.{Scope, meaning_of, use_of}
-use Rattle.laws_rules.specs.ModelRules.Operators.{option_if, both, evaluated_as, operands, given, unary_type, conversion_type, becomes_vector, concat_type, digit_type, slice_type}
-use Rattle.laws_rules.specs.ModelRules.Types.{value_of, type_seen, value_if as seen_if, object_if as seen_object, is_port, at_number, is_integer_type, at_computed, is_time_literal, logic_type, seen_member, member_seen, element_type, seen_of, type_of}
-use Rattle.laws_rules.specs.ModelRules.declared.meanings.ExpressionType.{ExpressionType}
-use Rattle.laws_rules.specs.ModelRules.declared.meanings.ExpressionType.TheVariants as t
-use Rattle.laws_rules.specs.ModelRules.declared.meanings.Meaning.{Meaning}
-use Rattle.laws_rules.specs.ModelRules.declared.meanings.Meaning.TheVariants as meaning
-use Rattle.laws_rules.specs.ModelRules.declared.meanings.ValueMember.{ValueMember}
-use Rattle.laws_rules.specs.ModelRules.declared.meanings.ValueMember.TheVariants as reached
-use Rattle.laws_rules.specs.ModelRules.declared.meanings.Seen.{Seen}
-use Rattle.laws_rules.specs.ModelRules.declared.meanings.Seen.TheVariants as seen
-use Rattle.laws_rules.specs.CodeRules.Terms.{logic_value, constant_bits, Typed, typed, Made, object, bytes, value_made, value_if, object_if, placed_made, placed_term, name_term, term_made, member_if, member_made, memory_element, digit_term, object_element, element_at, converted_to, convert_term, joined, if_typed, binary_term, number, made_of, term_of}
-use Rattle.laws_rules.proofs.Coded.{same_some, if_some, number_placed}
+use Rattle.code_rules.specs.LogicValues.declared.kinds.Digit.{Digit}
+use Rattle.code_rules.specs.LogicValues.declared.kinds.Value.TheVariants as value
+use Rattle.code_rules.specs.LogicValues.Planes.{clipped}
+use Rattle.code_rules.specs.ModelTree.Tree as tree
+use Rattle.code_rules.specs.ModelTree.Limits.{is_number, is_formed, primary_level, chain_level, operand_level, level}
+use Rattle.code_rules.specs.ModelTree.Leaves.{is_name}
+use Rattle.code_rules.specs.ModelTree.declared.expressions.BinaryOp.{BinaryOp}
+use Rattle.code_rules.specs.FlatDesign.Code as code
+use Rattle.code_rules.specs.FlatDesign.Code.{Term}
+use Rattle.code_rules.specs.FlatDesign.Denotes.{Context}
+use Rattle.code_rules.specs.FlatDesign.Typed.{IsInteger, IsPayload, HasType, GivesInteger}
+use Rattle.code_rules.specs.FlatDesign.declared.value_types.ValueType.TheVariants as type
+use Rattle.code_rules.specs.FlatDesign.declared.names.NameUse.{NameUse}
+use Rattle.code_rules.specs.FlatDesign.declared.names.NameUse.TheVariants as name_use
+use Rattle.code_rules.specs.ModelRules.Meanings.{is_width}
+use Rattle.code_rules.specs.ModelRules.Members.{row_of, value_member, value_members}
+use Rattle.code_rules.specs.ModelRules.Scopes.{Scope, meaning_of, use_of}
+use Rattle.code_rules.specs.ModelRules.Operators.{option_if, both, evaluated_as, operands, given, unary_type, conversion_type, becomes_vector, concat_type, digit_type, slice_type}
+use Rattle.code_rules.specs.ModelRules.Types.{value_of, type_seen, value_if as seen_if, object_if as seen_object, is_port, at_number, is_integer_type, at_computed, is_time_literal, logic_type, seen_member, member_seen, element_type, seen_of, type_of}
+use Rattle.code_rules.specs.ModelRules.declared.meanings.ExpressionType.{ExpressionType}
+use Rattle.code_rules.specs.ModelRules.declared.meanings.ExpressionType.TheVariants as t
+use Rattle.code_rules.specs.ModelRules.declared.meanings.Meaning.{Meaning}
+use Rattle.code_rules.specs.ModelRules.declared.meanings.Meaning.TheVariants as meaning
+use Rattle.code_rules.specs.ModelRules.declared.meanings.ValueMember.{ValueMember}
+use Rattle.code_rules.specs.ModelRules.declared.meanings.ValueMember.TheVariants as reached
+use Rattle.code_rules.specs.ModelRules.declared.meanings.Seen.{Seen}
+use Rattle.code_rules.specs.ModelRules.declared.meanings.Seen.TheVariants as seen
+use Rattle.code_rules.specs.Terms.{logic_value, constant_bits, Typed, typed, Made, object, bytes, value_made, value_if, object_if, placed_made, placed_term, name_term, term_made, member_if, member_made, memory_element, digit_term, object_element, element_at, converted_to, convert_term, joined, if_typed, binary_term, number, made_of, term_of}
+use Rattle.laws_code.proofs.Coded.{same_some, if_some, number_placed}
 use Rattle.laws_code.specs.Standing.{NamesStand}
 use Rattle.laws_code.proofs.Has.{Has}
 use Rattle.laws_code.proofs.Operands.{both_true, integer_type, taken_has, operands_fit, unary_fit, conversion_fit, vector_fit, Joins, concat_fit, digit_fit, slice_fit}

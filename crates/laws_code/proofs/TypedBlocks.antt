@@ -2,38 +2,38 @@
 use Rattle.std.proofs.Common.{◌≡◌, ℕ, zero, suc, ◌+◌, ◌<◌, true, false, ◌&&◌, List, [], ◌∷◌, ◌++◌, map, length, Option, Some, None, refl, sym, ◌∙◌, ap, subst, arith, length-append}
 use Rattle.std.specs.Prelude.{slice_index_or, unwrap_or, Contains}
 use Rattle.std.specs.List.{AllByRecursion}
-use Rattle.laws_rules.specs.ModelTree.Tree as tree
-use Rattle.laws_rules.specs.ModelTree.Limits.{fits, fits_statement, fits_block, fits_else, fits_handlers, has_handler, within}
-use Rattle.laws_rules.specs.ModelTree.Leaves.{is_name}
-use Rattle.laws_rules.specs.ModelTree.declared.types.VarType.{VarType}
-use Rattle.laws_rules.specs.FlatDesign.Code as code
-use Rattle.laws_rules.specs.FlatDesign.Code.{Term, Arena, block_at, statement_at}
-use Rattle.laws_rules.specs.FlatDesign.Denotes.{Context}
-use Rattle.laws_rules.specs.FlatDesign.Typed.{EachOf, IsTyped, HasType}
-use Rattle.laws_rules.specs.FlatDesign.Reach.{inner_blocks, listed, Inside, itself, deeper, Holds}
-use Rattle.laws_rules.specs.FlatDesign.declared.value_types.ValueType.{ValueType}
-use Rattle.laws_rules.specs.FlatDesign.declared.value_types.ValueType.TheVariants as type
-use Rattle.laws_rules.specs.FlatDesign.declared.code.Handler.{Handler}
-use Rattle.laws_rules.specs.FlatDesign.declared.code.Local.{Local as CodeLocal}
-use Rattle.laws_rules.specs.ModelRules.Meanings.{variable_type}
-use Rattle.laws_rules.specs.ModelRules.Scopes.{Scope, with_local, locals_in, locals_in_block, locals_in_else, locals_in_handlers, past, behind, in_unwind}
-use Rattle.laws_rules.specs.ModelRules.Operators.{is_bool, evaluated_as}
-use Rattle.laws_rules.specs.ModelRules.Types.{type_of}
-use Rattle.laws_rules.specs.ModelRules.Sites as part
-use Rattle.laws_rules.specs.ModelRules.Sites.{site, variable_type_sites, expression_sites, option_sites, statement_sites, block_sites, else_sites, handler_sites}
-use Rattle.laws_rules.specs.ModelRules.Values.{fails}
-use Rattle.laws_rules.specs.ModelRules.Passes.{constructs, fault_of}
-use Rattle.laws_rules.specs.CodeRules.Terms.{term_of}
-use Rattle.laws_rules.specs.CodeRules.Deeds.{Home, if_written, store, action_code}
-use Rattle.laws_rules.specs.CodeRules.Numbered.{AtBlock, AreFirst, IsCoded, IsStatement, IsBlock, IsElse, AreHandlers, var_code, assign_code, operate_code}
-use Rattle.laws_rules.specs.CodeRules.Bodies.{LocalSource, variables_in, variables_in_block, variables_in_else, variables_in_handlers, exceptions_in, exceptions_in_block, exceptions_in_else, exceptions_in_handlers}
-use Rattle.laws_rules.specs.Known.{TypesAreKnown}
-use Rattle.laws_rules.proofs.Kept.{keeps}
-use Rattle.laws_rules.proofs.Coded.{same_some}
-use Rattle.laws_rules.proofs.Typed.{not_named, parts_none, head_none}
-use Rattle.laws_rules.specs.HasCode.{AreNumbered}
-use Rattle.laws_rules.proofs.Blocks.{all_parts, behind_known}
-use Rattle.laws_rules.proofs.Models.{all_joined}
+use Rattle.code_rules.specs.ModelTree.Tree as tree
+use Rattle.code_rules.specs.ModelTree.Limits.{fits, fits_statement, fits_block, fits_else, fits_handlers, has_handler, within}
+use Rattle.code_rules.specs.ModelTree.Leaves.{is_name}
+use Rattle.code_rules.specs.ModelTree.declared.types.VarType.{VarType}
+use Rattle.code_rules.specs.FlatDesign.Code as code
+use Rattle.code_rules.specs.FlatDesign.Code.{Term, Arena, block_at, statement_at}
+use Rattle.code_rules.specs.FlatDesign.Denotes.{Context}
+use Rattle.code_rules.specs.FlatDesign.Typed.{EachOf, IsTyped, HasType}
+use Rattle.code_rules.specs.FlatDesign.Reach.{inner_blocks, listed, Inside, itself, deeper, Holds}
+use Rattle.code_rules.specs.FlatDesign.declared.value_types.ValueType.{ValueType}
+use Rattle.code_rules.specs.FlatDesign.declared.value_types.ValueType.TheVariants as type
+use Rattle.code_rules.specs.FlatDesign.declared.code.Handler.{Handler}
+use Rattle.code_rules.specs.FlatDesign.declared.code.Local.{Local as CodeLocal}
+use Rattle.code_rules.specs.ModelRules.Meanings.{variable_type}
+use Rattle.code_rules.specs.ModelRules.Scopes.{Scope, with_local, locals_in, locals_in_block, locals_in_else, locals_in_handlers, past, behind, in_unwind}
+use Rattle.code_rules.specs.ModelRules.Operators.{is_bool, evaluated_as}
+use Rattle.code_rules.specs.ModelRules.Types.{type_of}
+use Rattle.code_rules.specs.ModelRules.Sites as part
+use Rattle.code_rules.specs.ModelRules.Sites.{site, variable_type_sites, expression_sites, option_sites, statement_sites, block_sites, else_sites, handler_sites}
+use Rattle.code_rules.specs.ModelRules.Values.{fails}
+use Rattle.code_rules.specs.ModelRules.Passes.{constructs, fault_of}
+use Rattle.code_rules.specs.Terms.{term_of}
+use Rattle.code_rules.specs.Deeds.{Home, if_written, store, action_code}
+use Rattle.code_rules.specs.Numbered.{AtBlock, AreFirst, IsCoded, IsStatement, IsBlock, IsElse, AreHandlers, var_code, assign_code, operate_code}
+use Rattle.code_rules.specs.Bodies.{LocalSource, variables_in, variables_in_block, variables_in_else, variables_in_handlers, exceptions_in, exceptions_in_block, exceptions_in_else, exceptions_in_handlers}
+use Rattle.laws_code.specs.Known.{TypesAreKnown}
+use Rattle.laws_code.proofs.Kept.{keeps}
+use Rattle.laws_code.proofs.Coded.{same_some}
+use Rattle.laws_code.proofs.Typed.{not_named, parts_none, head_none}
+use Rattle.laws_code.specs.HasCode.{AreNumbered}
+use Rattle.laws_code.proofs.Blocks.{all_parts, behind_known}
+use Rattle.laws_code.proofs.Models.{all_joined}
 use Rattle.laws_code.specs.Standing.{LocalStands}
 use Rattle.laws_code.specs.Functions.{VariablesStand}
 use Rattle.laws_code.specs.Ready.{Ready}

@@ -4,46 +4,46 @@ use Rattle.std.specs.Prelude.{find, bytes_eq, nat_lt, slice_get, unwrap_or, ifâ—
 use Rattle.std.specs.List.{AllByRecursion, IsDistinct, cons_option, flat_map, position_or_len}
 use Rattle.std.proofs.lemmas.Slice.Eq.{bytes_eq-Decides}
 use Rattle.std.proofs.lemmas.List.Folds.{find_at}
-use Rattle.laws_rules.specs.LogicValues.declared.kinds.Value.TheVariants as value
-use Rattle.laws_rules.specs.ModelTree.Tree as tree
-use Rattle.laws_rules.specs.ModelTree.Lines.{item_line}
-use Rattle.laws_rules.specs.ModelTree.Limits.{fits_block, fits_events, fits_parameters, fits_answer, fits_item, fits_items, fits_modules, within, is_sound, bracket_limit}
-use Rattle.laws_rules.specs.ModelTree.Leaves.{is_name}
-use Rattle.laws_rules.specs.ModelTree.declared.types.Parameter.{Parameter}
-use Rattle.laws_rules.specs.ModelTree.declared.items.ClockItem.{ClockItem}
-use Rattle.laws_rules.specs.FlatDesign.Code as code
-use Rattle.laws_rules.specs.FlatDesign.Code.{Arena, arena_of, block_at, statement_at, body_at}
-use Rattle.laws_rules.specs.FlatDesign.Denotes.{Context, declared, denoted_at}
-use Rattle.laws_rules.specs.FlatDesign.Typed.{EachOf, IsTyped, Offers}
-use Rattle.laws_rules.specs.FlatDesign.Reach.{inner_blocks, Holds, InBody}
-use Rattle.laws_rules.specs.FlatDesign.Sound.{IsHomeOf}
-use Rattle.laws_rules.specs.FlatDesign.declared.value_types.ValueType.{ValueType}
-use Rattle.laws_rules.specs.FlatDesign.declared.value_types.ValueType.TheVariants as type
-use Rattle.laws_rules.specs.FlatDesign.declared.objects.LeadsTo.TheVariants as leads
-use Rattle.laws_rules.specs.FlatDesign.declared.code.CodeBody.{CodeBody}
-use Rattle.laws_rules.specs.FlatDesign.declared.design.Design.{Design}
-use Rattle.laws_rules.specs.ModelRules.Meanings.{Declared, declaration, declarations}
-use Rattle.laws_rules.specs.ModelRules.Scopes.{Scope, is_declared, item_scope, with_local, with_parameters, place_of}
-use Rattle.laws_rules.specs.ModelRules.declared.meanings.Meaning.TheVariants as meaning
-use Rattle.laws_rules.specs.ModelRules.Sites as part
-use Rattle.laws_rules.specs.ModelRules.Sites.{site, block_sites, parameter_sites, answer_sites, events_sites, function_scope, item_parts, item_sites, around_item, items_sites, module_sites, modules_sites, top_site, sites}
-use Rattle.laws_rules.specs.ModelRules.Names.{first}
-use Rattle.laws_rules.specs.ModelRules.Passes.{doubles, constructs, reaches, fault_of, first_fault}
-use Rattle.laws_rules.specs.ModelRules.Distinct.{names_of, HasDistinctNames}
-use Rattle.laws_rules.proofs.ModelRules.Firsts.{or_none}
-use Rattle.laws_rules.proofs.ModelRules.Doubles.{distinct}
-use Rattle.laws_rules.specs.CodeRules.Deeds.{Home}
-use Rattle.laws_rules.specs.CodeRules.Numbered.{AtBlock, AreFirst}
-use Rattle.laws_rules.specs.CodeRules.Bodies as source
-use Rattle.laws_rules.specs.CodeRules.Bodies.{LocalSource, Source, source_of, parameter_sources, variables_in_block, exceptions_in_item, exceptions_of, start_of, span_of, wait_for, write_truth, one_period, waits_first, IsClockBlock, IsBody, IsBodyIf, AreBodies, body_count, AreModules, IsCodeOf}
-use Rattle.laws_rules.proofs.Coded.{same_some}
-use Rattle.laws_rules.proofs.Typed.{parts_none, head_none}
-use Rattle.laws_rules.specs.HasCode.{AreNumbered}
-use Rattle.laws_rules.proofs.Known.{local_known}
-use Rattle.laws_rules.proofs.Declared.{IsKnown, items_known, scope_known, AreTyped, parameters_typed}
-use Rattle.laws_rules.proofs.Exceptions.{all_numbered}
-use Rattle.laws_rules.proofs.Blocks.{all_parts}
-use Rattle.laws_rules.proofs.Models.{constructs_none}
+use Rattle.code_rules.specs.LogicValues.declared.kinds.Value.TheVariants as value
+use Rattle.code_rules.specs.ModelTree.Tree as tree
+use Rattle.code_rules.specs.ModelTree.Lines.{item_line}
+use Rattle.code_rules.specs.ModelTree.Limits.{fits_block, fits_events, fits_parameters, fits_answer, fits_item, fits_items, fits_modules, within, is_sound, bracket_limit}
+use Rattle.code_rules.specs.ModelTree.Leaves.{is_name}
+use Rattle.code_rules.specs.ModelTree.declared.types.Parameter.{Parameter}
+use Rattle.code_rules.specs.ModelTree.declared.items.ClockItem.{ClockItem}
+use Rattle.code_rules.specs.FlatDesign.Code as code
+use Rattle.code_rules.specs.FlatDesign.Code.{Arena, arena_of, block_at, statement_at, body_at}
+use Rattle.code_rules.specs.FlatDesign.Denotes.{Context, declared, denoted_at}
+use Rattle.code_rules.specs.FlatDesign.Typed.{EachOf, IsTyped, Offers}
+use Rattle.code_rules.specs.FlatDesign.Reach.{inner_blocks, Holds, InBody}
+use Rattle.code_rules.specs.FlatDesign.Sound.{IsHomeOf}
+use Rattle.code_rules.specs.FlatDesign.declared.value_types.ValueType.{ValueType}
+use Rattle.code_rules.specs.FlatDesign.declared.value_types.ValueType.TheVariants as type
+use Rattle.code_rules.specs.FlatDesign.declared.objects.LeadsTo.TheVariants as leads
+use Rattle.code_rules.specs.FlatDesign.declared.code.CodeBody.{CodeBody}
+use Rattle.code_rules.specs.FlatDesign.declared.design.Design.{Design}
+use Rattle.code_rules.specs.ModelRules.Meanings.{Declared, declaration, declarations}
+use Rattle.code_rules.specs.ModelRules.Scopes.{Scope, is_declared, item_scope, with_local, with_parameters, place_of}
+use Rattle.code_rules.specs.ModelRules.declared.meanings.Meaning.TheVariants as meaning
+use Rattle.code_rules.specs.ModelRules.Sites as part
+use Rattle.code_rules.specs.ModelRules.Sites.{site, block_sites, parameter_sites, answer_sites, events_sites, function_scope, item_parts, item_sites, around_item, items_sites, module_sites, modules_sites, top_site, sites}
+use Rattle.code_rules.specs.ModelRules.Names.{first}
+use Rattle.code_rules.specs.ModelRules.Passes.{doubles, constructs, reaches, fault_of, first_fault}
+use Rattle.code_rules.specs.ModelRules.Distinct.{names_of, HasDistinctNames}
+use Rattle.code_rules.proofs.ModelRules.Firsts.{or_none}
+use Rattle.code_rules.proofs.ModelRules.Doubles.{distinct}
+use Rattle.code_rules.specs.Deeds.{Home}
+use Rattle.code_rules.specs.Numbered.{AtBlock, AreFirst}
+use Rattle.code_rules.specs.Bodies as source
+use Rattle.code_rules.specs.Bodies.{LocalSource, Source, source_of, parameter_sources, variables_in_block, exceptions_in_item, exceptions_of, start_of, span_of, wait_for, write_truth, one_period, waits_first, IsClockBlock, IsBody, IsBodyIf, AreBodies, body_count, AreModules, IsCodeOf}
+use Rattle.laws_code.proofs.Coded.{same_some}
+use Rattle.laws_code.proofs.Typed.{parts_none, head_none}
+use Rattle.laws_code.specs.HasCode.{AreNumbered}
+use Rattle.laws_code.proofs.Known.{local_known}
+use Rattle.laws_code.proofs.Declared.{IsKnown, items_known, scope_known, AreTyped, parameters_typed}
+use Rattle.laws_code.proofs.Exceptions.{all_numbered}
+use Rattle.laws_code.proofs.Blocks.{all_parts}
+use Rattle.laws_code.proofs.Models.{constructs_none}
 use Rattle.laws_code.specs.Standing.{Standing, DesignStands}
 use Rattle.laws_code.specs.Ready.{Ready}
 use Rattle.laws_code.specs.Functions.{FunctionsStand, VariablesStand}

@@ -1,14 +1,14 @@
 -- What a design has beside code that reads back as its model's: nothing stands outside its bodies, and the handlers of its hops
 -- are functions that sockets name.
 use Rattle.std.specs.Prelude.{◌≡◌, ℕ, Bool, true, List, slice_get, Some}
-use Rattle.laws_rules.specs.ModelTree.Tree as tree
-use Rattle.laws_rules.specs.FlatDesign.Code.{Statement, arena_of, body_at}
-use Rattle.laws_rules.specs.FlatDesign.Reach.{IsIn, InBody}
-use Rattle.laws_rules.specs.FlatDesign.Sound.{IsNonblockingHandler, IsAnyHandler}
-use Rattle.laws_rules.specs.FlatDesign.declared.code.BodyKind.TheVariants as body_kind
-use Rattle.laws_rules.specs.FlatDesign.declared.code.CodeBody.{CodeBody}
-use Rattle.laws_rules.specs.FlatDesign.declared.design.Design.{Design}
-use Rattle.laws_rules.specs.ModelRules.Reach.{is_nonblocking_handler, is_handler}
+use Rattle.code_rules.specs.ModelTree.Tree as tree
+use Rattle.code_rules.specs.FlatDesign.Code.{Statement, arena_of, body_at}
+use Rattle.code_rules.specs.FlatDesign.Reach.{IsIn, InBody}
+use Rattle.code_rules.specs.FlatDesign.Sound.{IsNonblockingHandler, IsAnyHandler}
+use Rattle.code_rules.specs.FlatDesign.declared.code.BodyKind.TheVariants as body_kind
+use Rattle.code_rules.specs.FlatDesign.declared.code.CodeBody.{CodeBody}
+use Rattle.code_rules.specs.FlatDesign.declared.design.Design.{Design}
+use Rattle.code_rules.specs.ModelRules.Reach.{is_nonblocking_handler, is_handler}
 
 -- a statement stands in some body of the code
 pub record IsInSomeBody (d : Design) (s : Statement) : Type 0 where

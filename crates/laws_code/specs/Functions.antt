@@ -1,15 +1,15 @@
 -- What the functions of a module are in the code.
 use Rattle.std.specs.Prelude.{◌≡◌, ⊤, ℕ, ◌+◌, List, [], ◌∷◌, slice_get, Some}
-use Rattle.laws_rules.specs.ModelTree.Tree as tree
-use Rattle.laws_rules.specs.ModelTree.declared.types.Parameter.{Parameter}
-use Rattle.laws_rules.specs.FlatDesign.Code.{Arena}
-use Rattle.laws_rules.specs.FlatDesign.Typed.{IsFunctionHere, parameters_of}
-use Rattle.laws_rules.specs.FlatDesign.declared.code.CodeBody.{CodeBody}
-use Rattle.laws_rules.specs.FlatDesign.declared.code.Local.{Local}
-use Rattle.laws_rules.specs.ModelRules.Meanings.{variable_type}
-use Rattle.laws_rules.specs.ModelRules.Scopes.{Scope, function_named}
-use Rattle.laws_rules.specs.CodeRules.Deeds.{Home, function_number}
-use Rattle.laws_rules.specs.CodeRules.Bodies.{LocalSource, IsAnswer}
+use Rattle.code_rules.specs.ModelTree.Tree as tree
+use Rattle.code_rules.specs.ModelTree.declared.types.Parameter.{Parameter}
+use Rattle.code_rules.specs.FlatDesign.Code.{Arena}
+use Rattle.code_rules.specs.FlatDesign.Typed.{IsFunctionHere, parameters_of}
+use Rattle.code_rules.specs.FlatDesign.declared.code.CodeBody.{CodeBody}
+use Rattle.code_rules.specs.FlatDesign.declared.code.Local.{Local}
+use Rattle.code_rules.specs.ModelRules.Meanings.{variable_type}
+use Rattle.code_rules.specs.ModelRules.Scopes.{Scope, function_named}
+use Rattle.code_rules.specs.Deeds.{Home, function_number}
+use Rattle.code_rules.specs.Bodies.{LocalSource, IsAnswer}
 
 -- parameters are those of a body
 abbrev pub AreParameters : List Parameter → List Local → Type 0

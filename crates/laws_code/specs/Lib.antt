@@ -1,8 +1,12 @@
+pub mod Met
+pub mod Known
+pub mod Decided
+pub mod HasCode
 pub mod Standing
 pub mod Functions
 pub mod Ready
 pub mod TypedCode
 pub mod Bodies
 pub mod Reached
-pub mod LawsRules
 pub mod OwnBlocks
+pub mod CodeRules

@@ -1,9 +1,9 @@
 -- Bodies that have their blocks for themselves.
 use Rattle.std.specs.Prelude.{◌≡◌, ℕ, Some}
-use Rattle.laws_rules.specs.FlatDesign.Code.{arena_of, body_at}
-use Rattle.laws_rules.specs.FlatDesign.Reach.{Inside}
-use Rattle.laws_rules.specs.FlatDesign.declared.code.Code.{Code}
-use Rattle.laws_rules.specs.FlatDesign.declared.code.CodeBody.{CodeBody}
+use Rattle.code_rules.specs.FlatDesign.Code.{arena_of, body_at}
+use Rattle.code_rules.specs.FlatDesign.Reach.{Inside}
+use Rattle.code_rules.specs.FlatDesign.declared.code.Code.{Code}
+use Rattle.code_rules.specs.FlatDesign.declared.code.CodeBody.{CodeBody}
 
 -- no block of the code stands inside two bodies
 abbrev pub HaveOwnBlocks : Code → Type 0

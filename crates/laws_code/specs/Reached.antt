@@ -1,12 +1,12 @@
 -- What is reached in code, as a sound design has it.
 use Rattle.std.specs.Prelude.{◌≡◌, ◌⊎◌, ℕ, Some}
-use Rattle.laws_rules.specs.FlatDesign.Code as code
-use Rattle.laws_rules.specs.FlatDesign.Code.{Statement, arena_of, body_at}
-use Rattle.laws_rules.specs.FlatDesign.Reach.{InBody, Reached}
-use Rattle.laws_rules.specs.FlatDesign.Blocking.{DoesNotBlock, IsPlain, SetsNoTrigger}
-use Rattle.laws_rules.specs.FlatDesign.Sound.{IsHomeOf, IsMethodBody, IsThreadBody, IsNonblockingHandler, IsAnyHandler, EachReached}
-use Rattle.laws_rules.specs.FlatDesign.declared.code.CodeBody.{CodeBody}
-use Rattle.laws_rules.specs.FlatDesign.declared.design.Design.{Design}
+use Rattle.code_rules.specs.FlatDesign.Code as code
+use Rattle.code_rules.specs.FlatDesign.Code.{Statement, arena_of, body_at}
+use Rattle.code_rules.specs.FlatDesign.Reach.{InBody, Reached}
+use Rattle.code_rules.specs.FlatDesign.Blocking.{DoesNotBlock, IsPlain, SetsNoTrigger}
+use Rattle.code_rules.specs.FlatDesign.Sound.{IsHomeOf, IsMethodBody, IsThreadBody, IsNonblockingHandler, IsAnyHandler, EachReached}
+use Rattle.code_rules.specs.FlatDesign.declared.code.CodeBody.{CodeBody}
+use Rattle.code_rules.specs.FlatDesign.declared.design.Design.{Design}
 
 -- from a body that runs as a method
 abbrev pub MethodsDoNotBlock : Design → Type 0

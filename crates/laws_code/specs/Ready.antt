@@ -1,13 +1,13 @@
 -- Where a statement stands, and that its code is typed there.
 use Rattle.std.specs.Prelude.{◌≡◌, ℕ, List, Option, Some}
-use Rattle.laws_rules.specs.FlatDesign.Code.{Statement, Arena}
-use Rattle.laws_rules.specs.FlatDesign.Denotes.{Context}
-use Rattle.laws_rules.specs.FlatDesign.Typed.{EachOf, IsTyped}
-use Rattle.laws_rules.specs.FlatDesign.declared.value_types.ValueType.{ValueType}
-use Rattle.laws_rules.specs.ModelRules.Scopes.{Scope}
-use Rattle.laws_rules.specs.CodeRules.Deeds.{Home}
-use Rattle.laws_rules.specs.CodeRules.Bodies.{IsAnswer}
-use Rattle.laws_rules.specs.Known.{TypesAreKnown}
+use Rattle.code_rules.specs.FlatDesign.Code.{Statement, Arena}
+use Rattle.code_rules.specs.FlatDesign.Denotes.{Context}
+use Rattle.code_rules.specs.FlatDesign.Typed.{EachOf, IsTyped}
+use Rattle.code_rules.specs.FlatDesign.declared.value_types.ValueType.{ValueType}
+use Rattle.code_rules.specs.ModelRules.Scopes.{Scope}
+use Rattle.code_rules.specs.Deeds.{Home}
+use Rattle.code_rules.specs.Bodies.{IsAnswer}
+use Rattle.laws_code.specs.Known.{TypesAreKnown}
 use Rattle.laws_code.specs.Standing.{NamesStand}
 use Rattle.laws_code.specs.Functions.{FunctionsStand}
 

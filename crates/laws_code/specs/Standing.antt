@@ -1,28 +1,28 @@
 -- What the names at a place of a module stand for in an instance of it, as a design has them.
 use Rattle.std.specs.Prelude.{◌≡◌, ◌<◌, ℕ, Bool, true, false, slice_get, Option, Some}
 use Rattle.std.specs.List.{AllByRecursion}
-use Rattle.laws_rules.specs.ModelTree.Tree as tree
-use Rattle.laws_rules.specs.FlatDesign.Denotes.{Context, declared, denoted_at}
-use Rattle.laws_rules.specs.FlatDesign.declared.value_types.ValueType.{ValueType}
-use Rattle.laws_rules.specs.FlatDesign.declared.value_types.ValueType.TheVariants as type
-use Rattle.laws_rules.specs.FlatDesign.declared.objects.LeadsTo.{LeadsTo}
-use Rattle.laws_rules.specs.FlatDesign.declared.objects.LeadsTo.TheVariants as leads
-use Rattle.laws_rules.specs.FlatDesign.declared.code.Local.{Local as CodeLocal}
-use Rattle.laws_rules.specs.FlatDesign.declared.design.ChannelId.TheVariants as channel
-use Rattle.laws_rules.specs.FlatDesign.declared.design.Denoted.{Denoted}
-use Rattle.laws_rules.specs.FlatDesign.declared.design.Denoted.TheVariants as denoted
-use Rattle.laws_rules.specs.FlatDesign.declared.design.SignalPart.{SignalPart}
-use Rattle.laws_rules.specs.FlatDesign.declared.design.FifoPart.{FifoPart}
-use Rattle.laws_rules.specs.FlatDesign.declared.design.MemoryPart.{MemoryPart}
-use Rattle.laws_rules.specs.FlatDesign.declared.design.VariablePart.{VariablePart}
-use Rattle.laws_rules.specs.FlatDesign.declared.design.PortPart.{PortPart}
-use Rattle.laws_rules.specs.FlatDesign.declared.design.Hop.{Hop}
-use Rattle.laws_rules.specs.FlatDesign.declared.design.InstancePart.{InstancePart}
-use Rattle.laws_rules.specs.FlatDesign.declared.design.Design.{Design}
-use Rattle.laws_rules.specs.ModelRules.Meanings.{Declared, declarations}
-use Rattle.laws_rules.specs.ModelRules.Scopes.{Scope, Local}
-use Rattle.laws_rules.specs.ModelRules.declared.meanings.Meaning.{Meaning}
-use Rattle.laws_rules.specs.ModelRules.declared.meanings.Meaning.TheVariants as meaning
+use Rattle.code_rules.specs.ModelTree.Tree as tree
+use Rattle.code_rules.specs.FlatDesign.Denotes.{Context, declared, denoted_at}
+use Rattle.code_rules.specs.FlatDesign.declared.value_types.ValueType.{ValueType}
+use Rattle.code_rules.specs.FlatDesign.declared.value_types.ValueType.TheVariants as type
+use Rattle.code_rules.specs.FlatDesign.declared.objects.LeadsTo.{LeadsTo}
+use Rattle.code_rules.specs.FlatDesign.declared.objects.LeadsTo.TheVariants as leads
+use Rattle.code_rules.specs.FlatDesign.declared.code.Local.{Local as CodeLocal}
+use Rattle.code_rules.specs.FlatDesign.declared.design.ChannelId.TheVariants as channel
+use Rattle.code_rules.specs.FlatDesign.declared.design.Denoted.{Denoted}
+use Rattle.code_rules.specs.FlatDesign.declared.design.Denoted.TheVariants as denoted
+use Rattle.code_rules.specs.FlatDesign.declared.design.SignalPart.{SignalPart}
+use Rattle.code_rules.specs.FlatDesign.declared.design.FifoPart.{FifoPart}
+use Rattle.code_rules.specs.FlatDesign.declared.design.MemoryPart.{MemoryPart}
+use Rattle.code_rules.specs.FlatDesign.declared.design.VariablePart.{VariablePart}
+use Rattle.code_rules.specs.FlatDesign.declared.design.PortPart.{PortPart}
+use Rattle.code_rules.specs.FlatDesign.declared.design.Hop.{Hop}
+use Rattle.code_rules.specs.FlatDesign.declared.design.InstancePart.{InstancePart}
+use Rattle.code_rules.specs.FlatDesign.declared.design.Design.{Design}
+use Rattle.code_rules.specs.ModelRules.Meanings.{Declared, declarations}
+use Rattle.code_rules.specs.ModelRules.Scopes.{Scope, Local}
+use Rattle.code_rules.specs.ModelRules.declared.meanings.Meaning.{Meaning}
+use Rattle.code_rules.specs.ModelRules.declared.meanings.Meaning.TheVariants as meaning
 
 -- a signal, a fifo or a port that is there, of this type
 abbrev pub IsSignal : Design → Denoted → Option ValueType → Type 0

@@ -1,8 +1,8 @@
 -- Code that is typed, as a sound design has it.
-use Rattle.laws_rules.specs.FlatDesign.Code.{arena_of}
-use Rattle.laws_rules.specs.FlatDesign.Typed.{IsTyped}
-use Rattle.laws_rules.specs.FlatDesign.Sound.{EachStatement}
-use Rattle.laws_rules.specs.FlatDesign.declared.design.Design.{Design}
+use Rattle.code_rules.specs.FlatDesign.Code.{arena_of}
+use Rattle.code_rules.specs.FlatDesign.Typed.{IsTyped}
+use Rattle.code_rules.specs.FlatDesign.Sound.{EachStatement}
+use Rattle.code_rules.specs.FlatDesign.declared.design.Design.{Design}
 
 -- each statement of each body, in each instance of its module
 abbrev pub IsTypedCode : Design → Type 0

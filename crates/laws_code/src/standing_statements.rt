@@ -1,19 +1,19 @@
 //! Laws of the code of statements.
 ghost use Rattle.std.specs.Prelude.{◌≡◌, ℕ, false, true, List, [], ◌∷◌, Option, None};
-ghost use Rattle.laws_rules.specs.ModelTree.Tree.{Expression, Target, Operation, Action, var, assign, operate, act};
-ghost use Rattle.laws_rules.specs.ModelTree.Limits.{fits_statement};
-ghost use Rattle.laws_rules.specs.ModelTree.declared.types.VarType.{VarType};
-ghost use Rattle.laws_rules.specs.FlatDesign.Code.{Arena};
-ghost use Rattle.laws_rules.specs.FlatDesign.Denotes.{Context};
-ghost use Rattle.laws_rules.specs.FlatDesign.declared.value_types.ValueType.{ValueType};
-ghost use Rattle.laws_rules.specs.ModelRules.Meanings.{variable_type};
-ghost use Rattle.laws_rules.specs.ModelRules.Scopes.{Scope};
-ghost use Rattle.laws_rules.specs.ModelRules.Sites.{statement_sites};
-ghost use Rattle.laws_rules.specs.ModelRules.Passes.{constructs, fault_of};
-ghost use Rattle.laws_rules.specs.CodeRules.Deeds.{Home, if_written, store, action_code};
-ghost use Rattle.laws_rules.specs.CodeRules.Numbered.{var_code, assign_code, operate_code};
-ghost use Rattle.laws_rules.specs.CodeRules.Bodies.{thrown_in};
-ghost use Rattle.laws_rules.specs.HasCode.{AreNumbered};
+ghost use Rattle.code_rules.specs.ModelTree.Tree.{Expression, Target, Operation, Action, var, assign, operate, act};
+ghost use Rattle.code_rules.specs.ModelTree.Limits.{fits_statement};
+ghost use Rattle.code_rules.specs.ModelTree.declared.types.VarType.{VarType};
+ghost use Rattle.code_rules.specs.FlatDesign.Code.{Arena};
+ghost use Rattle.code_rules.specs.FlatDesign.Denotes.{Context};
+ghost use Rattle.code_rules.specs.FlatDesign.declared.value_types.ValueType.{ValueType};
+ghost use Rattle.code_rules.specs.ModelRules.Meanings.{variable_type};
+ghost use Rattle.code_rules.specs.ModelRules.Scopes.{Scope};
+ghost use Rattle.code_rules.specs.ModelRules.Sites.{statement_sites};
+ghost use Rattle.code_rules.specs.ModelRules.Passes.{constructs, fault_of};
+ghost use Rattle.code_rules.specs.Deeds.{Home, if_written, store, action_code};
+ghost use Rattle.code_rules.specs.Numbered.{var_code, assign_code, operate_code};
+ghost use Rattle.code_rules.specs.Bodies.{thrown_in};
+ghost use Rattle.laws_code.specs.HasCode.{AreNumbered};
 ghost use Rattle.laws_code.specs.Functions.{VariablesStand};
 ghost use Rattle.laws_code.specs.Ready.{Ready, HasTypedCode};
 

@@ -1,10 +1,10 @@
 //! Laws of the code of models without a first fault.
 ghost use Rattle.std.specs.Prelude.{◌≡◌, true, None};
-ghost use Rattle.laws_rules.specs.ModelTree.Tree.{Model};
-ghost use Rattle.laws_rules.specs.ModelTree.Limits.{is_sound};
-ghost use Rattle.laws_rules.specs.FlatDesign.declared.design.Design.{Design};
-ghost use Rattle.laws_rules.specs.ModelRules.Passes.{first_fault};
-ghost use Rattle.laws_rules.specs.CodeRules.Bodies.{IsCodeOf};
+ghost use Rattle.code_rules.specs.ModelTree.Tree.{Model};
+ghost use Rattle.code_rules.specs.ModelTree.Limits.{is_sound};
+ghost use Rattle.code_rules.specs.FlatDesign.declared.design.Design.{Design};
+ghost use Rattle.code_rules.specs.ModelRules.Passes.{first_fault};
+ghost use Rattle.code_rules.specs.Bodies.{IsCodeOf};
 ghost use Rattle.laws_code.specs.Standing.{DesignStands};
 ghost use Rattle.laws_code.specs.TypedCode.{IsTypedCode};
 

@@ -5,8 +5,8 @@ use Rattle.std.proofs.lemmas.Bool.{cases_lt}
 use Rattle.std.proofs.lemmas.Option.{slice_get_within}
 use Rattle.code_rooms.specs.FlatDesign.declared.objects.Object.{Object}
 use Rattle.code_rooms.specs.FlatDesign.declared.objects.ObjectForm.{ObjectForm}
-use Rattle.laws_objects.specs.DesignRules.declared.counts.Counts.{Counts}
-use Rattle.laws_objects.specs.DesignRules.Counting.{behind, along, counted, nothing_before}
+use Rattle.elaborate_objects.specs.DesignRules.declared.counts.Counts.{Counts}
+use Rattle.elaborate_objects.specs.DesignRules.Counting.{behind, along, counted, nothing_before}
 
 pub same_some : {A : Type 0} (x y : A) → Some x ≡ Some y → x ≡ y
 same_some x y h = ap (λ o. unwrap_or o x) h

@@ -9,10 +9,10 @@ use Rattle.code_rooms.specs.FlatDesign.declared.design.SignalPart.{SignalPart}
 use Rattle.code_rooms.specs.FlatDesign.declared.design.ResolvedPart.{ResolvedPart}
 use Rattle.code_rooms.specs.FlatDesign.declared.design.FifoPart.{FifoPart}
 use Rattle.code_rooms.specs.FlatDesign.declared.design.Design.{Design}
-use Rattle.laws_objects.specs.DesignRules.declared.counts.Counts.{Counts}
-use Rattle.laws_objects.specs.DesignRules.Counting.{behind, nothing_before}
-use Rattle.laws_objects.specs.DesignRules.Parts.{signal_by, resolved_by, fifo_by}
-use Rattle.laws_objects.specs.DesignRules.Designs.{IsDesignOf}
+use Rattle.elaborate_objects.specs.DesignRules.declared.counts.Counts.{Counts}
+use Rattle.elaborate_objects.specs.DesignRules.Counting.{behind, nothing_before}
+use Rattle.elaborate_objects.specs.DesignRules.Parts.{signal_by, resolved_by, fifo_by}
+use Rattle.elaborate_objects.specs.DesignRules.Designs.{IsDesignOf}
 use Rattle.laws_design.proofs.Along.{same_some, before, from_place}
 use Rattle.laws_design.proofs.Numbered.{signals_step, resolved_step, fifos_step, events_there}
 

@@ -17,17 +17,17 @@ use Rattle.code_rooms.specs.FlatDesign.declared.design.InstancePart.{InstancePar
 use Rattle.code_rooms.specs.FlatDesign.declared.design.ProcessPart.{ProcessPart}
 use Rattle.code_rooms.specs.FlatDesign.declared.design.Design.{Design}
 use Rattle.code_rooms.specs.ModelRules.Meanings.{Declared, declarations}
-use Rattle.laws_objects.specs.DesignRules.declared.bindings.Joined.{Joined}
-use Rattle.laws_objects.specs.DesignRules.Bound.{bound}
-use Rattle.laws_objects.specs.DesignRules.Forms.{items_at}
-use Rattle.laws_objects.specs.DesignRules.declared.counts.Counts.{Counts}
-use Rattle.laws_objects.specs.DesignRules.Counting.{nothing_before, along, totals}
-use Rattle.laws_objects.specs.DesignRules.Denoting.{begins_at, ends_at, socket_end, denoted_by, object_denoted, named_in, names_in}
-use Rattle.laws_objects.specs.DesignRules.Parts.{denotes, hop_of, signal_by, resolved_by, fifo_by, semaphore_by, memory_by, variable_by, port_by, instance_by}
-use Rattle.laws_objects.specs.DesignRules.Parts.{home_of}
-use Rattle.laws_objects.specs.DesignRules.Statics.{static_lists, process_by}
-use Rattle.laws_objects.specs.DesignRules.Paths.{ends_of}
-use Rattle.laws_objects.specs.DesignRules.Designs.{IsDesignOf}
+use Rattle.elaborate_objects.specs.DesignRules.declared.bindings.Joined.{Joined}
+use Rattle.elaborate_objects.specs.DesignRules.Bound.{bound}
+use Rattle.elaborate_objects.specs.DesignRules.Forms.{items_at}
+use Rattle.elaborate_objects.specs.DesignRules.declared.counts.Counts.{Counts}
+use Rattle.elaborate_objects.specs.DesignRules.Counting.{nothing_before, along, totals}
+use Rattle.elaborate_objects.specs.DesignRules.Denoting.{begins_at, ends_at, socket_end, denoted_by, object_denoted, named_in, names_in}
+use Rattle.elaborate_objects.specs.DesignRules.Parts.{denotes, hop_of, signal_by, resolved_by, fifo_by, semaphore_by, memory_by, variable_by, port_by, instance_by}
+use Rattle.elaborate_objects.specs.DesignRules.Parts.{home_of}
+use Rattle.elaborate_objects.specs.DesignRules.Statics.{static_lists, process_by}
+use Rattle.elaborate_objects.specs.DesignRules.Paths.{ends_of}
+use Rattle.elaborate_objects.specs.DesignRules.Designs.{IsDesignOf}
 use Rattle.laws_design.proofs.Along.{same_some, before, at_place, from_place}
 use Rattle.laws_design.proofs.Numbered.{objects_step, instances_step, signals_step, resolved_step, fifos_step, semaphores_step, memories_step, variables_step, ports_step, processes_step, events_there, mutexes_there, keepers_there}
 
@@ -56,8 +56,8 @@ module _ (m : tree.Model) (d : Design) (design : IsDesignOf m d) where
     abbrev pub n : Counts
     n = before all k
 
-    events_fit : (f : ObjectForm) → o.form ≡ f → (Rattle.laws_objects.specs.DesignRules.Counting.behind n f).events ≤ d.events
-    events_fit f e = subst (λ j. (Rattle.laws_objects.specs.DesignRules.Counting.behind n f).events ≤ j) (sym design.events) (events_there all k o found f e)
+    events_fit : (f : ObjectForm) → o.form ≡ f → (Rattle.elaborate_objects.specs.DesignRules.Counting.behind n f).events ≤ d.events
+    events_fit f e = subst (λ j. (Rattle.elaborate_objects.specs.DesignRules.Counting.behind n f).events ≤ j) (sym design.events) (events_there all k o found f e)
 
     pub signal_there : (f : ObjectForm) (p : _) → o.form ≡ f → slice_get (signal_by n f) 0 ≡ Some p → slice_get d.signals n.signals ≡ Some p
     signal_there f p e h =

@@ -33,31 +33,31 @@ use Rattle.code_rooms.specs.ModelRules.Names.{item_uses}
 use Rattle.code_rooms.specs.ModelRules.Calls.{same_bool, parameters_differ, answer_differs, is_bad_handler, blocking_handler, nonblocking_handler, handler_in_item}
 use Rattle.code_rooms.specs.ModelRules.Passes.{first_fault}
 use Rattle.code_rooms.proofs.ModelRules.Firsts.{or_none}
-use Rattle.laws_code.specs.LawsRules.Met.{IsMet}
-use Rattle.laws_code.proofs.LawsRules.Kept.{keeps}
-use Rattle.laws_code.proofs.LawsRules.Typed.{neither, same_false, not_named}
+use Rattle.laws_code.specs.Met.{IsMet}
+use Rattle.laws_code.proofs.Kept.{keeps}
+use Rattle.laws_code.proofs.Typed.{neither, same_false, not_named}
 use Rattle.code_rooms.specs.CodeRules.Deeds.{has_body, body_number}
 use Rattle.code_rooms.specs.CodeRules.Bodies as source
 use Rattle.code_rooms.specs.CodeRules.Bodies.{IsAnswer, IsBody, variables_in_block}
-use Rattle.laws_objects.specs.DesignRules.Forms.{Name, Around, around, items_at, items_in, bodies_in, handler, object_form}
-use Rattle.laws_objects.specs.DesignRules.Listing.{list_of, top_object}
-use Rattle.laws_objects.specs.DesignRules.ObjectFaults.{cycle_fault, limit_fault}
-use Rattle.laws_objects.specs.DesignRules.declared.bindings.Joined.{Joined}
-use Rattle.laws_objects.specs.DesignRules.Objects.{parent_of, parent_at}
-use Rattle.laws_objects.specs.DesignRules.Paths.{Reaches, Directly, Through}
-use Rattle.laws_objects.specs.DesignRules.Formed.{HasForm, AreFormed}
-use Rattle.laws_objects.specs.DesignRules.Bound.{bound}
-use Rattle.laws_objects.proofs.DesignRules.Listed.{targets_reached}
-use Rattle.laws_objects.specs.DesignRules.Parts.{Handlers, no_handlers, handlers_of, handlers_at, home_of, hop_of}
-use Rattle.laws_objects.specs.DesignRules.Designs.{IsDesignOf}
+use Rattle.elaborate_objects.specs.DesignRules.Forms.{Name, Around, around, items_at, items_in, bodies_in, handler, object_form}
+use Rattle.elaborate_objects.specs.DesignRules.Listing.{list_of, top_object}
+use Rattle.elaborate_objects.specs.DesignRules.ObjectFaults.{cycle_fault, limit_fault}
+use Rattle.elaborate_objects.specs.DesignRules.declared.bindings.Joined.{Joined}
+use Rattle.elaborate_objects.specs.DesignRules.Objects.{parent_of, parent_at}
+use Rattle.elaborate_objects.specs.DesignRules.Paths.{Reaches, Directly, Through}
+use Rattle.elaborate_objects.specs.DesignRules.Formed.{HasForm, AreFormed}
+use Rattle.elaborate_objects.specs.DesignRules.Bound.{bound}
+use Rattle.elaborate_objects.proofs.DesignRules.Listed.{targets_reached}
+use Rattle.elaborate_objects.specs.DesignRules.Parts.{Handlers, no_handlers, handlers_of, handlers_at, home_of, hop_of}
+use Rattle.elaborate_objects.specs.DesignRules.Designs.{IsDesignOf}
 use Rattle.laws_code.proofs.Places.{mapped_is}
 use Rattle.laws_code.specs.Functions.{AreParameters}
 use Rattle.laws_code.proofs.Channels.{same_types}
 use Rattle.laws_code.proofs.Bodies.{function_body, parameters_stand, pos_is}
-use Rattle.laws_objects.proofs.Children.{same_some}
-use Rattle.laws_objects.proofs.Models.{comes_from}
-use Rattle.laws_objects.proofs.Ends.{kept_at}
-use Rattle.laws_design.proofs.Ends.{Joins, all_join}
+use Rattle.laws_design.proofs.Children.{same_some}
+use Rattle.laws_design.proofs.Models.{comes_from}
+use Rattle.laws_design.proofs.BoundEnds.{kept_at}
+use Rattle.laws_design.proofs.SocketEnds.{Joins, all_join}
 use Rattle.laws_design.proofs.Handlers.{passes, row_item, form_of, module_there, home_at, placed, bodies_there, differ as names_differ, function_of}
 use Rattle.laws_design.proofs.SocketHops.{formed}
 use Rattle.laws_design.proofs.Homes.{IsHome, instance_there, home_of_body}

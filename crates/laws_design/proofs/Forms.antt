@@ -28,17 +28,17 @@ use Rattle.code_rooms.specs.ModelRules.Values.{initial_type, type_differs, item_
 use Rattle.code_rooms.specs.ModelRules.Items.{is_fifo_size, is_port_size, fifo_size, port_range}
 use Rattle.code_rooms.specs.ModelRules.Passes.{constructs, fault_by, fault_at, first_fault}
 use Rattle.code_rooms.proofs.ModelRules.Firsts.{all_none}
-use Rattle.laws_code.proofs.LawsRules.Kept.{keeps}
-use Rattle.laws_code.proofs.LawsRules.Typed.{not_named, same_false, parts_none}
-use Rattle.laws_objects.specs.DesignRules.Values.{known_type, constant_value, first_value}
-use Rattle.laws_objects.specs.DesignRules.Forms.{Around, around, items_at, items_in, object_form}
+use Rattle.laws_code.proofs.Kept.{keeps}
+use Rattle.laws_code.proofs.Typed.{not_named, same_false, parts_none}
+use Rattle.elaborate_objects.specs.DesignRules.Values.{known_type, constant_value, first_value}
+use Rattle.elaborate_objects.specs.DesignRules.Forms.{Around, around, items_at, items_in, object_form}
 use Rattle.laws_design.proofs.Widths.{HasWidth, form_has, variable_has, default_type}
-use Rattle.laws_objects.proofs.Kept.{IsKept, ItemsKept, kept, all_at}
-use Rattle.laws_objects.proofs.Children.{all_append}
-use Rattle.laws_objects.proofs.Models.{module_rows, comes_from}
-use Rattle.laws_objects.specs.ElaborateObjects.Rows.{Row, row_if, rows_in}
-use Rattle.laws_objects.specs.DesignRules.Listing.{list_of, top_object}
-use Rattle.laws_code.proofs.LawsRules.Known.{type_known, variable_known}
+use Rattle.laws_design.proofs.Kept.{IsKept, ItemsKept, kept, all_at}
+use Rattle.laws_design.proofs.Children.{all_append}
+use Rattle.laws_design.proofs.Models.{module_rows, comes_from}
+use Rattle.elaborate_objects.specs.Rows.{Row, row_if, rows_in}
+use Rattle.elaborate_objects.specs.DesignRules.Listing.{list_of, top_object}
+use Rattle.laws_code.proofs.Known.{type_known, variable_known}
 use Rattle.code_rooms.specs.ModelRules.declared.meanings.ExpressionType.TheVariants as t
 
 same_some : {A : Type 0} (x y : A) → Some x ≡ Some y → x ≡ y

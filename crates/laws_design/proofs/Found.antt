@@ -12,12 +12,12 @@ use Rattle.code_rooms.specs.ModelRules.Scopes.{Scope, item_scope}
 use Rattle.code_rooms.specs.ModelRules.Passes.{first_fault}
 use Rattle.code_rooms.specs.CodeRules.Deeds.{Home, has_body, body_number}
 use Rattle.code_rooms.specs.CodeRules.Bodies.{Source, source_of, source_name, IsBody, IsBodyIf, AreBodies, around_item, body_count}
-use Rattle.laws_objects.specs.DesignRules.Forms.{around, items_in, bodies_in, body}
-use Rattle.laws_objects.specs.DesignRules.Designs.{IsDesignOf}
-use Rattle.laws_objects.specs.DesignRules.Statics.{source_list, lists_among, static_lists, static_list}
-use Rattle.laws_objects.proofs.Children.{same_some, slice_left, slice_right}
+use Rattle.elaborate_objects.specs.DesignRules.Forms.{around, items_in, bodies_in, body}
+use Rattle.elaborate_objects.specs.DesignRules.Designs.{IsDesignOf}
+use Rattle.elaborate_objects.specs.DesignRules.Statics.{source_list, lists_among, static_lists, static_list}
+use Rattle.laws_design.proofs.Children.{same_some, slice_left, slice_right}
 use Rattle.laws_design.proofs.Handlers.{home_at, placed, bodies_there, differ}
-use Rattle.laws_design.proofs.Named.{place_in, at_source, place_is}
+use Rattle.laws_design.proofs.NamedBodies.{place_in, at_source, place_is}
 
 module _ (modules : List tree.Module) (all : List tree.Item) (place : ℕ) (h : Home) (a : Arena) where
   -- the body of a source, at a place of bodies

@@ -27,26 +27,26 @@ use Rattle.code_rooms.specs.ModelRules.Names.{item_uses}
 use Rattle.code_rooms.specs.ModelRules.Passes.{first_fault}
 use Rattle.code_rooms.specs.ModelRules.Distinct.{names_of}
 use Rattle.code_rooms.specs.ModelRules.Reach.{handles_nonblocking, handles_blocking, is_nonblocking_handler, is_handler}
-use Rattle.laws_code.specs.LawsRules.Met.{IsMet}
-use Rattle.laws_code.proofs.LawsRules.Kept.{keeps}
-use Rattle.laws_code.proofs.LawsRules.NamesMet.{site_met}
+use Rattle.laws_code.specs.Met.{IsMet}
+use Rattle.laws_code.proofs.Kept.{keeps}
+use Rattle.laws_code.proofs.NamesMet.{site_met}
 use Rattle.code_rooms.specs.CodeRules.Deeds.{Home, has_body, body_number}
 use Rattle.code_rooms.specs.CodeRules.Bodies as source
 use Rattle.code_rooms.specs.CodeRules.Bodies.{IsBody, AreBodies, body_count, exceptions_of, AreModules}
-use Rattle.laws_code.proofs.LawsRules.Named.{is_function_named}
-use Rattle.laws_objects.specs.DesignRules.Forms.{Name, Around, around, items_at, items_in, bodies_in, handler, object_form}
-use Rattle.laws_objects.specs.DesignRules.Listing.{list_of, top_object}
-use Rattle.laws_objects.specs.ElaborateObjects.Rows.{Row, row_if, rows_in}
-use Rattle.laws_objects.specs.DesignRules.declared.bindings.Joined.{Joined}
-use Rattle.laws_objects.specs.DesignRules.Bound.{bound}
-use Rattle.laws_objects.proofs.DesignRules.Lists.{nothing_in, only_in, head_in, tail_in}
-use Rattle.laws_objects.specs.DesignRules.Parts.{Handlers, no_handlers, handlers_of, handlers_at, hop_of}
-use Rattle.laws_objects.specs.DesignRules.Designs.{IsDesignOf}
+use Rattle.laws_code.proofs.Named.{is_function_named}
+use Rattle.elaborate_objects.specs.DesignRules.Forms.{Name, Around, around, items_at, items_in, bodies_in, handler, object_form}
+use Rattle.elaborate_objects.specs.DesignRules.Listing.{list_of, top_object}
+use Rattle.elaborate_objects.specs.Rows.{Row, row_if, rows_in}
+use Rattle.elaborate_objects.specs.DesignRules.declared.bindings.Joined.{Joined}
+use Rattle.elaborate_objects.specs.DesignRules.Bound.{bound}
+use Rattle.elaborate_objects.proofs.DesignRules.Lists.{nothing_in, only_in, head_in, tail_in}
+use Rattle.elaborate_objects.specs.DesignRules.Parts.{Handlers, no_handlers, handlers_of, handlers_at, hop_of}
+use Rattle.elaborate_objects.specs.DesignRules.Designs.{IsDesignOf}
 use Rattle.laws_code.proofs.Places.{mapped_is}
 use Rattle.laws_code.proofs.Bodies.{function_body, used_bodies, slice_behind, pos_is}
-use Rattle.laws_objects.proofs.Children.{same_some}
-use Rattle.laws_objects.proofs.Models.{comes_from}
-use Rattle.laws_objects.proofs.Ends.{kept_at, distinct_at}
+use Rattle.laws_design.proofs.Children.{same_some}
+use Rattle.laws_design.proofs.Models.{comes_from}
+use Rattle.laws_design.proofs.BoundEnds.{kept_at, distinct_at}
 use Rattle.laws_code.specs.Bodies.{IsNamedBy, HandlersStand}
 
 -- an item that names a handler, which has this number

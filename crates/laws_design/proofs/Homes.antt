@@ -9,9 +9,9 @@ use Rattle.code_rooms.specs.FlatDesign.declared.objects.Object.{Object}
 use Rattle.code_rooms.specs.FlatDesign.declared.objects.ObjectForm.TheVariants as form
 use Rattle.code_rooms.specs.FlatDesign.declared.design.InstancePart.{InstancePart}
 use Rattle.code_rooms.specs.FlatDesign.declared.design.Design.{Design}
-use Rattle.laws_objects.specs.DesignRules.Counting.{nothing_before}
-use Rattle.laws_objects.specs.DesignRules.Parts.{denotes, instance_by, home_of}
-use Rattle.laws_objects.specs.DesignRules.Designs.{IsDesignOf}
+use Rattle.elaborate_objects.specs.DesignRules.Counting.{nothing_before}
+use Rattle.elaborate_objects.specs.DesignRules.Parts.{denotes, instance_by, home_of}
+use Rattle.elaborate_objects.specs.DesignRules.Designs.{IsDesignOf}
 use Rattle.laws_design.proofs.Along.{before, at_place}
 use Rattle.laws_design.proofs.Numbered.{objects_step, instances_step, number_of}
 

@@ -9,12 +9,12 @@ use Rattle.code_rooms.specs.FlatDesign.declared.design.Denoted.{Denoted}
 use Rattle.code_rooms.specs.FlatDesign.declared.design.InstancePart.{InstancePart}
 use Rattle.code_rooms.specs.FlatDesign.declared.design.PortPart.{PortPart}
 use Rattle.code_rooms.specs.FlatDesign.declared.code.StaticUse.{StaticUse}
-use Rattle.laws_objects.specs.DesignRules.declared.bindings.Joined.{Joined}
-use Rattle.laws_objects.specs.DesignRules.declared.counts.Counts.{Counts}
-use Rattle.laws_objects.specs.DesignRules.Counting.{behind, counted, nothing_before, totals}
-use Rattle.laws_objects.specs.DesignRules.Denoting.{denoted_by, all_denoted}
-use Rattle.laws_objects.specs.DesignRules.Parts.{instance_by, signal_by, resolved_by, fifo_by, semaphore_by, memory_by, variable_by, port_by}
-use Rattle.laws_objects.specs.DesignRules.Statics.{process_by}
+use Rattle.elaborate_objects.specs.DesignRules.declared.bindings.Joined.{Joined}
+use Rattle.elaborate_objects.specs.DesignRules.declared.counts.Counts.{Counts}
+use Rattle.elaborate_objects.specs.DesignRules.Counting.{behind, counted, nothing_before, totals}
+use Rattle.elaborate_objects.specs.DesignRules.Denoting.{denoted_by, all_denoted}
+use Rattle.elaborate_objects.specs.DesignRules.Parts.{instance_by, signal_by, resolved_by, fifo_by, semaphore_by, memory_by, variable_by, port_by}
+use Rattle.elaborate_objects.specs.DesignRules.Statics.{process_by}
 use Rattle.laws_design.proofs.Along.{before, at_place, within_total}
 
 -- how many there are of each kind, behind an object of a form

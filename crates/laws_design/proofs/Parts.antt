@@ -12,13 +12,13 @@ use Rattle.code_rooms.specs.FlatDesign.declared.design.FifoPart.{FifoPart}
 use Rattle.code_rooms.specs.FlatDesign.declared.design.VariablePart.{VariablePart}
 use Rattle.code_rooms.specs.FlatDesign.declared.design.Design.{Design}
 use Rattle.code_rooms.specs.ModelRules.Passes.{first_fault}
-use Rattle.laws_objects.specs.DesignRules.declared.counts.Counts.{Counts}
-use Rattle.laws_objects.specs.DesignRules.Counting.{nothing_before}
-use Rattle.laws_objects.specs.DesignRules.Parts.{signal_by, fifo_by, variable_by}
-use Rattle.laws_objects.specs.DesignRules.Designs.{IsDesignOf}
+use Rattle.elaborate_objects.specs.DesignRules.declared.counts.Counts.{Counts}
+use Rattle.elaborate_objects.specs.DesignRules.Counting.{nothing_before}
+use Rattle.elaborate_objects.specs.DesignRules.Parts.{signal_by, fifo_by, variable_by}
+use Rattle.elaborate_objects.specs.DesignRules.Designs.{IsDesignOf}
 use Rattle.laws_design.proofs.Along.{same_some, before, from_place}
 use Rattle.laws_design.proofs.Numbered.{signals_step, fifos_step, variables_step}
-use Rattle.laws_objects.proofs.Parents.{are_inside}
+use Rattle.laws_design.proofs.Parents.{are_inside}
 use Rattle.laws_design.proofs.Forms.{IsRight, rights}
 
 signal_typed : (n : Counts) (f : ObjectForm) (i : ℕ) (p : SignalPart) → IsRight f → slice_get (signal_by n f) i ≡ Some p → type_of_value p.initial ≡ p.value_type

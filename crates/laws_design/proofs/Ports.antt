@@ -22,20 +22,20 @@ use Rattle.code_rooms.specs.FlatDesign.declared.design.Denoted.TheVariants as de
 use Rattle.code_rooms.specs.FlatDesign.declared.design.PortPart.{PortPart}
 use Rattle.code_rooms.specs.FlatDesign.declared.design.Design.{Design}
 use Rattle.code_rooms.proofs.ModelRules.Firsts.{or_none}
-use Rattle.laws_objects.specs.DesignRules.Listing.{objects_of}
-use Rattle.laws_objects.specs.DesignRules.Objects.{form_at, bindings_of}
-use Rattle.laws_objects.specs.DesignRules.Fits.{is_same_type, leads_through, fits, fits_end, differs_at, kind_differs}
-use Rattle.laws_objects.specs.DesignRules.Paths.{ends_path, is_end, itself_or, ends_within, ends_of, steps}
-use Rattle.laws_objects.specs.DesignRules.BindingFaults.{fault_if, binding_fault, bindings_fault, objects_fault, first_fault}
-use Rattle.laws_objects.specs.DesignRules.declared.counts.Counts.{Counts}
-use Rattle.laws_objects.specs.DesignRules.Counting.{behind, along, nothing_before}
-use Rattle.laws_objects.specs.DesignRules.Denoting.{socket_end, denoted_by, object_denoted}
-use Rattle.laws_objects.specs.DesignRules.Parts.{denotes, channel_in, channels_among, port_by}
-use Rattle.laws_objects.specs.DesignRules.Designs.{IsDesignOf}
+use Rattle.elaborate_objects.specs.DesignRules.Listing.{objects_of}
+use Rattle.elaborate_objects.specs.DesignRules.Objects.{form_at, bindings_of}
+use Rattle.elaborate_objects.specs.DesignRules.Fits.{is_same_type, leads_through, fits, fits_end, differs_at, kind_differs}
+use Rattle.elaborate_objects.specs.DesignRules.Paths.{ends_path, is_end, itself_or, ends_within, ends_of, steps}
+use Rattle.elaborate_objects.specs.DesignRules.BindingFaults.{fault_if, binding_fault, bindings_fault, objects_fault, first_fault}
+use Rattle.elaborate_objects.specs.DesignRules.declared.counts.Counts.{Counts}
+use Rattle.elaborate_objects.specs.DesignRules.Counting.{behind, along, nothing_before}
+use Rattle.elaborate_objects.specs.DesignRules.Denoting.{socket_end, denoted_by, object_denoted}
+use Rattle.elaborate_objects.specs.DesignRules.Parts.{denotes, channel_in, channels_among, port_by}
+use Rattle.elaborate_objects.specs.DesignRules.Designs.{IsDesignOf}
 use Rattle.laws_design.proofs.Along.{before, from_place}
 use Rattle.laws_design.proofs.Numbered.{ports_step, number_of, denoted_there}
 use Rattle.laws_design.proofs.Fits.{hops, signal_there, fifo_there, form_fits}
-use Rattle.laws_objects.proofs.Children.{all_append, same_some}
+use Rattle.laws_design.proofs.Children.{all_append, same_some}
 
 -- equality of types
 

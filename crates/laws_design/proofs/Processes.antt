@@ -21,26 +21,26 @@ use Rattle.code_rooms.specs.FlatDesign.declared.design.Design.{Design}
 use Rattle.code_rooms.specs.ModelRules.Scopes.{Scope, item_scope}
 use Rattle.code_rooms.specs.ModelRules.Sites.{block_sites, event_sites, events_sites}
 use Rattle.code_rooms.specs.ModelRules.Passes.{constructs, fault_of, first_fault}
-use Rattle.laws_code.specs.LawsRules.Known.{TypesAreKnown}
-use Rattle.laws_code.proofs.LawsRules.Typed.{parts_none}
-use Rattle.laws_code.proofs.LawsRules.Declared.{scope_known}
+use Rattle.laws_code.specs.Known.{TypesAreKnown}
+use Rattle.laws_code.proofs.Typed.{parts_none}
+use Rattle.laws_code.proofs.Declared.{scope_known}
 use Rattle.code_rooms.specs.CodeRules.Deeds.{static_use}
 use Rattle.code_rooms.specs.CodeRules.Bodies as source
 use Rattle.code_rooms.specs.CodeRules.Bodies.{Source, source_of, source_name, source_kind, source_parameters, source_answer, process_kind, IsAnswer}
-use Rattle.laws_objects.specs.DesignRules.Forms.{Around, around, items_at, items_in, body, object_form}
-use Rattle.laws_objects.specs.DesignRules.Listing.{list_of, top_object, objects_of}
-use Rattle.laws_objects.specs.DesignRules.ObjectFaults.{cycle_fault, limit_fault}
-use Rattle.laws_objects.specs.DesignRules.BindingFaults as binding
-use Rattle.laws_objects.specs.DesignRules.Counting.{nothing_before}
-use Rattle.laws_objects.specs.DesignRules.Parts.{home_of}
-use Rattle.laws_objects.specs.DesignRules.Statics.{source_list, static_lists, static_list, static_events, names_at, process_by}
-use Rattle.laws_objects.specs.DesignRules.Designs.{IsDesignOf}
+use Rattle.elaborate_objects.specs.DesignRules.Forms.{Around, around, items_at, items_in, body, object_form}
+use Rattle.elaborate_objects.specs.DesignRules.Listing.{list_of, top_object, objects_of}
+use Rattle.elaborate_objects.specs.DesignRules.ObjectFaults.{cycle_fault, limit_fault}
+use Rattle.elaborate_objects.specs.DesignRules.BindingFaults as binding
+use Rattle.elaborate_objects.specs.DesignRules.Counting.{nothing_before}
+use Rattle.elaborate_objects.specs.DesignRules.Parts.{home_of}
+use Rattle.elaborate_objects.specs.DesignRules.Statics.{source_list, static_lists, static_list, static_events, names_at, process_by}
+use Rattle.elaborate_objects.specs.DesignRules.Designs.{IsDesignOf}
 use Rattle.laws_design.proofs.Along.{before, from_place}
 use Rattle.laws_design.proofs.Numbered.{processes_step}
-use Rattle.laws_objects.proofs.Children.{same_some}
-use Rattle.laws_objects.proofs.Kept.{ItemsKnown, known, all_at}
-use Rattle.laws_objects.proofs.Models.{comes_from}
-use Rattle.laws_objects.proofs.Ends.{kept_at}
+use Rattle.laws_design.proofs.Children.{same_some}
+use Rattle.laws_design.proofs.Kept.{ItemsKnown, known, all_at}
+use Rattle.laws_design.proofs.Models.{comes_from}
+use Rattle.laws_design.proofs.BoundEnds.{kept_at}
 use Rattle.laws_code.specs.Standing.{NamesStand, DesignStands}
 use Rattle.laws_code.proofs.Events.{static_there}
 use Rattle.laws_design.proofs.Standing.{design_stands}

@@ -19,11 +19,11 @@ use Rattle.code_rooms.specs.FlatDesign.declared.design.Denoted.TheVariants as de
 use Rattle.code_rooms.specs.FlatDesign.declared.design.InstancePart.{InstancePart}
 use Rattle.code_rooms.specs.FlatDesign.declared.design.PortPart.{PortPart}
 use Rattle.code_rooms.specs.FlatDesign.declared.design.Design.{Design}
-use Rattle.laws_objects.specs.DesignRules.Denoting.{object_denoted}
-use Rattle.laws_objects.specs.DesignRules.Designs.{IsDesignOf}
-use Rattle.laws_objects.specs.DesignRules.Statics.{event_place, channel_event, process_events, channels_of_port, at_place, events_of, names_of, names_at, static_events}
+use Rattle.elaborate_objects.specs.DesignRules.Denoting.{object_denoted}
+use Rattle.elaborate_objects.specs.DesignRules.Designs.{IsDesignOf}
+use Rattle.elaborate_objects.specs.DesignRules.Statics.{event_place, channel_event, process_events, channels_of_port, at_place, events_of, names_of, names_at, static_events}
 use Rattle.laws_design.proofs.Fits.{names_fit}
-use Rattle.laws_objects.proofs.Children.{same_some}
+use Rattle.laws_design.proofs.Children.{same_some}
 use Rattle.laws_design.specs.Fields.{PortsFit}
 
 -- lists

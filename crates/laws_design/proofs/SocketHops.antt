@@ -3,13 +3,13 @@ use Rattle.std.proofs.Common.{◌≡◌, None, sym, subst}
 use Rattle.code_rooms.specs.ModelTree.Tree as tree
 use Rattle.code_rooms.specs.FlatDesign.declared.design.Design.{Design}
 use Rattle.code_rooms.specs.ModelRules.Passes.{first_fault}
-use Rattle.laws_objects.specs.DesignRules.Listing.{objects_of}
-use Rattle.laws_objects.specs.DesignRules.ObjectFaults.{cycle_fault, limit_fault}
-use Rattle.laws_objects.specs.DesignRules.BindingFaults as binding
-use Rattle.laws_objects.specs.DesignRules.Formed.{AreFormed}
-use Rattle.laws_objects.specs.DesignRules.Designs.{IsDesignOf}
-use Rattle.laws_objects.proofs.Bindings.{are_formed}
-use Rattle.laws_objects.proofs.Sockets.{begins_hop, ends_hop}
+use Rattle.elaborate_objects.specs.DesignRules.Listing.{objects_of}
+use Rattle.elaborate_objects.specs.DesignRules.ObjectFaults.{cycle_fault, limit_fault}
+use Rattle.elaborate_objects.specs.DesignRules.BindingFaults as binding
+use Rattle.elaborate_objects.specs.DesignRules.Formed.{AreFormed}
+use Rattle.elaborate_objects.specs.DesignRules.Designs.{IsDesignOf}
+use Rattle.laws_design.proofs.Bindings.{are_formed}
+use Rattle.laws_design.proofs.Sockets.{begins_hop, ends_hop}
 use Rattle.laws_design.specs.Sockets.{SocketsHaveHops}
 
 module _ (m : tree.Model) (clean : first_fault m ≡ None) (acyclic : cycle_fault m ≡ None) (limits : limit_fault m ≡ None) where

@@ -2,7 +2,7 @@
 use Rattle.code_rooms.specs.ModelTree.Tree as tree
 use Rattle.code_rooms.specs.FlatDesign.Sound.{SoundDesign}
 use Rattle.code_rooms.specs.FlatDesign.declared.design.Design.{Design}
-use Rattle.laws_objects.specs.DesignRules.Designs.{IsDesignOf}
+use Rattle.elaborate_objects.specs.DesignRules.Designs.{IsDesignOf}
 use Rattle.laws_code.specs.Standing.{DesignStands}
 use Rattle.laws_design.proofs.Fits.{names_fit}
 use Rattle.laws_design.proofs.Events.{signals_have_events, resolved_have_events, fifos_have_events}

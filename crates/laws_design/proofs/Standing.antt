@@ -25,29 +25,29 @@ use Rattle.code_rooms.specs.ModelRules.declared.meanings.Meaning.{Meaning}
 use Rattle.code_rooms.specs.ModelRules.declared.meanings.Meaning.TheVariants as meaning
 use Rattle.code_rooms.specs.ModelRules.Passes.{first_fault}
 use Rattle.code_rooms.specs.ModelRules.Distinct.{names_of, HasDistinctNames}
-use Rattle.laws_code.specs.LawsRules.Known.{is_type_known}
-use Rattle.laws_objects.specs.DesignRules.Values.{known_type}
-use Rattle.laws_objects.specs.DesignRules.Forms.{Around, around, items_at, items_in, object_form}
-use Rattle.laws_objects.specs.DesignRules.Listing.{child, list_of}
-use Rattle.laws_objects.specs.DesignRules.ObjectFaults.{cycle_fault}
-use Rattle.laws_objects.specs.ElaborateObjects.Rows.{Row, rows_in}
-use Rattle.laws_objects.specs.ElaborateObjects.Left.{object_of}
-use Rattle.laws_objects.specs.DesignRules.declared.bindings.Joined.{Joined}
-use Rattle.laws_objects.specs.DesignRules.Paths.{begins_path, ends_path, is_end}
-use Rattle.laws_objects.specs.DesignRules.declared.counts.Counts.{Counts}
-use Rattle.laws_objects.specs.DesignRules.Counting.{behind, along, nothing_before}
-use Rattle.laws_objects.specs.DesignRules.Denoting.{begins_at, ends_at, socket_end, denoted_by, all_denoted, object_denoted, named_in, names_in}
-use Rattle.laws_objects.specs.DesignRules.Parts.{denotes}
-use Rattle.laws_objects.specs.DesignRules.Designs.{IsDesignOf}
+use Rattle.laws_code.specs.Known.{is_type_known}
+use Rattle.elaborate_objects.specs.DesignRules.Values.{known_type}
+use Rattle.elaborate_objects.specs.DesignRules.Forms.{Around, around, items_at, items_in, object_form}
+use Rattle.elaborate_objects.specs.DesignRules.Listing.{child, list_of}
+use Rattle.elaborate_objects.specs.DesignRules.ObjectFaults.{cycle_fault}
+use Rattle.elaborate_objects.specs.Rows.{Row, rows_in}
+use Rattle.elaborate_objects.specs.Left.{object_of}
+use Rattle.elaborate_objects.specs.DesignRules.declared.bindings.Joined.{Joined}
+use Rattle.elaborate_objects.specs.DesignRules.Paths.{begins_path, ends_path, is_end}
+use Rattle.elaborate_objects.specs.DesignRules.declared.counts.Counts.{Counts}
+use Rattle.elaborate_objects.specs.DesignRules.Counting.{behind, along, nothing_before}
+use Rattle.elaborate_objects.specs.DesignRules.Denoting.{begins_at, ends_at, socket_end, denoted_by, all_denoted, object_denoted, named_in, names_in}
+use Rattle.elaborate_objects.specs.DesignRules.Parts.{denotes}
+use Rattle.elaborate_objects.specs.DesignRules.Designs.{IsDesignOf}
 use Rattle.laws_design.proofs.Along.{same_some, before}
 use Rattle.laws_design.proofs.Numbered.{number_of, denoted_there}
 use Rattle.laws_design.proofs.Fits.{hops, all, signal_there, fifo_there, memory_there, variable_there, port_there, form_fits, IsInstancePart, instance_part}
-use Rattle.laws_objects.proofs.Kept.{ItemsKnown, known, names_differ, all_at}
-use Rattle.laws_objects.proofs.Named.{row_found, IsItemOf, item_of}
-use Rattle.laws_objects.proofs.Models.{module_rows, child_of_model}
+use Rattle.laws_design.proofs.Kept.{ItemsKnown, known, names_differ, all_at}
+use Rattle.laws_design.proofs.NamedObjects.{row_found, IsItemOf, item_of}
+use Rattle.laws_design.proofs.Models.{module_rows, child_of_model}
 use Rattle.laws_code.specs.Standing.{IsSignal, IsFifo, IsPortTo, IsPortOf, IsEnd, Standing, DesignStands}
 use Rattle.laws_design.specs.Sockets.{SocketsHaveHops}
-use Rattle.laws_design.proofs.Ends.{no_beginning, no_ending, initiator_end, target_end}
+use Rattle.laws_design.proofs.SocketEnds.{no_beginning, no_ending, initiator_end, target_end}
 
 known_there : (t : Option ValueType) → is_some t ≡ true → t ≡ Some (known_type t)
 known_there None h = cc

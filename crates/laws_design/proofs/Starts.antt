@@ -23,19 +23,19 @@ use Rattle.code_rooms.specs.ModelRules.Sites.{Site, site, around_item}
 use Rattle.code_rooms.specs.ModelRules.Items.{is_start, semaphore_range}
 use Rattle.code_rooms.specs.ModelRules.Passes.{constructs, fault_by, first_fault}
 use Rattle.code_rooms.proofs.ModelRules.Firsts.{all_none}
-use Rattle.laws_code.proofs.LawsRules.Typed.{not_named, same_false}
-use Rattle.laws_objects.specs.DesignRules.Values.{whole}
-use Rattle.laws_objects.specs.DesignRules.Forms.{Around, around, items_in, object_form}
-use Rattle.laws_objects.specs.DesignRules.Listing.{list_of, top_object}
-use Rattle.laws_objects.specs.ElaborateObjects.Rows.{Row, row_if, rows_in}
-use Rattle.laws_objects.proofs.Kept.{IsKept, ItemsKept, kept, all_at}
-use Rattle.laws_objects.proofs.Children.{all_append}
-use Rattle.laws_objects.proofs.Models.{module_rows, comes_from}
+use Rattle.laws_code.proofs.Typed.{not_named, same_false}
+use Rattle.elaborate_objects.specs.DesignRules.Values.{whole}
+use Rattle.elaborate_objects.specs.DesignRules.Forms.{Around, around, items_in, object_form}
+use Rattle.elaborate_objects.specs.DesignRules.Listing.{list_of, top_object}
+use Rattle.elaborate_objects.specs.Rows.{Row, row_if, rows_in}
+use Rattle.laws_design.proofs.Kept.{IsKept, ItemsKept, kept, all_at}
+use Rattle.laws_design.proofs.Children.{all_append}
+use Rattle.laws_design.proofs.Models.{module_rows, comes_from}
 use Rattle.laws_design.proofs.Along.{same_some}
-use Rattle.laws_objects.specs.DesignRules.declared.counts.Counts.{Counts}
-use Rattle.laws_objects.specs.DesignRules.Counting.{behind, along, nothing_before}
-use Rattle.laws_objects.specs.DesignRules.Parts.{semaphore_by}
-use Rattle.laws_objects.specs.DesignRules.Designs.{IsDesignOf}
+use Rattle.elaborate_objects.specs.DesignRules.declared.counts.Counts.{Counts}
+use Rattle.elaborate_objects.specs.DesignRules.Counting.{behind, along, nothing_before}
+use Rattle.elaborate_objects.specs.DesignRules.Parts.{semaphore_by}
+use Rattle.elaborate_objects.specs.DesignRules.Designs.{IsDesignOf}
 
 mapped_none : {A B : Type 0} (f : A → B) (o : Option A) → option_map f o ≡ None → o ≡ None
 mapped_none f None h = refl

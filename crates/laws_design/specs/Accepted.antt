@@ -5,9 +5,9 @@ use Rattle.code_rooms.specs.ModelTree.Limits.{is_sound}
 use Rattle.code_rooms.specs.FlatDesign.Code.{arena_of}
 use Rattle.code_rooms.specs.FlatDesign.declared.design.Design.{Design}
 use Rattle.code_rooms.specs.ModelRules.Passes.{first_fault}
-use Rattle.laws_objects.specs.DesignRules.Listing.{objects_of}
-use Rattle.laws_objects.specs.DesignRules.ObjectFaults.{cycle_fault, limit_fault}
-use Rattle.laws_objects.specs.DesignRules.BindingFaults as binding
+use Rattle.elaborate_objects.specs.DesignRules.Listing.{objects_of}
+use Rattle.elaborate_objects.specs.DesignRules.ObjectFaults.{cycle_fault, limit_fault}
+use Rattle.elaborate_objects.specs.DesignRules.BindingFaults as binding
 use Rattle.code_rooms.specs.Rooms.{HasRooms, IsNested}
 use Rattle.laws_code.specs.Bodies.{StatementsStand}
 

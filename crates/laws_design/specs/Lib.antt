@@ -1,3 +1,6 @@
+pub mod Sizes
+pub mod Declared
+pub mod Named
 pub mod Sockets
 pub mod Fields
 pub mod Accepted

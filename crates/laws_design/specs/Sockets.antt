@@ -3,9 +3,9 @@ use Rattle.std.specs.Prelude.{◌≡◌, ℕ, false, Option, Some, Contains}
 use Rattle.code_rooms.specs.FlatDesign.declared.objects.Object.{Object}
 use Rattle.code_rooms.specs.FlatDesign.declared.objects.ObjectForm.TheVariants as form
 use Rattle.code_rooms.specs.FlatDesign.declared.objects.Objects.{Objects}
-use Rattle.laws_objects.specs.DesignRules.declared.bindings.Joined.{Joined}
-use Rattle.laws_objects.specs.DesignRules.Objects.{object_at}
-use Rattle.laws_objects.specs.DesignRules.Bound.{bound}
+use Rattle.elaborate_objects.specs.DesignRules.declared.bindings.Joined.{Joined}
+use Rattle.elaborate_objects.specs.DesignRules.Objects.{object_at}
+use Rattle.elaborate_objects.specs.DesignRules.Bound.{bound}
 
 -- each socket without `pass` is an end of a hop
 pub record SocketsHaveHops (os : Objects) : Type 0 where

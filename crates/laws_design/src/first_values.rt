@@ -8,7 +8,7 @@ ghost use Rattle.code_rooms.specs.FlatDesign.declared.design.FifoPart.{FifoPart}
 ghost use Rattle.code_rooms.specs.FlatDesign.declared.design.VariablePart.{VariablePart};
 ghost use Rattle.code_rooms.specs.FlatDesign.declared.design.Design.{Design};
 ghost use Rattle.code_rooms.specs.ModelRules.Passes.{first_fault};
-ghost use Rattle.laws_objects.specs.DesignRules.Designs.{IsDesignOf};
+ghost use Rattle.elaborate_objects.specs.DesignRules.Designs.{IsDesignOf};
 
 /// Each object of a design is in an instance before it, but for the top instance, which is in itself.
 pub fn objects_are_inside()

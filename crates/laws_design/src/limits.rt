@@ -4,8 +4,8 @@ ghost use Rattle.code_rooms.specs.ModelTree.Tree.{Model};
 ghost use Rattle.code_rooms.specs.FlatDesign.declared.design.SemaphorePart.{SemaphorePart};
 ghost use Rattle.code_rooms.specs.FlatDesign.declared.design.Design.{Design};
 ghost use Rattle.code_rooms.specs.ModelRules.Passes.{first_fault};
-ghost use Rattle.laws_objects.specs.DesignRules.ObjectFaults.{limit_fault};
-ghost use Rattle.laws_objects.specs.DesignRules.Designs.{IsDesignOf};
+ghost use Rattle.elaborate_objects.specs.DesignRules.ObjectFaults.{limit_fault};
+ghost use Rattle.elaborate_objects.specs.DesignRules.Designs.{IsDesignOf};
 
 /// A model that has not too many objects has at most 65,536 processes and at most 196,608 events: an object is one process at
 /// most, and has three events at most.

@@ -7,7 +7,7 @@ ghost use Rattle.code_rooms.specs.FlatDesign.declared.design.SignalPart.{SignalP
 ghost use Rattle.code_rooms.specs.FlatDesign.declared.design.ResolvedPart.{ResolvedPart};
 ghost use Rattle.code_rooms.specs.FlatDesign.declared.design.FifoPart.{FifoPart};
 ghost use Rattle.code_rooms.specs.FlatDesign.declared.design.Design.{Design};
-ghost use Rattle.laws_objects.specs.DesignRules.Designs.{IsDesignOf};
+ghost use Rattle.elaborate_objects.specs.DesignRules.Designs.{IsDesignOf};
 
 /// What a name stands for in an instance is there: the part of its number, with the events that the design counts for it.
 pub fn names_stand_for_what_is_there()

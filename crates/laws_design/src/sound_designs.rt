@@ -2,7 +2,7 @@
 ghost use Rattle.code_rooms.specs.ModelTree.Tree.{Model};
 ghost use Rattle.code_rooms.specs.FlatDesign.Sound.{SoundDesign};
 ghost use Rattle.code_rooms.specs.FlatDesign.declared.design.Design.{Design};
-ghost use Rattle.laws_objects.specs.DesignRules.Designs.{IsDesignOf};
+ghost use Rattle.elaborate_objects.specs.DesignRules.Designs.{IsDesignOf};
 ghost use Rattle.laws_design.specs.Accepted.{IsAccepted, IsLaidOut};
 
 /// The design of an accepted model, whose code is laid out as it is made, is sound.

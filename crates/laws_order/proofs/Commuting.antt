@@ -15,7 +15,7 @@ use Rattle.laws_order.specs.Acts as act
 use Rattle.laws_order.specs.Acts.{Act, acted, acted_all, Allows, DriveApart}
 use Rattle.laws_order.proofs.Apart.{AreApart}
 use Rattle.laws_order.proofs.Ends.{read-written}
-use Rattle.laws_order.proofs.Orders.{sets-commute, changes-commute, notified-commute}
+use Rattle.laws_order.proofs.TurnOrders.{sets-commute, changes-commute, notified-commute}
 
 module _ (Has Others : Use → Type 0) (apart : AreApart Has Others) (p q : ℕ) (c : Config) where
   differ : (F : ℕ → Use) → ((n : ℕ) → Has (F n) → Others (F n) → ⊥) → (n m : ℕ) → Has (F n) → Others (F m) → m ≢ n

@@ -2,7 +2,7 @@ mod Lists
 mod Ends
 mod Apart
 mod Seen
-mod Orders
+mod TurnOrders
 mod Commuting
 mod Wires
 mod Along
@@ -20,3 +20,42 @@ mod Takings
 mod Undriven
 mod Ruled
 mod Beginning
+mod SameLists
+mod Moves
+mod Waking
+mod Updating
+mod Shown
+mod Notifying
+mod SameSteps
+mod Permuting
+mod Driving
+mod Acting
+mod Relating
+mod SameTurning
+mod OwnPlaces
+mod Blocks
+mod Lefts
+mod OwnUnheard
+mod Hearing
+mod Within
+mod OwnForms
+mod OwnTurning
+mod Between
+mod OwnSteps
+mod FitRuns
+mod OwnRuled
+mod Owns
+mod WholeTurns
+pub mod WholeRuns
+mod Once
+pub mod WholePhases
+pub mod Reordered
+mod Stepping
+mod Reached
+mod InOrder
+mod Progress
+mod DoneEnds
+mod DoneOrders
+mod Ongoing
+mod Dones
+mod Itself

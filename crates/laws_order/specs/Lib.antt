@@ -4,3 +4,14 @@ pub mod Alongside
 pub mod Turns
 pub mod Undriven
 pub mod LeftAlike
+pub mod Same
+pub mod SameSteps
+pub mod Own
+pub mod Fits
+pub mod Turned
+pub mod Evaluated
+pub mod Evaluations
+pub mod AnyOrder
+pub mod Below
+pub mod SimModel
+pub mod OrderFree

@@ -3,26 +3,26 @@ use Rattle.std.proofs.Common.{◌≡◌, ◌≤◌, ◌||◌, ◌&&◌, ◌+◌,
 use Rattle.std.specs.Prelude.{◌==◌, if◌then◌else◌, slice_get, slice_set, length}
 use Rattle.std.proofs.lemmas.Option.{none-some, same_Some, slice_get_cases}
 use Rattle.std.proofs.lemmas.List.Elements.{All-weaker, All-set, All-get_or}
-use Rattle.laws_unwinding.specs.EventCore.declared.event.Ev.{Ev}
-use Rattle.laws_unwinding.specs.EventCore.declared.event.Ev.TheVariants as ev
-use Rattle.laws_unwinding.specs.EventCore.Notifications.{notified}
-use Rattle.laws_unwinding.specs.EventCore.declared.notifications.Pending.TheVariants as pending
-use Rattle.laws_unwinding.specs.EventCore.declared.notifications.When.{When}
-use Rattle.laws_unwinding.specs.EventCore.declared.notifications.When.TheVariants as when
-use Rattle.laws_unwinding.specs.LogicValues.Integers.{bits_of}
-use Rattle.laws_unwinding.specs.LogicValues.declared.kinds.Value.{Value}
-use Rattle.laws_unwinding.specs.LogicValues.declared.kinds.Value.TheVariants as value
-use Rattle.laws_unwinding.specs.FifoSync.Fifos.{Queued, free, readable, after_read, after_write}
-use Rattle.laws_unwinding.specs.FifoSync.Locks.{answer, is_unlocked, is_owner, locked_by, unlocked_by, is_used_up}
-use Rattle.laws_unwinding.specs.TransportPhases.History.{Entry, Call, Return, BCall, BReturn, Left, broken}
-use Rattle.laws_unwinding.specs.TransportPhases.declared.phases.Rule.{Rule as Broken}
-use Rattle.laws_unwinding.specs.PayloadPool.Transfer.{carried, memory_after}
-use Rattle.laws_unwinding.specs.PayloadPool.declared.payload.Payload.{Payload}
-use Rattle.laws_unwinding.specs.QuantumKeeper.Keepers.{after_reset, after_inc, with_local as local_set}
-use Rattle.laws_unwinding.specs.QuantumKeeper.declared.keeper.Keeper.{Keeper}
-use Rattle.laws_unwinding.specs.SignalChannel.Signals.{conflict_of}
-use Rattle.laws_unwinding.specs.SignalChannel.declared.signal.Signal.{Signal}
-use Rattle.laws_unwinding.specs.SignalChannel.declared.signal.WriterConflict.{WriterConflict}
+use Rattle.laws_runs.specs.EventCore.declared.event.Ev.{Ev}
+use Rattle.laws_runs.specs.EventCore.declared.event.Ev.TheVariants as ev
+use Rattle.laws_runs.specs.EventCore.Notifications.{notified}
+use Rattle.laws_runs.specs.EventCore.declared.notifications.Pending.TheVariants as pending
+use Rattle.laws_runs.specs.EventCore.declared.notifications.When.{When}
+use Rattle.laws_runs.specs.EventCore.declared.notifications.When.TheVariants as when
+use Rattle.laws_runs.specs.LogicValues.Integers.{bits_of}
+use Rattle.laws_runs.specs.LogicValues.declared.kinds.Value.{Value}
+use Rattle.laws_runs.specs.LogicValues.declared.kinds.Value.TheVariants as value
+use Rattle.laws_runs.specs.FifoSync.Fifos.{Queued, free, readable, after_read, after_write}
+use Rattle.laws_runs.specs.FifoSync.Locks.{answer, is_unlocked, is_owner, locked_by, unlocked_by, is_used_up}
+use Rattle.laws_runs.specs.TransportPhases.History.{Entry, Call, Return, BCall, BReturn, Left, broken}
+use Rattle.laws_runs.specs.TransportPhases.declared.phases.Rule.{Rule as Broken}
+use Rattle.laws_runs.specs.PayloadPool.Transfer.{carried, memory_after}
+use Rattle.laws_runs.specs.PayloadPool.declared.payload.Payload.{Payload}
+use Rattle.laws_runs.specs.QuantumKeeper.Keepers.{after_reset, after_inc, with_local as local_set}
+use Rattle.laws_runs.specs.QuantumKeeper.declared.keeper.Keeper.{Keeper}
+use Rattle.laws_runs.specs.SignalChannel.Signals.{conflict_of}
+use Rattle.laws_runs.specs.SignalChannel.declared.signal.Signal.{Signal}
+use Rattle.laws_runs.specs.SignalChannel.declared.signal.WriterConflict.{WriterConflict}
 use Rattle.model_tree.specs.declared.items.ProcessKind.{ProcessKind}
 use Rattle.model_tree.specs.declared.items.ProcessKind.TheVariants as process
 use Rattle.model_tree.specs.declared.statements.Control.{Control}
@@ -39,24 +39,24 @@ use Rattle.flat_design.specs.declared.design.Denoted.{Denoted}
 use Rattle.flat_design.specs.declared.design.Denoted.TheVariants as denoted
 use Rattle.flat_design.specs.declared.design.ChannelId.{ChannelId}
 use Rattle.flat_design.specs.declared.design.ChannelId.TheVariants as channel
-use Rattle.laws_unwinding.specs.SimModel.Values.{on_ok, bits, cut_to, index_within, moment, signed, truth}
-use Rattle.laws_unwinding.specs.SimModel.Residual as residual
-use Rattle.laws_unwinding.specs.SimModel.Residual.{Residual, Frame, Next, put, skip, settle, next_of, taken_off, innermost, goal, has_goal}
-use Rattle.laws_unwinding.specs.SimModel.Unwinding.{unw, left_by_unw, returned, return_marks, catches, left_by_raise, raise}
-use Rattle.laws_unwinding.specs.SimModel.Configuration.{Config, Instance, Wait, changed_at, waits_for_nothing, waits_statically, waits_for_any, waits_for_all, line, change_instance, with_residual, with_runnable, with_marks, with_told, instance_at, arena}
-use Rattle.laws_unwinding.specs.SimModel.Reading.{Here, here, denotes, keeper_at, val, val_if, place_in, payload_number, live_payload, memory_here, memory_number}
-use Rattle.laws_unwinding.specs.SimModel.Storing.{passes, bytes_in, set_local, set_name, set_denoted, set_memory, set_payload, with_field, with_byte, low_byte, first_value, stored, stored_if, chosen, looped, print_line, do_assign}
-use Rattle.laws_unwinding.specs.SimModel.Waits.{holds, without, is_active, is_among, freed, joined, woken, struck, wake, wake_instance, left_of_all, reaches, reach_instance, fire_each, fire, leaves_stack, waits, notify}
-use Rattle.laws_unwinding.specs.SimModel.Waiting.{awaited, channel_event, event_number, on_event, notified_now, cancelled, when_after}
-use Rattle.laws_unwinding.specs.SimModel.Channels.{channel_in, blocks, set_fifo, set_mutex, set_semaphore, with_fifo, taken_from, written_unless, write_signal, write_fifo, write_channel, read_value, read_fifo, fifo_here, fifo_of, mutex_of, semaphore_of, nb_read_value, nb_read_fifo, nb_write_fifo, answered, lock_mutex, lock_at, trylock_mutex, trylock_at, unlock_mutex, unlock_at, sem_wait_value, sem_wait_at, sem_trywait_value, sem_trywait_at, post_value, post_at}
-use Rattle.laws_unwinding.specs.SimModel.Calls.{argument_values, locals_in, may_enter, enters, final_value, given_back, call_ends, answer_of, with_entry, with_left, thrown, cut_answer, answer_type, first_arguments, may_spawn, new_instance, added, runnable_unless, handle_stored, spawns}
-use Rattle.laws_unwinding.specs.SimModel.Transport.{with_pool, size_within, size_or, may_make, socket_of, history, is_complete, judged, judged_by, blocking_handler, nonblocking_handler, path_of_call, may_enter_handler, enters_handler, int_of, value_named, b_transport_on, nb_transport_on, complete_now, for_freed, b_transport_ends, nb_transport_ends, with_global, with_keeper, kept as keeps_time, on_keeper, keeper_named}
-use Rattle.laws_unwinding.specs.SimModel.Payloads.{with_made, with_acquired, with_released}
-use Rattle.laws_unwinding.specs.SimModel.Control.{is_top, is_below_top, is_thread, with_kept, yields, suspends, resumes, pushed, pushed_unless_top, unwinds, ends_or_restarts, injected, throws_at, controlled_by, unless_ended, control_call, throw_call, target_of, targets, with_owed, ended_instance, ends, begins, stays_kept, restarts, reaches_goal, done_by}
-use Rattle.laws_unwinding.specs.SimModel.Statements.{via_ends, hands_back, handed_back, calling_statement, on_statement, do_statement, owed_call, owed_by, do_next, settled_in, step_by, statement_step}
-use Rattle.laws_unwinding.specs.SimModel.declared.plain.Goal.{Goal}
-use Rattle.laws_unwinding.specs.SimModel.declared.plain.Goal.TheVariants as goal_of
-use Rattle.laws_unwinding.specs.SimModel.declared.plain.Via.{Via}
+use Rattle.laws_runs.specs.SimModel.Values.{on_ok, bits, cut_to, index_within, moment, signed, truth}
+use Rattle.laws_runs.specs.SimModel.Residual as residual
+use Rattle.laws_runs.specs.SimModel.Residual.{Residual, Frame, Next, put, skip, settle, next_of, taken_off, innermost, goal, has_goal}
+use Rattle.laws_runs.specs.SimModel.Unwinding.{unw, left_by_unw, returned, return_marks, catches, left_by_raise, raise}
+use Rattle.laws_runs.specs.SimModel.Configuration.{Config, Instance, Wait, changed_at, waits_for_nothing, waits_statically, waits_for_any, waits_for_all, line, change_instance, with_residual, with_runnable, with_marks, with_told, instance_at, arena}
+use Rattle.laws_runs.specs.SimModel.Reading.{Here, here, denotes, keeper_at, val, val_if, place_in, payload_number, live_payload, memory_here, memory_number}
+use Rattle.laws_runs.specs.SimModel.Storing.{passes, bytes_in, set_local, set_name, set_denoted, set_memory, set_payload, with_field, with_byte, low_byte, first_value, stored, stored_if, chosen, looped, print_line, do_assign}
+use Rattle.laws_runs.specs.SimModel.Waits.{holds, without, is_active, is_among, freed, joined, woken, struck, wake, wake_instance, left_of_all, reaches, reach_instance, fire_each, fire, leaves_stack, waits, notify}
+use Rattle.laws_runs.specs.SimModel.Waiting.{awaited, channel_event, event_number, on_event, notified_now, cancelled, when_after}
+use Rattle.laws_runs.specs.SimModel.Channels.{channel_in, blocks, set_fifo, set_mutex, set_semaphore, with_fifo, taken_from, written_unless, write_signal, write_fifo, write_channel, read_value, read_fifo, fifo_here, fifo_of, mutex_of, semaphore_of, nb_read_value, nb_read_fifo, nb_write_fifo, answered, lock_mutex, lock_at, trylock_mutex, trylock_at, unlock_mutex, unlock_at, sem_wait_value, sem_wait_at, sem_trywait_value, sem_trywait_at, post_value, post_at}
+use Rattle.laws_runs.specs.SimModel.Calls.{argument_values, locals_in, may_enter, enters, final_value, given_back, call_ends, answer_of, with_entry, with_left, thrown, cut_answer, answer_type, first_arguments, may_spawn, new_instance, added, runnable_unless, handle_stored, spawns}
+use Rattle.laws_runs.specs.SimModel.Transport.{with_pool, size_within, size_or, may_make, socket_of, history, is_complete, judged, judged_by, blocking_handler, nonblocking_handler, path_of_call, may_enter_handler, enters_handler, int_of, value_named, b_transport_on, nb_transport_on, complete_now, for_freed, b_transport_ends, nb_transport_ends, with_global, with_keeper, kept as keeps_time, on_keeper, keeper_named}
+use Rattle.laws_runs.specs.SimModel.Payloads.{with_made, with_acquired, with_released}
+use Rattle.laws_runs.specs.SimModel.Control.{is_top, is_below_top, is_thread, with_kept, yields, suspends, resumes, pushed, pushed_unless_top, unwinds, ends_or_restarts, injected, throws_at, controlled_by, unless_ended, control_call, throw_call, target_of, targets, with_owed, ended_instance, ends, begins, stays_kept, restarts, reaches_goal, done_by}
+use Rattle.laws_runs.specs.SimModel.Statements.{via_ends, hands_back, handed_back, calling_statement, on_statement, do_statement, owed_call, owed_by, do_next, settled_in, step_by, statement_step}
+use Rattle.laws_runs.specs.SimModel.declared.plain.Goal.{Goal}
+use Rattle.laws_runs.specs.SimModel.declared.plain.Goal.TheVariants as goal_of
+use Rattle.laws_runs.specs.SimModel.declared.plain.Via.{Via}
 
 -- ---- the number of events, and the values of semaphores
 

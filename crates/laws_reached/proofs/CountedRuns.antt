@@ -4,23 +4,23 @@ use Rattle.std.specs.Prelude.{Ok}
 use Rattle.std.proofs.lemmas.Option.{none-some, same_Some}
 use Rattle.std.proofs.lemmas.List.{length-replicate}
 use Rattle.std.proofs.lemmas.List.Elements.{All-weaker, All-map}
-use Rattle.laws_unwinding.specs.EventCore.declared.notifications.Pending.TheVariants as pending
+use Rattle.laws_runs.specs.EventCore.declared.notifications.Pending.TheVariants as pending
 use Rattle.flat_design.specs.declared.design.SemaphorePart.{SemaphorePart}
 use Rattle.flat_design.specs.declared.design.ProcessPart.{ProcessPart}
 use Rattle.flat_design.specs.declared.design.Design.{Design}
-use Rattle.laws_unwinding.specs.SimModel.Configuration.{Config, Channels, Instance, turn, change_instance, instance_at, with_runnable, with_stack, with_told, start}
-use Rattle.laws_unwinding.specs.SimModel.Waits.{holds, without, freed}
-use Rattle.laws_unwinding.specs.SimModel.Control.{begins}
-use Rattle.laws_unwinding.specs.SimModel.Statements.{statement_step}
-use Rattle.laws_unwinding.specs.SimModel.Phases.{without_pending, initialize_each, is_at, is_delta}
-use Rattle.laws_unwinding.specs.SimModel.Steps.{Outcome, went, faulted, takes, ended, step, turn_line, instance_taken, taken_if, taking}
-use Rattle.laws_unwinding.specs.SimModel.Runs.{after, and_then, took}
-use Rattle.laws_unwinding.specs.SimModel.declared.plain.Command.{Command}
+use Rattle.laws_runs.specs.SimModel.Configuration.{Config, Channels, Instance, turn, change_instance, instance_at, with_runnable, with_stack, with_told, start}
+use Rattle.laws_runs.specs.SimModel.Waits.{holds, without, freed}
+use Rattle.laws_runs.specs.SimModel.Control.{begins}
+use Rattle.laws_runs.specs.SimModel.Statements.{statement_step}
+use Rattle.laws_runs.specs.SimModel.Phases.{without_pending, initialize_each, is_at, is_delta}
+use Rattle.laws_runs.specs.SimModel.Steps.{Outcome, went, faulted, takes, ended, step, turn_line, instance_taken, taken_if, taking}
+use Rattle.laws_runs.specs.SimModel.Runs.{after, and_then, took}
+use Rattle.laws_runs.specs.SimModel.declared.plain.Command.{Command}
 use Rattle.laws_reached.proofs.Counted.{Near, NearIfOk, stays, either, notify_near, step-near}
-use Rattle.laws_unwinding.specs.LawsMoves.Moves as move
-use Rattle.laws_unwinding.specs.LawsMoves.Moves.{time_moved, Moves, StepMoves, in_turn, between, initializing, moving_now}
-use Rattle.laws_unwinding.proofs.LawsMoves.Kept.{EachKeeps, moves-keep}
-use Rattle.laws_unwinding.proofs.LawsMoves.RunSteps.{step-moves}
+use Rattle.laws_runs.specs.Moves as move
+use Rattle.laws_runs.specs.Moves.{time_moved, Moves, StepMoves, in_turn, between, initializing, moving_now}
+use Rattle.laws_runs.proofs.MovesKeep.{EachKeeps, moves-keep}
+use Rattle.laws_runs.proofs.RunSteps.{step-moves}
 
 abbrev NearIfWent : Config → Outcome → Type 0
 NearIfWent c (went d) = Near c d

@@ -5,10 +5,10 @@ use Rattle.std.specs.FinMap as map_of
 use Rattle.std.proofs.lemmas.Option.{slice_get-map, slice_get_cases}
 use Rattle.kernel_phases.specs.InstanceTable.declared.instances.Instance.{Instance as Entry}
 use Rattle.flat_design.specs.declared.design.ProcessPart.{ProcessPart}
-use Rattle.laws_unwinding.specs.SimModel.Configuration.{Config, Processes, instance_at, first_instance}
-use Rattle.laws_unwinding.specs.SimModel.declared.plain.Phase.TheVariants as phase
-use Rattle.laws_unwinding.proofs.LawsRuns.Start.{first_processes}
-use Rattle.laws_unwinding.proofs.LawsRuns.Steps.{FitsPhase, Good}
+use Rattle.laws_runs.specs.SimModel.Configuration.{Config, Processes, instance_at, first_instance}
+use Rattle.laws_runs.specs.SimModel.declared.plain.Phase.TheVariants as phase
+use Rattle.laws_runs.proofs.RunStart.{first_processes}
+use Rattle.laws_runs.proofs.StepsFit.{FitsPhase, Good}
 use Rattle.kernel_phases.specs.KernelProcesses.Seen.{shown_at, seen, bare, as_instance}
 use Rattle.kernel_phases.specs.KernelProcesses.declared.parts.Process.{Process}
 use Rattle.kernel_phases.specs.KernelProcesses.Moved.{is_suspended}

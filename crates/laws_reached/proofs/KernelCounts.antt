@@ -3,12 +3,12 @@ use Rattle.std.proofs.Common.{◌≡◌, ◌≤◌, ◌<◌, ◌+◌, ◌-◌, �
 use Rattle.std.proofs.lemmas.List.Elements.{All-weaker}
 use Rattle.flat_design.specs.declared.design.SemaphorePart.{SemaphorePart}
 use Rattle.flat_design.specs.declared.design.Design.{Design}
-use Rattle.laws_unwinding.specs.SimModel.Configuration.{Config}
+use Rattle.laws_runs.specs.SimModel.Configuration.{Config}
 use Rattle.kernel_phases.specs.KernelState.Kernel.{StandsFor, whole_design}
 use Rattle.kernel_phases.specs.KernelState.declared.kernel.Kernel.{Kernel}
 use Rattle.laws_reached.specs.Reached.{IsReached}
-use Rattle.laws_unwinding.specs.SimModel.Configuration.{Channels}
-use Rattle.laws_unwinding.specs.EventCore.declared.notifications.Pending.{Pending}
+use Rattle.laws_runs.specs.SimModel.Configuration.{Channels}
+use Rattle.laws_runs.specs.EventCore.declared.notifications.Pending.{Pending}
 use Rattle.laws_reached.proofs.Reaching.{design-is}
 use Rattle.laws_reached.proofs.CountedRuns.{events-after, semaphores-after}
 

@@ -1,7 +1,7 @@
 -- The design of a kernel that stands for a configuration of a run.
 use Rattle.std.proofs.Common.{◌<◌, ◌-◌, ◌^◌, false, subst}
 use Rattle.flat_design.specs.Sound.{SoundDesign}
-use Rattle.laws_unwinding.specs.SimModel.Configuration.{Config}
+use Rattle.laws_runs.specs.SimModel.Configuration.{Config}
 use Rattle.kernel_phases.specs.KernelState.Kernel.{StandsFor, whole_design}
 use Rattle.kernel_phases.specs.KernelState.declared.kernel.Kernel.{Kernel}
 use Rattle.exec_control.specs.ExecData.Written.{NamesFit}

@@ -2,20 +2,20 @@
 use Rattle.std.proofs.Common.{◌≡◌, ◌+◌, ◌++◌, ℕ, List, [], ◌∷◌, Some, refl, sym, ap, ◌∙◌}
 use Rattle.flat_design.specs.Sound.{SoundDesign}
 use Rattle.flat_design.specs.declared.design.Design.{Design}
-use Rattle.laws_unwinding.specs.SimModel.Configuration.{Config, arena, start}
-use Rattle.laws_unwinding.specs.SimModel.Clean.{CleanProcesses}
-use Rattle.laws_unwinding.specs.SimModel.Steps.{went, takes, step, taking}
-use Rattle.laws_unwinding.specs.SimModel.Runs.{after, and_then, took}
-use Rattle.laws_unwinding.specs.SimModel.declared.plain.Command.{Command}
-use Rattle.laws_unwinding.proofs.LawsRuns.Splits.{joined}
-use Rattle.laws_unwinding.proofs.LawsRuns.CleanRuns.{good-after, clean-after}
-use Rattle.laws_unwinding.proofs.LawsRuns.Steps.{Good}
-use Rattle.laws_unwinding.specs.Goals.{CleanGoals}
-use Rattle.laws_unwinding.proofs.Moves.{Sound}
-use Rattle.laws_unwinding.proofs.Steps.{start-sound}
-use Rattle.laws_unwinding.proofs.Runs.{goals-after}
-use Rattle.laws_unwinding.proofs.Parts.{IsKept, IsKeptBetween, IsKeptByTakings}
-use Rattle.laws_unwinding.proofs.KeptRuns.{sound-run, kept-after}
+use Rattle.laws_runs.specs.SimModel.Configuration.{Config, arena, start}
+use Rattle.laws_runs.specs.SimModel.Clean.{CleanProcesses}
+use Rattle.laws_runs.specs.SimModel.Steps.{went, takes, step, taking}
+use Rattle.laws_runs.specs.SimModel.Runs.{after, and_then, took}
+use Rattle.laws_runs.specs.SimModel.declared.plain.Command.{Command}
+use Rattle.laws_runs.proofs.Splits.{joined}
+use Rattle.laws_runs.proofs.CleanRuns.{good-after, clean-after}
+use Rattle.laws_runs.proofs.StepsFit.{Good}
+use Rattle.laws_runs.specs.Goals.{CleanGoals}
+use Rattle.laws_runs.proofs.GoalMoves.{Sound}
+use Rattle.laws_runs.proofs.GoalSteps.{start-sound}
+use Rattle.laws_runs.proofs.GoalRuns.{goals-after}
+use Rattle.laws_runs.proofs.GoalParts.{IsKept, IsKeptBetween, IsKeptByTakings}
+use Rattle.laws_runs.proofs.KeptRuns.{sound-run, kept-after}
 use Rattle.laws_reached.specs.Reached.{IsReached, GoesOn}
 
 -- ---- from one configuration to the next

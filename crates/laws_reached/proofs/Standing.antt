@@ -2,10 +2,10 @@
 use Rattle.std.proofs.Common.{◌≡◌, ◌+◌, ℕ, Bool, true, false, List, [], ◌∷◌, reverse, Option, Some, None, refl, sym, ap, ◌∙◌, subst, arith, true≢false}
 use Rattle.std.specs.Prelude.{is_some, unwrap_or}
 use Rattle.std.proofs.lemmas.List.{reverse-append, reverse-reverse}
-use Rattle.laws_unwinding.specs.SimModel.Configuration.{Config, Instance, instance_at}
-use Rattle.laws_unwinding.specs.SimModel.Waits.{holds}
-use Rattle.laws_unwinding.specs.SimModel.Clean.{times, CleanProcesses}
-use Rattle.laws_unwinding.proofs.LawsRuns.Times.{times-here, times-lacks}
+use Rattle.laws_runs.specs.SimModel.Configuration.{Config, Instance, instance_at}
+use Rattle.laws_runs.specs.SimModel.Waits.{holds}
+use Rattle.laws_runs.specs.SimModel.Clean.{times, CleanProcesses}
+use Rattle.laws_runs.proofs.Times.{times-here, times-lacks}
 use Rattle.kernel_phases.specs.KernelProcesses.Seen.{shown_at, is_on}
 use Rattle.kernel_phases.specs.KernelProcesses.Seen.{body_at as kept_at}
 use Rattle.kernel_phases.specs.KernelState.Processes.{beside, IsLive, TellsBy, Tells}

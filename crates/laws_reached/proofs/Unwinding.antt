@@ -4,16 +4,16 @@ use Rattle.flat_design.specs.Code as code
 use Rattle.flat_design.specs.Code.{arena_of, statement_at}
 use Rattle.flat_design.specs.Sound.{SoundDesign}
 use Rattle.flat_design.specs.declared.design.Design.{Design}
-use Rattle.laws_unwinding.specs.SimModel.Residual as residual
-use Rattle.laws_unwinding.specs.SimModel.Residual.{Residual, settle, next_of, has_goal}
-use Rattle.laws_unwinding.specs.SimModel.Configuration.{Config}
+use Rattle.laws_runs.specs.SimModel.Residual as residual
+use Rattle.laws_runs.specs.SimModel.Residual.{Residual, settle, next_of, has_goal}
+use Rattle.laws_runs.specs.SimModel.Configuration.{Config}
 use Rattle.kernel_phases.proofs.KernelBodies.Strips.{strip-settle, strip-next, strip-has_goal}
 use Rattle.kernel_phases.specs.ProcessBodies.Bodies.{left_in, settled_in}
 use Rattle.kernel_phases.specs.KernelProcesses.Seen.{body_at as kept_at}
-use Rattle.laws_unwinding.specs.LawsRuns.Standing.{code_of, OfUnwindBlock, IsStanding, place_of}
-use Rattle.laws_unwinding.proofs.LawsRuns.Kept.{settle-standing}
-use Rattle.laws_unwinding.proofs.LawsRuns.Places.{next-standing}
-use Rattle.laws_unwinding.proofs.Fine.{fine-at}
+use Rattle.laws_runs.specs.Standing.{code_of, OfUnwindBlock, IsStanding, place_of}
+use Rattle.laws_runs.proofs.BodiesKept.{settle-standing}
+use Rattle.laws_runs.proofs.Places.{next-standing}
+use Rattle.laws_runs.proofs.Fine.{fine-at}
 use Rattle.kernel_phases.specs.KernelState.Kernel.{StandsFor}
 use Rattle.kernel_phases.specs.KernelState.declared.kernel.Kept.{Kept}
 use Rattle.kernel_phases.specs.KernelState.declared.kernel.Kernel.{Kernel}

@@ -2,9 +2,9 @@
 use Rattle.std.specs.Prelude.{◌≡◌, ◌+◌, ◌++◌, ℕ, false, List, Some}
 use Rattle.flat_design.specs.Sound.{SoundDesign}
 use Rattle.flat_design.specs.declared.design.Design.{Design}
-use Rattle.laws_unwinding.specs.SimModel.Configuration.{Config, start}
-use Rattle.laws_unwinding.specs.SimModel.Runs.{after}
-use Rattle.laws_unwinding.specs.SimModel.declared.plain.Command.{Command}
+use Rattle.laws_runs.specs.SimModel.Configuration.{Config, start}
+use Rattle.laws_runs.specs.SimModel.Runs.{after}
+use Rattle.laws_runs.specs.SimModel.declared.plain.Command.{Command}
 
 -- a run of a sound design comes to this configuration
 pub record IsReached (c : Config) : Type 0 where

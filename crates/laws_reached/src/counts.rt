@@ -1,7 +1,7 @@
 //! Numbers that a run bounds.
 ghost use Rattle.std.specs.Prelude.{◌≡◌, ◌≤◌, ◌<◌, ◌+◌, ◌-◌, ◌^◌, ℕ, All, length};
 ghost use Rattle.flat_design.specs.declared.design.SemaphorePart.{SemaphorePart};
-ghost use Rattle.laws_unwinding.specs.SimModel.Configuration.{Config};
+ghost use Rattle.laws_runs.specs.SimModel.Configuration.{Config};
 ghost use Rattle.kernel_phases.specs.KernelState.Kernel.{StandsFor};
 ghost use Rattle.kernel_phases.specs.KernelState.declared.kernel.Kernel.{Kernel};
 ghost use Rattle.laws_reached.specs.Reached.{IsReached};

@@ -1,8 +1,8 @@
 //! The design of a kernel in a run.
 ghost use Rattle.std.specs.Prelude.{◌≡◌, ◌<◌, ◌-◌, ◌^◌, ℕ, Some, false};
 ghost use Rattle.flat_design.specs.Sound.{SoundDesign};
-ghost use Rattle.laws_unwinding.specs.SimModel.Configuration.{Config};
-ghost use Rattle.laws_unwinding.specs.SimModel.Steps.{step, went, takes, taking};
+ghost use Rattle.laws_runs.specs.SimModel.Configuration.{Config};
+ghost use Rattle.laws_runs.specs.SimModel.Steps.{step, went, takes, taking};
 ghost use Rattle.kernel_phases.specs.KernelState.Kernel.{StandsFor, whole_design};
 ghost use Rattle.kernel_phases.specs.KernelState.declared.kernel.Kernel.{Kernel};
 ghost use Rattle.exec_control.specs.ExecData.Written.{NamesFit};

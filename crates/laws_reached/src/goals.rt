@@ -2,7 +2,7 @@
 ghost use Rattle.std.specs.Prelude.{◌≡◌, ℕ, Some};
 ghost use Rattle.flat_design.specs.Code as code;
 ghost use Rattle.flat_design.specs.Code.{arena_of, statement_at};
-ghost use Rattle.laws_unwinding.specs.SimModel.Configuration.{Config};
+ghost use Rattle.laws_runs.specs.SimModel.Configuration.{Config};
 ghost use Rattle.kernel_phases.specs.KernelState.Kernel.{StandsFor};
 ghost use Rattle.kernel_phases.specs.KernelState.declared.kernel.Kernel.{Kernel};
 ghost use Rattle.exec_control.specs.ExecData.Entered.{Shows};

@@ -1,10 +1,10 @@
 //! Who is runnable and who is active, in a kernel and in the configuration that it stands for.
 ghost use Rattle.std.specs.Prelude.{◌≡◌, ◌≤◌, ◌↔◌, ℕ, List, [], ◌∷◌};
 ghost use Rattle.std.specs.FinSet as set;
-ghost use Rattle.laws_unwinding.specs.SimModel.Clean.{times};
-ghost use Rattle.laws_unwinding.specs.SimModel.Configuration.{Config};
-ghost use Rattle.laws_unwinding.specs.SimModel.Steps.{step, takes};
-ghost use Rattle.laws_unwinding.specs.SimModel.Waits.{holds};
+ghost use Rattle.laws_runs.specs.SimModel.Clean.{times};
+ghost use Rattle.laws_runs.specs.SimModel.Configuration.{Config};
+ghost use Rattle.laws_runs.specs.SimModel.Steps.{step, takes};
+ghost use Rattle.laws_runs.specs.SimModel.Waits.{holds};
 ghost use Rattle.kernel_phases.specs.KernelState.Kernel.{StandsFor};
 ghost use Rattle.kernel_phases.specs.KernelState.Moves.{IsOnTop, Lives};
 ghost use Rattle.kernel_phases.specs.KernelState.declared.kernel.Kernel.{Kernel};

@@ -2,9 +2,9 @@
 ghost use Rattle.std.specs.Prelude.{◌≡◌, ℕ, List, [], ◌∷◌, Some, false};
 ghost use Rattle.flat_design.specs.Sound.{SoundDesign};
 ghost use Rattle.flat_design.specs.declared.design.Design.{Design};
-ghost use Rattle.laws_unwinding.specs.SimModel.Configuration.{Config, start};
-ghost use Rattle.laws_unwinding.specs.SimModel.Steps.{step, went, takes, taking};
-ghost use Rattle.laws_unwinding.specs.SimModel.declared.plain.Command.{Command};
+ghost use Rattle.laws_runs.specs.SimModel.Configuration.{Config, start};
+ghost use Rattle.laws_runs.specs.SimModel.Steps.{step, went, takes, taking};
+ghost use Rattle.laws_runs.specs.SimModel.declared.plain.Command.{Command};
 ghost use Rattle.laws_reached.specs.Reached.{IsReached, GoesOn};
 
 /// A run of a sound design comes to the configuration before the first command by no step.

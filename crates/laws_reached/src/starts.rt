@@ -1,7 +1,7 @@
 //! The start of the first run.
 ghost use Rattle.std.specs.Prelude.{◌≡◌};
-ghost use Rattle.laws_unwinding.specs.SimModel.Configuration.{Config};
-ghost use Rattle.laws_unwinding.specs.SimModel.declared.plain.Phase.TheVariants as phase;
+ghost use Rattle.laws_runs.specs.SimModel.Configuration.{Config};
+ghost use Rattle.laws_runs.specs.SimModel.declared.plain.Phase.TheVariants as phase;
 ghost use Rattle.kernel_phases.specs.KernelState.Kernel.{StandsFor};
 ghost use Rattle.kernel_phases.specs.KernelState.declared.kernel.Kernel.{Kernel};
 ghost use Rattle.kernel_phases.specs.Fresh.{IsFresh};

@@ -9,10 +9,10 @@ use Rattle.sim_model.specs.Runs.{took, and_then, after}
 use Rattle.sim_model.specs.Clean.{places, IsLive, IsFree, CleanProcesses}
 use Rattle.sim_model.specs.declared.plain.Command.{Command}
 use Rattle.laws_runs.proofs.Times.{times-holds}
-use Rattle.laws_runs.proofs.Fits.{nowhere-if, clean-from_fits}
-use Rattle.laws_runs.proofs.Start.{first-fits}
+use Rattle.laws_runs.proofs.InstancesFit.{nowhere-if, clean-from_fits}
+use Rattle.laws_runs.proofs.RunStart.{first-fits}
 use Rattle.laws_runs.proofs.Parents.{HaveParents, step-parents, taking-parents, first-parents}
-use Rattle.laws_runs.proofs.Steps.{Good, IfWent, step-good, taking-good, taken-runnable}
+use Rattle.laws_runs.proofs.StepsFit.{Good, IfWent, step-good, taking-good, taken-runnable}
 
 -- ---- the induction, for any P that each step and each taking keeps
 

@@ -15,15 +15,15 @@ use Rattle.sim_model.specs.Phases.{is_zero_timeout, is_due_at}
 use Rattle.sim_model.specs.Clean.{times, IsFree}
 use Rattle.sim_model.specs.declared.plain.Goal.TheVariants as goal_of
 use Rattle.sim_model.specs.declared.plain.Via.{Via}
-use Rattle.laws_moves.specs.Moves as move
-use Rattle.laws_moves.specs.Moves.{made, with_suspended, with_resumed, turn_taken}
-use Rattle.laws_moves.proofs.Kept.{EachKeeps}
+use Rattle.laws_runs.specs.Moves as move
+use Rattle.laws_runs.specs.Moves.{made, with_suspended, with_resumed, turn_taken}
+use Rattle.laws_runs.proofs.MovesKeep.{EachKeeps}
 use Rattle.laws_runs.proofs.Times.{times-here, times-other, times-cut_here, times-cut_other, times-last_here, times-last_other, times-holds, times-lacks, times-drop}
 use Rattle.laws_runs.proofs.Changes.{change-here, change-other, last-here, last-other, past-end}
-use Rattle.laws_runs.proofs.Fits.{Stands, Fits, AllFit, Moved, stands-at, never, nowhere-if, stands-nowhere, stands-kept, stands-over, stands-free, moved-to, changed-move, alike-fits}
-use Rattle.laws_runs.proofs.Wakes.{woken-fits, struck-fits}
+use Rattle.laws_runs.proofs.InstancesFit.{Stands, Fits, AllFit, Moved, stands-at, never, nowhere-if, stands-nowhere, stands-kept, stands-over, stands-free, moved-to, changed-move, alike-fits}
+use Rattle.laws_runs.proofs.WokenFit.{woken-fits, struck-fits}
 use Rattle.laws_runs.proofs.PhaseMoves.{timeless-fits}
-use Rattle.laws_runs.proofs.Stacks.{and-left, top-is, off-stack}
+use Rattle.laws_runs.proofs.StackPlaces.{and-left, top-is, off-stack}
 
 -- ---- a live instance gets another residual
 

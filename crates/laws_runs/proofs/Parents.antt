@@ -17,12 +17,12 @@ use Rattle.sim_model.specs.Phases.{initialize_each}
 use Rattle.sim_model.specs.Steps.{Outcome, went, faulted, takes, ended, step, instance_taken, taken_if, taking}
 use Rattle.sim_model.specs.declared.plain.Command.{Command}
 use Rattle.sim_model.specs.declared.plain.Via.{Via}
-use Rattle.laws_moves.specs.Moves as move
-use Rattle.laws_moves.specs.Moves.{StepMoves, in_turn, between, initializing, moving_now}
-use Rattle.laws_moves.proofs.Kept.{EachKeeps, moves-keep}
-use Rattle.laws_moves.proofs.RunSteps.{step-moves}
+use Rattle.laws_runs.specs.Moves as move
+use Rattle.laws_runs.specs.Moves.{StepMoves, in_turn, between, initializing, moving_now}
+use Rattle.laws_runs.proofs.MovesKeep.{EachKeeps, moves-keep}
+use Rattle.laws_runs.proofs.RunSteps.{step-moves}
 use Rattle.laws_runs.proofs.Changes.{last-here, last-other}
-use Rattle.laws_runs.proofs.Steps.{IfWent}
+use Rattle.laws_runs.proofs.StepsFit.{IfWent}
 
 -- as many parents as instances, each a smaller serial
 abbrev pub HaveParents : Processes → Type 0

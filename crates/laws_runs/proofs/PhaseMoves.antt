@@ -9,8 +9,8 @@ use Rattle.sim_model.specs.Phases.{without_deadline, initialize_each}
 use Rattle.sim_model.specs.Clean.{times}
 use Rattle.laws_runs.proofs.Times.{times-last_here, times-last_other}
 use Rattle.laws_runs.proofs.Changes.{change-here, change-other}
-use Rattle.laws_runs.proofs.Fits.{Stands, Fits, AllFit, Moved, never, stands-free, moved-to}
-use Rattle.laws_runs.proofs.Start.{first_processes}
+use Rattle.laws_runs.proofs.InstancesFit.{Stands, Fits, AllFit, Moved, never, stands-free, moved-to}
+use Rattle.laws_runs.proofs.RunStart.{first_processes}
 
 -- ---- what is due fires together
 

@@ -11,7 +11,7 @@ use Rattle.sim_model.specs.declared.plain.Goal.{Goal}
 use Rattle.sim_model.specs.declared.plain.Via.{Via}
 use Rattle.laws_runs.specs.Standing.{code_of, IsUnwindBlock, OfBody, OfUnwindBlock, IsOverHop, IsOrdinary, IsUnwinding, IsStanding, place_of}
 use Rattle.laws_runs.proofs.Blocks.{each-weaker, handlers-weaker, unwind-block}
-use Rattle.laws_runs.proofs.Kept.{ordinary-standing, followed-ordinary, followed-standing}
+use Rattle.laws_runs.proofs.BodiesKept.{ordinary-standing, followed-ordinary, followed-standing}
 
 -- ---- what comes next inside a call, and before a goal
 

@@ -15,10 +15,10 @@ use Rattle.sim_model.specs.Control.{is_top}
 use Rattle.sim_model.specs.Phases.{initialize_each, unchanged, visible_value, visible_values}
 use Rattle.sim_model.specs.Steps.{went, step, instance_taken, taken_if, taking}
 use Rattle.sim_model.specs.declared.plain.Via.{Via}
-use Rattle.laws_moves.specs.Moves.{throwing, injecting, unwinding, spawning, StepMoves, in_turn, between, initializing, moving_now}
-use Rattle.laws_moves.proofs.Kept.{EachKeeps, moves-keep}
-use Rattle.laws_moves.proofs.RunSteps.{step-moves}
-use Rattle.laws_runs.specs.Added.{seen_at, added}
+use Rattle.laws_runs.specs.Moves.{throwing, injecting, unwinding, spawning, StepMoves, in_turn, between, initializing, moving_now}
+use Rattle.laws_runs.proofs.MovesKeep.{EachKeeps, moves-keep}
+use Rattle.laws_runs.proofs.RunSteps.{step-moves}
+use Rattle.laws_runs.specs.AddedStanding.{seen_at, added}
 
 -- ---- no move changes the design, the time or the snapshots
 

@@ -1,4 +1,3 @@
-pub use Rattle.sim_model.specs.FlatDesign.Blocking as Blocking
 pub use Rattle.sim_model.specs.FlatDesign.Code as Code
 pub use Rattle.sim_model.specs.FlatDesign.Denotes as Denotes
 pub use Rattle.sim_model.specs.FlatDesign.Reach as Reach

@@ -1,7 +1,4 @@
 pub use Rattle.sim_model.specs.LogicValues.Digits as Digits
 pub use Rattle.sim_model.specs.LogicValues.Integers as Integers
-pub use Rattle.sim_model.specs.LogicValues.LogicTables as LogicTables
-pub use Rattle.sim_model.specs.LogicValues.Planes as Planes
 pub use Rattle.sim_model.specs.LogicValues.SameValue as SameValue
-pub use Rattle.sim_model.specs.LogicValues.Vectors as Vectors
 pub use Rattle.sim_model.specs.LogicValues.declared as declared

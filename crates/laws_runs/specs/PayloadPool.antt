@@ -1,3 +1,2 @@
-pub use Rattle.sim_model.specs.PayloadPool.Payloads as Payloads
 pub use Rattle.sim_model.specs.PayloadPool.Transfer as Transfer
 pub use Rattle.sim_model.specs.PayloadPool.declared as declared

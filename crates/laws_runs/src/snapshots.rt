@@ -2,7 +2,7 @@
 ghost use Rattle.std.specs.Prelude.{◌≡◌, ◌++◌, ℕ, Some};
 ghost use Rattle.sim_model.specs.Configuration.{Config};
 ghost use Rattle.sim_model.specs.Steps.{step, went, taking};
-ghost use Rattle.laws_runs.specs.Added.{added};
+ghost use Rattle.laws_runs.specs.AddedStanding.{added};
 
 /// A step adds a snapshot exactly where it moves the simulated time, and one only: of the time before, with the values that are
 /// seen after it, for such a step changes none of them (IEEE 1666-2011, 4.2.1.5). So it is of every configuration, be it one that

@@ -1,9 +1,9 @@
 -- What is done directly is what the router does.
 use Rattle.std.proofs.Common.{◌≡◌, ℕ, ◌-◌, List, length, Option, Some, sym, ap, ◌∙◌}
 use Rattle.std.specs.Prelude.{option_map}
-use Rattle.dmi_map.specs.PayloadPool.declared.payload.Payload.{Payload}
-use Rattle.dmi_map.specs.PayloadPool.Transfer.{memory_after, status_of}
-use Rattle.bus_router.specs.AddressMap.declared.TargetRange.{TargetRange}
+use Rattle.bus_router.specs.PayloadPool.declared.payload.Payload.{Payload}
+use Rattle.bus_router.specs.PayloadPool.Transfer.{memory_after, status_of}
+use Rattle.bus_router.specs.DmiMap.declared.ranges.TargetRange.{TargetRange}
 use Rattle.bus_router.specs.TrafficFile.declared.Bus.{Bus}
 use Rattle.bus_router.specs.Times.{Table}
 use Rattle.bus_answers.specs.Answers.{IsServiceOrder, AreAnswers}

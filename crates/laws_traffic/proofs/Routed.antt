@@ -2,18 +2,18 @@
 use Rattle.std.proofs.Common.{◌≡◌, ℕ, ◌<◌, ◌↔◌, Bool, true, false, List, [], ◌∷◌, ◌++◌, length, get_or, refl, sym, ap, ◌∙◌, arith, true≢false}
 use Rattle.std.specs.Ordering.{int_eq}
 use Rattle.std.proofs.lemmas.List.Elements.{Contains-get_or}
-use Rattle.dmi_map.specs.PayloadPool.declared.payload.Payload.{Payload}
-use Rattle.dmi_map.specs.PayloadPool.declared.payload.TheConstants.{OK}
-use Rattle.dmi_map.specs.declared.grants.Region.{Region}
+use Rattle.bus_router.specs.PayloadPool.declared.payload.Payload.{Payload}
+use Rattle.bus_router.specs.PayloadPool.declared.payload.TheConstants.{OK}
+use Rattle.bus_router.specs.DmiMap.declared.grants.Region.{Region}
 use Rattle.bus_router.specs.TrafficFile.declared.Bus.{Bus}
 use Rattle.bus_router.specs.TrafficFile.Traffic.{CanRun, initiator_of}
 use Rattle.bus_router.specs.declared.rows.BusRow.{BusRow}
 use Rattle.bus_router.specs.Times.{Table, row_at, IsAt, IsHeld, Timed, IsTableOf}
 use Rattle.bus_answers.specs.Answers.{IsOf, payload_at, AreAnswers}
-use Rattle.bus_grants.specs.Leaving.{AreLeft}
-use Rattle.bus_pools.specs.Pools.{payload_with}
-use Rattle.bus_text.specs.Lines.{access_line, mark_text, access_head, status_word, data_text, end_line}
-use Rattle.bus_text.proofs.OneText.{same_pieces}
+use Rattle.bus_router.specs.Leaving.{AreLeft}
+use Rattle.bus_answers.specs.Pools.{payload_with}
+use Rattle.result_texts.specs.Lines.{access_line, mark_text, access_head, status_word, data_text, end_line}
+use Rattle.result_texts.proofs.OneText.{same_pieces}
 use Rattle.bus_runs.specs.Runs.{IsRunText}
 use Rattle.bus_runs.proofs.OneRun.{with_at}
 use Rattle.laws_traffic.specs.Routed.{NoneKeeps, AllRouted, IsRoutedTable, AreRoutedAnswers, plain_line, IsRoutedText}

@@ -3,8 +3,8 @@ use Rattle.std.proofs.Common.{◌≡◌, ◌≢◌, ℕ, zero, suc, ◌<◌, ◌
 use Rattle.std.proofs.lemmas.Bool.{cases_lt, cases_order}
 use Rattle.std.proofs.lemmas.Bool.Decides.{nat_tests}
 use Rattle.std.proofs.lemmas.List.Elements.{Contains-get_or}
-use Rattle.place_order.specs.declared.Rank.{Rank}
-use Rattle.place_order.specs.Ranks.{is_before}
+use Rattle.bus_router.specs.DmiMap.declared.order.Rank.{Rank}
+use Rattle.bus_router.specs.DmiMap.Ranks.{is_before}
 use Rattle.bus_router.specs.TrafficFile.declared.Bus.{Bus}
 use Rattle.bus_router.specs.declared.rows.BusRow.{BusRow}
 use Rattle.bus_router.specs.Times.{Table, IsAt, IsBeforeAt, Earlier, Timed}

@@ -10,18 +10,18 @@ use Rattle.std.proofs.lemmas.Bool.{and_parts, leb-true, eqb-true}
 use Rattle.std.proofs.lemmas.Bool.Decides.{Decides-int_eq}
 use Rattle.std.proofs.lemmas.List.{get_or_default, length-replicate}
 use Rattle.std.proofs.lemmas.List.Folds.{list_all_at}
-use Rattle.dmi_map.specs.PayloadPool.declared.payload.Payload.{Payload}
-use Rattle.dmi_map.specs.PayloadPool.declared.payload.TheConstants.{READ, WRITE, IGNORE, OK, ADDRESS, BURST, BYTE_ENABLE}
-use Rattle.dmi_map.specs.PayloadPool.Transfer.{address_of, leaves, status_of}
-use Rattle.dmi_map.specs.Accesses.{seen_from, memory_accessed}
-use Rattle.dmi_map.proofs.PayloadPool.LawLemmas.{place-done, cause-address, length-memory}
-use Rattle.bus_router.specs.AddressMap.declared.TargetRange.{TargetRange}
-use Rattle.bus_router.specs.AddressMap.Ranges.{has, range_of, is_range, AreApart}
+use Rattle.bus_router.specs.PayloadPool.declared.payload.Payload.{Payload}
+use Rattle.bus_router.specs.PayloadPool.declared.payload.TheConstants.{READ, WRITE, IGNORE, OK, ADDRESS, BURST, BYTE_ENABLE}
+use Rattle.bus_router.specs.PayloadPool.Transfer.{address_of, leaves, status_of}
+use Rattle.bus_router.specs.DmiMap.Accesses.{seen_from, memory_accessed}
+use Rattle.bus_router.proofs.PayloadPool.LawLemmas.{place-done, cause-address, length-memory}
+use Rattle.bus_router.specs.DmiMap.declared.ranges.TargetRange.{TargetRange}
+use Rattle.bus_router.specs.DmiMap.Ranges.{has, range_of, is_range, AreApart}
 use Rattle.bus_router.specs.TrafficFile.declared.Bus.{Bus}
 use Rattle.bus_router.specs.TrafficFile.Traffic.{CanRun, line_at, target_at, range_of_line, home_of}
-use Rattle.bus_router.specs.TrafficWords.Words.{length_of}
-use Rattle.bus_router.specs.TrafficWords.declared.BusAction.{BusAction}
-use Rattle.bus_router.specs.TrafficWords.declared.BusAction.TheVariants.{Get, Put}
+use Rattle.bus_router.specs.TextLines.Words.{length_of}
+use Rattle.bus_router.specs.TextLines.declared.actions.BusAction.{BusAction}
+use Rattle.bus_router.specs.TextLines.declared.actions.BusAction.TheVariants.{Get, Put}
 use Rattle.bus_router.specs.Times.{Table}
 use Rattle.bus_router.proofs.Held.{home_there, place_of_found}
 use Rattle.bus_answers.specs.Answers.{asked_by, asked, low_of, memory_from, memory_behind, payload_at, AreAnswers}

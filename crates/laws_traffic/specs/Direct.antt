@@ -1,10 +1,10 @@
 -- What the router does with an access, beside what is done directly.
 use Rattle.std.specs.Prelude.{◌≡◌, ℕ, List, Some, length}
-use Rattle.dmi_map.specs.PayloadPool.declared.payload.Payload.{Payload}
-use Rattle.dmi_map.specs.PayloadPool.Transfer.{carried, memory_after, status_of}
-use Rattle.dmi_map.specs.Accesses.{accessed, memory_accessed, status_there}
-use Rattle.bus_router.specs.AddressMap.declared.TargetRange.{TargetRange}
-use Rattle.bus_router.specs.AddressMap.Ranges.{range_with, found_at}
+use Rattle.bus_router.specs.PayloadPool.declared.payload.Payload.{Payload}
+use Rattle.bus_router.specs.PayloadPool.Transfer.{carried, memory_after, status_of}
+use Rattle.bus_router.specs.DmiMap.Accesses.{accessed, memory_accessed, status_there}
+use Rattle.bus_router.specs.DmiMap.declared.ranges.TargetRange.{TargetRange}
+use Rattle.bus_router.specs.DmiMap.Ranges.{range_with, found_at}
 
 -- the payload as the router hands it to a target: its address is the offset that the map has for it
 abbrev pub handed : ℕ → Payload → Payload

@@ -3,17 +3,17 @@
 use Rattle.std.specs.Prelude.{◌≡◌, ℕ, ◌+◌, ◌<◌, ◌↔◌, false, List, ◌++◌, None, length, take, codes, max, Contains, slice_index}
 use Rattle.std.specs.List.{flat_map}
 use Rattle.std.specs.Ordering.{int_eq}
-use Rattle.place_order.specs.declared.Rank.{Rank}
-use Rattle.place_order.specs.Ranks.{AreInOrder}
-use Rattle.dmi_map.specs.PayloadPool.declared.payload.Payload.{Payload}
-use Rattle.dmi_map.specs.PayloadPool.declared.payload.TheConstants.{ADDRESS, OK}
-use Rattle.dmi_map.specs.Accesses.{accessed}
+use Rattle.bus_router.specs.DmiMap.declared.order.Rank.{Rank}
+use Rattle.bus_router.specs.DmiMap.Ranks.{AreInOrder}
+use Rattle.bus_router.specs.PayloadPool.declared.payload.Payload.{Payload}
+use Rattle.bus_router.specs.PayloadPool.declared.payload.TheConstants.{ADDRESS, OK}
+use Rattle.bus_router.specs.DmiMap.Accesses.{accessed}
 use Rattle.bus_router.specs.TrafficFile.declared.Bus.{Bus}
 use Rattle.bus_router.specs.TrafficFile.Traffic.{line_at, target_at, initiator_at, home_of}
 use Rattle.bus_router.specs.declared.rows.BusRow.{BusRow}
 use Rattle.bus_router.specs.Times.{Table, row_at, IsFirst, IsBefore, Earlier, IsNowhere, IsServed}
 use Rattle.bus_answers.specs.Answers.{IsOf, asked, low_of, memory_behind, payload_at}
-use Rattle.bus_text.specs.Lines.{access_head, status_word, data_text, end_line, IsReturnOrder}
+use Rattle.result_texts.specs.Lines.{access_head, status_word, data_text, end_line, IsReturnOrder}
 
 -- no initiator keeps grants
 abbrev pub NoneKeeps : Bus → Type 0

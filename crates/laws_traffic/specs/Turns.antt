@@ -1,6 +1,6 @@
 -- Accesses on a hop take turns, and which of them are OK.
 use Rattle.std.specs.Prelude.{◌≡◌, ℕ, ◌<◌, ◌≤◌, Some, length}
-use Rattle.bus_router.specs.AddressMap.declared.TargetRange.{TargetRange}
+use Rattle.bus_router.specs.DmiMap.declared.ranges.TargetRange.{TargetRange}
 use Rattle.bus_router.specs.TrafficFile.declared.Bus.{Bus}
 use Rattle.bus_router.specs.TrafficFile.Traffic.{line_at, initiator_of, range_of_line}
 use Rattle.bus_router.specs.Times.{Table, IsAt, Earlier, HoldsAll}

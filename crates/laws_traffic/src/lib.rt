@@ -2,16 +2,16 @@
 #![tactic(auto)]
 
 ghost use Rattle.std.specs.Prelude.{◌≡◌, ◌↔◌, ◌<◌, [], ℕ, List, length};
-ghost use Rattle.dmi_map.specs.PayloadPool.declared.payload.Payload.{Payload};
-ghost use Rattle.dmi_map.specs.PayloadPool.declared.payload.TheConstants.{OK};
-ghost use Rattle.dmi_map.specs.declared.grants.Region.{Region};
-ghost use Rattle.bus_router.specs.AddressMap.Ranges.{AreApart};
+ghost use Rattle.bus_router.specs.PayloadPool.declared.payload.Payload.{Payload};
+ghost use Rattle.bus_router.specs.PayloadPool.declared.payload.TheConstants.{OK};
+ghost use Rattle.bus_router.specs.DmiMap.declared.grants.Region.{Region};
+ghost use Rattle.bus_router.specs.DmiMap.Ranges.{AreApart};
 ghost use Rattle.bus_router.specs.TrafficFile.declared.Bus.{Bus};
 ghost use Rattle.bus_router.specs.TrafficFile.Traffic.{CanRun};
 ghost use Rattle.bus_router.specs.declared.rows.BusRow.{BusRow};
 ghost use Rattle.bus_router.specs.Times.{Table, row_at, IsTableOf};
 ghost use Rattle.bus_answers.specs.Answers.{payload_at, IsServiceOrder, AreAnswers};
-ghost use Rattle.bus_grants.specs.Leaving.{AreLeft};
+ghost use Rattle.bus_router.specs.Leaving.{AreLeft};
 ghost use Rattle.bus_runs.specs.Runs.{IsRunText};
 ghost use Rattle.laws_traffic.specs.Direct.{DirectIsAsRouted};
 ghost use Rattle.laws_traffic.specs.Turns.{TakeTurns, IsWhole};

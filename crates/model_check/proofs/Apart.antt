@@ -12,7 +12,7 @@ use Rattle.code_blocks.specs.Laid.{BeginsWith, Grows, OnlyFrom, StandsInside}
 use Rattle.code_blocks.proofs.Owned.{first_there, later_there}
 use Rattle.code_blocks.proofs.Only.{more_only, none_only, one_only}
 use Rattle.model_check.specs.Parts.{AreLaidApart, NoneInTwo, body_blocks}
-use Rattle.model_check.specs.LawsCode.OwnBlocks.{HaveOwnBlocks}
+use Rattle.code_blocks.specs.LawsCode.OwnBlocks.{HaveOwnBlocks}
 use Rattle.model_check.proofs.LaidLemmas.{begins_code}
 
 -- the body that there may be

@@ -10,7 +10,7 @@ use Rattle.flat_design.specs.declared.code.CodeBody.{CodeBody}
 use Rattle.code_rooms.specs.ModelRules.Scopes.{Scope, item_scope}
 use Rattle.code_rooms.specs.CodeRules.Deeds.{Home}
 use Rattle.code_rooms.specs.CodeRules.Bodies.{Source, source_of, around_item, body_count, IsBodyIf, AreBodies, AreModules}
-use Rattle.code_blocks.specs.LawsRules.HasCode.{BodyIfHasCode, ItemsHaveCode, ModulesHaveCode}
+use Rattle.code_blocks.specs.LawsCode.HasCode.{BodyIfHasCode, ItemsHaveCode, ModulesHaveCode}
 use Rattle.check_reach.specs.CheckNames.ModelNames.{module_items}
 use Rattle.code_blocks.specs.declared.laid.Laid.{Laid}
 use Rattle.model_check.specs.Parts.{AddsBodies, home_from}

@@ -7,7 +7,7 @@ use Rattle.flat_design.specs.declared.code.Local.{Local}
 use Rattle.code_rooms.specs.ModelRules.Meanings.{variable_type}
 use Rattle.code_rooms.specs.ModelRules.Scopes.{Scope, with_local, with_parameters}
 use Rattle.code_rooms.specs.CodeRules.Bodies.{LocalSource, AreLocals}
-use Rattle.code_blocks.specs.LawsRules.HasCode.{IsThere, LocalsHaveTypes}
+use Rattle.code_blocks.specs.LawsCode.HasCode.{IsThere, LocalsHaveTypes}
 
 -- the elements of a list from one on, each seen by f
 pub next_seen_at : {X Y : Type 0} (f : X → Y) (xs : List X) (i : ℕ) (d : X) → i < length xs → map f (drop i xs) ≡ f (get_or xs i d) ∷ map f (drop (i + 1) xs)

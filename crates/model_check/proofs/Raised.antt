@@ -5,7 +5,7 @@ use Rattle.flat_design.specs.Reach.{Inside, itself, deeper, Holds, IsIn}
 use Rattle.flat_design.specs.declared.code.Code.{Code}
 use Rattle.flat_design.specs.declared.code.CodeBody.{CodeBody}
 use Rattle.model_check.specs.Parts.{AllStand}
-use Rattle.model_check.specs.LawsCode.OwnBlocks.{HaveOwnBlocks}
+use Rattle.code_blocks.specs.LawsCode.OwnBlocks.{HaveOwnBlocks}
 
 -- each statement of a block still stands in a body
 module _

@@ -3,7 +3,7 @@ ghost use Rattle.model_tree.specs.Views.{function_of, modules_of, process_of};
 ghost use Rattle.flat_design.specs.Reach.{Inside};
 ghost use Rattle.code_rooms.specs.CodeRules.Bodies as bodies;
 ghost use Rattle.code_rooms.specs.CodeRules.Bodies.{IsBody};
-ghost use Rattle.code_blocks.specs.LawsRules.HasCode.{BodyHasCode, IsThere};
+ghost use Rattle.code_blocks.specs.LawsCode.HasCode.{BodyHasCode, IsThere};
 ghost use Rattle.code_blocks.specs.CodeTerms.Names.{body_names};
 ghost use Rattle.code_blocks.specs.CodeDeeds.Homes.{home_of};
 ghost use Rattle.code_rooms.specs.ModelRules.Meanings.{declarations};

@@ -4,7 +4,7 @@ ghost use Rattle.model_tree.specs.Views.{item_of, modules_of};
 ghost use Rattle.flat_design.specs.Reach.{Inside};
 ghost use Rattle.flat_design.specs.declared.code.CodeBody.{CodeBody};
 ghost use Rattle.code_rooms.specs.CodeRules.Bodies.{AreBodies, IsBodyIf, around_item, source_of};
-ghost use Rattle.code_blocks.specs.LawsRules.HasCode.{BodyIfHasCode, ItemsHaveCode};
+ghost use Rattle.code_blocks.specs.LawsCode.HasCode.{BodyIfHasCode, ItemsHaveCode};
 ghost use Rattle.code_blocks.specs.CodeTerms.Names.{body_names};
 ghost use Rattle.code_blocks.specs.CodeDeeds.Homes.{home_of};
 ghost use Rattle.code_rooms.specs.ModelRules.Scopes.{item_scope};

@@ -2,7 +2,7 @@ ghost use Rattle.std.specs.Prelude.{◌≡◌, Some, IfOk};
 ghost use Rattle.code_rooms.specs.ModelRules.Meanings.{variable_type as type_in};
 ghost use Rattle.code_blocks.specs.CodeTerms.Sources.{sources_of};
 ghost use Rattle.code_rooms.specs.CodeRules.Bodies.{AreLocals, IsAnswer};
-ghost use Rattle.code_blocks.specs.LawsRules.HasCode.{AnswerHasType, IsThere, LocalsHaveTypes};
+ghost use Rattle.code_blocks.specs.LawsCode.HasCode.{AnswerHasType, IsThere, LocalsHaveTypes};
 
 use check_reach::check_names_api::variable_type;
 use code_blocks::code_terms_api::Source;

@@ -9,9 +9,8 @@ use crate::judge_rules;
 use model_tree::sim_time_api::Resolution;
 use model_tree::{CheckStop, Tree};
 use std::alloc::Global;
-use tick_rules::tick_faults_api::first_unfit;
-use tick_rules::tick_models_api::with_ticks;
-use tick_rules::{judge_resolution, resolution_of, told_fault};
+use tick_rules::tick_trees_api::first_unfit;
+use tick_rules::{judge_resolution, resolution_of, told_fault, with_ticks};
 
 /// The tree of ticks at a resolution of a tree that breaks no rule.
 fn judge_ticks(alloc: Global, tree: Tree, resolution: Resolution) -> Result<Tree, CheckStop>

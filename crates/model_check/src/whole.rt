@@ -2,11 +2,11 @@ ghost use Rattle.std.specs.Prelude.{◌≡◌, ◌<◌, [], IfOk, OnOk, get_or, 
 ghost use Rattle.model_tree.specs.Seen.{model_of};
 ghost use Rattle.model_tree.specs.Views.{module_of, modules_of};
 ghost use Rattle.code_rooms.specs.CodeRules.Bodies.{AreBodies, AreModules, IsCodeOf};
-ghost use Rattle.code_blocks.specs.LawsRules.HasCode.{ItemsHaveCode, ModelHasCode, ModulesHaveCode};
+ghost use Rattle.code_blocks.specs.LawsCode.HasCode.{ItemsHaveCode, ModelHasCode, ModulesHaveCode};
 ghost use Rattle.check_reach.specs.CheckNames.ModelNames.{module_items};
 ghost use Rattle.code_blocks.specs.Laid.{EachFrom, FromNowOn, Grows, IsNested, StandsInside};
 ghost use Rattle.model_check.specs.Parts.{AddsBodies, AllStand, AreLaidApart, IsNestedCode, body_blocks, home_from};
-ghost use Rattle.model_check.specs.LawsCode.OwnBlocks.{HaveOwnBlocks};
+ghost use Rattle.code_blocks.specs.LawsCode.OwnBlocks.{HaveOwnBlocks};
 
 use super::bodies::in_32_bits;
 use super::items::add_items;

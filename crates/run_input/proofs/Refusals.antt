@@ -19,10 +19,10 @@ use Rattle.run_input.specs.Refused.{HasTextFault, IfModelFault}
 use Rattle.run_input.specs.declared.judging.ModelStop.{ModelStop}
 use Rattle.run_input.specs.declared.judging.JudgeStop.{JudgeStop}
 use Rattle.run_input.specs.declared.judging.JudgeStop.TheVariants as judge_stop
-use Rattle.refusal_lines.specs.declared.refusals.ModelFault.{ModelFault}
-use Rattle.refusal_lines.specs.declared.refusals.ModelFault.TheVariants as model_fault
-use Rattle.refusal_lines.specs.declared.refusals.ScriptFault.{ScriptFault}
-use Rattle.refusal_lines.specs.declared.refusals.ScriptFault.TheVariants as script_fault
+use Rattle.result_texts.specs.declared.refusals.ModelFault.{ModelFault}
+use Rattle.result_texts.specs.declared.refusals.ModelFault.TheVariants as model_fault
+use Rattle.result_texts.specs.declared.refusals.ScriptFault.{ScriptFault}
+use Rattle.result_texts.specs.declared.refusals.ScriptFault.TheVariants as script_fault
 
 is_some : {T : Type 0} (found : Option T) (x : T) → found ≡ Some x → IsSome found
 is_some None x e = cc

@@ -6,7 +6,7 @@ use Rattle.script_text.specs.ModelLexer.Reads.{Reads}
 use Rattle.elaborate.specs.TickRules.Sources.{resolution_of, source_fault, ticked}
 use Rattle.elaborate.specs.DesignRules.Designs.{IsDesignOf}
 use Rattle.elaborate.specs.Elaborated.{elaboration_fault}
-use Rattle.elaborate.specs.ModelCheck.OwnBlocks.{HaveOwnBlocks}
+use Rattle.elaborate.specs.LawsCode.OwnBlocks.{HaveOwnBlocks}
 use Rattle.flat_design.specs.Sound.{SoundDesign}
 use Rattle.flat_design.specs.declared.design.Design.{Design}
 use Rattle.flat_design.specs.declared.design.SemaphorePart.{SemaphorePart}
@@ -18,10 +18,10 @@ use Rattle.script_text.specs.declared.forms.TextCommand.{TextCommand}
 use Rattle.script_text.specs.ChoiceList.{read_choices}
 use Rattle.model_print.specs.Printed.{printed_text}
 use Rattle.run_input.specs.Together.{Together}
-use Rattle.refusal_lines.specs.declared.refusals.ModelFault.{ModelFault}
-use Rattle.refusal_lines.specs.declared.refusals.ModelFault.TheVariants as model_fault
-use Rattle.refusal_lines.specs.declared.refusals.ScriptFault.{ScriptFault}
-use Rattle.refusal_lines.specs.declared.refusals.ScriptFault.TheVariants as script_fault
+use Rattle.result_texts.specs.declared.refusals.ModelFault.{ModelFault}
+use Rattle.result_texts.specs.declared.refusals.ModelFault.TheVariants as model_fault
+use Rattle.result_texts.specs.declared.refusals.ScriptFault.{ScriptFault}
+use Rattle.result_texts.specs.declared.refusals.ScriptFault.TheVariants as script_fault
 use Rattle.expanded_text.specs.Becomes.{Becomes}
 
 -- the model has clocked threads, and the text that it becomes reads as this tree

@@ -3,4 +3,4 @@ pub mod Together
 pub mod Loaded
 pub mod Judged
 pub mod Refused
-pub mod RefusalLines
+pub mod ResultTexts

@@ -4,8 +4,8 @@ use Rattle.model_tree.specs.Tree as tree
 use Rattle.flat_design.specs.declared.design.Design.{Design}
 use Rattle.run_input.specs.Judged.{Accepts, AcceptsModel, HasModelFault, HasReplayFault, HasScriptFault, IsDesignOfSource}
 use Rattle.script_text.specs.SimModel.declared.plain.Command.{Command}
-use Rattle.refusal_lines.specs.declared.refusals.ModelFault.{ModelFault}
-use Rattle.refusal_lines.specs.declared.refusals.ScriptFault.{ScriptFault}
+use Rattle.result_texts.specs.declared.refusals.ModelFault.{ModelFault}
+use Rattle.result_texts.specs.declared.refusals.ScriptFault.{ScriptFault}
 use Rattle.run_input.specs.declared.judging.ModelStop.{ModelStop}
 use Rattle.run_input.specs.declared.judging.ModelStop.TheVariants as model_stop
 use Rattle.run_input.specs.declared.judging.ScriptStop.{ScriptStop}

@@ -13,7 +13,7 @@ use expanded_text::{expand_text, one_reading};
 use flat_design::{Choices, Design};
 use model_parser::parse;
 use model_tree::{CheckStop, ParseStop, Tree};
-use refusal_lines::{ModelFault, ScriptFault};
+use result_texts::{ModelFault, ScriptFault};
 use script_text::{Script, choice_list, commands, name_all};
 use std::alloc::Global;
 

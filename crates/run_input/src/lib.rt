@@ -11,12 +11,12 @@ pub use laws::{one_cause, one_source};
 pub use laying::laid_out;
 pub use loading::{LoadStop, MODEL_LIMIT, REPLAY_LIMIT, SCRIPT_LIMIT, Texts, load, load_model};
 
-/// What is passed on of refusal_lines.
-pub mod refusal_lines_api {
-    pub use refusal_lines::{Refusal, memory_line, refusal_line, write_line};
-}
-
 /// What is passed on of script_text.
 pub mod script_text_api {
     pub use script_text::Script;
+}
+
+/// What is passed on of result_texts.
+pub mod result_texts_api {
+    pub use result_texts::{Refusal, memory_line, refusal_line, write_line};
 }

@@ -24,7 +24,7 @@ use Rattle.laws_reached.specs.KernelPhases.Own.{ChoosesItself}
 use Rattle.kernel_start.specs.KernelState.declared.kernel.Kernel.{Kernel}
 use Rattle.kernel_start.specs.KernelState.Kernel.{StandsFor}
 use Rattle.laws_reached.specs.Reached.{IsReached}
-use Rattle.vcd_trace.specs.LawsRuns.Added.{added}
+use Rattle.vcd_trace.specs.LawsRuns.AddedStanding.{added}
 use Rattle.vcd_trace.specs.Traced.{trace_so_far, Keeps}
 use Rattle.vcd_trace.specs.declared.tracing.Tracing.{Tracing}
 use Rattle.kernel_runs.specs.Made.{StepsOn, GoesTo, TookTo, TookIt, IsFault, IsUntaken, IsOver, TellsOf, told_by_show}

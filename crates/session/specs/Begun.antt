@@ -4,7 +4,7 @@ use Rattle.flat_design.specs.declared.design.SemaphorePart.{SemaphorePart}
 use Rattle.vcd_trace.specs.SimModel.Configuration.{Config}
 use Rattle.vcd_trace.specs.SimModel.Steps.{step, went, takes, taking}
 use Rattle.vcd_trace.specs.SimModel.declared.plain.Command.{Command}
-use Rattle.vcd_trace.specs.LawsRuns.Added.{added}
+use Rattle.vcd_trace.specs.LawsRuns.AddedStanding.{added}
 use Rattle.laws_reached.specs.Reached.{IsReached}
 use Rattle.kernel_runs.specs.Made.{NoDoubles}
 use Rattle.kernel_start.specs.KernelState.Kernel.{StandsFor}

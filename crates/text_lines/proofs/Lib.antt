@@ -1,2 +1,4 @@
 pub mod CutLemmas
+pub mod Ranges
+pub mod FormRanges
 pub mod ModelLexer

@@ -1,5 +1,7 @@
 pub mod Lines
 pub mod Pieces
+pub mod Words
+pub mod LineForms
 pub mod ModelLexer
 pub mod ModelGrammar
 pub mod ModelTree

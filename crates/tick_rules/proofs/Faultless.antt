@@ -4,7 +4,7 @@ use Rattle.std.specs.Option.{option_or}
 use Rattle.model_tree.specs.Tree as tree
 use Rattle.model_tree.specs.declared.faults.Fault.{Fault}
 use Rattle.model_rules.specs.Passes.{first_fault}
-use Rattle.tick_faults.specs.Unfit.{first_unfit}
+use Rattle.tick_trees.specs.Unfit.{first_unfit}
 use Rattle.tick_rules.specs.Sources.{source_fault, ticked, resolution_fault, resolution_of, told_fault, modules_fault}
 
 second_none : {T : Type 0} (o p : Option T) → option_or o p ≡ None → p ≡ None

@@ -1,3 +1,4 @@
+mod Blocks
 pub mod Same
 pub mod Faultless
 pub mod Refusals

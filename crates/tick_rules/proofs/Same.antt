@@ -13,8 +13,8 @@ use Rattle.tick_trees.specs.Retimed as retimed
 use Rattle.tick_trees.specs.Ticks.{span_of, ticks}
 use Rattle.tick_trees.specs.Times.{Timed, times_of}
 use Rattle.model_rules.specs.Passes.{first_fault}
-use Rattle.tick_faults.specs.Unfit.{first, late_by, inexact_by, first_unfit}
-use Rattle.tick_faults.specs.declared.found.Unfit.{Unfit}
+use Rattle.tick_trees.specs.Unfit.{first, late_by, inexact_by, first_unfit}
+use Rattle.tick_trees.specs.declared.found.Unfit.{Unfit}
 use Rattle.tick_rules.specs.Sources.{picosecond, bad_resolution, fault_unless, modules_fault, told_fault}
 
 abbrev power_of : Resolution → ℕ

@@ -17,8 +17,8 @@ use Rattle.model_tree.specs.declared.faults.Kind.{Kind}
 use Rattle.model_tree.specs.declared.faults.Kind.TheVariants as kind
 use Rattle.model_rules.specs.Passes.{first_fault}
 use Rattle.tick_trees.specs.Ticks.{ticks}
-use Rattle.tick_faults.specs.Unfit.{first_unfit, told}
-use Rattle.tick_faults.specs.declared.found.Unfit.{Unfit}
+use Rattle.tick_trees.specs.Unfit.{first_unfit, told}
+use Rattle.tick_trees.specs.declared.found.Unfit.{Unfit}
 
 -- the resolutions: one of a unit, ten of it, and a hundred, of which none is longer than a second
 

@@ -7,7 +7,7 @@ ghost use Rattle.tick_rules.specs.Sources as spec;
 use model_tree::sim_time_api::UnitStop;
 use model_tree::{CheckStop, Fault, Kind, Span};
 use std::alloc::Global;
-use tick_faults::{Unfit, inexact_name};
+use tick_trees::{Unfit, inexact_name};
 
 fn is_literal(kind: Kind) -> bool
     ensures { result ≡ spec.is_literal kind }

@@ -15,10 +15,10 @@ use Rattle.session.specs.Course.{IsEnd}
 use Rattle.session.specs.Fronts.{WroteFront}
 use Rattle.session.specs.declared.plans.Plan.{Plan}
 use Rattle.session.specs.declared.plans.Outcome.{Outcome as SessionOutcome}
-use Rattle.run_input.specs.RefusalLines.ErrLines.{usage_line, read_line, model_line, large_line, err_line, memory_line}
-use Rattle.run_input.specs.RefusalLines.declared.refusals.ModelFault.{ModelFault}
-use Rattle.run_input.specs.RefusalLines.declared.refusals.Refusal.{Refusal}
-use Rattle.run_input.specs.RefusalLines.declared.refusals.Refusal.TheVariants as refusal
+use Rattle.run_input.specs.ResultTexts.ErrLines.{usage_line, read_line, model_line, large_line, err_line, memory_line}
+use Rattle.run_input.specs.ResultTexts.declared.refusals.ModelFault.{ModelFault}
+use Rattle.run_input.specs.ResultTexts.declared.refusals.Refusal.{Refusal}
+use Rattle.run_input.specs.ResultTexts.declared.refusals.Refusal.TheVariants as refusal
 use Rattle.run_input.proofs.Apart.{OneTree}
 use Rattle.tlmsim.specs.Asked.{IsPlan, budget_of}
 use Rattle.tlmsim.specs.Call.{Call, Keeps}

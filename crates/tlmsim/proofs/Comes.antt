@@ -14,10 +14,10 @@ use Rattle.command_line.specs.declared.modes.Generated.{Generated}
 use Rattle.command_line.specs.declared.modes.PageKind.{PageKind}
 use Rattle.command_line.specs.declared.modes.PageKind.TheVariants as page_kind
 use Rattle.model_gen.specs.Generated.{generated}
-use Rattle.run_input.specs.RefusalLines.declared.refusals.ModelFault.{ModelFault}
-use Rattle.run_input.specs.RefusalLines.declared.refusals.ScriptFault.{ScriptFault}
-use Rattle.run_input.specs.RefusalLines.declared.refusals.Refusal.{Refusal}
-use Rattle.run_input.specs.RefusalLines.declared.refusals.Refusal.TheVariants as refusal
+use Rattle.run_input.specs.ResultTexts.declared.refusals.ModelFault.{ModelFault}
+use Rattle.run_input.specs.ResultTexts.declared.refusals.ScriptFault.{ScriptFault}
+use Rattle.run_input.specs.ResultTexts.declared.refusals.Refusal.{Refusal}
+use Rattle.run_input.specs.ResultTexts.declared.refusals.Refusal.TheVariants as refusal
 use Rattle.run_input.specs.Limits.{model_limit}
 use Rattle.run_input.specs.Judged.{IsBrokenModel, AcceptsModel, IsBrokenScript, Accepts, ReadsReplay, HasReplayFault, IsBrokenReplay}
 use Rattle.run_input.proofs.Refusals.{model_broken_by, script_broken_by, replay_broken_by}

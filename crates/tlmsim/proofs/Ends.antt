@@ -25,7 +25,7 @@ use Rattle.traffic_file.specs.declared.stops.BusStop.{BusStop}
 use Rattle.traffic_file.specs.declared.stops.BusStop.TheVariants as bus_stop
 use Rattle.traffic_file.specs.BusText.{bus_of}
 use Rattle.traffic_file.specs.Stops.{IfRefused, IfSyntax}
-use Rattle.run_input.specs.RefusalLines.declared.refusals.Refusal.TheVariants as refusal
+use Rattle.run_input.specs.ResultTexts.declared.refusals.Refusal.TheVariants as refusal
 use Rattle.command_line.specs.declared.modes.Generated.{Generated}
 use Rattle.session.specs.Course.{Ran, IsEnd}
 use Rattle.session.specs.Cut.{cut_by}

@@ -7,8 +7,8 @@ use Rattle.command_line.specs.SimModel.declared.plain.Stop.{Stop}
 use Rattle.command_line.specs.SimModel.declared.plain.Stop.TheVariants as stop
 use Rattle.command_line.specs.declared.modes.PageKind.{PageKind}
 use Rattle.run_input.specs.Loaded.{IfTooLarge, TookOnePast}
-use Rattle.run_input.specs.RefusalLines.declared.refusals.Refusal.{Refusal}
-use Rattle.run_input.specs.RefusalLines.declared.refusals.Refusal.TheVariants as refusal
+use Rattle.run_input.specs.ResultTexts.declared.refusals.Refusal.{Refusal}
+use Rattle.run_input.specs.ResultTexts.declared.refusals.Refusal.TheVariants as refusal
 use Rattle.run_input.specs.declared.loading.LoadStop.{LoadStop}
 use Rattle.run_input.specs.declared.loading.LoadStop.TheVariants as load_stop
 use Rattle.run_input.specs.declared.judging.JudgeStop.{JudgeStop}

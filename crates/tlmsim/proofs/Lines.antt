@@ -12,13 +12,13 @@ use Rattle.command_line.specs.SimModel.declared.plain.Stop.{Stop}
 use Rattle.command_line.specs.SimModel.declared.plain.Stop.TheVariants as stop
 use Rattle.traffic_file.specs.declared.stops.BusStop.{BusStop}
 use Rattle.traffic_file.specs.declared.stops.BusStop.TheVariants as bus_stop
-use Rattle.run_input.specs.RefusalLines.ErrLines.{err_line, model_line, script_line, bus_line}
-use Rattle.run_input.specs.RefusalLines.declared.refusals.ModelFault.{ModelFault}
-use Rattle.run_input.specs.RefusalLines.declared.refusals.ModelFault.TheVariants as model_fault
-use Rattle.run_input.specs.RefusalLines.declared.refusals.ScriptFault.{ScriptFault}
-use Rattle.run_input.specs.RefusalLines.declared.refusals.ScriptFault.TheVariants as script_fault
-use Rattle.run_input.specs.RefusalLines.declared.refusals.Refusal.{Refusal}
-use Rattle.run_input.specs.RefusalLines.declared.refusals.Refusal.TheVariants as refusal
+use Rattle.run_input.specs.ResultTexts.ErrLines.{err_line, model_line, script_line, bus_line}
+use Rattle.run_input.specs.ResultTexts.declared.refusals.ModelFault.{ModelFault}
+use Rattle.run_input.specs.ResultTexts.declared.refusals.ModelFault.TheVariants as model_fault
+use Rattle.run_input.specs.ResultTexts.declared.refusals.ScriptFault.{ScriptFault}
+use Rattle.run_input.specs.ResultTexts.declared.refusals.ScriptFault.TheVariants as script_fault
+use Rattle.run_input.specs.ResultTexts.declared.refusals.Refusal.{Refusal}
+use Rattle.run_input.specs.ResultTexts.declared.refusals.Refusal.TheVariants as refusal
 use Rattle.tlmsim.specs.Telling.{Tells, WroteCut, refusal_status}
 use Rattle.tlmsim.specs.Headline.{IsRunStatus, stop_status}
 

@@ -2,10 +2,10 @@
 use Rattle.std.proofs.Common.{Result, Ok, Err}
 use Rattle.std.specs.Prelude.{IfOk}
 use Rattle.flat_design.specs.declared.design.Design.{Design}
-use Rattle.order_free.specs.Free.{Free, Says}
-use Rattle.order_free.specs.declared.verdicts.Verdict.{Verdict}
-use Rattle.order_free.specs.declared.verdicts.Verdict.TheVariants as verdict
-use Rattle.laws_any_order.specs.AnyOrder.{OrderDoesNotMatter}
+use Rattle.laws_order.specs.OrderFree.Free.{Free, Says}
+use Rattle.laws_order.specs.OrderFree.declared.verdicts.Verdict.{Verdict}
+use Rattle.laws_order.specs.OrderFree.declared.verdicts.Verdict.TheVariants as verdict
+use Rattle.laws_order.specs.AnyOrder.{OrderDoesNotMatter}
 use Rattle.tlmsim.specs.Pages.{Means}
 
 means_by : ((d : Design) → Free d → OrderDoesNotMatter d) → (d : Design) (v : Verdict) → Says d v → Means d v

@@ -31,11 +31,11 @@ use Rattle.tlmsim.specs.Orderly.{Orderly, HadNoEnd}
 use Rattle.tlmsim.specs.Pages.{IsPageOf, IsFitFor, IsUnfitFor}
 use Rattle.tlmsim.specs.Taken.{Holds, TakesAll, TakesShort, Spared}
 use Rattle.tlmsim.specs.Telling.{WroteCut}
-use Rattle.run_input.specs.RefusalLines.ErrLines.{usage_line, read_line, model_line, script_line, replay_line, bus_line, large_line, err_line, write_line, memory_line}
-use Rattle.run_input.specs.RefusalLines.declared.refusals.ModelFault.{ModelFault}
-use Rattle.run_input.specs.RefusalLines.declared.refusals.ScriptFault.{ScriptFault}
-use Rattle.run_input.specs.RefusalLines.declared.refusals.Refusal.{Refusal}
-use Rattle.run_input.specs.RefusalLines.declared.refusals.Refusal.TheVariants as refusal
+use Rattle.run_input.specs.ResultTexts.ErrLines.{usage_line, read_line, model_line, script_line, replay_line, bus_line, large_line, err_line, write_line, memory_line}
+use Rattle.run_input.specs.ResultTexts.declared.refusals.ModelFault.{ModelFault}
+use Rattle.run_input.specs.ResultTexts.declared.refusals.ScriptFault.{ScriptFault}
+use Rattle.run_input.specs.ResultTexts.declared.refusals.Refusal.{Refusal}
+use Rattle.run_input.specs.ResultTexts.declared.refusals.Refusal.TheVariants as refusal
 
 -- ---- refusals of the input
 

@@ -15,11 +15,11 @@ use Rattle.command_line.specs.SimModel.declared.plain.Command.{Command}
 use Rattle.model_tree.specs.declared.statements.Control.TheVariants as control
 use Rattle.session.specs.Course.{end_of}
 use Rattle.session.specs.declared.plans.Plan.{Plan}
-use Rattle.laws_guards.specs.Calls.{Controls, Throws, MayBeUnwound, UnwindsOnTop, has_outer_goal}
-use Rattle.laws_guards.specs.Once.{Begins, HasNoGoal, IsFirst, IsOnTop, ends_of, guards_below, innermost_first, once_each}
-use Rattle.laws_guards.specs.Throws.{guards_in_try}
-use Rattle.laws_protocol.specs.Added.{WouldAdd, IsJudged, WouldAddFreed, IsJudgedFreed, NamesFreed, BreaksRule}
-use Rattle.laws_guards.specs.Nowhere.{HasEnded, IsNamedNowhere}
+use Rattle.laws_runs.specs.UnwindingCalls.{Controls, Throws, MayBeUnwound, UnwindsOnTop, has_outer_goal}
+use Rattle.laws_runs.specs.Once.{Begins, HasNoGoal, IsFirst, IsOnTop, ends_of, guards_below, innermost_first, once_each}
+use Rattle.laws_runs.specs.Throws.{guards_in_try}
+use Rattle.laws_runs.specs.Added.{WouldAdd, IsJudged, WouldAddFreed, IsJudgedFreed, NamesFreed, BreaksRule}
+use Rattle.laws_runs.specs.Nowhere.{HasEnded, IsNamedNowhere}
 
 -- the configuration after so many steps with these choices
 abbrev pub IsAfter : Design → List Command → ℕ → List ℕ → Config → Type 0

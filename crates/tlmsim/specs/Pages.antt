@@ -7,10 +7,10 @@ use Rattle.traffic_file.specs.declared.stops.BusStop.{BusStop}
 use Rattle.traffic_file.specs.BusText.{bus_of}
 use Rattle.bus_runs.specs.Runs.{IsWrittenFor}
 use Rattle.flat_design.specs.declared.design.Design.{Design}
-use Rattle.order_free.specs.Free.{Says}
-use Rattle.order_free.specs.declared.verdicts.Verdict.{Verdict}
-use Rattle.order_free.specs.declared.verdicts.Verdict.TheVariants as verdict
-use Rattle.laws_any_order.specs.AnyOrder.{OrderDoesNotMatter}
+use Rattle.laws_order.specs.OrderFree.Free.{Says}
+use Rattle.laws_order.specs.OrderFree.declared.verdicts.Verdict.{Verdict}
+use Rattle.laws_order.specs.OrderFree.declared.verdicts.Verdict.TheVariants as verdict
+use Rattle.laws_order.specs.AnyOrder.{OrderDoesNotMatter}
 use Rattle.command_line.specs.declared.modes.PageKind.{PageKind}
 use Rattle.command_line.specs.declared.modes.PageKind.TheVariants as page_kind
 use Rattle.run_input.specs.Judged.{AcceptsModel, IsBrokenModel, IsLayoutOf, IsDesignOfSource}

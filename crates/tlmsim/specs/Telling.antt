@@ -7,9 +7,9 @@ use Rattle.command_line.specs.SimModel.declared.plain.Stop.{Stop}
 use Rattle.command_line.specs.SimModel.declared.plain.Stop.TheVariants as stop
 use Rattle.command_line.specs.declared.modes.WordsStop.{WordsStop}
 use Rattle.command_line.specs.declared.modes.WordsStop.TheVariants as words_stop
-use Rattle.run_input.specs.RefusalLines.ErrLines.{err_line, write_line, memory_line}
-use Rattle.run_input.specs.RefusalLines.declared.refusals.Refusal.{Refusal}
-use Rattle.run_input.specs.RefusalLines.declared.refusals.Refusal.TheVariants as refusal
+use Rattle.run_input.specs.ResultTexts.ErrLines.{err_line, write_line, memory_line}
+use Rattle.run_input.specs.ResultTexts.declared.refusals.Refusal.{Refusal}
+use Rattle.run_input.specs.ResultTexts.declared.refusals.Refusal.TheVariants as refusal
 
 -- the status of a refusal
 abbrev pub refusal_status : Refusal → ℕ

@@ -12,7 +12,7 @@ use Rattle.traffic_file.specs.BusText.{bus_of}
 use Rattle.command_line.specs.declared.modes.PageKind.{PageKind}
 use Rattle.command_line.specs.declared.modes.PageKind.TheVariants as page_kind
 use Rattle.run_input.specs.Judged.{HasModelFault}
-use Rattle.run_input.specs.RefusalLines.declared.refusals.Refusal.TheVariants as refusal
+use Rattle.run_input.specs.ResultTexts.declared.refusals.Refusal.TheVariants as refusal
 use Rattle.run_input.specs.declared.loading.LoadStop.{LoadStop}
 use Rattle.run_input.specs.declared.loading.LoadStop.TheVariants as load_stop
 use Rattle.run_input.specs.declared.judging.JudgeStop.{JudgeStop}

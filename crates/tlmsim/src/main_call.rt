@@ -11,7 +11,7 @@ use super::working::{WorkStop, work};
 use command_line::Words;
 use flat_design::Choices;
 use run_input::one_source;
-use run_input::refusal_lines_api::memory_line;
+use run_input::result_texts_api::memory_line;
 use session::sim_io_api::{Shelf, Sink};
 use std::alloc::Global;
 

@@ -14,17 +14,13 @@ ghost use Rattle.tlmsim.specs.Orderly.{HadNoEnd, Orderly};
 use command_line::Order;
 use command_line::sim_model_api::Rule;
 use flat_design::Design;
-use laws_guards::laws_unwinding_api::runs_are_clean;
-use laws_guards::{
-    all_guards_stand_below_an_end, calls_unwind_what_is_entered, nothing_names_what_has_ended,
+use laws_runs::{
+    a_freed_payload_comes_first, all_guards_stand_below_an_end, calls_unwind_what_is_entered,
+    faults_of_the_protocol_are_exact, histories_are_lawful, no_earlier_end,
+    nothing_names_what_has_ended, protocol_faults_come_with_entries, runs_are_clean,
     unwind_blocks_run_once, unwinding_ends_before_the_caller_goes_on,
     what_has_ended_never_runs_again,
 };
-use laws_protocol::{
-    a_freed_payload_comes_first, faults_of_the_protocol_are_exact, histories_are_lawful,
-    protocol_faults_come_with_entries,
-};
-use laws_runs::no_earlier_end;
 use run_input::script_text_api::Script;
 use session::sim_io_api::{Shelf, Sink, SoundShelf};
 use session::{Outcome, Plan, run_session};

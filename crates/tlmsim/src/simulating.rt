@@ -18,7 +18,7 @@ use crate::{Created, create_files};
 use command_line::sim_model_api::Rule;
 use command_line::{ChoiceRule, Simulation};
 use flat_design::Choices;
-use run_input::refusal_lines_api::Refusal;
+use run_input::result_texts_api::Refusal;
 use run_input::{JudgeStop, Judged, LoadStop, judge, load};
 use session::sim_io_api::{Shelf, Sink};
 use session::{Outcome, Plan};

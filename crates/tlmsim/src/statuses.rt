@@ -3,7 +3,7 @@ ghost use Rattle.tlmsim.specs.Headline as headline;
 ghost use Rattle.tlmsim.specs.Telling as telling;
 
 use command_line::sim_model_api::Stop;
-use run_input::refusal_lines_api::Refusal;
+use run_input::result_texts_api::Refusal;
 
 /// The status of a session that ended so.
 pub fn stop_status(stop: Stop) -> u8

@@ -7,7 +7,7 @@ ghost use Rattle.tlmsim.specs.Telling.{Tells, TellsStop, TellsWithout};
 use super::statuses::refusal_status;
 use command_line::WordsStop;
 use command_line::sim_model_api::Stop;
-use run_input::refusal_lines_api::{Refusal, memory_line, refusal_line, write_line};
+use run_input::result_texts_api::{Refusal, memory_line, refusal_line, write_line};
 use session::sim_io_api::{Sink, Trouble, write_all};
 use std::alloc::Global;
 

@@ -13,7 +13,7 @@ use super::simulating::simulate;
 use command_line::{
     Mode, Words, WordsStop, budgets_are_limited, read_line, simulations_write_apart,
 };
-use run_input::refusal_lines_api::Refusal;
+use run_input::result_texts_api::Refusal;
 use session::Outcome;
 use session::sim_io_api::{Shelf, Sink};
 use std::alloc::Global;

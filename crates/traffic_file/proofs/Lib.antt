@@ -1,2 +1,4 @@
 pub mod Runnable
 pub mod Answered
+pub mod PayloadPool
+pub mod DmiMap

@@ -5,26 +5,26 @@ use Rattle.std.proofs.lemmas.Bool.{cases_lt, leb-false, or_parts}
 use Rattle.std.proofs.lemmas.List.Quantifiers.{position-Some}
 use Rattle.std.proofs.lemmas.List.{get_or_append_left}
 use Rattle.std.proofs.Math.Seq.{get_or-append_seam}
-use Rattle.address_map.specs.Ranges.{range_of}
-use Rattle.traffic_lines.specs.TextLines.Lines.{lines, line_number}
-use Rattle.address_map.specs.declared.TargetRange.{TargetRange}
+use Rattle.dmi_map.specs.Ranges.{range_of}
+use Rattle.text_lines.specs.Lines.{lines, line_number}
+use Rattle.dmi_map.specs.declared.ranges.TargetRange.{TargetRange}
 use Rattle.traffic_file.specs.declared.Bus.{Bus}
 use Rattle.traffic_file.specs.declared.BusTarget.{BusTarget}
 use Rattle.traffic_file.specs.declared.BusInitiator.{BusInitiator}
 use Rattle.traffic_file.specs.declared.BusLine.{BusLine}
-use Rattle.traffic_lines.specs.TrafficWords.declared.BusAction.{BusAction}
-use Rattle.traffic_lines.specs.TrafficWords.declared.BusAction.TheVariants.{Get}
-use Rattle.traffic_lines.specs.declared.forms.LineForm.{LineForm}
-use Rattle.traffic_lines.specs.declared.forms.LineForm.TheVariants as line
+use Rattle.text_lines.specs.declared.actions.BusAction.{BusAction}
+use Rattle.text_lines.specs.declared.actions.BusAction.TheVariants.{Get}
+use Rattle.text_lines.specs.declared.forms.LineForm.{LineForm}
+use Rattle.text_lines.specs.declared.forms.LineForm.TheVariants as line
 use Rattle.traffic_file.specs.declared.judging.SoFar.{SoFar}
 use Rattle.traffic_file.specs.declared.stops.BusKind.{BusKind}
 use Rattle.traffic_file.specs.declared.stops.BusKind.TheVariants as kind
 use Rattle.traffic_file.specs.declared.stops.BusStop.{BusStop}
-use Rattle.traffic_lines.specs.TrafficWords.Words.{length_of}
+use Rattle.text_lines.specs.Words.{length_of}
 use Rattle.traffic_file.specs.Traffic.{CanRun}
-use Rattle.traffic_lines.specs.LineForms.{line_form}
+use Rattle.text_lines.specs.LineForms.{line_form}
 use Rattle.traffic_file.specs.BusText.{is_declared, is_much, initiator_named, is_initiator, is_full, delay_fault, target_fault, initiator_fault, full_fault, access_fault, with_delay, with_target, with_initiator, with_line, with_access, with_invalidate, judged_so, judged, unless_refused, judged_from, unreadable_from, first_so_far, bus_by, bus_of}
-use Rattle.traffic_lines.proofs.FormRanges.{IsInRanges, line_in}
+use Rattle.text_lines.proofs.FormRanges.{IsInRanges, line_in}
 
 -- what holds of each of a list, by its place, and of one more
 each_more : {X : Type 0} (d : X) (xs : List X) (x : X) (P : ℕ → X → Type 0)

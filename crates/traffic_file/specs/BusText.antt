@@ -1,14 +1,14 @@
 -- The bus of a text, or why it has none: the first of all its lines that has none of the forms, or else its first line with a fault.
 use Rattle.std.specs.Prelude.{ℕ, suc, ◌+◌, Bool, true, false, ◌||◌, nat_le, nat_lt, if◌then◌else◌, List, [], ◌∷◌, ◌++◌, length, position, bytes_eq, codes, Option, Some, None, Result, Ok, Err}
 use Rattle.std.specs.List.{list_any}
-use Rattle.address_map.specs.declared.MapStop.{MapStop}
-use Rattle.address_map.specs.declared.MapStop.TheVariants as map_stop
-use Rattle.address_map.specs.Ranges.{range_of, refusal}
-use Rattle.traffic_lines.specs.TextLines.Lines.{lines, line_number}
-use Rattle.traffic_lines.specs.TrafficWords.declared.BusAction.{BusAction}
-use Rattle.traffic_lines.specs.declared.forms.LineForm.{LineForm}
-use Rattle.traffic_lines.specs.declared.forms.LineForm.TheVariants as line
-use Rattle.traffic_lines.specs.LineForms.{line_form}
+use Rattle.dmi_map.specs.declared.ranges.MapStop.{MapStop}
+use Rattle.dmi_map.specs.declared.ranges.MapStop.TheVariants as map_stop
+use Rattle.dmi_map.specs.Ranges.{range_of, refusal}
+use Rattle.text_lines.specs.Lines.{lines, line_number}
+use Rattle.text_lines.specs.declared.actions.BusAction.{BusAction}
+use Rattle.text_lines.specs.declared.forms.LineForm.{LineForm}
+use Rattle.text_lines.specs.declared.forms.LineForm.TheVariants as line
+use Rattle.text_lines.specs.LineForms.{line_form}
 use Rattle.traffic_file.specs.declared.Bus.{Bus}
 use Rattle.traffic_file.specs.declared.BusTarget.{BusTarget}
 use Rattle.traffic_file.specs.declared.BusInitiator.{BusInitiator}

@@ -1,6 +1,6 @@
 pub mod Traffic
 pub mod BusText
 pub mod Stops
-pub mod AddressMap
-pub mod TrafficLines
-pub mod TrafficWords
+pub mod DmiMap
+pub mod TextLines
+pub mod PayloadPool

@@ -1,9 +1,9 @@
 -- Accesses, and where each of them goes.
 use Rattle.std.specs.Prelude.{◌≡◌, ℕ, ◌^◌, ◌<◌, ◌≤◌, false, [], Option, option_map, length, slice_index_or}
-use Rattle.address_map.specs.declared.TargetRange.{TargetRange}
-use Rattle.address_map.specs.Ranges.{range_of, range_with}
-use Rattle.traffic_lines.specs.TrafficWords.Words.{length_of}
-use Rattle.traffic_lines.specs.TrafficWords.declared.BusAction.TheVariants.{Get}
+use Rattle.dmi_map.specs.declared.ranges.TargetRange.{TargetRange}
+use Rattle.dmi_map.specs.Ranges.{range_of, range_with}
+use Rattle.text_lines.specs.Words.{length_of}
+use Rattle.text_lines.specs.declared.actions.BusAction.TheVariants.{Get}
 use Rattle.traffic_file.specs.declared.Bus.{Bus}
 use Rattle.traffic_file.specs.declared.BusTarget.{BusTarget}
 use Rattle.traffic_file.specs.declared.BusInitiator.{BusInitiator}

@@ -1,20 +1,18 @@
 //! The fault of a line, or what lines say with it.
 ghost use Rattle.std.specs.Prelude.{◌≡◌, ◌+◌, ◌≤◌, ◌<◌, length};
 ghost use Rattle.std.specs.List.{list_any};
-ghost use Rattle.address_map.specs.Ranges.{refusal};
-ghost use Rattle.traffic_lines.specs.TextLines.Lines.{line_number};
+ghost use Rattle.dmi_map.specs.Ranges.{refusal};
+ghost use Rattle.text_lines.specs.Lines.{line_number};
 ghost use Rattle.traffic_file.specs.BusText as spec;
 ghost use Rattle.traffic_file.specs.Stops.{IsJudgedAs};
 
 use super::stops::{BusKind, BusStop};
 use super::{Bus, BusInitiator, BusLine, BusTarget, Invalidate};
-use address_map::{AddressMap, MapStop};
+use dmi_map::{AddressMap, MapStop};
 use model_tree::logic_values_api::Text;
 use model_tree::plain_lists_api::Items;
 use std::alloc::Global;
-use traffic_lines::LineForm;
-use traffic_lines::text_lines_api::line_number;
-use traffic_lines::traffic_words_api::{BusAction, text_of};
+use text_lines::{BusAction, LineForm, line_number, text_of};
 
 /// The greatest number of targets, and of initiators.
 const NAMED_LIMIT: usize = 256;

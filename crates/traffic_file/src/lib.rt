@@ -5,26 +5,33 @@ mod judging;
 mod reading;
 mod stops;
 
-use address_map::AddressMap;
+use dmi_map::AddressMap;
 use model_tree::logic_values_api::Text;
 use model_tree::plain_lists_api::Items;
 pub use reading::read_bus;
 pub use stops::{BusKind, BusStop};
-use traffic_lines::traffic_words_api::BusAction;
-
-/// What is passed on of address_map.
-pub mod address_map_api {
-    pub use address_map::TargetRange;
-}
-
-/// What is passed on of traffic_words.
-pub mod traffic_words_api {
-    pub use traffic_lines::traffic_words_api::BusAction;
-}
+use text_lines::BusAction;
 
 /// What is passed on of plain_lists.
 pub mod plain_lists_api {
     pub use model_tree::plain_lists_api::Items;
+}
+
+/// What is passed on of dmi_map.
+pub mod dmi_map_api {
+    pub use dmi_map::{Grants, Rank, TargetRange, direct, put_in_order};
+}
+
+/// What is passed on of payload_pool.
+pub mod payload_pool_api {
+    pub use dmi_map::payload_pool_api::{
+        ADDRESS, Bytes, INCOMPLETE, OK, Payload, Pool, READ, WRITE,
+    };
+}
+
+/// What is passed on of text_lines.
+pub mod text_lines_api {
+    pub use text_lines::BusAction;
 }
 
 /// A memory of `size` bytes that takes `latency` for each access. Where it begins stands in the map alone.

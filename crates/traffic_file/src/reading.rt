@@ -1,7 +1,7 @@
 //! The bus of a text.
 ghost use Rattle.std.specs.Prelude.{◌≡◌, IfOk, IfErr, IsOkUnless};
-ghost use Rattle.traffic_lines.specs.TextLines.Lines.{lines};
-ghost use Rattle.traffic_lines.specs.LineForms.{line_form};
+ghost use Rattle.text_lines.specs.Lines.{lines};
+ghost use Rattle.text_lines.specs.LineForms.{line_form};
 ghost use Rattle.traffic_file.specs.BusText as spec;
 ghost use Rattle.traffic_file.specs.BusText.{bus_of};
 ghost use Rattle.traffic_file.specs.Traffic.{CanRun};
@@ -11,8 +11,7 @@ use super::Bus;
 use super::judging::{SoFar, first_so_far, judge};
 use super::stops::BusStop;
 use std::alloc::{AllocError, Global};
-use traffic_lines::text_lines_api::{cut, line_number, without_return};
-use traffic_lines::{LineForm, line_form};
+use text_lines::{LineForm, cut, line_form, line_number, without_return};
 
 fn is_unreadable(alloc: Global, line: &[u8]) -> Result<bool, AllocError>
     ensures { IfOk result (λ is. is ≡ spec.is_unreadable (line_form line.now)) }

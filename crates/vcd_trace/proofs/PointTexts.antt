@@ -4,7 +4,7 @@ use Rattle.laws_runs.specs.LogicValues.declared.kinds.Value.{Value}
 use Rattle.laws_runs.specs.SimModel.Configuration.{Config, Snapshot}
 use Rattle.laws_runs.specs.SimModel.Phases.{visible_values}
 use Rattle.laws_runs.specs.SimModel.Trace.{first_values, later_values, each_later, all_values}
-use Rattle.laws_runs.specs.Added.{seen_at}
+use Rattle.laws_runs.specs.AddedStanding.{seen_at}
 use Rattle.vcd_trace.specs.Points.{IsPoint, snapshot_of}
 use Rattle.vcd_trace.specs.Traced.{last_seen}
 

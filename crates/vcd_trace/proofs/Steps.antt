@@ -5,7 +5,7 @@ use Rattle.laws_runs.specs.SimModel.Configuration.{Config, Cycle, Snapshot}
 use Rattle.laws_runs.specs.SimModel.Trace.{header, all_values, trace_text}
 use Rattle.kernel_state.specs.Kernel.{StandsFor}
 use Rattle.kernel_state.specs.declared.kernel.Kernel.{Kernel}
-use Rattle.laws_runs.specs.Added.{seen_at, added}
+use Rattle.laws_runs.specs.AddedStanding.{seen_at, added}
 use Rattle.vcd_trace.specs.Traced.{trace_so_far}
 
 -- the kernel stands for what a step from c led to, and t was the time before it

@@ -1,1 +1,1 @@
-pub use Rattle.laws_runs.specs.Added as Added
+pub use Rattle.laws_runs.specs.AddedStanding as AddedStanding

@@ -4,7 +4,7 @@ ghost use Rattle.laws_runs.specs.SimModel.Configuration.{Config, Snapshot};
 ghost use Rattle.laws_runs.specs.SimModel.Steps.{step, went};
 ghost use Rattle.laws_runs.specs.SimModel.Trace.{all_values, trace_text};
 ghost use Rattle.kernel_state.specs.Kernel.{StandsFor};
-ghost use Rattle.laws_runs.specs.Added.{seen_at};
+ghost use Rattle.laws_runs.specs.AddedStanding.{seen_at};
 ghost use Rattle.vcd_trace.specs.Points.{IsPoint, snapshot_of};
 ghost use Rattle.vcd_trace.specs.Traced.{trace_so_far, Keeps};
 

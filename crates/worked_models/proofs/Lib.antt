@@ -2,3 +2,4 @@ pub mod Reading
 pub mod SameDesign
 pub mod Cutting
 pub mod ReadingDesigns
+mod CodeOf

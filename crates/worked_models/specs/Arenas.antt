@@ -14,7 +14,7 @@ use Rattle.code_rules.specs.FlatDesign.declared.names.Member.TheVariants as memb
 use Rattle.code_rules.specs.FlatDesign.declared.code.BodyKind.TheVariants as body_kind
 use Rattle.code_rules.specs.FlatDesign.declared.code.CodeBody.{CodeBody}
 use Rattle.code_rules.specs.Bodies.{AreModules, exceptions_of}
-use Rattle.worked_models.specs.Trees.{model, thread, span, local, plain, yes_}
+use Rattle.worked_models.specs.FormTrees.{model, thread, span, local, plain, yes_}
 
 -- clock c period 10 ns high 4 ns start 1 ns; keeper k; thread t { while true { var uint<8> n; qk_sync k; } }
 abbrev pub text : tree.Model

@@ -10,7 +10,7 @@ use Rattle.model_lexer.specs.ModelTree.declared.types.BoundRule.TheVariants as b
 use Rattle.model_lexer.specs.ModelTree.declared.items.PlainKind.TheVariants as plain_kind
 use Rattle.code_rules.specs.ModelRules.Scopes.{Scope, item_scope, with_local}
 use Rattle.code_rules.specs.Deeds.{Home}
-use Rattle.worked_models.specs.Trees.{typed, plain, signal, parameter, function}
+use Rattle.worked_models.specs.FormTrees.{typed, plain, signal, parameter, function}
 
 abbrev pub items : List tree.Item
 items =

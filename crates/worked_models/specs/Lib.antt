@@ -1,6 +1,12 @@
-pub mod Trees
-pub mod Rows
+pub mod FormTrees
+pub mod RuleRows
 pub mod Coded
 pub mod Arenas
 pub mod Uses
 pub mod Following
+pub mod Ends
+pub mod OrderRows
+pub mod Texts
+pub mod Models
+pub mod ClockedTrees
+pub mod ClockedCoded

@@ -13,7 +13,7 @@ use Rattle.model_lexer.specs.ModelTree.declared.statements.Control.TheVariants a
 use Rattle.model_lexer.specs.ModelTree.declared.items.PlainKind.TheVariants as plain_kind
 use Rattle.model_lexer.specs.ModelTree.declared.items.InitiatorRole.TheVariants as initiator
 use Rattle.model_lexer.specs.ModelTree.declared.items.ProcessKind.TheVariants as process_kind
-use Rattle.worked_models.specs.Trees.{model, typed, plain, constant, signal, clock, span, thread, function, local, yes_}
+use Rattle.worked_models.specs.FormTrees.{model, typed, plain, constant, signal, clock, span, thread, function, local, yes_}
 
 -- On lines 2 to 9: signals b (bool), u (uint<8>), v (lv<40>); the clock c; the fifo f of uint<8>; the mutex x, the event e, the keeper
 -- k; the semaphore s; the memory m; ports p (in bool, 2 channels) and o (out bool); a function g; a thread w; a variable h of a

@@ -1,10 +1,12 @@
 //! Calls, handlers, and the numbers of items.
+#![tactic(auto, unfolding(worked_runs::specs::Run::told, worked_runs::specs::Run::told_under))]
+
 ghost use Rattle.std.specs.Prelude.{◌≡◌, codes, None, true, false};
 ghost use Rattle.model_lexer.specs.ModelTree.Tree as tree;
 ghost use Rattle.model_lexer.specs.ModelTree.declared.faults.Kind.TheVariants as kind;
 ghost use Rattle.code_rules.specs.ModelRules.Passes.{first_fault};
-ghost use Rattle.worked_models.specs.Trees.{fault};
-ghost use Rattle.worked_models.specs.Rows as rows;
+ghost use Rattle.worked_models.specs.FormTrees.{fault};
+ghost use Rattle.worked_models.specs.RuleRows as rows;
 
 /// The number of arguments is right, and an inout argument is a variable of exactly the type.
 pub fn arguments_are_counted()

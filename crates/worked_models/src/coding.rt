@@ -1,4 +1,6 @@
 //! The code of expressions and statements.
+#![tactic(auto, unfolding(worked_runs::specs::Run::told, worked_runs::specs::Run::told_under))]
+
 ghost use Rattle.std.specs.Prelude.{◌≡◌, ◌^◌, ◌-◌, codes, [], ◌∷◌, Some, None, true, false};
 ghost use Rattle.model_lexer.specs.LogicValues.declared.kinds.Value.TheVariants as value;
 ghost use Rattle.model_lexer.specs.SimTime.declared.moments.Unit.TheVariants as unit;

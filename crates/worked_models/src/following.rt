@@ -1,4 +1,6 @@
 //! A method follows a signal, and another one follows that one.
+#![tactic(auto, unfolding(worked_runs::specs::Run::told, worked_runs::specs::Run::told_under))]
+
 ghost use Rattle.std.specs.Prelude.{◌≡◌, [], ◌∷◌, codes, Some, true};
 ghost use Rattle.model_lexer.specs.LogicValues.declared.kinds.Value.TheVariants as value;
 ghost use Rattle.model_lexer.specs.ModelTree.declared.items.Head.TheVariants as head;

@@ -3,13 +3,25 @@
 //!
 //! A design that is written by hand, tied to the text that it stands for: the text reads as the tree, of which the flat design and
 //! its code are what the definitions say; and a run of it.
-#![tactic(auto, unfolding(worked_runs::specs::Run::told, worked_runs::specs::Run::told_under))]
+//!
+//! Worked runs of models that break one part of the rule on the order of processes: each ends in two orders without a fault,
+//! and comes to different values. A clause says what the final values are where the processes are taken in this order.
+//!
+//! Worked texts with clocked threads: what the definition of an expansion makes of token lists written by hand, computed by the
+//! checker. A clause says of one text what it becomes, or that it becomes nothing; of the tree of a model which ticks its clocked
+//! thread has; and of the code of one of these that it has them too, by the law on all clocked threads.
+#![tactic(auto)]
 
 mod calling;
+mod coded;
 mod coding;
 mod following;
+mod forms;
+mod models;
 mod naming;
+mod orders;
 mod reaching;
+mod texts;
 mod using;
 mod valuing;
 
@@ -17,15 +29,30 @@ pub use calling::{
     arguments_are_counted, handlers_have_their_signatures, numbers_of_items_are_in_range,
     sockets_of_calls, values_are_returned,
 };
+pub use coded::the_code_with_a_reset_at_an_edge;
 pub use coding::{a_clock_reads_back, parts_are_told_apart, signs_are_kept, statements_are_coded};
 pub use following::{the_design_is_that_of_its_text, the_design_runs};
+pub use forms::{
+    the_thread_with_a_reset_at_an_edge, the_thread_with_a_reset_at_once, the_thread_without_resets,
+};
+pub use models::{
+    a_model_with_a_reset_at_an_edge, a_model_with_a_reset_at_once, a_model_without_resets,
+};
 pub use naming::{
     ends_are_known, locals_are_visible_in_their_block, members_are_of_their_column,
     names_are_known, names_differ,
 };
+pub use orders::{
+    an_immediate_notification_shows_the_order, cancelling_for_another_shows_the_order,
+    two_readers_show_the_order, two_users_of_a_variable_show_the_order,
+    what_is_available_shows_the_order, what_is_free_shows_the_order,
+};
 pub use reaching::{
     handlers_do_not_wait, methods_do_not_wait, passes_have_their_order, threads_set_no_trigger,
     unwind_blocks_are_plain,
+};
+pub use texts::{
+    others_become_nothing, resets_are_tested, several_expand, ticks_wait, words_are_reserved,
 };
 pub use using::{
     channels_are_of_their_kind, handles_are_told_apart, sensitivities_are_static,

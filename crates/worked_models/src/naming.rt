@@ -1,9 +1,11 @@
 //! Names: that they differ, are declared, and are what is needed.
+#![tactic(auto, unfolding(worked_runs::specs::Run::told, worked_runs::specs::Run::told_under))]
+
 ghost use Rattle.std.specs.Prelude.{◌≡◌, codes, None};
 ghost use Rattle.model_lexer.specs.ModelTree.declared.faults.Kind.TheVariants as kind;
 ghost use Rattle.code_rules.specs.ModelRules.Passes.{first_fault};
-ghost use Rattle.worked_models.specs.Trees.{fault};
-ghost use Rattle.worked_models.specs.Rows as rows;
+ghost use Rattle.worked_models.specs.FormTrees.{fault};
+ghost use Rattle.worked_models.specs.RuleRows as rows;
 
 /// Names of modules differ, and names in a module; a later one is at fault, an outer construct first.
 pub fn names_differ()

@@ -1,9 +1,11 @@
 //! What bodies reach, and the order of the passes.
+#![tactic(auto, unfolding(worked_runs::specs::Run::told, worked_runs::specs::Run::told_under))]
+
 ghost use Rattle.std.specs.Prelude.{◌≡◌, codes, None, true, false};
 ghost use Rattle.model_lexer.specs.ModelTree.declared.faults.Kind.TheVariants as kind;
 ghost use Rattle.code_rules.specs.ModelRules.Passes.{first_fault};
-ghost use Rattle.worked_models.specs.Trees.{fault};
-ghost use Rattle.worked_models.specs.Rows as rows;
+ghost use Rattle.worked_models.specs.FormTrees.{fault};
+ghost use Rattle.worked_models.specs.RuleRows as rows;
 
 /// No method reaches a blocking statement; the first such statement in the text is told, a call among them.
 pub fn methods_do_not_wait()

@@ -1,11 +1,13 @@
 //! Uses of each kind of object, where they are right and where they are not.
+#![tactic(auto, unfolding(worked_runs::specs::Run::told, worked_runs::specs::Run::told_under))]
+
 ghost use Rattle.std.specs.Prelude.{◌≡◌, codes, [], ◌∷◌, Some, None, true, false};
 ghost use Rattle.model_lexer.specs.ModelTree.Tree as tree;
 ghost use Rattle.model_lexer.specs.ModelTree.declared.faults.Kind.TheVariants as kind;
 ghost use Rattle.model_lexer.specs.ModelTree.declared.expressions.BinaryOp.TheVariants as op;
 ghost use Rattle.model_lexer.specs.SimTime.declared.moments.Unit.TheVariants as unit;
 ghost use Rattle.code_rules.specs.ModelRules.Passes.{first_fault};
-ghost use Rattle.worked_models.specs.Trees.{fault, named, number, yes_, channel, event};
+ghost use Rattle.worked_models.specs.FormTrees.{fault, named, number, yes_, channel, event};
 ghost use Rattle.worked_models.specs.Uses as uses;
 
 /// What is written, read, locked and notified is of the kind for it.

@@ -1,9 +1,11 @@
 //! Values: types, widths, places and times.
+#![tactic(auto, unfolding(worked_runs::specs::Run::told, worked_runs::specs::Run::told_under))]
+
 ghost use Rattle.std.specs.Prelude.{◌≡◌, codes, None};
 ghost use Rattle.model_lexer.specs.ModelTree.declared.faults.Kind.TheVariants as kind;
 ghost use Rattle.code_rules.specs.ModelRules.Passes.{first_fault};
-ghost use Rattle.worked_models.specs.Trees.{fault};
-ghost use Rattle.worked_models.specs.Rows as rows;
+ghost use Rattle.worked_models.specs.FormTrees.{fault};
+ghost use Rattle.worked_models.specs.RuleRows as rows;
 
 /// Operands of an operator have one sign; numbers that are written out take that of the other operand.
 pub fn operands_have_one_sign()

@@ -1,12 +1,12 @@
 -- Texts written by hand.
 use Rattle.std.specs.Prelude.{ℕ, Bool, true, false, List, [], ◌∷◌, replicate, codes}
-use Rattle.traffic_file.specs.AddressMap.Ranges.{range_of}
+use Rattle.traffic_file.specs.DmiMap.Ranges.{range_of}
 use Rattle.traffic_file.specs.declared.Bus.{Bus}
 use Rattle.traffic_file.specs.declared.BusTarget.{BusTarget}
 use Rattle.traffic_file.specs.declared.BusInitiator.{BusInitiator}
 use Rattle.traffic_file.specs.declared.BusLine.{BusLine}
-use Rattle.traffic_file.specs.TrafficWords.declared.BusAction.{BusAction}
-use Rattle.traffic_file.specs.TrafficWords.declared.BusAction.TheVariants.{Get, Put}
+use Rattle.traffic_file.specs.TextLines.declared.actions.BusAction.{BusAction}
+use Rattle.traffic_file.specs.TextLines.declared.actions.BusAction.TheVariants.{Get, Put}
 use Rattle.traffic_file.specs.declared.Invalidate.{Invalidate}
 use Rattle.traffic_file.specs.declared.judging.SoFar.{SoFar}
 

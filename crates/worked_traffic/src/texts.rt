@@ -2,8 +2,8 @@
 ghost use Rattle.std.specs.Prelude.{◌≡◌, codes, [], Ok, Err, Some, None};
 ghost use Rattle.traffic_file.specs.declared.stops.BusKind.TheVariants as kind;
 ghost use Rattle.traffic_file.specs.declared.stops.BusStop.TheVariants as stop;
-ghost use Rattle.traffic_file.specs.TrafficWords.declared.BusAction.TheVariants as action;
-ghost use Rattle.traffic_file.specs.TrafficLines.declared.forms.LineForm.TheVariants as line;
+ghost use Rattle.traffic_file.specs.TextLines.declared.actions.BusAction.TheVariants as action;
+ghost use Rattle.traffic_file.specs.TextLines.declared.forms.LineForm.TheVariants as line;
 ghost use Rattle.traffic_file.specs.BusText.{bus_of, judged, target_fault, initiator_fault};
 ghost use Rattle.worked_traffic.specs.Texts as worked;
 

@@ -1,11 +1,11 @@
 use Rattle.std.proofs.Common.{◌≡◌, ◌+◌, ◌<◌, Some, length, refl, sym, ap, ◌∙◌, subst, arith, true≢false, false}
 use Rattle.std.specs.Prelude.{option_map}
-use Rattle.place_order.specs.Ranks.{rank_at, AreInOrder}
-use Rattle.bus_router.specs.AddressMap.declared.TargetRange.{TargetRange}
+use Rattle.bus_router.specs.DmiMap.Ranks.{rank_at, AreInOrder}
+use Rattle.bus_router.specs.DmiMap.declared.ranges.TargetRange.{TargetRange}
 use Rattle.bus_router.specs.TrafficFile.Traffic.{home_of}
 use Rattle.bus_router.specs.Times.{row_at}
 use Rattle.bus_answers.specs.Answers.{served_rank}
-use Rattle.place_order.proofs.Kept.{HoldsBelow, all_below, one_more, none_more, rank_of, order_by_same}
+use Rattle.bus_router.proofs.DmiMap.Kept.{HoldsBelow, all_below, one_more, none_more, rank_of, order_by_same}
 use Rattle.bus_answers.proofs.homes.order_at.Goals as goal
 use Rattle.bus_answers.proofs.homes.order_at.Goals.{then-is_home+in_ok-put_in_order, else-is_home}
 

@@ -1,7 +1,7 @@
 use Rattle.std.proofs.Common.{◌≡◌, Some}
-use Rattle.place_order.specs.Ranks.{rank_at, AreInOrder}
+use Rattle.bus_router.specs.DmiMap.Ranks.{rank_at, AreInOrder}
 use Rattle.bus_router.specs.TrafficFile.Traffic.{home_of}
-use Rattle.place_order.proofs.Kept.{HoldsBelow}
+use Rattle.bus_router.proofs.DmiMap.Kept.{HoldsBelow}
 use Rattle.bus_answers.proofs.homes.order_at.Given as goal
 
 abbrev pub invariant-loop-k : goal.invariant-loop-k

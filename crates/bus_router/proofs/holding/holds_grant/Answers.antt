@@ -1,5 +1,5 @@
 use Rattle.std.proofs.Common.{◌≡◌, true, Some, refl, sym, ap, ◌∙◌, subst}
-use Rattle.traffic_file.specs.AddressMap.Ranges.{range_with}
+use Rattle.traffic_file.specs.DmiMap.Ranges.{range_with}
 use Rattle.traffic_file.specs.declared.BusLine.{BusLine}
 use Rattle.traffic_file.specs.declared.BusInitiator.{BusInitiator}
 use Rattle.traffic_file.specs.Traffic.{line_at, initiator_at, initiator_of, range_of_line}

@@ -1,8 +1,8 @@
 use Rattle.std.proofs.Common.{◌≡◌, ℕ, ◌+◌, ◌<◌, false, length, Option, Some, refl, sym, ap, ◌∙◌, subst, arith}
 use Rattle.std.specs.Prelude.{MatchOption, max, option_map, slice_index, slice_set}
 use Rattle.std.proofs.lemmas.List.{get_or_read}
-use Rattle.traffic_file.specs.AddressMap.declared.TargetRange.{TargetRange}
-use Rattle.traffic_file.specs.AddressMap.Ranges.{range_with}
+use Rattle.traffic_file.specs.DmiMap.declared.ranges.TargetRange.{TargetRange}
+use Rattle.traffic_file.specs.DmiMap.Ranges.{range_with}
 use Rattle.traffic_file.specs.declared.BusLine.{BusLine}
 use Rattle.traffic_file.specs.declared.BusTarget.{BusTarget}
 use Rattle.traffic_file.specs.Traffic.{target_at, range_of_line}

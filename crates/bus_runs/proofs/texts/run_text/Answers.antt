@@ -1,6 +1,6 @@
 use Rattle.std.proofs.lemmas.Result.{IfOk-weaker}
-use Rattle.bus_pools.specs.Pools.{payload_with}
-use Rattle.bus_text.specs.Lines.{IsTextOf}
+use Rattle.bus_answers.specs.Pools.{payload_with}
+use Rattle.result_texts.specs.Lines.{IsTextOf}
 use Rattle.bus_runs.specs.Runs.{IsRunText}
 use Rattle.bus_runs.proofs.texts.run_text.Goals as goal
 

@@ -14,7 +14,7 @@ use Rattle.code_deeds.specs.ModelRules.Meanings.{variable_type}
 use Rattle.code_deeds.specs.ModelRules.Scopes.{Scope, in_unwind, locals_in_block, locals_in_handlers, past}
 use Rattle.code_deeds.specs.CodeRules.Deeds.{exception_number, if_written, store}
 use Rattle.code_deeds.specs.CodeRules.Numbered.{AreHandlers, AtBlock, IsBlock, IsElse, IsStatement}
-use Rattle.laws_code.specs.LawsRules.HasCode.{HandlersHaveCode, IsThere}
+use Rattle.laws_code.specs.HasCode.{HandlersHaveCode, IsThere}
 use Rattle.laws_code.proofs.Plain.{NoneHasBlocks, Only, action_plain, assign_plain, operate_plain, var_plain}
 use Rattle.check_statements.specs.CheckNames.Places.{scope_of, with_visible}
 use Rattle.check_statements.proofs.Behind.{behind_block, past_nothing, past_past}

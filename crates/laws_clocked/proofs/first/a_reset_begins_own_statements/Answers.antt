@@ -1,6 +1,6 @@
 use Rattle.std.proofs.Common.{refl, ap}
-use Rattle.laws_unwinding.specs.SimModel.Residual.{settle}
-use Rattle.laws_unwinding.specs.SimModel.Configuration.{arena}
+use Rattle.laws_runs.specs.SimModel.Residual.{settle}
+use Rattle.laws_runs.specs.SimModel.Configuration.{arena}
 use Rattle.laws_clocked.proofs.Resetting.{reset-begins}
 use Rattle.laws_clocked.proofs.Injecting.{injected-begins}
 use Rattle.laws_clocked.proofs.Rounded.{true-injected}

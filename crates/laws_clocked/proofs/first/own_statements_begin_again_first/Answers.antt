@@ -1,5 +1,5 @@
 use Rattle.std.proofs.Common.{refl}
-use Rattle.laws_unwinding.specs.SimModel.Configuration.{arena}
+use Rattle.laws_runs.specs.SimModel.Configuration.{arena}
 use Rattle.laws_clocked.proofs.Returning.{always-thrown}
 use Rattle.laws_clocked.proofs.Recurring.{begins-first_at}
 use Rattle.laws_clocked.proofs.Rounded.{true-among}

@@ -1,7 +1,7 @@
 use Rattle.std.proofs.Common.{sym, subst, ◌∙◌}
-use Rattle.laws_rules.specs.FlatDesign.Typed.{HasType}
-use Rattle.laws_rules.specs.ModelRules.Operators.{evaluated_as}
-use Rattle.laws_rules.proofs.Coded.{same_some}
+use Rattle.code_rules.specs.FlatDesign.Typed.{HasType}
+use Rattle.code_rules.specs.ModelRules.Operators.{evaluated_as}
+use Rattle.laws_code.proofs.Coded.{same_some}
 use Rattle.laws_code.proofs.Terms.{term_typed}
 use Rattle.laws_code.proofs.standing_terms.sound_terms_are_typed.Goals as goal
 

@@ -1,4 +1,4 @@
-use Rattle.laws_design.proofs.Few.{processes-few, events-few}
+use Rattle.laws_design.proofs.FewEvents.{processes-few, events-few}
 use Rattle.laws_design.proofs.limits.designs_are_few.Goals as goal
 
 pub returns : goal.returns

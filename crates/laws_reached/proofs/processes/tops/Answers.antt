@@ -1,4 +1,4 @@
-use Rattle.laws_unwinding.proofs.Steps.{takes-empty}
+use Rattle.laws_runs.proofs.GoalSteps.{takes-empty}
 use Rattle.laws_reached.proofs.Reaching.{clean-reached}
 use Rattle.laws_reached.proofs.Standing.{top-is-top, lives-on-top, empty-is-empty, empty-was-empty}
 use Rattle.laws_reached.proofs.processes.tops.Goals as goal

@@ -1,5 +1,5 @@
 use Rattle.std.proofs.Common.{ap, ◌∙◌}
-use Rattle.laws_unwinding.specs.SimModel.Configuration.{Cycle}
+use Rattle.laws_runs.specs.SimModel.Configuration.{Cycle}
 use Rattle.laws_reached.proofs.Reaching.{good-reached}
 use Rattle.laws_reached.proofs.Fresh.{fresh-processes, fresh-kernel}
 use Rattle.laws_reached.proofs.starts.fresh_at_start.Goals as goal

@@ -1,5 +1,5 @@
 use Rattle.laws_runs.specs.Standing.{OfBody}
-use Rattle.laws_runs.proofs.Kept.{goalless-ordinary, settle-standing, returned-standing, local-standing, unw-unwinding, raise-standing}
+use Rattle.laws_runs.proofs.BodiesKept.{goalless-ordinary, settle-standing, returned-standing, local-standing, unw-unwinding, raise-standing}
 use Rattle.laws_runs.proofs.standing.unwindings_stand_in_unwind_blocks.Goals as goal
 
 pub returns : goal.returns

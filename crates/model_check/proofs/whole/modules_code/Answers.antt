@@ -4,7 +4,7 @@ use Rattle.model_tree.specs.Views.{module_of, modules_of}
 use Rattle.model_tree.specs.declared.items.Module.{Module}
 use Rattle.flat_design.specs.declared.code.CodeBody.{CodeBody}
 use Rattle.code_rooms.specs.CodeRules.Bodies.{AreModules}
-use Rattle.code_blocks.specs.LawsRules.HasCode.{ModulesHaveCode}
+use Rattle.code_blocks.specs.LawsCode.HasCode.{ModulesHaveCode}
 use Rattle.check_reach.specs.CheckNames.ModelNames.{module_items}
 use Rattle.model_check.proofs.LocalLemmas.{next_seen}
 use Rattle.model_check.specs.Parts.{body_blocks, home_from}

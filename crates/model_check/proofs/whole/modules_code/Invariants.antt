@@ -2,7 +2,7 @@ use Rattle.std.proofs.Common.{◌≡◌, ◌++◌, drop, length, List}
 use Rattle.flat_design.specs.declared.code.CodeBody.{CodeBody}
 use Rattle.model_tree.specs.Views.{modules_of}
 use Rattle.code_rooms.specs.CodeRules.Bodies.{AreModules}
-use Rattle.code_blocks.specs.LawsRules.HasCode.{ModulesHaveCode}
+use Rattle.code_blocks.specs.LawsCode.HasCode.{ModulesHaveCode}
 use Rattle.code_blocks.specs.Laid.{EachFrom, FromNowOn, IsNested, StandsInside}
 use Rattle.model_check.specs.Parts.{AreLaidApart, body_blocks}
 use Rattle.model_check.proofs.whole.modules_code.Given as goal

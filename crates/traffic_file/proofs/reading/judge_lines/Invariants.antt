@@ -1,7 +1,7 @@
 use Rattle.std.proofs.Common.{◌≡◌, ◌+◌, ◌≤◌, length}
 use Rattle.std.specs.Option.{option_map_or}
-use Rattle.traffic_lines.specs.TextLines.Lines.{lines}
-use Rattle.traffic_lines.specs.TextLines.Pieces.{lines_left}
+use Rattle.text_lines.specs.Lines.{lines}
+use Rattle.text_lines.specs.Pieces.{lines_left}
 use Rattle.traffic_file.specs.BusText.{judged_from, first_so_far}
 use Rattle.traffic_file.proofs.reading.judge_lines.Given as goal
 

@@ -3,7 +3,7 @@ use Rattle.std.proofs.Common.{◌≡◌, ◌++◌, ◌∷◌, List, [], ap, ◌�
 use Rattle.laws_runs.specs.SimModel.Configuration.{Config, Cycle, Snapshot}
 use Rattle.laws_runs.specs.SimModel.Trace.{all_values, trace_text}
 use Rattle.kernel_state.specs.Kernel.{StandsFor}
-use Rattle.laws_runs.specs.Added.{seen_at}
+use Rattle.laws_runs.specs.AddedStanding.{seen_at}
 use Rattle.vcd_trace.specs.Traced.{trace_so_far, Keeps}
 use Rattle.vcd_trace.proofs.Steps.{text-ends}
 use Rattle.vcd_trace.proofs.tracing.Tracing.last_point.Goals as goal

@@ -4,7 +4,7 @@ use Rattle.laws_runs.specs.SimModel.Configuration.{Config, Snapshot}
 use Rattle.laws_runs.specs.SimModel.Steps.{step, went}
 use Rattle.laws_runs.specs.SimModel.Trace.{all_values}
 use Rattle.kernel_state.specs.Kernel.{StandsFor}
-use Rattle.laws_runs.specs.Added.{seen_at}
+use Rattle.laws_runs.specs.AddedStanding.{seen_at}
 use Rattle.vcd_trace.specs.Traced.{trace_so_far, last_seen, Keeps}
 use Rattle.vcd_trace.proofs.Steps.{still-adds, moved-adds, text-after}
 use Rattle.vcd_trace.proofs.tracing.Tracing.step_point.Goals as goal

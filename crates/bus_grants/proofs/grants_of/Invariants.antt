@@ -1,6 +1,0 @@
-use Rattle.bus_router.specs.Times.{row_at}
-use Rattle.bus_grants.specs.Sofar.{LeftSofar}
-use Rattle.bus_grants.proofs.grants_of.Given as goal
-
-abbrev pub invariant-loop-j : goal.invariant-loop-j
-invariant-loop-j l = LeftSofar l.bus (row_at l.rows) l.grants l.j

@@ -1,0 +1,2 @@
+pub use Rattle.traffic_file.proofs.DmiMap.Kept as Kept
+pub use Rattle.traffic_file.proofs.DmiMap.OneOrder as OneOrder

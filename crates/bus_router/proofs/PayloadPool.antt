@@ -1,0 +1,1 @@
+pub use Rattle.traffic_file.proofs.PayloadPool.LawLemmas as LawLemmas

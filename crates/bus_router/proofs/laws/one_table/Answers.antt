@@ -1,5 +1,0 @@
-use Rattle.bus_router.proofs.OneTable.{one_table_of}
-use Rattle.bus_router.proofs.laws.one_table.Goals as goal
-
-pub returns : goal.returns
-returns c = one_table_of

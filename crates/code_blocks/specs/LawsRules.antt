@@ -1,1 +1,0 @@
-pub use Rattle.laws_code.specs.LawsRules.HasCode as HasCode

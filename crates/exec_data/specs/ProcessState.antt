@@ -1,0 +1,1 @@
+pub use Rattle.kernel_view.specs.ProcessState.declared as declared

@@ -1,5 +1,0 @@
-use Rattle.expanded_text.proofs.Texts.{unread}
-use Rattle.expanded_text.proofs.laws.none_as_it_stands.Goals as goal
-
-pub returns : goal.returns
-returns c = unread

@@ -1,5 +1,0 @@
-use Rattle.expanded_text.proofs.Texts.{same_reading}
-use Rattle.expanded_text.proofs.laws.one_reading.Goals as goal
-
-pub returns : goal.returns
-returns c = same_reading

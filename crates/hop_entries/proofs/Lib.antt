@@ -1,4 +1,0 @@
-pub mod Joined
-pub mod OneList
-pub mod EachOnce
-pub mod OwnHops

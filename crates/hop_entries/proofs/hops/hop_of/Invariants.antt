@@ -1,6 +1,0 @@
-use Rattle.std.proofs.Common.{take}
-use Rattle.hop_entries.specs.Entries.{IsHopOf}
-use Rattle.hop_entries.proofs.hops.hop_of.Given as goal
-
-abbrev pub invariant-loop-k : goal.invariant-loop-k
-invariant-loop-k l = IsHopOf (take l.k-index l.ks) l.hop.items

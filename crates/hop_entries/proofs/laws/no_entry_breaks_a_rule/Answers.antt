@@ -1,5 +1,0 @@
-use Rattle.hop_entries.proofs.OneList.{unbroken_hops}
-use Rattle.hop_entries.proofs.laws.no_entry_breaks_a_rule.Goals as goal
-
-pub returns : goal.returns
-returns c = λ bus table hops all h below. unbroken_hops bus table hops all h below

@@ -1,5 +1,0 @@
-use Rattle.hop_entries.proofs.OneList.{same_hops}
-use Rattle.hop_entries.proofs.laws.one_list_of_hops.Goals as goal
-
-pub returns : goal.returns
-returns c = λ bus table one other first second. same_hops bus table one other first second

@@ -1,0 +1,1 @@
+pub use Rattle.process_bodies.specs.ProcessState.declared as declared

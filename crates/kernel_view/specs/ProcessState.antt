@@ -1,0 +1,1 @@
+pub use Rattle.kernel_state.specs.ProcessState.declared as declared

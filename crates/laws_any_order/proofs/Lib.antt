@@ -1,9 +1,0 @@
-mod Stepping
-mod Reached
-mod InOrder
-mod Progress
-mod Ends
-mod Orders
-mod Ongoing
-mod Dones
-mod Itself

@@ -1,8 +1,0 @@
-use Rattle.laws_any_order.proofs.Dones.{done-stops, stops-done}
-use Rattle.laws_any_order.proofs.runs.sessions_end_done.Goals as goal
-
-pub returns-clause-done : goal.returns-clause-done
-returns-clause-done c = done-stops
-
-pub returns-clause-only : goal.returns-clause-only
-returns-clause-only c = stops-done

@@ -1,0 +1,1 @@
+pub use Rattle.code_rules.specs.Bodies as Bodies

@@ -1,5 +1,0 @@
-use Rattle.laws_guards.proofs.Ending.{all-below}
-use Rattle.laws_guards.proofs.calls.all_guards_stand_below_an_end.Goals as goal
-
-pub returns : goal.returns
-returns x = all-below

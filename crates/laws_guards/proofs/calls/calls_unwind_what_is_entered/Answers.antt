@@ -1,5 +1,0 @@
-use Rattle.laws_guards.proofs.Unwound.{kill-begins, reset-begins, throw-begins}
-use Rattle.laws_guards.proofs.calls.calls_unwind_what_is_entered.Goals as goal
-
-pub returns : goal.returns
-returns x = record { kill = kill-begins; reset = reset-begins; throw = throw-begins }

@@ -1,8 +1,0 @@
--- The stack of the active instances with one on top.
-use Rattle.std.specs.Prelude.{ℕ, List, ◌∷◌, if◌then◌else◌}
-use Rattle.laws_unwinding.specs.SimModel.Configuration.{Config}
-use Rattle.laws_unwinding.specs.SimModel.Control.{is_top}
-
--- as it is where q is on top already, and else with q above all
-abbrev pub topped_by : ℕ → Config → List ℕ
-topped_by q c = if is_top c q then c.processes.stack else q ∷ c.processes.stack

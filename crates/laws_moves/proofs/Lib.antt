@@ -1,9 +1,0 @@
-pub mod Lists
-pub mod Kept
-pub mod Wakes
-pub mod Values
-pub mod Controls
-pub mod Forms
-pub mod Ends
-pub mod Statements
-pub mod RunSteps

@@ -1,1 +1,0 @@
-pub use Rattle.elaborate_objects.proofs.Closed as Closed

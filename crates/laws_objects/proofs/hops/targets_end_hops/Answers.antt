@@ -1,5 +1,0 @@
-use Rattle.laws_objects.proofs.Sockets.{ends_hop}
-use Rattle.laws_objects.proofs.hops.targets_end_hops.Goals as goal
-
-pub returns : goal.returns
-returns c = λ os formed none i o blocking forward at e. ends_hop os formed none i o blocking forward at e

@@ -1,5 +1,0 @@
-use Rattle.laws_objects.proofs.Denoted.{named_denoted}
-use Rattle.laws_objects.proofs.paths.names_denote_the_objects_of_their_paths.Goals as goal
-
-pub returns : goal.returns
-returns c = named_denoted

@@ -1,5 +1,0 @@
-pub mod Sizes
-pub mod Declared
-pub mod Named
-pub mod DesignRules
-pub mod ElaborateObjects

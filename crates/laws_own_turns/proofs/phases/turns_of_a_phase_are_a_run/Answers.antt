@@ -1,5 +1,0 @@
-use Rattle.laws_own_turns.proofs.WholePhases.{phase-run}
-use Rattle.laws_own_turns.proofs.phases.turns_of_a_phase_are_a_run.Goals as goal
-
-pub returns : goal.returns
-returns c = λ d script free. phase-run d free script

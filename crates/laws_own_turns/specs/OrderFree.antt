@@ -1,1 +1,0 @@
-pub use Rattle.order_free.specs.Free as Free

@@ -1,5 +1,0 @@
-use Rattle.laws_phases.proofs.Acting.{acts-same}
-use Rattle.laws_phases.proofs.acts.acts_go_on_the_same.Goals as goal
-
-pub returns : goal.returns
-returns c = acts-same

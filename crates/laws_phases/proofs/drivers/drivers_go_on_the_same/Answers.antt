@@ -1,5 +1,0 @@
-use Rattle.laws_phases.proofs.Driving.{driven-same}
-use Rattle.laws_phases.proofs.drivers.drivers_go_on_the_same.Goals as goal
-
-pub returns : goal.returns
-returns c = driven-same

@@ -1,5 +1,0 @@
-use Rattle.laws_phases.proofs.Relating.{same-start}
-use Rattle.laws_phases.proofs.relation.runs_begin_the_same.Goals as goal
-
-pub returns : goal.returns
-returns c = same-start

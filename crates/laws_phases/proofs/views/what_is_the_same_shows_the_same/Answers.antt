@@ -1,6 +1,0 @@
-use Rattle.laws_phases.proofs.Notifying.{now-same}
-use Rattle.laws_phases.proofs.Shown.{value-same, values-same, trace-same, finals-same, closing-same}
-use Rattle.laws_phases.proofs.views.what_is_the_same_shows_the_same.Goals as goal
-
-pub returns : goal.returns
-returns c = record { cycle = now-same; value = value-same; values = values-same; trace = trace-same; finals = finals-same; closing = closing-same }

@@ -1,5 +1,0 @@
-use Rattle.laws_print.proofs.Unprinted.{same_text}
-use Rattle.laws_print.proofs.laws.lines_are_not_printed.Goals as goal
-
-pub returns : goal.returns
-returns c = λ x y e. same_text x y e

@@ -1,5 +1,0 @@
-use Rattle.laws_print.proofs.Bounds.{bounded}
-use Rattle.laws_print.proofs.laws.print_is_bounded.Goals as goal
-
-pub returns : goal.returns
-returns c = λ text x h. bounded text x h

@@ -1,6 +1,0 @@
-use Rattle.model_print.specs.ModelTree.Seen.{source_of}
-use Rattle.laws_print.proofs.Whole.{printed_reads}
-use Rattle.laws_print.proofs.laws.print_of_a_tree_reads_back.Goals as goal
-
-pub returns : goal.returns
-returns c = λ t. printed_reads (source_of t) t.limits t.language t.sound

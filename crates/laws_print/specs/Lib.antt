@@ -1,4 +1,0 @@
-pub mod Unlined
-pub mod ReadsBack
-pub mod PrintsAgain
-pub mod Bounds

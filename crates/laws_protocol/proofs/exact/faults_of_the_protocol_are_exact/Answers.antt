@@ -1,8 +1,0 @@
-use Rattle.laws_protocol.proofs.Judged.{judged-exactly, judged-freed}
-use Rattle.laws_protocol.proofs.exact.faults_of_the_protocol_are_exact.Goals as goal
-
-pub returns-clause-live : goal.returns-clause-live
-returns-clause-live c = judged-exactly
-
-pub returns-clause-freed : goal.returns-clause-freed
-returns-clause-freed c = judged-freed

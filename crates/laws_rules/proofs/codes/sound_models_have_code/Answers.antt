@@ -1,5 +1,0 @@
-use Rattle.laws_rules.proofs.Models.{model_coded}
-use Rattle.laws_rules.proofs.codes.sound_models_have_code.Goals as goal
-
-pub returns : goal.returns
-returns c = λ m h. model_coded m h

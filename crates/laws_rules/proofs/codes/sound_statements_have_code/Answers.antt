@@ -1,5 +1,0 @@
-use Rattle.laws_rules.proofs.Blocks.{coded}
-use Rattle.laws_rules.proofs.codes.sound_statements_have_code.Goals as goal
-
-pub returns : goal.returns
-returns c = λ h s x known numbered clean. coded x h s known numbered clean

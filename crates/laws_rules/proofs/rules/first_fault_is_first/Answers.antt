@@ -1,5 +1,0 @@
-use Rattle.laws_rules.proofs.Passes.{decided}
-use Rattle.laws_rules.proofs.rules.first_fault_is_first.Goals as goal
-
-pub returns : goal.returns
-returns c = λ m f h. decided m f h

@@ -1,6 +1,0 @@
-use Rattle.code_rules.specs.ModelRules.declared.needs.Need.TheVariants as need_of
-use Rattle.laws_rules.proofs.Typed.{typed}
-use Rattle.laws_rules.proofs.rules.sound_expressions_have_types.Goals as goal
-
-pub returns : goal.returns
-returns c = λ s e known clean. typed s known need_of.Readable e clean

@@ -1,5 +1,0 @@
-use Rattle.laws_rules.proofs.Coded.{coded}
-use Rattle.laws_rules.proofs.rules.typed_expressions_have_code.Goals as goal
-
-pub returns : goal.returns
-returns c = λ s e h. coded s e h

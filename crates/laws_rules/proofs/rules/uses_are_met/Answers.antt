@@ -1,5 +1,0 @@
-use Rattle.laws_rules.proofs.NamesMet.{without_fault}
-use Rattle.laws_rules.proofs.rules.uses_are_met.Goals as goal
-
-pub returns : goal.returns
-returns c = λ m h. without_fault m h

@@ -1,9 +1,0 @@
-pub mod Met
-pub mod Known
-pub mod Decided
-pub mod HasCode
-pub mod LogicValues
-pub mod ModelTree
-pub mod FlatDesign
-pub mod ModelRules
-pub mod CodeRules

@@ -1,5 +1,0 @@
-use Rattle.laws_runs.proofs.ResidualLemmas.{unw-unwound, guards-unwound, nothing-caught}
-use Rattle.laws_runs.proofs.residuals.unwinding_keeps_guards.Goals as goal
-
-pub returns : goal.returns
-returns c = record { again = unw-unwound; guards = guards-unwound; catches = nothing-caught }

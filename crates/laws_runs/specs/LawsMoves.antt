@@ -1,1 +1,0 @@
-pub use Rattle.laws_moves.specs.Moves as Moves

@@ -1,5 +1,0 @@
-use Rattle.laws_sites.proofs.Once.{each_once}
-use Rattle.laws_sites.proofs.laws.sites_are_productions.Goals as goal
-
-pub returns : goal.returns
-returns c = λ m. each_once m

@@ -1,4 +1,0 @@
-pub mod First
-pub mod Same
-mod Literals
-mod Late

@@ -1,5 +1,0 @@
-use Rattle.laws_ticks.proofs.Same.{same_times}
-use Rattle.laws_ticks.proofs.laws.language_1_has_its_times.Goals as goal
-
-pub returns : goal.returns
-returns c = same_times

@@ -1,8 +1,0 @@
-use Rattle.laws_types.proofs.Unfitting.{sound-tried, types-tried, wide-run, set-run}
-use Rattle.laws_types.proofs.premises.both_premises_are_needed.Goals as goal
-
-pub returns : goal.returns
-returns c = record {
-  types = (sound-tried 65, wide-run);
-  script = (sound-tried 1, types-tried, set-run);
-}

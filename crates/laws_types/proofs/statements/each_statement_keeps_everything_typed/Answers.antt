@@ -1,5 +1,0 @@
-use Rattle.laws_types.proofs.InTurn.{statement-typed}
-use Rattle.laws_types.proofs.statements.each_statement_keeps_everything_typed.Goals as goal
-
-pub returns : goal.returns
-returns c = statement-typed

@@ -1,8 +1,0 @@
-use Rattle.laws_types.proofs.TermTypes.{term-type, operands-fit}
-use Rattle.laws_types.proofs.terms.typed_terms_have_their_types.Goals as goal
-
-pub returns : goal.returns
-returns c = record {
-  value = term-type;
-  operands = operands-fit;
-}

@@ -1,8 +1,0 @@
-use Rattle.laws_types.proofs.TypedRuns.{meets-runs, next-runs}
-use Rattle.laws_types.proofs.typing.operators_meet_their_types.Goals as goal
-
-pub returns : goal.returns
-returns c = record {
-  next = next-runs;
-  operands = meets-runs;
-}

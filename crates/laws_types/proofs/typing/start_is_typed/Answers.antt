@@ -1,5 +1,0 @@
-use Rattle.laws_types.proofs.TypedRuns.{typed-start}
-use Rattle.laws_types.proofs.typing.start_is_typed.Goals as goal
-
-pub returns : goal.returns
-returns c = typed-start

@@ -1,3 +1,0 @@
-pub use Rattle.laws_runs.specs.PayloadPool.Payloads as Payloads
-pub use Rattle.laws_runs.specs.PayloadPool.Transfer as Transfer
-pub use Rattle.laws_runs.specs.PayloadPool.declared as declared

@@ -1,1 +1,0 @@
-pub use Rattle.laws_runs.specs.SimTime.declared as declared

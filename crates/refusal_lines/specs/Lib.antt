@@ -1,2 +1,0 @@
-pub mod KindWords
-pub mod ErrLines

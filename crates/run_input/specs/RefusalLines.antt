@@ -1,2 +1,0 @@
-pub use Rattle.refusal_lines.specs.ErrLines as ErrLines
-pub use Rattle.refusal_lines.specs.declared as declared

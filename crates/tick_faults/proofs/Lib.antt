@@ -1,4 +1,0 @@
-pub mod Firsts
-mod Powers
-mod Blocks
-mod Past

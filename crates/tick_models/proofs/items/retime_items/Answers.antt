@@ -1,9 +1,0 @@
-use Rattle.model_tree.specs.Views.{item_of}
-use Rattle.tick_statements.specs.TickTrees.Retimed as retimed
-use Rattle.tick_statements.specs.TickTrees.Ticks.{ticks_span}
-use Rattle.tick_statements.proofs.TickTrees.Each.{one_more}
-use Rattle.tick_models.proofs.items.retime_items.Goals as goal
-
-pub loop-item-preserved : goal.loop-item-preserved
-loop-item-preserved c =
-    one_more item_of (retimed.item (ticks_span c.args.r)) c.loop-item.items c.args.items.now c.loop-item.item-index c.item-item.result c.retime_item.new.item c.loop-item-test.true c.retime_item.ensures c.loop-item.invariant

@@ -1,8 +1,0 @@
-use Rattle.model_tree.specs.Views.{module_of}
-use Rattle.tick_statements.specs.TickTrees.Retimed as retimed
-use Rattle.tick_statements.specs.TickTrees.Ticks.{ticks_span}
-use Rattle.tick_statements.proofs.TickTrees.Each.{Changed}
-use Rattle.tick_models.proofs.items.retime_modules.Given as goal
-
-abbrev pub invariant-loop-module : goal.invariant-loop-module
-invariant-loop-module l = Changed module_of (retimed.module_ (ticks_span l.fn.r)) l.modules l.fn.modules l.module-index

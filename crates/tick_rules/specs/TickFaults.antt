@@ -1,2 +1,0 @@
-pub use Rattle.tick_faults.specs.Unfit as Unfit
-pub use Rattle.tick_faults.specs.declared as declared

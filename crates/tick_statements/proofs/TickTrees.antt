@@ -1,1 +1,0 @@
-pub use Rattle.tick_trees.proofs.Each as Each

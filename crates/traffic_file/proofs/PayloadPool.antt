@@ -1,0 +1,1 @@
+pub use Rattle.dmi_map.proofs.PayloadPool.LawLemmas as LawLemmas

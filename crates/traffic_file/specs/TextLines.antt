@@ -1,0 +1,3 @@
+pub use Rattle.text_lines.specs.LineForms as LineForms
+pub use Rattle.text_lines.specs.Words as Words
+pub use Rattle.text_lines.specs.declared as declared

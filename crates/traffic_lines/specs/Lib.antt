@@ -1,3 +1,0 @@
-pub mod LineForms
-pub mod TrafficWords
-pub mod TextLines

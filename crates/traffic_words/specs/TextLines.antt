@@ -1,2 +1,0 @@
-pub use Rattle.text_lines.specs.Lines as Lines
-pub use Rattle.text_lines.specs.Pieces as Pieces

@@ -1,4 +1,0 @@
-pub mod Texts
-pub mod Models
-pub mod Trees
-pub mod Coded
