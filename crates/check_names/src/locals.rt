@@ -1,4 +1,4 @@
-ghost use Rattle.std.specs.Prelude.{◌≡◌, option_map, find, length, OnOk, Option};
+ghost use Rattle.std.specs.Prelude.{◌≡◌, option_map, find, length, OnOk, OnErr, Option};
 ghost use Rattle.model_rules.specs.Scopes.{is_local};
 ghost use Rattle.check_names.specs.LocalNames.{no_locals, with_name, left_at, local_of};
 
@@ -20,7 +20,7 @@ pub struct Visible<'a> {
     /// The type of its values; none where its width is out of range.
     pub value_type: Option<ValueType>,
     /// How many different names were visible before it.
-    pub named: usize,
+    named: usize,
 }
 
 /// The parameters and local variables that are visible at a place of a body. A look-up takes the same time however many
@@ -79,9 +79,10 @@ impl<'a> Locals<'a> {
         self.count
     }
 
-    /// Declares one more. More than 32 bits can count are answered as out of memory.
+    /// Declares one more. More than 32 bits can count are answered as out of memory, and nothing has changed then.
     pub fn declare(&mut self, name: &'a [u8], var_type: VarType) -> Result<(), AllocError>
-        ensures { OnOk result (self.new ≡ with_name self.old name.now var_type) }
+        ensures declared { OnOk result (self.new ≡ with_name self.old name.now var_type) }
+        ensures err { OnErr result (self.new ≡ self.old) }
     {
         let number = self.count;
         let next = match number.checked_add(1) {

@@ -1,4 +1,4 @@
-ghost use Rattle.std.specs.Prelude.{◌≡◌, OnOk, length, option_map};
+ghost use Rattle.std.specs.Prelude.{◌≡◌, OnOk, OnErr, length, option_map};
 ghost use Rattle.std.specs.Option.{option_copied};
 ghost use Rattle.model_rules.specs.ModelTree.Views.{function_of};
 ghost use Rattle.model_rules.specs.Scopes.{meaning_of, function_named, with_local, is_known};
@@ -67,9 +67,10 @@ impl<'a> Place<'a> {
         }
     }
 
-    /// Declares a local variable or a parameter.
+    /// Declares a local variable or a parameter; nothing has changed where it is refused.
     pub fn declare(&mut self, name: &'a [u8], var_type: VarType) -> Result<(), AllocError>
-        ensures { OnOk result (scope_of self.new ≡ with_local (scope_of self.old) name.now var_type) }
+        ensures declared { OnOk result (scope_of self.new ≡ with_local (scope_of self.old) name.now var_type) }
+        ensures err { OnErr result (self.new ≡ self.old) }
     {
         self.locals.declare(name, var_type)
     }
