@@ -8,6 +8,7 @@ use Rattle.sim_model.specs.EventCore.declared.notifications.Pending.{Pending}
 use Rattle.sim_model.specs.EventCore.declared.notifications.Pending.TheVariants as pending
 use Rattle.sim_model.specs.EventCore.Notifications.{pending_at}
 use Rattle.timed_queue.specs.Timed.{Timed, IsEarliest}
+use Rattle.timed_queue.proofs.MapLemmas.{same_gets}
 use Rattle.sim_model.specs.Phases.{earliest_event}
 use Rattle.kernel_events.specs.Kept.{time_of, IsTied}
 
@@ -62,6 +63,26 @@ none_there (pending.Nothing ∷ events) none = none_there events (λ e. none (su
 none_there (pending.Delta ∷ events) none = none_there events (λ e. none (suc e))
 none_there (pending.At u ∷ events) none = absurd (let h : Some u ≡ None = none 0 in cc)
 
+-- a time once found is never lost
+some_stays : (events : List Pending) (t : ℕ) → earliest_event events (Some t) ≡ None → ⊥
+some_stays [] t is = let none : Some t ≡ None = is in cc
+some_stays (pending.Nothing ∷ events) t is = some_stays events t is
+some_stays (pending.Delta ∷ events) t is = some_stays events t is
+some_stays (pending.At u ∷ events) t is = by_test (nat_lt u.0 t) (some_stays events u.0) (some_stays events t) is
+  where
+    by_test : (b : Bool) → (earliest_event events (Some u.0) ≡ None → ⊥) → (earliest_event events (Some t) ≡ None → ⊥) → earliest_event events (cond b (Some u.0) (Some t)) ≡ None → ⊥
+    by_test true new old is = new is
+    by_test false new old is = old is
+
+-- where none is told no event has one
+none_pending : (events : List Pending) → earliest_event events None ≡ None → (e : ℕ) → time_of (pending_at events e) ≡ None
+none_pending [] is e = refl
+none_pending (pending.Nothing ∷ events) is zero = refl
+none_pending (pending.Nothing ∷ events) is (suc e) = none_pending events is e
+none_pending (pending.Delta ∷ events) is zero = refl
+none_pending (pending.Delta ∷ events) is (suc e) = none_pending events is e
+none_pending (pending.At u ∷ events) is e = absurd (some_stays events u.0 is)
+
 -- a time that is told is that of an event, or was there before
 behind : (p : Pending) (events : List Pending) (t : Option ℕ) (u : ℕ) → (t ≡ Some u) ⊎ ((e : ℕ) × (v : Time) × (time_of (pending_at events e) ≡ Some v) × (v.0 ≡ u))
     → (t ≡ Some u) ⊎ ((e : ℕ) × (v : Time) × (time_of (pending_at (p ∷ events) e) ≡ Some v) × (v.0 ≡ u))
@@ -97,6 +118,9 @@ module _ (events : List Pending) (marks : List Bool) (timed : Timed) (n : ℕ) (
 
   pub none_told : timed.times ≡ maps.empty → earliest_event events None ≡ None
   none_told none = none_there events (λ e. sym (tied.times e) ∙ ap (λ m. maps.get m e) none ∙ maps.get-empty nat_cmp e)
+
+  pub none_timed : earliest_event events None ≡ None → timed.times ≡ maps.empty
+  none_timed none = same_gets maps.empty timed.times (λ e. tied.times e ∙ none_pending events none e ∙ sym (maps.get-empty nat_cmp e))
 
   pub bound_told : (t : Time) → ((name : ℕ) (other : Time) → maps.get timed.times name ≡ Some other → t.0 ≤ other.0) → (u : ℕ) → earliest_event events None ≡ Some u → t.0 ≤ u
   bound_told t from u is = ⊎_elim

@@ -2,7 +2,7 @@
 //! (IEEE 1666-2011, 4.2.1.4, 4.2.1.5 and 5.10).
 #![tactic(auto)]
 
-ghost use Rattle.std.specs.Prelude.{◌≡◌, ◌++◌, ◌+◌, ◌≤◌, ℕ, None, Some, IfNone, IfSome, IfOk, count_by, length, map, option_map, replicate, vec_len, vec_capacity};
+ghost use Rattle.std.specs.Prelude.{◌≡◌, ◌++◌, ◌+◌, ◌≤◌, ℕ, None, Some, IfNone, IfSome, IsNone, IfOk, count_by, length, map, option_map, replicate, vec_len, vec_capacity};
 
 mod kept;
 
@@ -106,6 +106,7 @@ impl EventBoard {
     /// A time that no timed notification is before, in the time of a few tests; none where there is none.
     pub fn not_before(&self) -> Option<Time>
         ensures none { IfNone result (earliest_event self.now None ≡ None) }
+        ensures nothing { earliest_event self.now None ≡ None → IsNone result }
         ensures bound { IfSome result (λ t. (u : ℕ) → earliest_event self.now None ≡ Some u → t.0 ≤ u) }
     {
         self.times.not_before()

@@ -1,7 +1,7 @@
 use Rattle.std.proofs.Common.{◌≡◌, Option, None, Some, refl, ap, ◌∙◌, sym}
 use Rattle.std.specs.Prelude.{IsNone, IfNone, IfSome, ◌↔◌}
 use Rattle.sim_model.specs.Phases.{earliest_event}
-use Rattle.kernel_events.proofs.Earliest.{none_told, bound_told}
+use Rattle.kernel_events.proofs.Earliest.{none_told, none_timed, bound_told}
 use Rattle.kernel_events.proofs.EventBoard.not_before.Goals as goal
 
 none_clause : {X : Type 0} (o : Option X) (A : Type 0) → (o ≡ None → A) → IfNone o A
@@ -25,3 +25,8 @@ pub returns-clause-bound : goal.returns-clause-bound
 returns-clause-bound c =
     some_clause c.not_before.result _ _ c.not_before.ensures.bound
     (λ t from u is. bound_told c.self.inside.events c.self.inside.deltas c.self.inside.times c.self.inside.size c.self.invariant t from u (ap (λ es. earliest_event es None) c.self.view_is ∙ is))
+
+pub returns-clause-nothing : goal.returns-clause-nothing
+returns-clause-nothing c = λ nothing.
+    c.not_before.ensures.none.1 (none_timed c.self.inside.events c.self.inside.deltas c.self.inside.times c.self.inside.size c.self.invariant
+    (ap (λ es. earliest_event es None) c.self.view_is ∙ nothing))
