@@ -44,6 +44,7 @@ pub(crate) fn end(k: &mut Kernel, p: u32)
 
 /// How many events there are in the wait of an instance by this next trigger, or by its static sensitivity, where they are not too
 /// many to be counted.
+#[inline(always)]
 fn count_next(k: &Kernel, p: u32, next: &Option<Trigger>) -> Option<u32>
     ensures { IfSome result (λ n. n ≡ rest_count next.now (map.get k.now.schedule.table.live p)) }
 {

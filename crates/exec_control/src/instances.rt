@@ -50,6 +50,7 @@ pub(crate) fn is_suspended(k: &Kernel, p: u32) -> bool
 }
 
 /// Nothing is left of the body of an instance.
+#[inline(always)]
 pub(crate) fn clear_body(k: &mut Kernel, p: u32)
     requires sound { IsSound k.old }
     requires lives { Lives k.old p }

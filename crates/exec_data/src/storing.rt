@@ -15,6 +15,7 @@ use kernel_view::kernel_state_api::{Kernel, pass, set_local, store_variable, top
 use kernel_view::logic_values_api::Value;
 
 /// A value is stored in a local variable of the innermost call.
+#[inline(always)]
 pub(crate) fn store_local(k: &mut Kernel, p: u32, n: u32, v: Value)
     requires sound { IsSound k.old }
     requires top { IsOnTop k.old p }

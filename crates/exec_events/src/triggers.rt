@@ -111,6 +111,7 @@ fn after(k: &Kernel, p: u32, time: &Expr) -> Result<Deadline, RunFault>
 ///
 /// # Errors
 /// The first fault of what it names; a time past 2^64 - 1 ps.
+#[inline(always)]
 pub(crate) fn end_of(k: &Kernel, p: u32, how: &Await) -> Result<Deadline, RunFault>
     requires lives { Lives k.now p }
     requires numbers { NumbersEvents (whole_design k.now) }

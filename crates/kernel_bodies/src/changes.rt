@@ -55,6 +55,7 @@ fn drop_frame(frames: &mut Vec<Saved>, spare: &mut Spare)
 }
 
 /// Pops all but the outermost frames.
+#[inline(always)]
 pub fn keep_frames(frames: &mut Vec<Saved>, spare: &mut Spare, many: usize)
     requires { many ≤ vec_len frames.old }
     ensures items { frames.new.items ≡ take many frames.old.items }

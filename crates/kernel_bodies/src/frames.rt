@@ -96,6 +96,7 @@ pub fn depth_in(program: &Program, function: CodeId) -> usize
 }
 
 /// Adds the blocks that come inside the others, and gives the statement that comes inside them.
+#[inline(always)]
 pub fn add_layers(blocks: &mut Vec<Open>, comes: Comes) -> Option<StmtId>
     requires { vec_len blocks.old + length (layers_of comes) ≤ vec_capacity blocks.old }
     ensures items { blocks.new.items ≡ blocks.old.items ++ layers_of comes }

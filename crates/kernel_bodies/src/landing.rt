@@ -150,6 +150,7 @@ fn land_statement(frames: &[Saved], statement: StmtId) -> Option<Landing>
 }
 
 /// Where frames go on once finished parts have fallen away; nothing where all of them fall away.
+#[inline(always)]
 pub fn land(program: &Program, frames: &[Saved], statement: Option<StmtId>) -> Option<Landing>
     ensures falls { IfNone result (residual.settle (arena_of program.now.code) (inside_frames (arena_of program.now.code) frames.now (standing (held frames.now statement))) ≡ residual.skip) }
     ensures lands { IfSome result (Lands (arena_of program.now.code) program.now.depths.items frames.now statement (standing (held frames.now statement))) }

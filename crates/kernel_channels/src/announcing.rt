@@ -48,6 +48,7 @@ fn announce(events: &mut EventBoard, change: Changed, first: u32)
 }
 
 // The same, where there is a first event.
+#[inline(always)]
 pub(crate) fn announce_at(events: &mut EventBoard, change: Changed, first: Option<u32>)
     ensures { events.new ≡ told_at first change events.old }
 {

@@ -98,6 +98,7 @@ pub fn count_events<B>(s: &Schedule<B>, p: u32, wait: &Wait) -> Option<u32>
 }
 
 /// Lets an instance wait in the lists, in place of what it waited for.
+#[inline(always)]
 pub fn put_wait<B>(s: &mut Schedule<B>, p: u32, wait: &Wait)
     requires { length (events_of wait.now (sensitive_of (map.get s.old.table.live p))) ≤ room_for s.old.lists p }
     ensures { Changes p (λ x. record x { wait = listed_as wait.now (sensitive_of x.entry) }) s.old s.new }

@@ -65,6 +65,7 @@ fn hear_at<B>(s: &mut Schedule<B>, p: u32) -> Heard
 }
 
 /// A wake of an instance that has no wait in the wait lists any more.
+#[inline(always)]
 pub fn meet<B>(s: &mut Schedule<B>, p: u32)
     requires { HasPlaces s.old }
     ensures changes { Changes p met s.old s.new }

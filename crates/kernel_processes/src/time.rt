@@ -24,6 +24,7 @@ fn mark_over<B>(s: &mut Schedule<B>, p: u32)
 }
 
 /// No time ends the wait of an instance any more.
+#[inline(always)]
 fn put_over<B>(s: &mut Schedule<B>, p: u32)
     ensures { Changes p over s.old s.new }
 {

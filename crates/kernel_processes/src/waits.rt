@@ -28,6 +28,7 @@ fn make_room<B>(s: &mut Schedule<B>, p: u32, t: &Trigger) -> Result<(), AllocErr
 }
 
 /// Puts the instance into the wait lists and the queues of time-outs.
+#[inline(always)]
 fn put<B>(s: &mut Schedule<B>, p: u32, t: &Trigger)
     requires below { p < 2 ^ 32 - 1 }
     requires events { length (events_of t.now.wait (sensitive_of (map.get s.old.table.live p))) ≤ room_for s.old.lists p }

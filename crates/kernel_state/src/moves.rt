@@ -15,6 +15,7 @@ use kernel_processes::{Trigger, fire as fire_processes};
 use std::alloc::AllocError;
 
 /// The statement in place of an instance is past.
+#[inline(always)]
 pub fn pass(k: &mut Kernel, p: u32)
     requires sound { IsSound k.old }
     requires lives { Lives k.old p }
@@ -43,6 +44,7 @@ pub fn fire(k: &mut Kernel, e: Ev)
 
 /// The active instance on top waits so, and leaves the stack (IEEE 1666-2011, 5.2.18). Where memory is refused nothing
 /// changes.
+#[inline(always)]
 pub fn wait(k: &mut Kernel, p: u32, t: &Trigger) -> Result<(), AllocError>
     requires sound { IsSound k.old }
     requires top { IsOnTop k.old p }

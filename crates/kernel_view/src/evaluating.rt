@@ -23,6 +23,7 @@ impl<'a> View for Standing<'a> {
         self.serial
     }
 
+    #[inline(always)]
     fn read(&self, reading: Reading) -> Result<Value, RunFault> {
         match reading {
             Reading::Name(n) => self.named(n),

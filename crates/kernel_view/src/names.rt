@@ -173,6 +173,7 @@ impl<'a> Standing<'a> {
     }
 
     /// What a name is as a value.
+    #[inline(always)]
     pub(crate) fn named(&self, n: NameUse) -> Result<Value, RunFault>
         ensures { (h : Here) → ShowsHere self.now h → result ≡ reading.read_name h n }
     {

@@ -60,6 +60,7 @@ fn home_of(k: &Kernel, kept: &Kept) -> u32
 }
 
 /// Where the next statement of an instance stands, where the instance has not ended.
+#[inline(always)]
 pub fn standing_at<'a>(k: &'a Kernel, p: u32) -> Option<Standing<'a>>
     ensures shows { IfSome result (λ x. Everywhere k.now p (ShowsHere x)) }
     ensures ended { IfNone result (map.get k.now.schedule.table.live p ≡ None) }

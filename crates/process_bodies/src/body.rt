@@ -79,6 +79,7 @@ impl Body {
     }
 
     /// The statement in place goes on with one of its blocks, and with what it puts around that.
+    #[inline(always)]
     pub fn begin_block(&mut self, program: &Program, block: BlockId)
         requires sound { IsSound program.now self.old }
         requires statement { IsStatement (next_in program.now self.old) }

@@ -19,6 +19,7 @@ use kernel_bodies::{Frame, Next, Program};
 
 impl Body {
     /// What comes next once finished parts have fallen away. The body is not changed.
+    #[inline(always)]
     pub fn next(&self, program: &Program) -> Next
         requires { IsSound program.now self.now }
         ensures value { result ≡ next_in program.now self.now }

@@ -35,6 +35,7 @@ impl Body {
     }
 
     /// Begins the body with its first arguments. It takes no memory.
+    #[inline(always)]
     pub fn restart(&mut self, program: &Program)
         requires { IsSound program.now self.old }
         ensures left { left_in program.now self.new ≡ begun (arena_of program.now.code) self.old.calls.code self.old.calls.arguments.items }

@@ -42,6 +42,7 @@ pub struct Body {
 
 impl Body {
     /// Lets finished parts fall away, and tells what comes then.
+    #[inline(always)]
     pub(crate) fn settle_to(&mut self, program: &Program) -> Comes
         requires { IsSound program.now self.old }
         ensures fewer { vec_len self.new.frames ≤ vec_len self.old.frames }

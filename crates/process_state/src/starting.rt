@@ -35,6 +35,7 @@ pub enum EnterStop {
 const FRAME_LIMIT: usize = 64;
 
 /// Begins the body of a call inside frames, with a vector for what stands open in it, and gives its first statement.
+#[inline(always)]
 fn begin_call(
     program: &Program,
     frames: &mut Vec<Saved>,

@@ -62,6 +62,7 @@ impl ReadySet {
     }
 
     /// Makes room for at least `n` members more.
+    #[inline(always)]
     pub fn reserve(&mut self, n: u32) -> Result<(), AllocError>
         ensures ok { OnOk result (n ≤ self.new.spare) }
         ensures grows { self.old.spare ≤ self.new.spare }

@@ -69,6 +69,7 @@ fn push_kept(alloc: Global, text: &mut Vec<u8>, k: &Kernel, kept: &Kept) -> Resu
 }
 
 /// Adds the path of the instance of this serial, which has not ended.
+#[inline(always)]
 pub(crate) fn push_path_at(
     alloc: Global,
     text: &mut Vec<u8>,

@@ -26,6 +26,7 @@ pub(crate) fn push_byte(text: &mut Vec<u8>, byte: u8) -> Result<(), AllocError>
 }
 
 /// Adds a number in decimal.
+#[inline(always)]
 pub(crate) fn push_number(text: &mut Vec<u8>, number: u64) -> Result<(), AllocError>
     ensures { OnOk result (text.new.items ≡ text.old.items ++ decimal number) }
 {
@@ -34,6 +35,7 @@ pub(crate) fn push_number(text: &mut Vec<u8>, number: u64) -> Result<(), AllocEr
 }
 
 /// Adds the text of a value; a handle has none.
+#[inline(always)]
 pub(crate) fn push_value(alloc: Global, text: &mut Vec<u8>, value: Value) -> Result<(), AllocError>
     ensures { OnOk result (text.new.items ≡ text.old.items ++ text_of value) }
 {

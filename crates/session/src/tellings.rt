@@ -70,6 +70,7 @@ pub(crate) fn tell<O: Sink>(
 }
 
 /// Gives what a taking adds to a report, by the kernel after it.
+#[inline(always)]
 pub(crate) fn tell_turn<O: Sink>(
     alloc: Global,
     k: &Kernel,

@@ -100,6 +100,7 @@ impl TimedQueue {
     }
 
     /// Makes room for at least `n` names more.
+    #[inline(always)]
     pub fn reserve(&mut self, n: u32) -> Result<(), AllocError>
         ensures ok { OnOk result (n ≤ self.new.spare) }
         ensures grows { self.old.spare ≤ self.new.spare }
@@ -128,6 +129,7 @@ impl TimedQueue {
     }
 
     /// Takes the name out, if it is there.
+    #[inline(always)]
     pub fn clear(&mut self, name: u32)
         ensures { self.new ≡ without self.old name }
     {

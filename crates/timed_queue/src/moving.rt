@@ -23,6 +23,7 @@ impl Wheel {
     }
 
     // The least time of an entry.
+    #[inline(always)]
     pub(crate) fn least(&self) -> Option<u64>
         requires sound { IsWheel self.now }
         requires settled { IsSettled self.now }

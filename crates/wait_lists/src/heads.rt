@@ -103,6 +103,7 @@ impl Heads {
     }
 
     // Lets the list of this code begin with this node.
+    #[inline(always)]
     pub(crate) fn set_first(&mut self, code: u64, first: u32)
         requires heads { IsHeads self.old.events }
         requires code { 0 < code }

@@ -171,6 +171,7 @@ pub(crate) fn place_of(kept: &Kept, p: u32) -> Option<u32>
 }
 
 // Lets the instance wait for any or for all of these events, in place of what it waited for.
+#[inline(always)]
 pub(crate) fn set_wait(kept: &mut Kept, p: u32, for_all: bool, list: &[Ev])
     requires sound { IsSound kept.old }
     requires room { length list.now ≤ room_for (waits_by kept.old) p }

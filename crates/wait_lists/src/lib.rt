@@ -72,6 +72,7 @@ impl WaitLists {
     /// Makes room for the instance `p`, so that it can wait for as many as `items` events.
     ///
     /// The room stays, used or not, until `forget`. It runs out of memory, too, where there would be room for 2^32 events or more in all.
+    #[inline(always)]
     pub fn reserve_for(&mut self, p: u32, items: u32) -> Result<(), AllocError>
         ensures ok { OnOk result (HasRoom self.new p items) }
         ensures grows { room_for self.old p ≤ room_for self.new p }
