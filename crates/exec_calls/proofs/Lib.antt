@@ -10,7 +10,6 @@ pub mod Gathering
 pub mod Sensing
 pub mod Bearing
 pub mod SpawnHanding
-pub mod KernelBodies
 pub mod KernelProcesses
 pub mod KernelState
 pub mod KernelView

@@ -5,14 +5,12 @@ pub mod Valued
 pub mod Sensitive
 pub mod Born
 pub mod LogicValues
-pub mod InstanceTable
 pub mod PayloadPool
 pub mod TransportPhases
 pub mod QuantumKeeper
 pub mod SimModel
 pub mod KernelBodies
 pub mod ProcessBodies
-pub mod KernelProcesses
 pub mod KernelTransactions
 pub mod KernelState
 pub mod KernelView

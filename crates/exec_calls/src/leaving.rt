@@ -1,23 +1,39 @@
 //! Calls that end.
-ghost use Rattle.std.specs.Prelude.{◌≡◌, IsSomeAnd};
+ghost use Rattle.std.specs.Prelude.{◌≡◌};
 ghost use Rattle.exec_data.specs.SimModel.Residual as residual;
+ghost use Rattle.exec_data.specs.SimModel.Residual.{next_of};
 ghost use Rattle.exec_data.specs.SimModel.Storing.{passes};
 ghost use Rattle.exec_data.specs.KernelBodies.Layers.{call_of};
+ghost use Rattle.exec_data.specs.ProcessBodies.Bodies.{settled_in, next_in};
 ghost use Rattle.exec_data.specs.KernelState.Kernel.{IsSound};
 ghost use Rattle.exec_data.specs.KernelState.Moves.{Steps, Lives};
 ghost use Rattle.exec_calls.specs.Calling.{ComesNext, Leaves, EndsNext, ChangesBody};
 
-use exec_data::kernel_bodies_api::Frame;
+use exec_data::kernel_bodies_api::{Frame, Next, Program};
 use exec_data::kernel_state_api::Kernel;
+use exec_data::process_bodies_api::Body;
 
-/// The call of an instance that ends next, where one does.
-pub fn ending_call<'a>(k: &'a Kernel, p: u32) -> Option<&'a Frame>
-    requires { Lives k.now p }
-    ensures { Leaves k.now p → IsSomeAnd result (λ x. EndsNext k.now p (call_of x.now)) }
+/// The call that ends next in a body.
+fn ending_in<'a>(program: &Program, body: &'a Body) -> &'a Frame
+    requires { next_in program.now body.now ≡ Next.Leave }
+    ensures { next_of (settled_in program.now body.now) ≡ residual.leaves (call_of result.now) }
+{
+    match body.innermost(program) {
+        Some(frame) => frame,
+        None => unreachable!(),
+    }
+}
+
+/// The call of an instance that ends next: one does.
+pub fn ending_call<'a>(k: &'a Kernel, p: u32) -> &'a Frame
+    requires lives { Lives k.now p }
+    requires leaves { Leaves k.now p }
+    ensures ends { EndsNext k.now p (call_of result.now) }
+    ensures frame { ComesNext k.now p (residual.leaves (call_of result.now)) }
 {
     match k.schedule.table.get(p) {
-        Some(x) => x.body.body.body.innermost(k.program),
-        None => None,
+        Some(x) => ending_in(k.program, &x.body.body.body),
+        None => unreachable!(),
     }
 }
 

@@ -50,7 +50,7 @@ pub mod expr_eval_api {
 
 /// What is passed on of kernel_bodies.
 pub mod kernel_bodies_api {
-    pub use exec_data::kernel_bodies_api::{Frame, Next, Program};
+    pub use exec_data::kernel_bodies_api::{Frame, Program};
 }
 
 /// What is passed on of kernel_state.
@@ -80,11 +80,6 @@ pub mod logic_values_api {
 /// What is passed on of plain_lists.
 pub mod plain_lists_api {
     pub use exec_data::plain_lists_api::{Bytes, Items};
-}
-
-/// What is passed on of process_bodies.
-pub mod process_bodies_api {
-    pub use exec_data::process_bodies_api::Body;
 }
 
 /// What is passed on of sim_model.

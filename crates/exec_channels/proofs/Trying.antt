@@ -130,3 +130,9 @@ module _ (k : Kernel) (p : ℕ) (at : ChannelTerm) (answer : Result ChannelId Ru
       subst (FollowsBut NoFault k (Err (stop.Fault e)) c)
       (sym (used_is (next_here c p i) at (λ x. Ok (g x (settled_in c p i.residual) p (record i { residual = settle (arena c) i.residual }) (settle (arena c) i.residual)))))
       (stopped.at_fault NoFault k p answer (λ y. used_here y at) gives (λ d q j r x. Ok (g x d q j r)) e is c i h there)
+
+-- what is found of a channel that was looked up is found of it where the statement stands
+pub found_here : {B : Type 0} (k : Kernel) (p : ℕ) (at : ChannelTerm) (answer : Result ChannelId RunFault) (gives : Everywhere k p (λ h. answer ≡ used_here h at)) (ch : ChannelId) → answer ≡ Ok ch
+    → (f : Channels → ChannelId → B) (b : B) → f k.channels ch ≡ b → Everywhere k p (λ h. on_ok (used_here h at) (λ x. Ok (f h.config.channels x)) ≡ Ok b)
+found_here k p at answer gives ch is f b finds c i h there =
+    ap (λ o. on_ok o (λ x. Ok (f c.channels x))) (sym (gives c i h there) ∙ is) ∙ ap (λ y. Ok (f y ch)) h.channels ∙ ap Ok finds

@@ -1,5 +1,5 @@
 //! Statements on fifos (IEEE 1666-2011, 6.23).
-ghost use Rattle.std.specs.Prelude.{◌≡◌, ◌==◌, OnOk, OnErr, not, option_map};
+ghost use Rattle.std.specs.Prelude.{◌≡◌, ◌==◌, Some, None, Err, OnOk, OnErr, not, option_map};
 ghost use Rattle.kernel_view.specs.FifoSync.Fifos as fifos;
 ghost use Rattle.flat_design.specs.Code.{channel_term, term_of};
 ghost use Rattle.kernel_view.specs.SimModel.Channels as channels;
@@ -9,7 +9,8 @@ ghost use Rattle.kernel_view.specs.SimModel.Storing.{passes};
 ghost use Rattle.kernel_view.specs.KernelState.Kernel.{IsSound};
 ghost use Rattle.kernel_view.specs.KernelState.Moves.{Moves, Steps, Does, HasStatement, IsOnTop};
 ghost use Rattle.kernel_view.specs.KernelState.Stopping.{DoesOrStops};
-ghost use Rattle.exec_channels.specs.Tried.{changed_in};
+ghost use Rattle.kernel_view.specs.Standings.{Everywhere};
+ghost use Rattle.exec_channels.specs.Tried.{changed_in, IsEmptyHere};
 
 use crate::slots::{past, put, slot_at};
 use crate::uses::{fifo_number, first_event, used_at};
@@ -145,7 +146,8 @@ pub fn nb_read(
     }
 }
 
-/// A read of a channel that is known. Where memory is refused nothing changes.
+/// A read of a channel that is known. Memory is refused only where it is a fifo of which nothing can be read, and then nothing
+/// changes.
 fn read_channel(
     k: &mut Kernel,
     alloc: Global,
@@ -158,6 +160,7 @@ fn read_channel(
     requires statement { HasStatement k.old p }
     ensures steps { OnOk result (Steps k.old k.new p (λ c q i r. channels.read_fifo c q r (here c q i r) target channel (fifo_here c channel))) }
     ensures stays { OnErr result (Moves k.old k.new (λ c. c)) }
+    ensures blocked { OnErr result (option_map fifos.readable (element k.old.channels.fifos (fifo_of channel)) ≡ Some None) }
     ensures sound { IsSound k.new }
     ensures made { k.new.made ≡ k.old.made }
 {
@@ -197,6 +200,7 @@ pub fn read(
     requires top { IsOnTop k.old p }
     requires statement { HasStatement k.old p }
     ensures does { DoesOrStops k.old k.new result p (λ c q i r. do_read c q r (here c q i r) target (channel_term at.now)) }
+    ensures blocked { result ≡ Err StatementStop.NoMemory → Everywhere k.old p (λ h. IsEmptyHere h (channel_term at.now)) }
     ensures sound { IsSound k.new }
     ensures made { k.new.made ≡ k.old.made }
 {

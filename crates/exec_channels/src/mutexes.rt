@@ -1,5 +1,5 @@
 //! Statements on mutexes (IEEE 1666-2011, 6.27).
-ghost use Rattle.std.specs.Prelude.{◌≡◌, OnOk, OnErr, option_map};
+ghost use Rattle.std.specs.Prelude.{◌≡◌, Some, Err, false, OnOk, OnErr, option_map};
 ghost use Rattle.kernel_view.specs.FifoSync.Locks.{is_owner, is_unlocked, locked_by, unlocked_by};
 ghost use Rattle.flat_design.specs.Code.{channel_term};
 ghost use Rattle.kernel_view.specs.SimModel.Channels as channels;
@@ -9,7 +9,8 @@ ghost use Rattle.kernel_view.specs.SimModel.Storing.{passes};
 ghost use Rattle.kernel_view.specs.KernelState.Kernel.{IsSound};
 ghost use Rattle.kernel_view.specs.KernelState.Moves.{Moves, Steps, Does, HasStatement, IsOnTop};
 ghost use Rattle.kernel_view.specs.KernelState.Stopping.{DoesOrStops};
-ghost use Rattle.exec_channels.specs.Tried.{changed_in};
+ghost use Rattle.kernel_view.specs.Standings.{Everywhere};
+ghost use Rattle.exec_channels.specs.Tried.{changed_in, IsOwnedHere};
 
 use crate::slots::{past, slot_at, tell};
 use crate::uses::{first_event, mutex_number, used_at};
@@ -137,13 +138,14 @@ pub fn trylock(
     }
 }
 
-/// A lock of a channel that is known. Where memory is refused nothing changes.
+/// A lock of a channel that is known. Memory is refused only where it is a mutex that somebody owns, and then nothing changes.
 fn lock_channel(k: &mut Kernel, alloc: Global, p: u32, channel: ChannelId) -> Result<(), AllocError>
     requires sound { IsSound k.old }
     requires top { IsOnTop k.old p }
     requires statement { HasStatement k.old p }
     ensures steps { OnOk result (Steps k.old k.new p (λ c q i r. channels.lock_at c q r channel (mutex_of channel))) }
     ensures stays { OnErr result (Moves k.old k.new (λ c. c)) }
+    ensures blocked { OnErr result (option_map is_unlocked (element k.old.channels.mutexes (mutex_of channel)) ≡ Some false) }
     ensures sound { IsSound k.new }
     ensures made { k.new.made ≡ k.old.made }
 {
@@ -175,6 +177,7 @@ pub fn lock(k: &mut Kernel, alloc: Global, p: u32, at: &ChannelUse) -> Result<()
     requires top { IsOnTop k.old p }
     requires statement { HasStatement k.old p }
     ensures does { DoesOrStops k.old k.new result p (λ c q i r. do_lock c q r (here c q i r) (channel_term at.now)) }
+    ensures blocked { result ≡ Err StatementStop.NoMemory → Everywhere k.old p (λ h. IsOwnedHere h (channel_term at.now)) }
     ensures sound { IsSound k.new }
     ensures made { k.new.made ≡ k.old.made }
 {

@@ -1,5 +1,5 @@
 //! Statements on semaphores (IEEE 1666-2011, 6.29).
-ghost use Rattle.std.specs.Prelude.{◌≡◌, ◌<◌, ◌+◌, ◌-◌, ◌^◌, All, OnOk, OnErr, is_some, not, option_map};
+ghost use Rattle.std.specs.Prelude.{◌≡◌, ◌<◌, ◌+◌, ◌-◌, ◌^◌, Some, Err, false, All, OnOk, OnErr, is_some, not, option_map};
 ghost use Rattle.kernel_view.specs.FifoSync.Locks.{is_used_up};
 ghost use Rattle.flat_design.specs.Code.{channel_term};
 ghost use Rattle.kernel_view.specs.SimModel.Channels as channels;
@@ -9,7 +9,8 @@ ghost use Rattle.kernel_view.specs.SimModel.Storing.{passes};
 ghost use Rattle.kernel_view.specs.KernelState.Kernel.{IsSound};
 ghost use Rattle.kernel_view.specs.KernelState.Moves.{Moves, Steps, Does, HasStatement, IsOnTop};
 ghost use Rattle.kernel_view.specs.KernelState.Stopping.{DoesOrStops};
-ghost use Rattle.exec_channels.specs.Tried.{changed_in};
+ghost use Rattle.kernel_view.specs.Standings.{Everywhere};
+ghost use Rattle.exec_channels.specs.Tried.{changed_in, IsUsedUpHere};
 
 use crate::slots::{past, slot_at, tell};
 use crate::uses::{first_event, semaphore_number, used_at};
@@ -130,13 +131,15 @@ pub fn sem_trywait(
     }
 }
 
-/// A wait for a channel that is known. Where memory is refused nothing changes.
+/// A wait for a channel that is known. Memory is refused only where it is a semaphore of which nothing is left, and then nothing
+/// changes.
 fn wait_channel(k: &mut Kernel, alloc: Global, p: u32, channel: ChannelId) -> Result<(), AllocError>
     requires sound { IsSound k.old }
     requires top { IsOnTop k.old p }
     requires statement { HasStatement k.old p }
     ensures steps { OnOk result (Steps k.old k.new p (λ c q i r. channels.sem_wait_at c q r channel (semaphore_of channel))) }
     ensures stays { OnErr result (Moves k.old k.new (λ c. c)) }
+    ensures blocked { OnErr result (option_map (λ v. not (is_used_up v)) (element k.old.channels.semaphores (semaphore_of channel)) ≡ Some false) }
     ensures sound { IsSound k.new }
     ensures made { k.new.made ≡ k.old.made }
 {
@@ -168,6 +171,7 @@ pub fn sem_wait(k: &mut Kernel, alloc: Global, p: u32, at: &ChannelUse) -> Resul
     requires top { IsOnTop k.old p }
     requires statement { HasStatement k.old p }
     ensures does { DoesOrStops k.old k.new result p (λ c q i r. do_sem_wait c q r (here c q i r) (channel_term at.now)) }
+    ensures blocked { result ≡ Err StatementStop.NoMemory → Everywhere k.old p (λ h. IsUsedUpHere h (channel_term at.now)) }
     ensures sound { IsSound k.new }
     ensures made { k.new.made ≡ k.old.made }
 {

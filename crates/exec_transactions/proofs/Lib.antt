@@ -3,5 +3,4 @@ pub mod Transfers
 pub mod Making
 pub mod Codes
 pub mod Called
-pub mod Settled
 pub mod Ended

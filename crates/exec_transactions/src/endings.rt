@@ -1,21 +1,17 @@
 //! The call that ends next in the body of an instance, seen before its frame is taken away.
 ghost use Rattle.std.specs.Prelude.{◌≡◌};
 ghost use Rattle.flat_design.specs.Code.{arena_of};
-ghost use Rattle.exec_calls.specs.SimModel.Residual as residual;
-ghost use Rattle.exec_calls.specs.SimModel.Residual.{Frame as Left, next_of};
 ghost use Rattle.exec_calls.specs.KernelBodies.Layers.{call_of};
-ghost use Rattle.exec_calls.specs.ProcessBodies.Bodies.{settled_in, next_in};
 ghost use Rattle.exec_calls.specs.KernelState.Moves.{Lives};
 ghost use Rattle.exec_calls.specs.Calling.{Leaves};
 ghost use Rattle.exec_transactions.specs.Ending as spec;
 ghost use Rattle.exec_transactions.specs.Ending.{Ends};
 
-use exec_calls::answer_of;
-use exec_calls::kernel_bodies_api::{Frame, Next, Program};
+use exec_calls::kernel_bodies_api::{Frame, Program};
 use exec_calls::kernel_state_api::Kernel;
 use exec_calls::logic_values_api::Value;
-use exec_calls::process_bodies_api::Body;
 use exec_calls::sim_model_api::Via;
+use exec_calls::{answer_of, ending_call};
 
 /// What is seen of a call that ends.
 #[derive(Clone, Copy)]
@@ -42,25 +38,11 @@ fn ending_of(program: &Program, frame: &Frame) -> Ending
     }
 }
 
-/// What is seen of the call that ends next in a body.
-fn ending_in(program: &Program, body: &Body) -> Ending
-    requires { next_in program.now body.now ≡ Next.Leave }
-    ensures { (x : Left) → next_of (settled_in program.now body.now) ≡ residual.leaves x → result ≡ spec.ending_of (arena_of program.now.code) x }
-{
-    match body.innermost(program) {
-        Some(frame) => ending_of(program, frame),
-        None => unreachable!(),
-    }
-}
-
 /// What is seen of the call that ends next in the body of an instance.
 pub(crate) fn ending_at(k: &Kernel, p: u32) -> Ending
     requires lives { Lives k.now p }
     requires leaves { Leaves k.now p }
     ensures { Ends k.now p result }
 {
-    match k.schedule.table.get(p) {
-        Some(x) => ending_in(k.program, &x.body.body.body),
-        None => unreachable!(),
-    }
+    ending_of(k.program, ending_call(k, p))
 }

@@ -79,12 +79,9 @@ fn end_at(k: &Kernel, p: u32) -> CallEnd
     requires leaves { Leaves k.now p }
     ensures called { CalledBy k.now p (IsEndOf result) }
 {
-    match ending_call(k, p) {
-        Some(frame) => match calling_statement(k.program, frame.call) {
-            Some(statement) => end_by(statement),
-            None => CallEnd::Plain,
-        },
-        None => unreachable!(),
+    match calling_statement(k.program, ending_call(k, p).call) {
+        Some(statement) => end_by(statement),
+        None => CallEnd::Plain,
     }
 }
 

@@ -18,3 +18,6 @@ returns-in-Err-clause-stays c = refused_moves c.args.k.now c.try_read.new.board 
 
 pub returns-in-None-clause-steps : goal.returns-in-None-clause-steps
 returns-in-None-clause-steps c = no_fifo_steps c.args.k.now c.try_read.new.board c.args.p c.args.channel c.try_read.ensures.left c.args.target (sym c.in-None.is ∙ c.try_read.ensures.value) c.pass.new.k c.pass.ensures.steps
+
+pub returns-in-Err-clause-blocked : goal.returns-in-Err-clause-blocked
+returns-in-Err-clause-blocked c = sym c.try_read.ensures.value ∙ c.in-Some-None.is ∙ ap Some c.in-Some-None.field-0-is

@@ -1,8 +1,9 @@
-use Rattle.std.proofs.Common.{Ok, Err}
+use Rattle.std.proofs.Common.{Some, Ok, Err, false, option_map}
+use Rattle.kernel_view.specs.FifoSync.Locks.{is_unlocked}
 use Rattle.flat_design.specs.Code.{channel_term}
-use Rattle.kernel_view.specs.SimModel.Channels.{lock_at, mutex_of}
+use Rattle.kernel_view.specs.SimModel.Channels.{element, lock_at, mutex_of}
 use Rattle.kernel_view.specs.KernelState.declared.stops.StatementStop.TheVariants as stop
-use Rattle.exec_channels.proofs.Trying.{stops_for, stops_at}
+use Rattle.exec_channels.proofs.Trying.{stops_for, stops_at, found_here}
 use Rattle.exec_channels.proofs.mutexes.lock.Goals as goal
 
 pub returns-in-Ok-lock_channel-clause-does : goal.returns-in-Ok-lock_channel-clause-does
@@ -13,3 +14,6 @@ returns-in-Err-lock_channel-clause-does c = stops_for c.args.k.now c.args.p (cha
 
 pub returns-in-Err-clause-does : goal.returns-in-Err-clause-does
 returns-in-Err-clause-does c = stops_at c.args.k.now c.args.p (channel_term c.args.at.now) c.used_at.result c.used_at.ensures (λ ch d q i r. lock_at d q r ch (mutex_of ch)) c.in-Err.fault c.in-Err.is
+
+pub returns-in-Err-lock_channel-clause-blocked : goal.returns-in-Err-lock_channel-clause-blocked
+returns-in-Err-lock_channel-clause-blocked c = λ _. found_here c.args.k.now c.args.p (channel_term c.args.at.now) c.used_at.result c.used_at.ensures c.in-Ok.channel c.in-Ok.is (λ y x. option_map is_unlocked (element y.mutexes (mutex_of x))) (Some false) c.in-Err-lock_channel.ensures.blocked

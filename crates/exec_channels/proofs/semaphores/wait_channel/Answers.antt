@@ -13,3 +13,6 @@ returns-in-Err-clause-stays c = refused_moves c.args.k.now c.try_take.new.board 
 
 pub returns-in-None-clause-steps : goal.returns-in-None-clause-steps
 returns-in-None-clause-steps c = no_semaphore_steps c.args.k.now c.try_take.new.board c.args.p c.args.channel c.try_take.ensures.left (sym c.in-None.is ∙ c.try_take.ensures.done) c.pass-in-None.new.k c.pass-in-None.ensures.steps
+
+pub returns-in-Err-clause-blocked : goal.returns-in-Err-clause-blocked
+returns-in-Err-clause-blocked c = sym c.try_take.ensures.done ∙ c.in-Some-false.is ∙ ap Some c.in-Some-false.field-0-test

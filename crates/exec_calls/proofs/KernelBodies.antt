@@ -1,1 +1,0 @@
-pub use Rattle.exec_data.proofs.KernelBodies.Strips as Strips

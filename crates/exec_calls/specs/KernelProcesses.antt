@@ -1,1 +1,0 @@
-pub use Rattle.exec_data.specs.KernelProcesses.declared as declared
