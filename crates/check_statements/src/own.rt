@@ -64,13 +64,14 @@ fn assigned_differs(place: &Place<'_>, target: &Target, value: &Expression) -> b
         || misfits(target_type(place, target), type_of(place, value))
 }
 
-/// What the name of a target without a member has to be.
+/// What the name of a target has to be, by what follows it.
 fn need_of_target(target: &Target) -> Need
-    ensures { target.now.member ≡ None → result ≡ names.target_need target.now.member (option_map expression_of target.now.index) }
+    ensures { result ≡ names.target_need target.now.member (option_map expression_of target.now.index) }
 {
-    match &target.index {
-        None => Need::Variable,
-        Some(_) => Need::Memory,
+    match (&target.member, &target.index) {
+        (Some(_), _) => Need::Object,
+        (None, None) => Need::Variable,
+        (None, Some(_)) => Need::Memory,
     }
 }
 
@@ -81,7 +82,8 @@ fn assign_name<'a>(
     target: &'a Target,
     differs: bool,
 ) -> Option<Finding<'a>>
-    ensures { target.now.member ≡ None → faults_of result ≡ spec.assign_fault (scope_of place.now) line (target_of target.now) differs }
+    requires bare { target.now.member ≡ None }
+    ensures { faults_of result ≡ spec.assign_fault (scope_of place.now) line (target_of target.now) differs }
 {
     let need = need_of_target(target);
     let uses = [Used {
@@ -99,7 +101,8 @@ fn assign_member<'a>(
     member: &'a Name,
     differs: bool,
 ) -> Option<Finding<'a>>
-    ensures { target.now.member ≡ Some member.now → faults_of result ≡ spec.assign_fault (scope_of place.now) line (target_of target.now) differs }
+    requires member { target.now.member ≡ Some member.now }
+    ensures { faults_of result ≡ spec.assign_fault (scope_of place.now) line (target_of target.now) differs }
 {
     let name = target.name.bytes();
     let meaning = place.meaning(name);

@@ -143,7 +143,8 @@ fn in_statements<'a>(
     Ok(None)
 }
 
-/// Walks along a block, up to a broken rule; behind it its own local variables are visible no more.
+/// Walks along a block, up to a broken rule; behind it its own local variables are visible no more. A walk that finds a broken
+/// rule or no memory is over: what is visible then is not said.
 #[cycle(statements)]
 pub fn in_block<'a>(
     place: &mut Place<'a>,

@@ -13,7 +13,7 @@ use Rattle.check_statements.proofs.Found.{assign_member_is}
 use Rattle.check_statements.proofs.own.assign_member.Goals as goal
 
 pub returns : goal.returns
-returns c h =
+returns c =
     let s = scope_of c.args.place.now in
     let line = c.args.line in
     let t = target_of c.args.target.now in
@@ -34,4 +34,4 @@ returns c h =
     ∙ ap (λ (n : List ℕ). member_fault (used.Assigned nowhere) line t.name n c.meaning-meaning.result) c.bytes.ensures.value
     ∙ ap (member_fault (used.Assigned nowhere) line t.name member) (c.meaning-meaning.ensures ∙ ap (meaning_of s) c.bytes-name.ensures.value))
     ∙ ap (option_or (member_fault (used.Assigned nowhere) line t.name member (meaning_of s t.name))) c.told_if-types.ensures)
-    ∙ assign_member_is s line t member c.args.differs h
+    ∙ assign_member_is s line t member c.args.differs c.requires.member
