@@ -5,6 +5,8 @@ use Rattle.sim_time.specs.declared.moments.Unit.{Unit as TimeUnit}
 use Rattle.sim_time.specs.declared.moments.Unit.TheVariants as unit
 use Rattle.model_tree.specs.Vocabulary.{later_word_of}
 use Rattle.model_tree.specs.Tree as tree
+use Rattle.model_tree.specs.Parts as part
+use Rattle.model_tree.specs.Parts.{Part, parts_of, joined}
 use Rattle.model_tree.specs.declared.types.Constant.{Constant}
 use Rattle.model_tree.specs.declared.types.ConstantForm.{ConstantForm}
 use Rattle.model_tree.specs.declared.types.ConstantForm.TheVariants as constant
@@ -112,32 +114,24 @@ abbrev pub in_who : Who → Leaves
 in_who (who.Named line x) = named x ∷ []
 in_who (who.Myself line) = []
 
+abbrev pub in_part : Part → Leaves
+in_part (part.name r x) = named x ∷ []
+in_part (part.next_name r x) = named x ∷ []
+in_part (part.reaching_name r x all) = named x ∷ descending_if all
+in_part (part.text x) = []
+in_part (part.term u e) = in_expression e
+in_part (part.term_if u e) = in_expression_if e
+in_part (part.next_term u e) = in_expression e
+in_part (part.next_term_if u e) = in_expression_if e
+in_part (part.channel u c) = in_channel c
+in_part (part.waiting t) = in_waiting t
+in_part (part.notification t) = in_notification t
+in_part (part.instance x) = in_spawn x
+in_part (part.process x) = in_who x
+in_part (part.reaching_process x all) = in_who x ++ descending_if all
+
 abbrev pub in_action : tree.Action → Leaves
-in_action (tree.write c e) = in_channel c ++ in_expression e
-in_action (tree.print text e) = in_expression_if e
-in_action (tree.notify x n) = named x ∷ in_notification n
-in_action (tree.cancel x) = named x ∷ []
-in_action (tree.wait t) = in_waiting t
-in_action (tree.next_trigger t) = in_waiting t
-in_action (tree.lock c) = in_channel c
-in_action (tree.sem_wait c) = in_channel c
-in_action (tree.post c) = in_channel c
-in_action (tree.make x len enables) = named x ∷ (in_expression len ++ in_expression_if enables)
-in_action (tree.acquire x) = named x ∷ []
-in_action (tree.release x) = named x ∷ []
-in_action (tree.carry payload memory) = named payload ∷ named memory ∷ []
-in_action (tree.b_transport socket payload delay) = named socket ∷ named payload ∷ named delay ∷ []
-in_action (tree.qk_global e) = in_expression e
-in_action (tree.qk_inc x e) = named x ∷ in_expression e
-in_action (tree.qk_set x e) = named x ∷ in_expression e
-in_action (tree.qk_reset x) = named x ∷ []
-in_action (tree.qk_sync x) = named x ∷ []
-in_action (tree.spawn x) = in_spawn x
-in_action (tree.control c x all) = in_who x ++ descending_if all
-in_action (tree.throw_it x exception all) = in_who x ++ (named exception ∷ descending_if all)
-in_action (tree.throw x) = named x ∷ []
-in_action (tree.return_ e) = in_expression_if e
-in_action tree.stop = []
+in_action a = joined in_part (λ xs ys. xs ++ ys) [] (parts_of a)
 
 abbrev mutual
   pub in_statement : tree.Statement → Leaves

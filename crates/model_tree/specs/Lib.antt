@@ -2,6 +2,7 @@ pub mod Vocabulary
 pub mod Leaves
 pub mod Spelling
 pub mod Tree
+pub mod Parts
 pub mod Views
 pub mod Limits
 pub mod Languages

@@ -2,6 +2,8 @@
 use Rattle.std.specs.Prelude.{ℕ, zero, suc, ◌+◌, ◌^◌, max, Bool, true, false, ◌&&◌, nat_le, nat_lt, List, [], ◌∷◌, length, Option, Some, None}
 use Rattle.model_tree.specs.Leaves.{is_name, is_print_text}
 use Rattle.model_tree.specs.Tree as tree
+use Rattle.model_tree.specs.Parts as part
+use Rattle.model_tree.specs.Parts.{Part, parts_of, joined}
 use Rattle.model_tree.specs.declared.expressions.BinaryOp.{BinaryOp}
 use Rattle.model_tree.specs.declared.expressions.BinaryOp.TheVariants as op
 use Rattle.model_tree.specs.declared.types.SignalType.{SignalType}
@@ -214,32 +216,24 @@ abbrev pub fits_who : Who → Bool
 fits_who (who.Named line name) = is_name name
 fits_who (who.Myself line) = true
 
+abbrev pub fits_part : ℕ → Part → Bool
+fits_part n (part.name r x) = is_name x
+fits_part n (part.next_name r x) = is_name x
+fits_part n (part.reaching_name r x all) = is_name x
+fits_part n (part.text x) = is_print_text x
+fits_part n (part.term u e) = fits n e
+fits_part n (part.term_if u e) = fits_option n e
+fits_part n (part.next_term u e) = fits n e
+fits_part n (part.next_term_if u e) = fits_option n e
+fits_part n (part.channel u c) = fits_channel n c
+fits_part n (part.waiting t) = fits_waiting n t
+fits_part n (part.notification t) = fits_notification n t
+fits_part n (part.instance x) = fits_spawn n x
+fits_part n (part.process x) = fits_who x
+fits_part n (part.reaching_process x all) = fits_who x
+
 abbrev pub fits_action : ℕ → tree.Action → Bool
-fits_action n (tree.write c e) = fits_channel n c && fits n e
-fits_action n (tree.print text e) = is_print_text text && fits_option n e
-fits_action n (tree.notify name t) = is_name name && fits_notification n t
-fits_action n (tree.cancel name) = is_name name
-fits_action n (tree.wait w) = fits_waiting n w
-fits_action n (tree.next_trigger w) = fits_waiting n w
-fits_action n (tree.lock c) = fits_channel n c
-fits_action n (tree.sem_wait c) = fits_channel n c
-fits_action n (tree.post c) = fits_channel n c
-fits_action n (tree.make name len enables) = is_name name && (fits n len && fits_option n enables)
-fits_action n (tree.acquire name) = is_name name
-fits_action n (tree.release name) = is_name name
-fits_action n (tree.carry p m) = is_name p && is_name m
-fits_action n (tree.b_transport s p t) = is_name s && (is_name p && is_name t)
-fits_action n (tree.qk_global e) = fits n e
-fits_action n (tree.qk_inc name e) = is_name name && fits n e
-fits_action n (tree.qk_set name e) = is_name name && fits n e
-fits_action n (tree.qk_reset name) = is_name name
-fits_action n (tree.qk_sync name) = is_name name
-fits_action n (tree.spawn s) = fits_spawn n s
-fits_action n (tree.control c w all) = fits_who w
-fits_action n (tree.throw_it w name all) = fits_who w && is_name name
-fits_action n (tree.throw name) = is_name name
-fits_action n (tree.return_ e) = fits_option n e
-fits_action n tree.stop = true
+fits_action n a = joined (fits_part n) (λ x y. x && y) true (parts_of a)
 
 abbrev pub fits_form : TypeForm → Bool
 fits_form form.Bool = true
