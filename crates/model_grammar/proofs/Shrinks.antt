@@ -25,11 +25,13 @@ use Rattle.model_tree.specs.declared.items.TargetRole.TheVariants as target
 use Rattle.model_tree.specs.declared.statements.Who.{Who}
 use Rattle.model_tree.specs.declared.statements.Who.TheVariants as who
 use Rattle.model_tree.specs.Tree as tree
+use Rattle.model_tree.specs.Parts as part
+use Rattle.model_tree.specs.Parts.{Part, parts_of}
 use Rattle.model_grammar.specs.Tokens as t
 use Rattle.model_grammar.specs.Tokens.{Tokens}
 use Rattle.model_grammar.specs.Rules.{Rule, ◌⨾◌, At, Takes, Nothing, Each, Separated, Maybe, Written}
 use Rattle.model_grammar.specs.Expressions.{Short, Parenthesized, DerivesAt, DerivesExpression}
-use Rattle.model_grammar.specs.Statements.{Width, DerivesForm, DerivesVarType, DerivesVarTypeAt, DerivesPlace, DerivesChannel, DerivesMember, DerivesEvent, DerivesSensitive, DerivesArguments, DerivesIndex, DerivesTarget, NextName, NextExpression, DerivesOperation, DerivesResult, DerivesSpan, DerivesWaiting, DerivesNotification, DerivesHandle, DerivesSpawn, DerivesWho, DerivesAction, Braced, DerivesInitial, DerivesStatement, DerivesStatements, DerivesElse, DerivesHandlers, DerivesBlock}
+use Rattle.model_grammar.specs.Statements.{Width, DerivesForm, DerivesVarType, DerivesVarTypeAt, DerivesPlace, DerivesChannel, DerivesMember, DerivesEvent, DerivesSensitive, DerivesArguments, DerivesIndex, DerivesTarget, NextName, NextExpression, DerivesOperation, DerivesResult, DerivesSpan, DerivesWaiting, DerivesNotification, DerivesHandle, DerivesSpawn, DerivesWho, DerivesPart, DerivesParts, DerivesAction, Braced, DerivesInitial, DerivesStatement, DerivesStatements, DerivesElse, DerivesHandlers, DerivesBlock}
 use Rattle.model_grammar.specs.Items.{DerivesConstantForm, DerivesFirstValue, DerivesTime, DerivesStart, DerivesFifoSize, DerivesInterface, DerivesBound, DerivesPortSize, DerivesHandler, DerivesInitiatorRole, DerivesTargetRole, DerivesEnd, DerivesMode, DerivesParameter, DerivesParameters, DerivesAnswer, DerivesItem, DerivesModule}
 use Rattle.model_grammar.proofs.SoundExpressions.{counted}
 
@@ -205,32 +207,32 @@ pub who_shrinks : (x : Who) → Shrinks (DerivesWho x)
 who_shrinks (who.Named line x) = shrinks (at_shortens _ _)
 who_shrinks (who.Myself line) = shrinks (at_shortens _ _)
 
+part_shrinks : (p : Part) → Shrinks (DerivesPart p)
+part_shrinks (part.name r x) = last
+part_shrinks (part.next_name r x) = next_name_shrinks x
+part_shrinks (part.reaching_name r x all) = takes (written_shrinks _ all)
+part_shrinks (part.text x) = last
+part_shrinks (part.term u e) = expression_shrinks e
+part_shrinks (part.term_if u o) = value_shrinks o
+part_shrinks (part.next_term u e) = next_expression_shrinks e
+part_shrinks (part.next_term_if u o) = maybe_shrinks NextExpression next_expression_shrinks o
+part_shrinks (part.channel u c) = channel_shrinks c
+part_shrinks (part.waiting x) = waiting_shrinks x
+part_shrinks (part.notification x) = notification_shrinks x
+part_shrinks (part.instance x) = spawn_shrinks x
+part_shrinks (part.process x) = who_shrinks x
+part_shrinks (part.reaching_process x all) = both_shrink (who_shrinks x) (written_shrinks _ all)
+
+parts_shrink : {P : Rule} → Shrinks P → (ps : List Part) → Shrinks (DerivesParts P ps)
+parts_shrink {P = P} p [] = p
+parts_shrink {P = P} p (q ∷ qs) = both_shrink p (parts_shrink {P = DerivesPart q} (part_shrinks q) qs)
+
+parts_shorten : {P : Rule} → Shortens P → (ps : List Part) → Shortens (DerivesParts P ps)
+parts_shorten p [] = p
+parts_shorten p (q ∷ qs) = first p (parts_shrink (part_shrinks q) qs)
+
 pub action_shortens : (line : ℕ) (a : tree.Action) → Shortens (DerivesAction line a)
-action_shortens line (tree.write c e) = at (both_shrink (channel_shrinks c) (expression_shrinks e))
-action_shortens line (tree.print x o) = at (takes (value_shrinks o))
-action_shortens line (tree.notify x n) = at (takes (notification_shrinks n))
-action_shortens line (tree.cancel x) = at last
-action_shortens line (tree.wait x) = at (waiting_shrinks x)
-action_shortens line (tree.next_trigger x) = at (waiting_shrinks x)
-action_shortens line (tree.lock c) = at (channel_shrinks c)
-action_shortens line (tree.sem_wait c) = at (channel_shrinks c)
-action_shortens line (tree.post c) = at (channel_shrinks c)
-action_shortens line (tree.make x e o) = at (takes (both_shrink (next_expression_shrinks e) (maybe_shrinks NextExpression next_expression_shrinks o)))
-action_shortens line (tree.acquire x) = at last
-action_shortens line (tree.release x) = at last
-action_shortens line (tree.carry x y) = at (takes (next_name_shrinks y))
-action_shortens line (tree.b_transport x y z) = at (takes (both_shrink (next_name_shrinks y) (next_name_shrinks z)))
-action_shortens line (tree.qk_global e) = at (expression_shrinks e)
-action_shortens line (tree.qk_inc x e) = at (takes (expression_shrinks e))
-action_shortens line (tree.qk_set x e) = at (takes (expression_shrinks e))
-action_shortens line (tree.qk_reset x) = at last
-action_shortens line (tree.qk_sync x) = at last
-action_shortens line (tree.spawn x) = at (spawn_shrinks x)
-action_shortens line (tree.control c x all) = at (both_shrink (who_shrinks x) (written_shrinks _ all))
-action_shortens line (tree.throw_it x y all) = at (both_shrink (who_shrinks x) (takes (written_shrinks _ all)))
-action_shortens line (tree.throw x) = at last
-action_shortens line (tree.return_ o) = at (value_shrinks o)
-action_shortens line tree.stop = at_shortens _ _
+action_shortens line a = parts_shorten (at_shortens _ _) (parts_of a)
 
 -- statements
 

@@ -11,14 +11,16 @@ use Rattle.model_tree.specs.declared.statements.Who.{Who}
 use Rattle.model_tree.specs.declared.statements.Who.TheVariants as who
 use Rattle.model_tree.specs.declared.vocabulary.Word.TheVariants as w
 use Rattle.model_tree.specs.declared.vocabulary.Symbol.TheVariants as s
-use Rattle.model_tree.specs.Leaves.{is_name, is_print_text}
-use Rattle.model_tree.specs.Limits.{is_number, depth, fits, fits_option, fits_all, within, fits_place, fits_channel, option_name, fits_event, fits_events, is_some_of, fits_waiting, fits_notification, fits_index, fits_target, fits_operation, fits_spawn, fits_who, fits_action, fits_form, fits_type, fits_var_type, fits_statement, fits_block, fits_else, fits_handlers}
+use Rattle.model_tree.specs.Leaves.{is_name}
+use Rattle.model_tree.specs.Limits.{is_number, depth, fits, fits_option, fits_all, within, fits_place, fits_channel, option_name, fits_event, fits_events, is_some_of, fits_waiting, fits_notification, fits_index, fits_target, fits_operation, fits_spawn, fits_who, fits_part, fits_action, fits_form, fits_type, fits_var_type, fits_statement, fits_block, fits_else, fits_handlers}
 use Rattle.model_tree.specs.Tree as tree
+use Rattle.model_tree.specs.Parts as part
+use Rattle.model_tree.specs.Parts.{Part, parts_of}
 use Rattle.model_grammar.specs.Tokens.{Token, number, word, symbol}
 use Rattle.model_grammar.specs.Rules.{Rule, ◌⨾◌, Takes, Maybe, Separated}
 use Rattle.model_grammar.specs.Expressions.{DerivesExpression}
-use Rattle.model_grammar.specs.Statements.{DerivesForm, DerivesType, DerivesVarTypeAt, DerivesVarType, DerivesPlace, DerivesChannel, DerivesMember, DerivesEvent, DerivesSensitive, DerivesArguments, DerivesIndex, DerivesTarget, NextName, NextExpression, DerivesOperation, DerivesResult, DerivesSpan, DerivesWaiting, DerivesNotification, DerivesHandle, DerivesSpawn, DerivesWho, DerivesAction, DerivesInitial, DerivesStatement, DerivesStatements, DerivesElse, DerivesHandlers}
-use Rattle.model_grammar.specs.Brackets.{in_option, in_all, in_place, in_channel, in_events, in_waiting, in_notification, in_index, in_operation, in_action, in_statement, in_block, in_else, in_handlers}
+use Rattle.model_grammar.specs.Statements.{DerivesForm, DerivesType, DerivesVarTypeAt, DerivesVarType, DerivesPlace, DerivesChannel, DerivesMember, DerivesEvent, DerivesSensitive, DerivesArguments, DerivesIndex, DerivesTarget, NextName, NextExpression, DerivesOperation, DerivesResult, DerivesSpan, DerivesWaiting, DerivesNotification, DerivesHandle, DerivesSpawn, DerivesWho, DerivesPart, DerivesParts, DerivesAction, DerivesInitial, DerivesStatement, DerivesStatements, DerivesElse, DerivesHandlers}
+use Rattle.model_grammar.specs.Brackets.{in_option, in_all, in_place, in_channel, in_events, in_waiting, in_notification, in_index, in_operation, in_part, in_action, in_statement, in_block, in_else, in_handlers}
 use Rattle.model_grammar.proofs.Keeps.{Keeps, at, takes, nothing, ◌>>=◌, so, ends, never, on_line, any_line, written, inside, braced, separated, maybe}
 use Rattle.model_grammar.proofs.SoundExpressions.{expression_fits}
 
@@ -140,33 +142,38 @@ who_fits : (x : Who) → Keeps (DerivesWho x) (fits_who x ≡ true)
 who_fits (who.Named line x) = at
 who_fits (who.Myself line) = at
 
+part_fits : (p : Part) (n : ℕ) → in_part p ≤ n → Keeps (DerivesPart p) (fits_part n p ≡ true)
+part_fits (part.name r x) n few = takes
+part_fits (part.next_name r x) n few = next_name x
+part_fits (part.reaching_name r x all) n few = takes >>= λ f. so (written (word w.Descendants) all) (λ g. f)
+part_fits (part.text x) n few = takes
+part_fits (part.term u e) n few = expression_fits e n few
+part_fits (part.term_if u o) n few = option_fits DerivesExpression o n few (λ x h. expression_fits x n h)
+part_fits (part.next_term u e) n few = behind e n few
+part_fits (part.next_term_if u o) n few = option_fits NextExpression o n few (λ x h. behind x n h)
+part_fits (part.channel u c) n few = channel_fits c n few
+part_fits (part.waiting t) n few = waiting_fits t n few
+part_fits (part.notification t) n few = notification_fits t n few
+part_fits (part.instance x) n few = spawn_fits x n (omega (arith, few)) (omega (arith, few))
+part_fits (part.process x) n few = who_fits x
+part_fits (part.reaching_process x all) n few = who_fits x >>= λ f. so (written (word w.Descendants) all) (λ g. f)
+
+first_few : (p : Part) (ps : List Part) (n : ℕ) → part.behind in_part max 0 p ps ≤ n → in_part p ≤ n
+first_few p [] n few = few
+first_few p (q ∷ qs) n few = omega (arith, few)
+
+parts_fit : {P : Rule} (p : Part) (ps : List Part) (n : ℕ) → part.behind in_part max 0 p ps ≤ n → Keeps P (fits_part n p ≡ true) → Keeps (DerivesParts P ps) (part.behind (fits_part n) (λ x y. x && y) true p ps ≡ true)
+parts_fit {P = P} p [] n few rule = rule
+parts_fit {P = P} p (q ∷ qs) n few rule =
+    let fewer : part.behind in_part max 0 q qs ≤ n = omega (arith, few) in
+    rule >>= λ f. so (parts_fit {P = DerivesPart q} q qs n fewer (part_fits q n (first_few q qs n fewer))) (λ g. and_from (fits_part n p) _ f g)
+
+all_fit : {P : Rule} {A : Type 0} (ps : List Part) (n : ℕ) → part.joined in_part max 0 ps ≤ n → Keeps P A → Keeps (DerivesParts P ps) (part.joined (fits_part n) (λ x y. x && y) true ps ≡ true)
+all_fit [] n few rule = so rule (λ e. refl)
+all_fit (p ∷ ps) n few rule = rule >>= λ e. parts_fit p ps n few (part_fits p n (first_few p ps n few))
+
 action_fits : (line : ℕ) (a : tree.Action) (n : ℕ) → in_action a ≤ n → Keeps (DerivesAction line a) (fits_action n a ≡ true)
-action_fits line (tree.write c v) n few = at >>= λ e. channel_fits c n (omega (arith, few)) >>= λ f. so (expression_fits v n (omega (arith, few))) (λ g. and_from (fits_channel n c) (fits n v) f g)
-action_fits line (tree.print text o) n few = at >>= λ e. takes >>= λ f. so (option_fits DerivesExpression o n few (λ x h. expression_fits x n h)) (λ g. and_from (is_print_text text) (fits_option n o) f g)
-action_fits line (tree.notify x t) n few = at >>= λ e. takes >>= λ f. so (notification_fits t n few) (λ g. and_from (is_name x) (fits_notification n t) f g)
-action_fits line (tree.cancel x) n few = at >>= λ e. takes
-action_fits line (tree.wait t) n few = at >>= λ e. waiting_fits t n few
-action_fits line (tree.next_trigger t) n few = at >>= λ e. waiting_fits t n few
-action_fits line (tree.lock c) n few = at >>= λ e. channel_fits c n few
-action_fits line (tree.sem_wait c) n few = at >>= λ e. channel_fits c n few
-action_fits line (tree.post c) n few = at >>= λ e. channel_fits c n few
-action_fits line (tree.make x v o) n few =
-    at >>= λ e. takes >>= λ f. behind v n (omega (arith, few)) >>= λ g. so (option_fits NextExpression o n (omega (arith, few)) (λ y h. behind y n h)) (λ h. and_from (is_name x) _ f (and_from (fits n v) (fits_option n o) g h))
-action_fits line (tree.acquire x) n few = at >>= λ e. takes
-action_fits line (tree.release x) n few = at >>= λ e. takes
-action_fits line (tree.carry p m) n few = at >>= λ e. takes >>= λ f. so (next_name m) (λ g. and_from (is_name p) (is_name m) f g)
-action_fits line (tree.b_transport a b c) n few = at >>= λ e. takes >>= λ f. next_name b >>= λ g. so (next_name c) (λ h. and_from (is_name a) _ f (and_from (is_name b) (is_name c) g h))
-action_fits line (tree.qk_global v) n few = at >>= λ e. expression_fits v n few
-action_fits line (tree.qk_inc x v) n few = at >>= λ e. takes >>= λ f. so (expression_fits v n few) (λ g. and_from (is_name x) (fits n v) f g)
-action_fits line (tree.qk_set x v) n few = at >>= λ e. takes >>= λ f. so (expression_fits v n few) (λ g. and_from (is_name x) (fits n v) f g)
-action_fits line (tree.qk_reset x) n few = at >>= λ e. takes
-action_fits line (tree.qk_sync x) n few = at >>= λ e. takes
-action_fits line (tree.spawn x) n few = at >>= λ e. spawn_fits x n (omega (arith, few)) (omega (arith, few))
-action_fits line (tree.control c x all) n few = at >>= λ e. who_fits x >>= λ f. so (written (word w.Descendants) all) (λ g. f)
-action_fits line (tree.throw_it x exception all) n few = at >>= λ e. who_fits x >>= λ f. takes >>= λ g. so (written (word w.Descendants) all) (λ h. and_from (fits_who x) (is_name exception) f g)
-action_fits line (tree.throw x) n few = at >>= λ e. takes
-action_fits line (tree.return_ o) n few = at >>= λ e. option_fits DerivesExpression o n few (λ x h. expression_fits x n h)
-action_fits line tree.stop n few = at
+action_fits line a n few = all_fit (parts_of a) n few at
 
 -- statements
 

@@ -33,13 +33,15 @@ use Rattle.model_tree.specs.declared.vocabulary.Word.{Word}
 use Rattle.model_tree.specs.declared.vocabulary.Word.TheVariants as w
 use Rattle.model_tree.specs.declared.vocabulary.Symbol.TheVariants as s
 use Rattle.model_tree.specs.Tree as tree
+use Rattle.model_tree.specs.Parts as part
+use Rattle.model_tree.specs.Parts.{Part, parts_of}
 use Rattle.model_tree.specs.Languages as leaf
 use Rattle.model_tree.specs.Languages.{Leaf, Leaves, named, in_unit, descending, may_have}
 use Rattle.model_grammar.specs.Tokens.{Token, Tokens, word, symbol, each_is, unit_token}
 use Rattle.model_grammar.specs.Versions.{may_token}
 use Rattle.model_grammar.specs.Rules.{Rule, ◌⨾◌, At, Takes, Each, Separated, Maybe, Written}
 use Rattle.model_grammar.specs.Expressions.{Parenthesized, DerivesAt, DerivesExpression}
-use Rattle.model_grammar.specs.Statements.{DerivesForm, DerivesType, DerivesVarTypeAt, DerivesVarType, DerivesPlace, DerivesChannel, DerivesMember, DerivesEvent, DerivesSensitive, DerivesArguments, DerivesIndex, DerivesTarget, NextName, NextExpression, DerivesOperation, DerivesResult, DerivesSpan, DerivesWaiting, DerivesNotification, DerivesHandle, DerivesSpawn, DerivesWho, DerivesAction, Braced, DerivesInitial, DerivesStatement, DerivesStatements, DerivesElse, HasHandler, DerivesHandlers}
+use Rattle.model_grammar.specs.Statements.{DerivesForm, DerivesType, DerivesVarTypeAt, DerivesVarType, DerivesPlace, DerivesChannel, DerivesMember, DerivesEvent, DerivesSensitive, DerivesArguments, DerivesIndex, DerivesTarget, NextName, NextExpression, DerivesOperation, DerivesResult, DerivesSpan, DerivesWaiting, DerivesNotification, DerivesHandle, DerivesSpawn, DerivesWho, DerivesPart, DerivesParts, DerivesAction, Braced, DerivesInitial, DerivesStatement, DerivesStatements, DerivesElse, HasHandler, DerivesHandlers}
 use Rattle.model_grammar.specs.Items.{DerivesConstantForm, DerivesConstant, DerivesFirstValue, DerivesTime, DerivesStart, DerivesFifoSize, DerivesInterface, DerivesBound, DerivesPortSize, DerivesHandler, DerivesInitiatorRole, DerivesTargetRole, DerivesEnd, DerivesMode, DerivesParameter, DerivesParameters, DerivesAnswer, DerivesItem, DerivesModule, DerivesModel}
 use Rattle.model_grammar.proofs.Keeps.{KeepsBy, at, takes, nothing, ◌>>=◌, so, ends, never, short, binds, on_line, any_line, written}
 
@@ -248,35 +250,32 @@ module _ (h : Head) where
   who_kept (who.Named line x) = so at (λ f. one (named x) f)
   who_kept (who.Myself line) = so at (λ e. refl)
 
+  part_kept : (p : Part) → Kept (DerivesPart p) (leaf.in_part p)
+  part_kept (part.name r x) = so takes (λ f. one (named x) f)
+  part_kept (part.next_name r x) = so (next_name_kept x) (λ f. one (named x) f)
+  part_kept (part.reaching_name r x all) = takes >>= λ f. so (descending_kept all) (λ g. also (named x) (leaf.descending_if all) f g)
+  part_kept (part.text x) = ends refl
+  part_kept (part.term u e) = whole_kept e
+  part_kept (part.term_if u o) = option_kept DerivesExpression whole_kept o
+  part_kept (part.next_term u e) = behind_kept e
+  part_kept (part.next_term_if u o) = option_kept NextExpression behind_kept o
+  part_kept (part.channel u c) = channel_kept c
+  part_kept (part.waiting t) = waiting_kept t
+  part_kept (part.notification t) = notification_kept t
+  part_kept (part.instance x) = spawn_kept x
+  part_kept (part.process x) = who_kept x
+  part_kept (part.reaching_process x all) = who_kept x >>= λ f. so (descending_kept all) (λ g. both (leaf.in_who x) (leaf.descending_if all) f g)
+
+  parts_kept : {P : Rule} (p : Part) (ps : List Part) → Kept P (leaf.in_part p) → Kept (DerivesParts P ps) (part.behind leaf.in_part (λ xs ys. xs ++ ys) [] p ps)
+  parts_kept {P = P} p [] rule = rule
+  parts_kept {P = P} p (q ∷ qs) rule = rule >>= λ f. so (parts_kept {P = DerivesPart q} q qs (part_kept q)) (λ g. both (leaf.in_part p) (part.behind leaf.in_part (λ xs ys. xs ++ ys) [] q qs) f g)
+
+  all_kept : {P : Rule} {A : Type 0} (ps : List Part) → KeepsBy (may_token h) P A → Kept (DerivesParts P ps) (part.joined leaf.in_part (λ xs ys. xs ++ ys) [] ps)
+  all_kept [] rule = so rule (λ e. refl)
+  all_kept (p ∷ ps) rule = rule >>= λ e. parts_kept p ps (part_kept p)
+
   action_kept : (line : ℕ) (a : tree.Action) → Kept (DerivesAction line a) (leaf.in_action a)
-  action_kept line (tree.write c v) = at >>= λ a. channel_kept c >>= λ f. so (whole_kept v) (λ g. both (leaf.in_channel c) (leaf.in_expression v) f g)
-  action_kept line (tree.print text o) = at >>= λ a. takes >>= λ b. option_kept DerivesExpression whole_kept o
-  action_kept line (tree.notify x t) = at >>= λ a. takes >>= λ f. so (notification_kept t) (λ g. also (named x) (leaf.in_notification t) f g)
-  action_kept line (tree.cancel x) = at >>= λ a. so takes (λ f. one (named x) f)
-  action_kept line (tree.wait t) = at >>= λ a. waiting_kept t
-  action_kept line (tree.next_trigger t) = at >>= λ a. waiting_kept t
-  action_kept line (tree.lock c) = at >>= λ a. channel_kept c
-  action_kept line (tree.sem_wait c) = at >>= λ a. channel_kept c
-  action_kept line (tree.post c) = at >>= λ a. channel_kept c
-  action_kept line (tree.make x v o) =
-      at >>= λ a. takes >>= λ f. behind_kept v >>= λ g. so (option_kept NextExpression behind_kept o) (λ i. also (named x) (leaf.in_expression v ++ leaf.in_expression_if o) f (both (leaf.in_expression v) (leaf.in_expression_if o) g i))
-  action_kept line (tree.acquire x) = at >>= λ a. so takes (λ f. one (named x) f)
-  action_kept line (tree.release x) = at >>= λ a. so takes (λ f. one (named x) f)
-  action_kept line (tree.carry p m) = at >>= λ a. takes >>= λ f. so (next_name_kept m) (λ g. also (named p) (named m ∷ []) f (one (named m) g))
-  action_kept line (tree.b_transport a b c) =
-      at >>= λ e. takes >>= λ f. next_name_kept b >>= λ g. so (next_name_kept c) (λ i. also (named a) (named b ∷ named c ∷ []) f (also (named b) (named c ∷ []) g (one (named c) i)))
-  action_kept line (tree.qk_global v) = at >>= λ a. whole_kept v
-  action_kept line (tree.qk_inc x v) = at >>= λ a. takes >>= λ f. so (whole_kept v) (λ g. also (named x) (leaf.in_expression v) f g)
-  action_kept line (tree.qk_set x v) = at >>= λ a. takes >>= λ f. so (whole_kept v) (λ g. also (named x) (leaf.in_expression v) f g)
-  action_kept line (tree.qk_reset x) = at >>= λ a. so takes (λ f. one (named x) f)
-  action_kept line (tree.qk_sync x) = at >>= λ a. so takes (λ f. one (named x) f)
-  action_kept line (tree.spawn x) = at >>= λ a. spawn_kept x
-  action_kept line (tree.control c x all) = at >>= λ a. who_kept x >>= λ f. so (descending_kept all) (λ g. both (leaf.in_who x) (leaf.descending_if all) f g)
-  action_kept line (tree.throw_it x exception all) =
-      at >>= λ a. who_kept x >>= λ f. takes >>= λ g. so (descending_kept all) (λ i. both (leaf.in_who x) (named exception ∷ leaf.descending_if all) f (also (named exception) (leaf.descending_if all) g i))
-  action_kept line (tree.throw x) = at >>= λ a. so takes (λ f. one (named x) f)
-  action_kept line (tree.return_ o) = at >>= λ a. option_kept DerivesExpression whole_kept o
-  action_kept line tree.stop = so at (λ e. refl)
+  action_kept line a = all_kept (parts_of a) at
 
   -- statements
 

@@ -1,6 +1,8 @@
 -- How many brackets are open at the deepest place of a tree's text.
 use Rattle.std.specs.Prelude.{ℕ, suc, max, List, [], ◌∷◌, Option, Some, None}
 use Rattle.model_tree.specs.Tree as tree
+use Rattle.model_tree.specs.Parts as part
+use Rattle.model_tree.specs.Parts.{Part, parts_of, joined}
 use Rattle.model_tree.specs.Limits.{depth}
 use Rattle.model_tree.specs.declared.types.PortSize.{PortSize}
 
@@ -51,32 +53,24 @@ in_operation (tree.unlock c) = in_channel c
 in_operation (tree.sem_trywait c) = in_channel c
 in_operation (tree.nb_transport a b c d) = 0
 
+abbrev pub in_part : Part → ℕ
+in_part (part.name r x) = 0
+in_part (part.next_name r x) = 0
+in_part (part.reaching_name r x all) = 0
+in_part (part.text x) = 0
+in_part (part.term u e) = depth e
+in_part (part.term_if u e) = in_option e
+in_part (part.next_term u e) = depth e
+in_part (part.next_term_if u e) = in_option e
+in_part (part.channel u c) = in_channel c
+in_part (part.waiting t) = in_waiting t
+in_part (part.notification t) = in_notification t
+in_part (part.instance x) = max (suc (in_all x.arguments)) (in_events x.sensitive)
+in_part (part.process x) = 0
+in_part (part.reaching_process x all) = 0
+
 abbrev pub in_action : tree.Action → ℕ
-in_action (tree.write c e) = max (in_channel c) (depth e)
-in_action (tree.print text e) = in_option e
-in_action (tree.notify x t) = in_notification t
-in_action (tree.cancel x) = 0
-in_action (tree.wait w) = in_waiting w
-in_action (tree.next_trigger w) = in_waiting w
-in_action (tree.lock c) = in_channel c
-in_action (tree.sem_wait c) = in_channel c
-in_action (tree.post c) = in_channel c
-in_action (tree.make x len enables) = max (depth len) (in_option enables)
-in_action (tree.acquire x) = 0
-in_action (tree.release x) = 0
-in_action (tree.carry p m) = 0
-in_action (tree.b_transport a b c) = 0
-in_action (tree.qk_global e) = depth e
-in_action (tree.qk_inc x e) = depth e
-in_action (tree.qk_set x e) = depth e
-in_action (tree.qk_reset x) = 0
-in_action (tree.qk_sync x) = 0
-in_action (tree.spawn s) = max (suc (in_all s.arguments)) (in_events s.sensitive)
-in_action (tree.control c who all) = 0
-in_action (tree.throw_it who x all) = 0
-in_action (tree.throw x) = 0
-in_action (tree.return_ e) = in_option e
-in_action tree.stop = 0
+in_action a = joined in_part max 0 (parts_of a)
 
 abbrev mutual
   pub in_statement : tree.Statement → ℕ

@@ -1,7 +1,8 @@
 -- The statements of the model language: which tokens derive each.
 use Rattle.std.specs.Prelude.{ℕ, List, [], ◌∷◌, Option, Some, None}
-use Rattle.model_tree.specs.Spelling.{control_word}
 use Rattle.model_tree.specs.Tree as tree
+use Rattle.model_tree.specs.Parts as part
+use Rattle.model_tree.specs.Parts.{Part, word_of_action, parts_of}
 use Rattle.model_tree.specs.declared.vocabulary.Word.TheVariants as w
 use Rattle.model_tree.specs.declared.vocabulary.Symbol.TheVariants as s
 use Rattle.model_tree.specs.declared.types.SignalType.{SignalType}
@@ -134,39 +135,31 @@ abbrev pub DerivesWho : Who → Rule
 DerivesWho (who.Named line x) = At line (name x)
 DerivesWho (who.Myself line) = At line (word w.SelfProcess)
 
--- action = "write" chan expr | "print" TEXT [ expr ] | "notify" NAME [ "delta" | "after" expr ] | "cancel" NAME
---        | ( "wait" | "next_trigger" ) [ waiting ] | ( "lock" | "sem_wait" | "post" ) chan
---        | "make" NAME "," expr [ "," expr ] | ( "acquire" | "release" ) NAME | "carry" NAME "," NAME
---        | "b_transport" NAME "," NAME "," NAME | "qk_global" expr | ( "qk_inc" | "qk_set" ) NAME expr
---        | ( "qk_reset" | "qk_sync" ) NAME | "spawn" [ NAME "=" ] [ "method" ] NAME args [ sens ] [ "dont_initialize" ]
---        | ( "suspend" | "resume" | "disable" | "enable" | "kill" | "reset" ) who [ "descendants" ] | "throw_it" who NAME [ "descendants" ]
---        | "throw" NAME | "return" [ expr ] | "stop"
+-- a part of an action
+abbrev pub DerivesPart : Part → Rule
+DerivesPart (part.name r x) = Takes (name x)
+DerivesPart (part.next_name r x) = NextName x
+DerivesPart (part.reaching_name r x all) = Takes (name x) ⨾ Written (word w.Descendants) all
+DerivesPart (part.text x) = Takes (quoted x)
+DerivesPart (part.term u e) = DerivesExpression e
+DerivesPart (part.term_if u e) = Maybe DerivesExpression e
+DerivesPart (part.next_term u e) = NextExpression e
+DerivesPart (part.next_term_if u e) = Maybe NextExpression e
+DerivesPart (part.channel u c) = DerivesChannel c
+DerivesPart (part.waiting t) = DerivesWaiting t
+DerivesPart (part.notification t) = DerivesNotification t
+DerivesPart (part.instance x) = DerivesSpawn x
+DerivesPart (part.process x) = DerivesWho x
+DerivesPart (part.reaching_process x all) = DerivesWho x ⨾ Written (word w.Descendants) all
+
+-- the parts of an action one after another, behind what P derives
+abbrev pub DerivesParts : Rule → List Part → Rule
+DerivesParts P [] = P
+DerivesParts P (x ∷ xs) = P ⨾ DerivesParts (DerivesPart x) xs
+
+-- the word of an action, and its parts: specs/Parts.antt of model_tree has the production of each
 abbrev pub DerivesAction : ℕ → tree.Action → Rule
-DerivesAction line (tree.write c e) = At line (word w.Write) ⨾ DerivesChannel c ⨾ DerivesExpression e
-DerivesAction line (tree.print text e) = At line (word w.Print) ⨾ Takes (quoted text) ⨾ Maybe DerivesExpression e
-DerivesAction line (tree.notify x n) = At line (word w.Notify) ⨾ Takes (name x) ⨾ DerivesNotification n
-DerivesAction line (tree.cancel x) = At line (word w.Cancel) ⨾ Takes (name x)
-DerivesAction line (tree.wait t) = At line (word w.Wait) ⨾ DerivesWaiting t
-DerivesAction line (tree.next_trigger t) = At line (word w.NextTrigger) ⨾ DerivesWaiting t
-DerivesAction line (tree.lock c) = At line (word w.Lock) ⨾ DerivesChannel c
-DerivesAction line (tree.sem_wait c) = At line (word w.SemWait) ⨾ DerivesChannel c
-DerivesAction line (tree.post c) = At line (word w.Post) ⨾ DerivesChannel c
-DerivesAction line (tree.make x len enables) = At line (word w.Make) ⨾ Takes (name x) ⨾ NextExpression len ⨾ Maybe NextExpression enables
-DerivesAction line (tree.acquire x) = At line (word w.Acquire) ⨾ Takes (name x)
-DerivesAction line (tree.release x) = At line (word w.Release) ⨾ Takes (name x)
-DerivesAction line (tree.carry payload memory) = At line (word w.Carry) ⨾ Takes (name payload) ⨾ NextName memory
-DerivesAction line (tree.b_transport socket payload delay) = At line (word w.BTransport) ⨾ Takes (name socket) ⨾ NextName payload ⨾ NextName delay
-DerivesAction line (tree.qk_global e) = At line (word w.QkGlobal) ⨾ DerivesExpression e
-DerivesAction line (tree.qk_inc x e) = At line (word w.QkInc) ⨾ Takes (name x) ⨾ DerivesExpression e
-DerivesAction line (tree.qk_set x e) = At line (word w.QkSet) ⨾ Takes (name x) ⨾ DerivesExpression e
-DerivesAction line (tree.qk_reset x) = At line (word w.QkReset) ⨾ Takes (name x)
-DerivesAction line (tree.qk_sync x) = At line (word w.QkSync) ⨾ Takes (name x)
-DerivesAction line (tree.spawn x) = At line (word w.Spawn) ⨾ DerivesSpawn x
-DerivesAction line (tree.control c x all) = At line (word (control_word c)) ⨾ DerivesWho x ⨾ Written (word w.Descendants) all
-DerivesAction line (tree.throw_it x exception all) = At line (word w.ThrowIt) ⨾ DerivesWho x ⨾ Takes (name exception) ⨾ Written (word w.Descendants) all
-DerivesAction line (tree.throw x) = At line (word w.Throw) ⨾ Takes (name x)
-DerivesAction line (tree.return_ e) = At line (word w.Return) ⨾ Maybe DerivesExpression e
-DerivesAction line tree.stop = At line (word w.Stop)
+DerivesAction line a = DerivesParts (At line (word (word_of_action a))) (parts_of a)
 
 -- what stands between braces
 abbrev pub Braced : Rule → Rule
