@@ -4,9 +4,12 @@ use Rattle.std.specs.List.{list_all, flat_map}
 use Rattle.std.proofs.lemmas.Bool.{and_parts, and_from}
 use Rattle.std.proofs.lemmas.List.Folds.{list_all-append}
 use Rattle.model_tree.specs.Tree as tree
+use Rattle.model_tree.specs.Parts as part
+use Rattle.model_tree.specs.Parts.{Part, changed_part}
+use Rattle.model_tree.proofs.Parts.{changed_linked}
 use Rattle.tick_trees.specs.Retimed as retimed
 use Rattle.tick_trees.specs.Retimed.{span}
-use Rattle.model_tree.specs.Languages.{Leaf, named, in_unit, descending, Leaves, name_if, in_expression, in_expression_if, in_expressions, in_place, in_channel, in_event, in_events, in_waiting, in_notification, in_target, in_operation, in_spawn, in_who, in_action, in_statement, in_block, in_else, in_handlers, in_form, in_constant, in_span, in_item, in_module, leaves_of, descending_if, in_parameter, in_initiator, in_socket, in_end}
+use Rattle.model_tree.specs.Languages.{Leaf, named, in_unit, descending, Leaves, name_if, in_expression, in_expression_if, in_expressions, in_place, in_channel, in_event, in_events, in_waiting, in_notification, in_target, in_operation, in_spawn, in_who, in_part, in_action, in_statement, in_block, in_else, in_handlers, in_form, in_constant, in_span, in_item, in_module, leaves_of, descending_if, in_parameter, in_initiator, in_socket, in_end}
 use Rattle.model_tree.specs.declared.types.Constant.{Constant}
 use Rattle.model_tree.specs.declared.types.ConstantForm.{ConstantForm}
 use Rattle.model_tree.specs.declared.types.ConstantForm.TheVariants as constant
@@ -150,35 +153,24 @@ module _ (p : Leaf → Bool) (f : Span → Span) (may : (s : Span) → p (in_uni
   of_who (who.Named line x) = refl
   of_who (who.Myself line) = refl
 
+  of_part : (x : Part) → Same (in_part (changed_part (retimed.change f) x)) (in_part x)
+  of_part (part.name r x) = refl
+  of_part (part.next_name r x) = refl
+  of_part (part.reaching_name r x all) = behind_name x (descending_if all) (descending_if all) (of_descending_if all)
+  of_part (part.text x) = refl
+  of_part (part.term u e) = of_expression e
+  of_part (part.term_if u e) = of_expression_if e
+  of_part (part.next_term u e) = of_expression e
+  of_part (part.next_term_if u e) = of_expression_if e
+  of_part (part.channel u c) = of_channel c
+  of_part (part.waiting w) = of_waiting w
+  of_part (part.notification n) = of_notification n
+  of_part (part.instance s) = of_spawn s
+  of_part (part.process w) = of_who w
+  of_part (part.reaching_process w all) = joined (in_who w) (descending_if all) (in_who w) (descending_if all) (of_who w) (of_descending_if all)
+
   of_action : (a : tree.Action) → Same (in_action (retimed.action f a)) (in_action a)
-  of_action (tree.write c e) = joined (in_channel (retimed.channel f c)) (in_expression (retimed.expression f e)) (in_channel c) (in_expression e) (of_channel c) (of_expression e)
-  of_action (tree.print text e) = of_expression_if e
-  of_action (tree.notify x n) = behind_name x (in_notification (retimed.notification f n)) (in_notification n) (of_notification n)
-  of_action (tree.cancel x) = refl
-  of_action (tree.wait w) = of_waiting w
-  of_action (tree.next_trigger w) = of_waiting w
-  of_action (tree.lock c) = of_channel c
-  of_action (tree.sem_wait c) = of_channel c
-  of_action (tree.post c) = of_channel c
-  of_action (tree.make x len enables) =
-      let new = in_expression (retimed.expression f len) in let more = in_expression_if (retimed.option (retimed.expression f) enables) in
-      behind_name x (new ++ more) (in_expression len ++ in_expression_if enables) (joined new more (in_expression len) (in_expression_if enables) (of_expression len) (of_expression_if enables))
-  of_action (tree.acquire x) = refl
-  of_action (tree.release x) = refl
-  of_action (tree.carry payload memory) = refl
-  of_action (tree.b_transport socket payload delay) = refl
-  of_action (tree.qk_global e) = of_expression e
-  of_action (tree.qk_inc x e) = behind_name x (in_expression (retimed.expression f e)) (in_expression e) (of_expression e)
-  of_action (tree.qk_set x e) = behind_name x (in_expression (retimed.expression f e)) (in_expression e) (of_expression e)
-  of_action (tree.qk_reset x) = refl
-  of_action (tree.qk_sync x) = refl
-  of_action (tree.spawn s) = of_spawn s
-  of_action (tree.control c w all) = joined (in_who w) (descending_if all) (in_who w) (descending_if all) (of_who w) (of_descending_if all)
-  of_action (tree.throw_it w x all) =
-      joined (in_who w) (named x ∷ descending_if all) (in_who w) (named x ∷ descending_if all) (of_who w) (behind_name x (descending_if all) (descending_if all) (of_descending_if all))
-  of_action (tree.throw x) = refl
-  of_action (tree.return_ e) = of_expression_if e
-  of_action tree.stop = refl
+  of_action a = changed_linked (retimed.change f) Same in_part in_part (λ xs ys. xs ++ ys) (λ xs ys. xs ++ ys) [] [] joined of_part refl a
 
   mutual
     of_statement : (s : tree.Statement) → Same (in_statement (retimed.statement f s)) (in_statement s)

@@ -2,10 +2,13 @@
 use Rattle.std.proofs.Common.{◌≡◌, ℕ, zero, suc, ◌+◌, max, Bool, true, ◌&&◌, nat_le, List, [], ◌∷◌, map, Option, Some, None, refl, ap, ap₂}
 use Rattle.std.proofs.lemmas.Bool.{and_parts, and_from}
 use Rattle.model_tree.specs.Tree as tree
+use Rattle.model_tree.specs.Parts as part
+use Rattle.model_tree.specs.Parts.{Part, changed_part}
+use Rattle.model_tree.proofs.Parts.{changed_linked}
 use Rattle.tick_trees.specs.Retimed as retimed
 use Rattle.tick_trees.specs.Retimed.{span}
-use Rattle.model_tree.specs.Leaves.{is_name, is_print_text}
-use Rattle.model_tree.specs.Limits.{is_number, is_formed, token_count, depth, level, operand_level, primary_level, chain_level, token_limit, bracket_limit, fits, fits_option, fits_all, within, fits_place, fits_channel, option_name, fits_event, fits_events, is_some_of, fits_waiting, fits_notification, fits_index, fits_target, fits_operation, fits_spawn, fits_action, fits_type, fits_var_type, fits_constant_form, fits_constant, fits_span, fits_parameters, fits_answer, fits_statement, fits_block, fits_else, fits_handlers, has_handler, fits_item, fits_items, fits_modules, is_sound}
+use Rattle.model_tree.specs.Leaves.{is_name}
+use Rattle.model_tree.specs.Limits.{is_number, is_formed, token_count, depth, level, operand_level, primary_level, chain_level, token_limit, bracket_limit, fits, fits_option, fits_all, within, fits_place, fits_channel, option_name, fits_event, fits_events, is_some_of, fits_waiting, fits_notification, fits_index, fits_target, fits_operation, fits_spawn, fits_part, fits_action, fits_type, fits_var_type, fits_constant_form, fits_constant, fits_span, fits_parameters, fits_answer, fits_statement, fits_block, fits_else, fits_handlers, has_handler, fits_item, fits_items, fits_modules, is_sound}
 use Rattle.model_tree.specs.declared.types.Constant.{Constant}
 use Rattle.model_tree.specs.declared.types.ConstantForm.{ConstantForm}
 use Rattle.model_tree.specs.declared.types.ConstantForm.TheVariants as constant
@@ -188,34 +191,24 @@ module _ (f : Span → Span) (small : (s : Span) → is_number (f s).count ≡ t
       behind (option_name s.handle && is_name s.function) (within n (λ m. fits_all m s.arguments) && fits_events n s.sensitive) (within n (λ m. fits_all m (map new s.arguments)) && fits_events n (map (retimed.event f) s.sensitive))
       (both (within n (λ m. fits_all m s.arguments)) (within n (λ m. fits_all m (map new s.arguments))) (fits_events n s.sensitive) (fits_events n (map (retimed.event f) s.sensitive)) (fit_arguments n s.arguments) (fit_events n s.sensitive))
 
+  fit_part : (n : ℕ) (p : Part) → Passes (fits_part n p) (fits_part n (changed_part (retimed.change f) p))
+  fit_part n (part.name r x) h = h
+  fit_part n (part.next_name r x) h = h
+  fit_part n (part.reaching_name r x all) h = h
+  fit_part n (part.text x) h = h
+  fit_part n (part.term u e) h = fit n e h
+  fit_part n (part.term_if u e) h = fit_option n e h
+  fit_part n (part.next_term u e) h = fit n e h
+  fit_part n (part.next_term_if u e) h = fit_option n e h
+  fit_part n (part.channel u c) h = fit_channel n c h
+  fit_part n (part.waiting w) h = fit_waiting n w h
+  fit_part n (part.notification t) h = fit_notification n t h
+  fit_part n (part.instance s) h = fit_spawn n s h
+  fit_part n (part.process w) h = h
+  fit_part n (part.reaching_process w all) h = h
+
   fit_action : (n : ℕ) (a : tree.Action) → Passes (fits_action n a) (fits_action n (retimed.action f a))
-  fit_action n (tree.write c e) h = both (fits_channel n c) (fits_channel n (retimed.channel f c)) (fits n e) (fits n (new e)) (fit_channel n c) (fit n e) h
-  fit_action n (tree.print text e) h = behind (is_print_text text) (fits_option n e) (fits_option n (retimed.option new e)) (fit_option n e) h
-  fit_action n (tree.notify name t) h = behind (is_name name) (fits_notification n t) (fits_notification n (retimed.notification f t)) (fit_notification n t) h
-  fit_action n (tree.cancel name) h = h
-  fit_action n (tree.wait w) h = fit_waiting n w h
-  fit_action n (tree.next_trigger w) h = fit_waiting n w h
-  fit_action n (tree.lock c) h = fit_channel n c h
-  fit_action n (tree.sem_wait c) h = fit_channel n c h
-  fit_action n (tree.post c) h = fit_channel n c h
-  fit_action n (tree.make name len enables) h =
-      behind (is_name name) (fits n len && fits_option n enables) (fits n (new len) && fits_option n (retimed.option new enables))
-      (both (fits n len) (fits n (new len)) (fits_option n enables) (fits_option n (retimed.option new enables)) (fit n len) (fit_option n enables)) h
-  fit_action n (tree.acquire name) h = h
-  fit_action n (tree.release name) h = h
-  fit_action n (tree.carry p m) h = h
-  fit_action n (tree.b_transport s p t) h = h
-  fit_action n (tree.qk_global e) h = fit n e h
-  fit_action n (tree.qk_inc name e) h = behind (is_name name) (fits n e) (fits n (new e)) (fit n e) h
-  fit_action n (tree.qk_set name e) h = behind (is_name name) (fits n e) (fits n (new e)) (fit n e) h
-  fit_action n (tree.qk_reset name) h = h
-  fit_action n (tree.qk_sync name) h = h
-  fit_action n (tree.spawn s) h = fit_spawn n s h
-  fit_action n (tree.control c w all) h = h
-  fit_action n (tree.throw_it w name all) h = h
-  fit_action n (tree.throw name) h = h
-  fit_action n (tree.return_ e) h = fit_option n e h
-  fit_action n tree.stop h = h
+  fit_action n a = changed_linked (retimed.change f) (λ x u. Passes u x) (fits_part n) (fits_part n) (λ x y. x && y) (λ x y. x && y) true true (λ x y u v g h. both u x v y g h) (fit_part n) (same true) a
 
   some_handler : (hs : tree.Handlers) → Passes (has_handler hs) (has_handler (retimed.handlers_ f hs))
   some_handler tree.no_more h = h

@@ -3,9 +3,12 @@ use Rattle.std.proofs.Common.{◌≡◌, ℕ, List, [], ◌∷◌, ◌++◌, map
 use Rattle.std.specs.List.{flat_map}
 use Rattle.std.proofs.lemmas.List.{map-append}
 use Rattle.model_tree.specs.Tree as tree
+use Rattle.model_tree.specs.Parts as part
+use Rattle.model_tree.specs.Parts.{Part, changed_part}
+use Rattle.model_tree.proofs.Parts.{changed_linked}
 use Rattle.tick_trees.specs.Retimed as retimed
 use Rattle.tick_trees.specs.Retimed.{span}
-use Rattle.tick_trees.specs.Times.{Timed, timed, in_option, in_expression, in_place, in_channel, in_event, in_events, in_waiting, in_notification, in_operation, in_action, in_statement, in_block, in_else, in_handlers, in_form, in_constant, span_if, in_item, in_module, times_of}
+use Rattle.tick_trees.specs.Times.{Timed, timed, in_option, in_expression, in_place, in_channel, in_event, in_events, in_waiting, in_notification, in_operation, in_part, in_action, in_statement, in_block, in_else, in_handlers, in_form, in_constant, span_if, in_item, in_module, times_of}
 use Rattle.model_tree.specs.declared.types.Constant.{Constant}
 use Rattle.model_tree.specs.declared.types.ConstantForm.{ConstantForm}
 use Rattle.model_tree.specs.declared.types.ConstantForm.TheVariants as constant
@@ -95,32 +98,24 @@ module _ (f : Span → Span) where
   of_operation (tree.sem_trywait c) = of_channel c
   of_operation (tree.nb_transport socket payload phase delay) = refl
 
+  of_part : (p : Part) → Same (in_part (changed_part (retimed.change f) p)) (in_part p)
+  of_part (part.name r x) = refl
+  of_part (part.next_name r x) = refl
+  of_part (part.reaching_name r x all) = refl
+  of_part (part.text x) = refl
+  of_part (part.term u e) = of_expression e
+  of_part (part.term_if u e) = of_expression_if e
+  of_part (part.next_term u e) = of_expression e
+  of_part (part.next_term_if u e) = of_expression_if e
+  of_part (part.channel u c) = of_channel c
+  of_part (part.waiting w) = of_waiting w
+  of_part (part.notification n) = of_notification n
+  of_part (part.instance s) = joined (flat_map in_expression (map new s.arguments)) (in_events (map (retimed.event f) s.sensitive)) (flat_map in_expression s.arguments) (in_events s.sensitive) (of_expressions s.arguments) (of_events s.sensitive)
+  of_part (part.process w) = refl
+  of_part (part.reaching_process w all) = refl
+
   of_action : (a : tree.Action) → Same (in_action (retimed.action f a)) (in_action a)
-  of_action (tree.write c e) = joined (in_channel (retimed.channel f c)) (in_expression (new e)) (in_channel c) (in_expression e) (of_channel c) (of_expression e)
-  of_action (tree.print text e) = of_expression_if e
-  of_action (tree.notify x n) = of_notification n
-  of_action (tree.cancel x) = refl
-  of_action (tree.wait w) = of_waiting w
-  of_action (tree.next_trigger w) = of_waiting w
-  of_action (tree.lock c) = of_channel c
-  of_action (tree.sem_wait c) = of_channel c
-  of_action (tree.post c) = of_channel c
-  of_action (tree.make x len enables) = joined (in_expression (new len)) (in_option in_expression (retimed.option new enables)) (in_expression len) (in_option in_expression enables) (of_expression len) (of_expression_if enables)
-  of_action (tree.acquire x) = refl
-  of_action (tree.release x) = refl
-  of_action (tree.carry payload memory) = refl
-  of_action (tree.b_transport socket payload delay) = refl
-  of_action (tree.qk_global e) = of_expression e
-  of_action (tree.qk_inc x e) = of_expression e
-  of_action (tree.qk_set x e) = of_expression e
-  of_action (tree.qk_reset x) = refl
-  of_action (tree.qk_sync x) = refl
-  of_action (tree.spawn s) = joined (flat_map in_expression (map new s.arguments)) (in_events (map (retimed.event f) s.sensitive)) (flat_map in_expression s.arguments) (in_events s.sensitive) (of_expressions s.arguments) (of_events s.sensitive)
-  of_action (tree.control c w all) = refl
-  of_action (tree.throw_it w x all) = refl
-  of_action (tree.throw x) = refl
-  of_action (tree.return_ e) = of_expression_if e
-  of_action tree.stop = refl
+  of_action a = changed_linked (retimed.change f) Same in_part in_part (λ xs ys. xs ++ ys) (λ xs ys. xs ++ ys) [] [] joined of_part refl a
 
   mutual
     of_statement : (s : tree.Statement) → Same (in_statement (retimed.statement f s)) (in_statement s)

@@ -2,6 +2,7 @@
 use Rattle.std.specs.Prelude.{ℕ, map, Option, Some, None}
 use Rattle.model_tree.specs.SimTime.declared.moments.Unit.{Unit as TimeUnit}
 use Rattle.model_tree.specs.Tree as tree
+use Rattle.model_tree.specs.Parts.{Change, changed}
 use Rattle.model_tree.specs.declared.types.Constant.{Constant}
 use Rattle.model_tree.specs.declared.types.ConstantForm.{ConstantForm}
 use Rattle.model_tree.specs.declared.types.ConstantForm.TheVariants as constant
@@ -79,32 +80,11 @@ module _ (f : Span → Span) where
   abbrev pub spawn : tree.Spawn → tree.Spawn
   spawn s = record s { arguments = map expression s.arguments; sensitive = map event s.sensitive }
 
+  abbrev pub change : Change
+  change = record { expression = expression; option = λ e. option expression e; channel_ = channel; waiting_ = waiting; notification_ = notification; instance_ = spawn; process_ = λ w. w }
+
   abbrev pub action : tree.Action → tree.Action
-  action (tree.write c e) = tree.write (channel c) (expression e)
-  action (tree.print text e) = tree.print text (option expression e)
-  action (tree.notify name n) = tree.notify name (notification n)
-  action (tree.cancel name) = tree.cancel name
-  action (tree.wait w) = tree.wait (waiting w)
-  action (tree.next_trigger w) = tree.next_trigger (waiting w)
-  action (tree.lock c) = tree.lock (channel c)
-  action (tree.sem_wait c) = tree.sem_wait (channel c)
-  action (tree.post c) = tree.post (channel c)
-  action (tree.make name len enables) = tree.make name (expression len) (option expression enables)
-  action (tree.acquire name) = tree.acquire name
-  action (tree.release name) = tree.release name
-  action (tree.carry payload memory) = tree.carry payload memory
-  action (tree.b_transport socket payload delay) = tree.b_transport socket payload delay
-  action (tree.qk_global e) = tree.qk_global (expression e)
-  action (tree.qk_inc name e) = tree.qk_inc name (expression e)
-  action (tree.qk_set name e) = tree.qk_set name (expression e)
-  action (tree.qk_reset name) = tree.qk_reset name
-  action (tree.qk_sync name) = tree.qk_sync name
-  action (tree.spawn s) = tree.spawn (spawn s)
-  action (tree.control c who all) = tree.control c who all
-  action (tree.throw_it who name all) = tree.throw_it who name all
-  action (tree.throw name) = tree.throw name
-  action (tree.return_ e) = tree.return_ (option expression e)
-  action tree.stop = tree.stop
+  action a = changed change a
 
   abbrev mutual
     pub statement : tree.Statement → tree.Statement

@@ -2,6 +2,8 @@
 use Rattle.std.specs.Prelude.{ℕ, List, [], ◌∷◌, ◌++◌, Option, Some, None}
 use Rattle.std.specs.List.{flat_map}
 use Rattle.model_tree.specs.Tree as tree
+use Rattle.model_tree.specs.Parts as part
+use Rattle.model_tree.specs.Parts.{Part, parts_of, joined}
 use Rattle.tick_trees.specs.Retimed.{span}
 use Rattle.model_tree.specs.declared.types.Constant.{Constant}
 use Rattle.model_tree.specs.declared.types.ConstantForm.{ConstantForm}
@@ -78,32 +80,24 @@ in_operation (tree.unlock c) = in_channel c
 in_operation (tree.sem_trywait c) = in_channel c
 in_operation (tree.nb_transport socket payload phase delay) = []
 
+abbrev pub in_part : Part → List Timed
+in_part (part.name r x) = []
+in_part (part.next_name r x) = []
+in_part (part.reaching_name r x all) = []
+in_part (part.text x) = []
+in_part (part.term u e) = in_expression e
+in_part (part.term_if u e) = in_option in_expression e
+in_part (part.next_term u e) = in_expression e
+in_part (part.next_term_if u e) = in_option in_expression e
+in_part (part.channel u c) = in_channel c
+in_part (part.waiting w) = in_waiting w
+in_part (part.notification n) = in_notification n
+in_part (part.instance s) = flat_map in_expression s.arguments ++ in_events s.sensitive
+in_part (part.process who) = []
+in_part (part.reaching_process who all) = []
+
 abbrev pub in_action : tree.Action → List Timed
-in_action (tree.write c e) = in_channel c ++ in_expression e
-in_action (tree.print text e) = in_option in_expression e
-in_action (tree.notify name n) = in_notification n
-in_action (tree.cancel name) = []
-in_action (tree.wait w) = in_waiting w
-in_action (tree.next_trigger w) = in_waiting w
-in_action (tree.lock c) = in_channel c
-in_action (tree.sem_wait c) = in_channel c
-in_action (tree.post c) = in_channel c
-in_action (tree.make name len enables) = in_expression len ++ in_option in_expression enables
-in_action (tree.acquire name) = []
-in_action (tree.release name) = []
-in_action (tree.carry payload memory) = []
-in_action (tree.b_transport socket payload delay) = []
-in_action (tree.qk_global e) = in_expression e
-in_action (tree.qk_inc name e) = in_expression e
-in_action (tree.qk_set name e) = in_expression e
-in_action (tree.qk_reset name) = []
-in_action (tree.qk_sync name) = []
-in_action (tree.spawn s) = flat_map in_expression s.arguments ++ in_events s.sensitive
-in_action (tree.control c who all) = []
-in_action (tree.throw_it who name all) = []
-in_action (tree.throw name) = []
-in_action (tree.return_ e) = in_option in_expression e
-in_action tree.stop = []
+in_action a = joined in_part (λ xs ys. xs ++ ys) [] (parts_of a)
 
 abbrev mutual
   pub in_statement : tree.Statement → List Timed
