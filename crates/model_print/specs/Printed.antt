@@ -1,6 +1,8 @@
 -- The printed tokens of each form of a tree, in order.
 use Rattle.std.specs.Prelude.{ℕ, List, [], ◌∷◌, ◌++◌, Option}
 use Rattle.model_tree.specs.Tree as tree
+use Rattle.model_tree.specs.Parts as made
+use Rattle.model_tree.specs.Parts.{Part, word_of_action, parts_of, joined}
 use Rattle.model_tree.specs.declared.vocabulary.Word.{Word}
 use Rattle.model_tree.specs.declared.vocabulary.Word.TheVariants as w
 use Rattle.model_tree.specs.declared.vocabulary.Symbol.TheVariants as s
@@ -17,7 +19,7 @@ use Rattle.model_tree.specs.declared.items.ResolutionLine.{ResolutionLine}
 use Rattle.model_tree.specs.declared.items.Head.{Head}
 use Rattle.model_tree.specs.declared.items.Head.TheVariants as head
 use Rattle.model_tree.specs.declared.items.Top.{Top}
-use Rattle.model_tree.specs.Spelling.{unary_symbol, binary_symbol, conversion_word, constant_word, control_word, signal_word, plain_word, process_word}
+use Rattle.model_tree.specs.Spelling.{unary_symbol, binary_symbol, conversion_word, constant_word, signal_word, plain_word, process_word}
 use Rattle.model_print.specs.Layout.{Piece, layout}
 use Rattle.model_print.specs.Pieces.{word, name, number, logic, quoted, type_word, wide, operator, prefix, joint, opening, closing, comma, semicolon, flag, maybe, each, separated, braced, bracketed}
 use Rattle.model_print.specs.Leaves.{type_form, var_type, time, span, truth, constant_form, first_value, who, member, interface, port_size, parameter, binding_end}
@@ -117,8 +119,11 @@ operation (tree.nb_transport x p phase t) = word w.NbTransport ∷ name x ∷ co
 abbrev pub stored : Option (List ℕ) → List Piece
 stored x = maybe (λ y. name y ∷ operator s.Equal ∷ []) x
 
+abbrev pub spawned : tree.Spawn → List Piece
+spawned x = stored x.handle ++ flag w.Method x.method ++ name x.function ∷ arguments x.arguments ++ sensitive x.sensitive ++ flag w.DontInitialize x.dont_initialize
+
 abbrev pub spawn : tree.Spawn → List Piece
-spawn x = word w.Spawn ∷ stored x.handle ++ flag w.Method x.method ++ name x.function ∷ arguments x.arguments ++ sensitive x.sensitive ++ flag w.DontInitialize x.dont_initialize
+spawn x = word w.Spawn ∷ spawned x
 
 -- a word and a name
 abbrev pub with_name : Word → List ℕ → List Piece
@@ -132,32 +137,24 @@ one_more e = maybe (λ x. comma ∷ expression x) e
 abbrev pub with_time : Word → List ℕ → tree.Expression → List Piece
 with_time x y e = word x ∷ name y ∷ expression e
 
+abbrev pub part : Part → List Piece
+part (made.name r x) = name x ∷ []
+part (made.next_name r x) = comma ∷ name x ∷ []
+part (made.reaching_name r x all) = name x ∷ flag w.Descendants all
+part (made.text x) = quoted x ∷ []
+part (made.term u e) = expression e
+part (made.term_if u e) = maybe expression e
+part (made.next_term u e) = comma ∷ expression e
+part (made.next_term_if u e) = one_more e
+part (made.channel u c) = channel c
+part (made.waiting t) = waiting t
+part (made.notification t) = notification t
+part (made.instance x) = spawned x
+part (made.process p) = who p ∷ []
+part (made.reaching_process p all) = who p ∷ flag w.Descendants all
+
 abbrev pub action : tree.Action → List Piece
-action (tree.write c e) = word w.Write ∷ channel c ++ expression e
-action (tree.print text e) = word w.Print ∷ quoted text ∷ maybe expression e
-action (tree.notify x t) = word w.Notify ∷ name x ∷ notification t
-action (tree.cancel x) = with_name w.Cancel x
-action (tree.wait t) = word w.Wait ∷ waiting t
-action (tree.next_trigger t) = word w.NextTrigger ∷ waiting t
-action (tree.lock c) = word w.Lock ∷ channel c
-action (tree.sem_wait c) = word w.SemWait ∷ channel c
-action (tree.post c) = word w.Post ∷ channel c
-action (tree.make x len enables) = word w.Make ∷ name x ∷ comma ∷ expression len ++ one_more enables
-action (tree.acquire x) = with_name w.Acquire x
-action (tree.release x) = with_name w.Release x
-action (tree.carry p m) = word w.Carry ∷ name p ∷ comma ∷ name m ∷ []
-action (tree.b_transport x p t) = word w.BTransport ∷ three_names x p t
-action (tree.qk_global e) = word w.QkGlobal ∷ expression e
-action (tree.qk_inc x e) = word w.QkInc ∷ name x ∷ expression e
-action (tree.qk_set x e) = word w.QkSet ∷ name x ∷ expression e
-action (tree.qk_reset x) = with_name w.QkReset x
-action (tree.qk_sync x) = with_name w.QkSync x
-action (tree.spawn x) = spawn x
-action (tree.control c p all) = word (control_word c) ∷ who p ∷ flag w.Descendants all
-action (tree.throw_it p x all) = word w.ThrowIt ∷ who p ∷ name x ∷ flag w.Descendants all
-action (tree.throw x) = with_name w.Throw x
-action (tree.return_ e) = word w.Return ∷ maybe expression e
-action tree.stop = word w.Stop ∷ []
+action a = word (word_of_action a) ∷ joined part (λ xs ys. xs ++ ys) [] (parts_of a)
 
 -- an expression as a first value, where one is written
 abbrev pub initial : Option tree.Expression → List Piece
