@@ -1,6 +1,7 @@
 pub use Rattle.model_tree.specs.Leaves as Leaves
 pub use Rattle.model_tree.specs.Limits as Limits
 pub use Rattle.model_tree.specs.Lines as Lines
+pub use Rattle.model_tree.specs.Parts as Parts
 pub use Rattle.model_tree.specs.Seen as Seen
 pub use Rattle.model_tree.specs.Stops as Stops
 pub use Rattle.model_tree.specs.Tree as Tree

@@ -4,6 +4,8 @@ use Rattle.std.specs.Prelude.{ℕ, Bool, true, false, ◌&&◌, ◌||◌, not, L
 use Rattle.std.specs.List.{list_any}
 use Rattle.std.specs.Option.{option_or}
 use Rattle.flat_design.specs.ModelTree.Tree as tree
+use Rattle.flat_design.specs.ModelTree.Parts as made
+use Rattle.flat_design.specs.ModelTree.Parts.{Role, parts_of, joined}
 use Rattle.flat_design.specs.ModelTree.declared.statements.Who.{Who}
 use Rattle.flat_design.specs.ModelTree.declared.statements.Who.TheVariants as who
 use Rattle.flat_design.specs.ModelTree.declared.items.InitiatorRole.{InitiatorRole}
@@ -95,32 +97,35 @@ abbrev pub optional : Option (List ℕ) → Need → List Used
 optional None need = []
 optional (Some name) need = (name, need) ∷ []
 
+-- a name of an action, by what it is to be; an exception needs no declaration
+abbrev pub role_uses : Role → List ℕ → List Used
+role_uses made.event name = (name, need_of.PlainEvent) ∷ []
+role_uses made.payload name = (name, need_of.Payload) ∷ []
+role_uses made.memory name = (name, need_of.Memory) ∷ []
+role_uses made.initiator name = (name, need_of.Initiator) ∷ []
+role_uses made.keeper name = (name, need_of.Keeper) ∷ []
+role_uses made.carried name = (name, need_of.Variable) ∷ []
+role_uses made.delay name = (name, need_of.Variable) ∷ []
+role_uses made.exception name = []
+
+abbrev pub part_uses : made.Part → List Used
+part_uses (made.name r name) = role_uses r name
+part_uses (made.next_name r name) = role_uses r name
+part_uses (made.reaching_name r name all) = role_uses r name
+part_uses (made.text x) = []
+part_uses (made.term u e) = []
+part_uses (made.term_if u e) = []
+part_uses (made.next_term u e) = []
+part_uses (made.next_term_if u e) = []
+part_uses (made.channel u c) = []
+part_uses (made.waiting w) = []
+part_uses (made.notification n) = []
+part_uses (made.instance x) = optional x.handle need_of.Variable ++ (x.function, need_of.Function) ∷ []
+part_uses (made.process w) = []
+part_uses (made.reaching_process w all) = []
+
 abbrev pub action_uses : tree.Action → List Used
-action_uses (tree.write c e) = []
-action_uses (tree.print text e) = []
-action_uses (tree.notify name n) = (name, need_of.PlainEvent) ∷ []
-action_uses (tree.cancel name) = (name, need_of.PlainEvent) ∷ []
-action_uses (tree.wait w) = []
-action_uses (tree.next_trigger w) = []
-action_uses (tree.lock c) = []
-action_uses (tree.sem_wait c) = []
-action_uses (tree.post c) = []
-action_uses (tree.make name n enables) = (name, need_of.Payload) ∷ []
-action_uses (tree.acquire name) = (name, need_of.Payload) ∷ []
-action_uses (tree.release name) = (name, need_of.Payload) ∷ []
-action_uses (tree.carry p m) = (p, need_of.Payload) ∷ (m, need_of.Memory) ∷ []
-action_uses (tree.b_transport socket p delay) = (socket, need_of.Initiator) ∷ (p, need_of.Variable) ∷ (delay, need_of.Variable) ∷ []
-action_uses (tree.qk_global e) = []
-action_uses (tree.qk_inc name e) = (name, need_of.Keeper) ∷ []
-action_uses (tree.qk_set name e) = (name, need_of.Keeper) ∷ []
-action_uses (tree.qk_reset name) = (name, need_of.Keeper) ∷ []
-action_uses (tree.qk_sync name) = (name, need_of.Keeper) ∷ []
-action_uses (tree.spawn x) = optional x.handle need_of.Variable ++ (x.function, need_of.Function) ∷ []
-action_uses (tree.control c w all) = []
-action_uses (tree.throw_it w name all) = []
-action_uses (tree.throw name) = []
-action_uses (tree.return_ e) = []
-action_uses tree.stop = []
+action_uses a = joined part_uses (λ xs ys. xs ++ ys) [] (parts_of a)
 
 abbrev pub operation_uses : tree.Operation → List Used
 operation_uses (tree.call name arguments) = (name, need_of.Function) ∷ []

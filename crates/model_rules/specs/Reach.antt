@@ -3,6 +3,8 @@
 use Rattle.std.specs.Prelude.{ℕ, ◌&&◌, ◌||◌, Bool, true, false, not, List, [], ◌∷◌, ◌++◌, map, filter, filter_map, bytes_eq, find, option_map, Option, Some, None}
 use Rattle.std.specs.List.{list_any}
 use Rattle.flat_design.specs.ModelTree.Tree as tree
+use Rattle.flat_design.specs.ModelTree.Parts as made
+use Rattle.flat_design.specs.ModelTree.Parts.{Blocking, form_of}
 use Rattle.flat_design.specs.ModelTree.declared.items.ProcessKind.{ProcessKind}
 use Rattle.flat_design.specs.ModelTree.declared.items.ProcessKind.TheVariants as process
 use Rattle.flat_design.specs.ModelTree.declared.items.InitiatorRole.{InitiatorRole}
@@ -189,32 +191,13 @@ operation_blocks (tree.unlock c) = false
 operation_blocks (tree.sem_trywait c) = false
 operation_blocks (tree.nb_transport socket p phase delay) = false
 
+abbrev pub may_block : List tree.Item → Blocking → Bool
+may_block items made.never = false
+may_block items made.always = true
+may_block items (made.where_fifo c) = is_fifo (meaning_in items c.name)
+
 abbrev pub action_blocks : List tree.Item → tree.Action → Bool
-action_blocks items (tree.write c e) = is_fifo (meaning_in items c.name)
-action_blocks items (tree.print text e) = false
-action_blocks items (tree.notify name n) = false
-action_blocks items (tree.cancel name) = false
-action_blocks items (tree.wait w) = true
-action_blocks items (tree.next_trigger w) = false
-action_blocks items (tree.lock c) = true
-action_blocks items (tree.sem_wait c) = true
-action_blocks items (tree.post c) = false
-action_blocks items (tree.make name n enables) = false
-action_blocks items (tree.acquire name) = false
-action_blocks items (tree.release name) = false
-action_blocks items (tree.carry p m) = false
-action_blocks items (tree.b_transport socket p delay) = true
-action_blocks items (tree.qk_global e) = false
-action_blocks items (tree.qk_inc name e) = false
-action_blocks items (tree.qk_set name e) = false
-action_blocks items (tree.qk_reset name) = false
-action_blocks items (tree.qk_sync name) = true
-action_blocks items (tree.spawn x) = false
-action_blocks items (tree.control c w all) = false
-action_blocks items (tree.throw_it w name all) = false
-action_blocks items (tree.throw name) = false
-action_blocks items (tree.return_ e) = false
-action_blocks items tree.stop = false
+action_blocks items a = may_block items (form_of a).blocking
 
 abbrev pub blocks_itself : List tree.Item → tree.Statement → Bool
 blocks_itself items (tree.var line t name e) = false

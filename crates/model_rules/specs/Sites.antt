@@ -1,6 +1,8 @@
 -- The constructs of a model in text order, an outer one before its parts, each with its line and what is visible there.
 use Rattle.std.specs.Prelude.{ℕ, Bool, true, false, List, [], ◌∷◌, ◌++◌, unwrap_or, Option, Some, None}
 use Rattle.flat_design.specs.ModelTree.Tree as tree
+use Rattle.flat_design.specs.ModelTree.Parts as made
+use Rattle.flat_design.specs.ModelTree.Parts.{Access, parts_of, joined}
 use Rattle.flat_design.specs.ModelTree.Lines.{item_line, first_line}
 use Rattle.flat_design.specs.ModelTree.declared.types.SignalType.{SignalType}
 use Rattle.flat_design.specs.ModelTree.declared.types.VarType.{VarType}
@@ -168,32 +170,30 @@ operation_parts s (tree.unlock c) = channel_sites s need_of.Mutex c
 operation_parts s (tree.sem_trywait c) = channel_sites s need_of.Semaphore c
 operation_parts s (tree.nb_transport socket p phase delay) = []
 
+-- what the channel of an action has to be
+abbrev pub access_need : Access → Need
+access_need made.written = need_of.Written
+access_need made.mutex = need_of.Mutex
+access_need made.semaphore = need_of.Semaphore
+
+abbrev pub part_sites : Scope → made.Part → List Site
+part_sites s (made.name r name) = []
+part_sites s (made.next_name r name) = []
+part_sites s (made.reaching_name r name all) = []
+part_sites s (made.text x) = []
+part_sites s (made.term u e) = expression_sites s e
+part_sites s (made.term_if u e) = option_sites s e
+part_sites s (made.next_term u e) = expression_sites s e
+part_sites s (made.next_term_if u e) = option_sites s e
+part_sites s (made.channel u c) = channel_sites s (access_need u) c
+part_sites s (made.waiting w) = waiting_sites s w
+part_sites s (made.notification n) = notification_sites s n
+part_sites s (made.instance x) = argument_sites s x.arguments ++ events_sites s true x.sensitive
+part_sites s (made.process w) = who_sites s w
+part_sites s (made.reaching_process w all) = who_sites s w
+
 abbrev pub action_parts : Scope → tree.Action → List Site
-action_parts s (tree.write c e) = channel_sites s need_of.Written c ++ expression_sites s e
-action_parts s (tree.print text e) = option_sites s e
-action_parts s (tree.notify name n) = notification_sites s n
-action_parts s (tree.cancel name) = []
-action_parts s (tree.wait w) = waiting_sites s w
-action_parts s (tree.next_trigger w) = waiting_sites s w
-action_parts s (tree.lock c) = channel_sites s need_of.Mutex c
-action_parts s (tree.sem_wait c) = channel_sites s need_of.Semaphore c
-action_parts s (tree.post c) = channel_sites s need_of.Semaphore c
-action_parts s (tree.make name n enables) = expression_sites s n ++ option_sites s enables
-action_parts s (tree.acquire name) = []
-action_parts s (tree.release name) = []
-action_parts s (tree.carry p m) = []
-action_parts s (tree.b_transport socket p delay) = []
-action_parts s (tree.qk_global e) = expression_sites s e
-action_parts s (tree.qk_inc name e) = expression_sites s e
-action_parts s (tree.qk_set name e) = expression_sites s e
-action_parts s (tree.qk_reset name) = []
-action_parts s (tree.qk_sync name) = []
-action_parts s (tree.spawn x) = argument_sites s x.arguments ++ events_sites s true x.sensitive
-action_parts s (tree.control c w all) = who_sites s w
-action_parts s (tree.throw_it w name all) = who_sites s w
-action_parts s (tree.throw name) = []
-action_parts s (tree.return_ e) = option_sites s e
-action_parts s tree.stop = []
+action_parts s a = joined (part_sites s) (λ xs ys. xs ++ ys) [] (parts_of a)
 
 abbrev mutual
   pub statement_sites : tree.Statement → Scope → List Site

@@ -3,6 +3,8 @@
 -- part breaks a rule of its own, nothing is asked of it.
 use Rattle.std.specs.Prelude.{ℕ, ◌&&◌, ◌||◌, Bool, true, false, not, nat_lt, List, [], ◌∷◌, is_none, is_some, option_map, option_and_then, Option, Some, None}
 use Rattle.flat_design.specs.ModelTree.Tree as tree
+use Rattle.flat_design.specs.ModelTree.Parts as made
+use Rattle.flat_design.specs.ModelTree.Parts.{Role, Purpose, parts_of, joined}
 use Rattle.flat_design.specs.ModelTree.declared.types.TypeForm.{TypeForm}
 use Rattle.flat_design.specs.ModelTree.declared.types.TypeForm.TheVariants as form
 use Rattle.flat_design.specs.ModelTree.declared.types.ConstantForm.{ConstantForm}
@@ -123,32 +125,43 @@ abbrev pub option_variable : Scope → Option (List ℕ) → Option ValueType
 option_variable s None = None
 option_variable s (Some name) = variable_named s name
 
+-- a variable that an action names, by what it is to hold
+abbrev pub role_differs : Scope → Role → List ℕ → Bool
+role_differs s made.event name = false
+role_differs s made.payload name = false
+role_differs s made.memory name = false
+role_differs s made.initiator name = false
+role_differs s made.keeper name = false
+role_differs s made.carried name = differ (Some type.Payload) (variable_named s name)
+role_differs s made.delay name = differ (Some type.Time) (variable_named s name)
+role_differs s made.exception name = false
+
+-- an expression of an action, by what it is there for
+abbrev pub purpose_differs : Scope → Purpose → Option tree.Expression → Bool
+purpose_differs s (made.value c) e = misfits (written_to s c) (option_type s e)
+purpose_differs s made.shown e = fails is_printed (option_type s e)
+purpose_differs s made.time e = time_differs s e
+purpose_differs s made.count e = fails is_integer (option_type s e)
+purpose_differs s made.answer e = misfits (option_and_then variable_type s.answer) (option_type s e)
+
+abbrev pub part_differs : Scope → made.Part → Bool
+part_differs s (made.name r name) = role_differs s r name
+part_differs s (made.next_name r name) = role_differs s r name
+part_differs s (made.reaching_name r name all) = role_differs s r name
+part_differs s (made.text x) = false
+part_differs s (made.term u e) = purpose_differs s u (Some e)
+part_differs s (made.term_if u e) = purpose_differs s u e
+part_differs s (made.next_term u e) = purpose_differs s u (Some e)
+part_differs s (made.next_term_if u e) = purpose_differs s u e
+part_differs s (made.channel u c) = false
+part_differs s (made.waiting w) = waiting_differs s w
+part_differs s (made.notification n) = notification_differs s n
+part_differs s (made.instance x) = differ (Some type.Process) (option_variable s x.handle) || arguments_differ s (called_parameters s x.function) x.arguments
+part_differs s (made.process w) = false
+part_differs s (made.reaching_process w all) = false
+
 abbrev pub action_differs : Scope → tree.Action → Bool
-action_differs s (tree.write c e) = misfits (written_to s c) (type_of s e)
-action_differs s (tree.print text e) = fails is_printed (option_type s e)
-action_differs s (tree.notify name n) = notification_differs s n
-action_differs s (tree.cancel name) = false
-action_differs s (tree.wait w) = waiting_differs s w
-action_differs s (tree.next_trigger w) = waiting_differs s w
-action_differs s (tree.lock c) = false
-action_differs s (tree.sem_wait c) = false
-action_differs s (tree.post c) = false
-action_differs s (tree.make name n enables) = fails is_integer (type_of s n) || fails is_integer (option_type s enables)
-action_differs s (tree.acquire name) = false
-action_differs s (tree.release name) = false
-action_differs s (tree.carry p m) = false
-action_differs s (tree.b_transport socket p delay) = differ (Some type.Payload) (variable_named s p) || differ (Some type.Time) (variable_named s delay)
-action_differs s (tree.qk_global e) = time_differs s (Some e)
-action_differs s (tree.qk_inc name e) = time_differs s (Some e)
-action_differs s (tree.qk_set name e) = time_differs s (Some e)
-action_differs s (tree.qk_reset name) = false
-action_differs s (tree.qk_sync name) = false
-action_differs s (tree.spawn x) = differ (Some type.Process) (option_variable s x.handle) || arguments_differ s (called_parameters s x.function) x.arguments
-action_differs s (tree.control c w all) = false
-action_differs s (tree.throw_it w name all) = false
-action_differs s (tree.throw name) = false
-action_differs s (tree.return_ e) = misfits (option_and_then variable_type s.answer) (option_type s e)
-action_differs s tree.stop = false
+action_differs s a = joined (part_differs s) (λ x y. x || y) false (parts_of a)
 
 -- the variable before an operation takes what it gives
 abbrev pub result_differs : Scope → Option (List ℕ) → tree.Operation → Bool
