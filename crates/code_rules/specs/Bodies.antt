@@ -4,6 +4,8 @@ use Rattle.std.specs.List.{flat_map}
 use Rattle.model_rules.specs.LogicValues.declared.kinds.Value.TheVariants as value
 use Rattle.model_rules.specs.SimTime.Times.{picoseconds_in}
 use Rattle.model_rules.specs.ModelTree.Tree as tree
+use Rattle.model_rules.specs.ModelTree.Parts as made
+use Rattle.model_rules.specs.ModelTree.Parts.{Role, Part, parts_of, joined}
 use Rattle.model_rules.specs.ModelTree.declared.types.VarType.{VarType}
 use Rattle.model_rules.specs.ModelTree.declared.types.Parameter.{Parameter}
 use Rattle.model_rules.specs.ModelTree.declared.types.Span.{Span}
@@ -11,7 +13,7 @@ use Rattle.model_rules.specs.ModelTree.declared.items.ClockItem.{ClockItem}
 use Rattle.model_rules.specs.ModelTree.declared.items.ProcessKind.{ProcessKind}
 use Rattle.model_rules.specs.ModelTree.declared.items.ProcessKind.TheVariants as process
 use Rattle.model_rules.specs.FlatDesign.Code as code
-use Rattle.model_rules.specs.FlatDesign.Code.{Term, Arena, arena_of}
+use Rattle.model_rules.specs.FlatDesign.Code.{Arena, arena_of}
 use Rattle.model_rules.specs.FlatDesign.declared.value_types.ValueType.{ValueType}
 use Rattle.model_rules.specs.FlatDesign.declared.value_types.ValueType.TheVariants as type
 use Rattle.model_rules.specs.FlatDesign.declared.code.BodyKind.{BodyKind}
@@ -27,32 +29,34 @@ use Rattle.code_rules.specs.Numbered.{AtBlock, AreFirst, IsBlock}
 -- exceptions
 
 -- their names in statements, blocks and handlers, in text order
+abbrev pub thrown_as : Role → List ℕ → List (List ℕ)
+thrown_as made.event name = []
+thrown_as made.payload name = []
+thrown_as made.memory name = []
+thrown_as made.initiator name = []
+thrown_as made.keeper name = []
+thrown_as made.carried name = []
+thrown_as made.delay name = []
+thrown_as made.exception name = name ∷ []
+
+abbrev pub thrown_part : Part → List (List ℕ)
+thrown_part (made.name r name) = thrown_as r name
+thrown_part (made.next_name r name) = thrown_as r name
+thrown_part (made.reaching_name r name all) = thrown_as r name
+thrown_part (made.text x) = []
+thrown_part (made.term u e) = []
+thrown_part (made.term_if u e) = []
+thrown_part (made.next_term u e) = []
+thrown_part (made.next_term_if u e) = []
+thrown_part (made.channel u c) = []
+thrown_part (made.waiting w) = []
+thrown_part (made.notification n) = []
+thrown_part (made.instance x) = []
+thrown_part (made.process w) = []
+thrown_part (made.reaching_process w all) = []
+
 abbrev pub thrown_in : tree.Action → List (List ℕ)
-thrown_in (tree.write c e) = []
-thrown_in (tree.print text e) = []
-thrown_in (tree.notify name n) = []
-thrown_in (tree.cancel name) = []
-thrown_in (tree.wait w) = []
-thrown_in (tree.next_trigger w) = []
-thrown_in (tree.lock c) = []
-thrown_in (tree.sem_wait c) = []
-thrown_in (tree.post c) = []
-thrown_in (tree.make name n enables) = []
-thrown_in (tree.acquire name) = []
-thrown_in (tree.release name) = []
-thrown_in (tree.carry p m) = []
-thrown_in (tree.b_transport socket p delay) = []
-thrown_in (tree.qk_global e) = []
-thrown_in (tree.qk_inc name e) = []
-thrown_in (tree.qk_set name e) = []
-thrown_in (tree.qk_reset name) = []
-thrown_in (tree.qk_sync name) = []
-thrown_in (tree.spawn x) = []
-thrown_in (tree.control c w all) = []
-thrown_in (tree.throw_it w name all) = name ∷ []
-thrown_in (tree.throw name) = name ∷ []
-thrown_in (tree.return_ e) = []
-thrown_in tree.stop = []
+thrown_in a = joined thrown_part (λ xs ys. xs ++ ys) [] (parts_of a)
 
 abbrev mutual
   pub exceptions_in : tree.Statement → List (List ℕ)
