@@ -1,9 +1,9 @@
 -- Sites along the tokens that a rule takes: where the lines of the tokens never fall, nor do those of the sites.
-use Rattle.std.proofs.Common.{◌≡◌, ℕ, ◌≤◌, Bool, true, false, List, [], ◌∷◌, ◌++◌, Option, Some, None, refl, subst, arith}
+use Rattle.std.proofs.Common.{◌≡◌, ℕ, ◌≤◌, Bool, true, false, List, [], ◌∷◌, ◌++◌, Option, Some, None, subst, arith}
 use Rattle.model_rules.specs.Scopes.{Scope}
 use Rattle.model_rules.specs.Sites.{Part, Site, site}
 use Rattle.model_lexer.specs.ModelGrammar.Tokens.{Token, Tokens}
-use Rattle.model_lexer.specs.ModelGrammar.Rules.{Rule, ◌⨾◌, At, Takes, Nothing, Each, Separated, Maybe, Written, Binds, OnLine}
+use Rattle.model_lexer.specs.ModelGrammar.Rules.{Rule, ◌⨾◌, At, Takes, Nothing, Maybe, Written, Binds, OnLine}
 use Rattle.model_lexer.specs.ModelGrammar.Expressions.{Short, Parenthesized}
 use Rattle.model_lexer.specs.ModelGrammar.Statements.{Braced}
 

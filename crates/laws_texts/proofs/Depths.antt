@@ -3,10 +3,13 @@ use Rattle.std.proofs.Common.{◌≡◌, ℕ, zero, suc, ◌≤◌, max, Bool, t
 use Rattle.std.specs.Prelude.{map, option_map, nat_le}
 use Rattle.std.proofs.lemmas.Bool.{and_parts, leb-true}
 use Rattle.model_print.specs.ModelTree.declared.types.PortSize.{PortSize}
-use Rattle.model_print.specs.ModelTree.Limits.{depth, token_count, token_limit, bracket_limit, is_formed, fits, fits_option, fits_all, within, fits_place, fits_channel, option_name, fits_event, fits_events, fits_waiting, fits_notification, fits_index, fits_target, fits_operation, fits_spawn, fits_action, fits_var_type, fits_statement, fits_block, fits_else, fits_handlers, has_handler, fits_parameters, fits_answer, fits_item, fits_items, fits_modules, is_sound}
-use Rattle.model_print.specs.ModelTree.Leaves.{is_name, is_print_text}
+use Rattle.model_print.specs.ModelTree.Limits.{depth, token_count, token_limit, bracket_limit, is_formed, fits, fits_option, fits_all, within, fits_place, fits_channel, option_name, fits_event, fits_events, fits_waiting, fits_notification, fits_index, fits_target, fits_operation, fits_spawn, fits_part, fits_action, fits_var_type, fits_statement, fits_block, fits_else, fits_handlers, has_handler, fits_parameters, fits_answer, fits_item, fits_items, fits_modules, is_sound}
+use Rattle.model_print.specs.ModelTree.Leaves.{is_name}
 use Rattle.model_print.specs.ModelTree.Tree as tree
-use Rattle.model_lexer.specs.ModelGrammar.Brackets.{in_option, in_all, in_place, in_channel, in_events, in_waiting, in_notification, in_index, in_operation, in_action, in_statement, in_block, in_else, in_handlers, in_size, in_item, in_items, in_modules, brackets}
+use Rattle.model_tree.specs.Parts as part
+use Rattle.model_tree.specs.Parts.{Part, changed_part, parts_of}
+use Rattle.model_tree.proofs.Parts.{linked, changed_linked}
+use Rattle.model_lexer.specs.ModelGrammar.Brackets.{in_option, in_all, in_place, in_channel, in_events, in_waiting, in_notification, in_index, in_operation, in_part, in_action, in_statement, in_block, in_else, in_handlers, in_size, in_item, in_items, in_modules, brackets}
 use Rattle.laws_texts.specs.Unlined as unlined
 
 -- without line numbers
@@ -68,22 +71,22 @@ same_operation (tree.unlock c) = same_place c.place
 same_operation (tree.sem_trywait c) = same_place c.place
 same_operation (tree.nb_transport x p phase t) = refl
 
+same_part : (p : Part) → in_part (changed_part unlined.change p) ≡ in_part p
+same_part (part.term u e) = same_depth e
+same_part (part.term_if u e) = same_option e
+same_part (part.next_term u e) = same_depth e
+same_part (part.next_term_if u e) = same_option e
+same_part (part.channel u c) = same_place c.place
+same_part (part.waiting t) = same_waiting t
+same_part (part.notification t) = same_notification t
+same_part (part.instance x) = rw (same_all x.arguments, same_events x.sensitive) refl
+same_part _ = refl
+
+same_most : (m n k l : ℕ) → m ≡ k → n ≡ l → max m n ≡ max k l
+same_most m n k l a b = rw (a, b) refl
+
 same_action : (a : tree.Action) → in_action (unlined.action a) ≡ in_action a
-same_action (tree.write c e) = rw (same_place c.place, same_depth e) refl
-same_action (tree.print text e) = same_option e
-same_action (tree.notify x t) = same_notification t
-same_action (tree.wait t) = same_waiting t
-same_action (tree.next_trigger t) = same_waiting t
-same_action (tree.lock c) = same_place c.place
-same_action (tree.sem_wait c) = same_place c.place
-same_action (tree.post c) = same_place c.place
-same_action (tree.make x len enables) = rw (same_depth len, same_option enables) refl
-same_action (tree.qk_global e) = same_depth e
-same_action (tree.qk_inc x e) = same_depth e
-same_action (tree.qk_set x e) = same_depth e
-same_action (tree.spawn x) = rw (same_all x.arguments, same_events x.sensitive) refl
-same_action (tree.return_ e) = same_option e
-same_action _ = refl
+same_action a = changed_linked unlined.change (λ (m k : ℕ). m ≡ k) in_part in_part max max 0 0 same_most same_part refl a
 
 mutual
   same_statement : (x : tree.Statement) → in_statement (unlined.statement x) ≡ in_statement x
@@ -194,25 +197,22 @@ spawn_deep n x h =
     let lists = and_parts (within n (λ m. fits_all m x.arguments)) (fits_events n x.sensitive) parts.1 in
     most (suc (in_all x.arguments)) (in_events x.sensitive) n (deeper n (in_all x.arguments) (λ m. fits_all m x.arguments) (λ m k. all_deep m x.arguments k) lists.0) (events_deep n x.sensitive lists.1)
 
+part_deep : (n : ℕ) (p : Part) → fits_part n p ≡ true → in_part p ≤ n
+part_deep n (part.term u e) h = deep n e h
+part_deep n (part.term_if u e) h = option_deep n e h
+part_deep n (part.next_term u e) h = deep n e h
+part_deep n (part.next_term_if u e) h = option_deep n e h
+part_deep n (part.channel u c) h = channel_deep n c h
+part_deep n (part.waiting t) h = waiting_deep n t h
+part_deep n (part.notification t) h = notification_deep n t h
+part_deep n (part.instance x) h = spawn_deep n x h
+part_deep n _ h = omega arith
+
+both_deep : (n a b : ℕ) (x y : Bool) → (x ≡ true → a ≤ n) → (y ≡ true → b ≤ n) → (x && y) ≡ true → max a b ≤ n
+both_deep n a b x y f g h = let parts = and_parts x y h in most a b n (f parts.0) (g parts.1)
+
 action_deep : (n : ℕ) (a : tree.Action) → fits_action n a ≡ true → in_action a ≤ n
-action_deep n (tree.write c e) h = let parts = and_parts (fits_channel n c) (fits n e) h in most (in_channel c) (depth e) n (channel_deep n c parts.0) (deep n e parts.1)
-action_deep n (tree.print text e) h = option_deep n e (and_parts (is_print_text text) (fits_option n e) h).1
-action_deep n (tree.notify x t) h = notification_deep n t (and_parts (is_name x) (fits_notification n t) h).1
-action_deep n (tree.wait t) h = waiting_deep n t h
-action_deep n (tree.next_trigger t) h = waiting_deep n t h
-action_deep n (tree.lock c) h = channel_deep n c h
-action_deep n (tree.sem_wait c) h = channel_deep n c h
-action_deep n (tree.post c) h = channel_deep n c h
-action_deep n (tree.make x len enables) h =
-    let parts = and_parts (is_name x) (fits n len && fits_option n enables) h in
-    let more = and_parts (fits n len) (fits_option n enables) parts.1 in
-    most (depth len) (in_option enables) n (deep n len more.0) (option_deep n enables more.1)
-action_deep n (tree.qk_global e) h = deep n e h
-action_deep n (tree.qk_inc x e) h = deep n e (and_parts (is_name x) (fits n e) h).1
-action_deep n (tree.qk_set x e) h = deep n e (and_parts (is_name x) (fits n e) h).1
-action_deep n (tree.spawn x) h = spawn_deep n x h
-action_deep n (tree.return_ e) h = option_deep n e h
-action_deep n _ h = omega arith
+action_deep n a h = linked (λ (m : ℕ) (x : Bool). x ≡ true → m ≤ n) in_part (fits_part n) max (λ x y. x && y) 0 true (both_deep n) (part_deep n) (λ k. omega arith) (parts_of a) h
 
 mutual
   statement_deep : (n : ℕ) (x : tree.Statement) → fits_statement x n ≡ true → in_statement x ≤ n

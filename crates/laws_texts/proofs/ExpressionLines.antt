@@ -1,12 +1,12 @@
 -- The lines of the constructs of an expression never fall.
-use Rattle.std.proofs.Common.{◌≡◌, ℕ, suc, List, [], ◌∷◌, ◌++◌, Option, Some, None, refl}
+use Rattle.std.proofs.Common.{ℕ, suc, Option, Some, None, refl}
 use Rattle.model_rules.specs.ModelTree.Lines.{first_line}
 use Rattle.model_rules.specs.ModelTree.Limits.{level, primary_level, chain_level}
 use Rattle.model_rules.specs.ModelTree.Tree as tree
 use Rattle.model_rules.specs.declared.needs.Need.{Need}
 use Rattle.model_rules.specs.declared.needs.Need.TheVariants as need_of
 use Rattle.model_rules.specs.Scopes.{Scope}
-use Rattle.model_rules.specs.Sites.{Site, sites_as, expression_sites, option_sites}
+use Rattle.model_rules.specs.Sites.{sites_as, expression_sites, option_sites}
 use Rattle.model_lexer.specs.ModelGrammar.Expressions.{DerivesAt, DerivesExpression}
 use Rattle.model_lexer.specs.ModelGrammar.Rules.{Maybe}
 use Rattle.laws_texts.proofs.Along.{Along, nothing, last, past, trail, headed, alone, both, LeadsAt, leads_on, again, bind, short, parenthesized}

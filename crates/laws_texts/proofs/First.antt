@@ -4,9 +4,11 @@ use Rattle.std.specs.List.{list_all, flat_map}
 use Rattle.std.proofs.lemmas.Bool.{and_parts, and_from}
 use Rattle.std.proofs.lemmas.List.Folds.{list_all-append}
 use Rattle.model_tree.specs.Tree as tree
+use Rattle.model_tree.specs.Parts as part
+use Rattle.model_tree.specs.Parts.{Part, parts_of}
+use Rattle.model_tree.proofs.Parts.{linked}
 use Rattle.model_tree.specs.Languages as leaves
 use Rattle.model_tree.specs.Languages.{Leaf, named, in_unit, Leaves, name_if, descending_if, leaves_of}
-use Rattle.model_tree.specs.declared.statements.Who.{Who}
 use Rattle.model_tree.specs.declared.types.Constant.{Constant}
 use Rattle.model_tree.specs.declared.types.ConstantForm.{ConstantForm}
 use Rattle.model_tree.specs.declared.types.ConstantForm.TheVariants as constant
@@ -109,36 +111,26 @@ module _ (p : Leaf → Bool) where
   of_operation (tree.sem_trywait c) = of_channel c
   of_operation (tree.nb_transport socket payload phase delay) = none (named socket ∷ named payload ∷ named phase ∷ named delay ∷ [])
 
-  of_action : (a : tree.Action) → Told (leaves.in_action a) (times.in_action a)
-  of_action (tree.write c e) = joined (leaves.in_channel c) (leaves.in_expression e) (times.in_channel c) (times.in_expression e) (of_channel c) (of_expression e)
-  of_action (tree.print text e) = of_option e
-  of_action (tree.notify x n) = past_name x (leaves.in_notification n) (times.in_notification n) (of_notification n)
-  of_action (tree.cancel x) = none (named x ∷ [])
-  of_action (tree.wait w) = of_waiting w
-  of_action (tree.next_trigger w) = of_waiting w
-  of_action (tree.lock c) = of_channel c
-  of_action (tree.sem_wait c) = of_channel c
-  of_action (tree.post c) = of_channel c
-  of_action (tree.make x len enables) =
-      past_name x (leaves.in_expression len ++ leaves.in_expression_if enables) (times.in_expression len ++ times.in_option times.in_expression enables)
-      (joined (leaves.in_expression len) (leaves.in_expression_if enables) (times.in_expression len) (times.in_option times.in_expression enables) (of_expression len) (of_option enables))
-  of_action (tree.acquire x) = none (named x ∷ [])
-  of_action (tree.release x) = none (named x ∷ [])
-  of_action (tree.carry payload memory) = none (named payload ∷ named memory ∷ [])
-  of_action (tree.b_transport socket payload delay) = none (named socket ∷ named payload ∷ named delay ∷ [])
-  of_action (tree.qk_global e) = of_expression e
-  of_action (tree.qk_inc x e) = past_name x (leaves.in_expression e) (times.in_expression e) (of_expression e)
-  of_action (tree.qk_set x e) = past_name x (leaves.in_expression e) (times.in_expression e) (of_expression e)
-  of_action (tree.qk_reset x) = none (named x ∷ [])
-  of_action (tree.qk_sync x) = none (named x ∷ [])
-  of_action (tree.spawn s) =
+  of_part : (x : Part) → Told (leaves.in_part x) (times.in_part x)
+  of_part (part.name r x) = none (named x ∷ [])
+  of_part (part.next_name r x) = none (named x ∷ [])
+  of_part (part.reaching_name r x all) = none (named x ∷ descending_if all)
+  of_part (part.text x) = none []
+  of_part (part.term u e) = of_expression e
+  of_part (part.term_if u e) = of_option e
+  of_part (part.next_term u e) = of_expression e
+  of_part (part.next_term_if u e) = of_option e
+  of_part (part.channel u c) = of_channel c
+  of_part (part.waiting w) = of_waiting w
+  of_part (part.notification n) = of_notification n
+  of_part (part.instance s) =
       let ls = leaves.in_expressions s.arguments ++ leaves.in_events s.sensitive in let ts = flat_map times.in_expression s.arguments ++ times.in_events s.sensitive in
       past (name_if s.handle) (named s.function ∷ ls) ts (past_name s.function ls ts (joined (leaves.in_expressions s.arguments) (leaves.in_events s.sensitive) (flat_map times.in_expression s.arguments) (times.in_events s.sensitive) (of_expressions s.arguments) (of_events s.sensitive)))
-  of_action (tree.control c w all) = none (leaves.in_who w ++ descending_if all)
-  of_action (tree.throw_it w x all) = none (leaves.in_who w ++ (named x ∷ descending_if all))
-  of_action (tree.throw x) = none (named x ∷ [])
-  of_action (tree.return_ e) = of_option e
-  of_action tree.stop = none []
+  of_part (part.process w) = none (leaves.in_who w)
+  of_part (part.reaching_process w all) = none (leaves.in_who w ++ descending_if all)
+
+  of_action : (a : tree.Action) → Told (leaves.in_action a) (times.in_action a)
+  of_action a = linked Told leaves.in_part times.in_part (λ xs ys. xs ++ ys) (λ xs ys. xs ++ ys) [] [] joined of_part (none []) (parts_of a)
 
   mutual
     of_statement : (s : tree.Statement) → Told (leaves.in_statement s) (times.in_statement s)

@@ -1,5 +1,5 @@
 -- The lines of the constructs of items and modules never fall.
-use Rattle.std.proofs.Common.{◌≡◌, ℕ, Bool, true, false, List, [], ◌∷◌, ◌++◌, append_assoc, Option, Some, None, refl, sym}
+use Rattle.std.proofs.Common.{ℕ, Bool, true, false, List, [], ◌∷◌, ◌++◌, append_assoc, Option, Some, None, sym}
 use Rattle.model_rules.specs.ModelTree.declared.vocabulary.Word.{Word}
 use Rattle.model_rules.specs.ModelTree.declared.vocabulary.Word.TheVariants as w
 use Rattle.model_rules.specs.ModelTree.declared.vocabulary.Symbol.TheVariants as mark
@@ -23,11 +23,11 @@ use Rattle.model_rules.specs.ModelTree.declared.items.Top.{Top}
 use Rattle.model_rules.specs.ModelTree.Tree as tree
 use Rattle.model_rules.specs.ModelTree.Lines.{item_line}
 use Rattle.model_rules.specs.Scopes.{Scope, item_scope, with_local}
-use Rattle.model_rules.specs.Sites.{Part, Site, site, of_parameter, of_end, of_constant, type_site, variable_type_sites, interface_sites, constant_sites, events_sites, block_sites, parameter_sites, answer_sites, function_scope, item_parts, around_item, item_sites, items_sites, module_sites, modules_sites, top_site, sites}
-use Rattle.model_lexer.specs.ModelGrammar.Tokens.{Token, word, symbol}
-use Rattle.model_lexer.specs.ModelGrammar.Rules.{Rule, ◌⨾◌, At, Takes, Each, Separated, Maybe}
+use Rattle.model_rules.specs.Sites.{Part, site, of_parameter, of_end, of_constant, variable_type_sites, interface_sites, constant_sites, block_sites, parameter_sites, answer_sites, function_scope, item_parts, around_item, items_sites, modules_sites, top_site, sites}
+use Rattle.model_lexer.specs.ModelGrammar.Tokens.{word, symbol}
+use Rattle.model_lexer.specs.ModelGrammar.Rules.{◌⨾◌, At, Takes, Each, Maybe}
 use Rattle.model_lexer.specs.ModelGrammar.Items.{DerivesConstantForm, DerivesConstant, DerivesFirstValue, DerivesTime, DerivesStart, DerivesFifoSize, DerivesInterface, DerivesBound, DerivesPortSize, DerivesHandler, DerivesInitiatorRole, DerivesTargetRole, DerivesEnd, DerivesMode, DerivesParameter, DerivesParameters, DerivesAnswer, DerivesItem, DerivesModule, DerivesTop, DerivesModel}
-use Rattle.laws_texts.proofs.Along.{Along, nothing, last, past, trail, headed, alone, both, by, moved, braced, written, maybe}
+use Rattle.laws_texts.proofs.Along.{Along, nothing, last, past, trail, headed, alone, both, moved, braced, written, maybe}
 use Rattle.laws_texts.proofs.StatementLines.{typed_as, typed_behind, typed, member, sensitive, statements}
 
 -- constants, times and sizes

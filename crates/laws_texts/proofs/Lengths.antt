@@ -30,12 +30,14 @@ use Rattle.model_print.specs.ModelTree.declared.items.Head.{Head}
 use Rattle.model_print.specs.ModelTree.declared.items.Head.TheVariants as head
 use Rattle.model_print.specs.ModelTree.declared.items.Top.{Top}
 use Rattle.model_print.specs.ModelTree.Limits.{level, primary_level, chain_level, depth}
-use Rattle.model_print.specs.ModelTree.Spelling.{unary_symbol, binary_symbol, truth_word, conversion_word, constant_word, control_word, signal_word, plain_word, process_word}
+use Rattle.model_print.specs.ModelTree.Spelling.{unary_symbol, binary_symbol, truth_word, conversion_word, constant_word, signal_word, plain_word, process_word}
 use Rattle.model_print.specs.ModelTree.Tree as tree
+use Rattle.model_tree.specs.Parts as made
+use Rattle.model_tree.specs.Parts.{Part, word_of_action, parts_of}
 use Rattle.model_lexer.specs.ModelGrammar.Tokens.{Token, name, word, symbol}
 use Rattle.model_lexer.specs.ModelGrammar.Rules.{Rule, ◌⨾◌, At, Takes, Each, Maybe, Binds}
 use Rattle.model_lexer.specs.ModelGrammar.Expressions.{Short, Parenthesized, DerivesAt, DerivesExpression}
-use Rattle.model_lexer.specs.ModelGrammar.Statements.{DerivesForm, DerivesVarTypeAt, DerivesVarType, DerivesPlace, DerivesChannel, DerivesMember, DerivesEvent, DerivesSensitive, DerivesArguments, DerivesIndex, DerivesTarget, NextName, NextExpression, DerivesOperation, DerivesResult, DerivesSpan, DerivesWaiting, DerivesNotification, DerivesHandle, DerivesSpawn, DerivesWho, DerivesAction, DerivesInitial, HasHandler, DerivesStatement, DerivesStatements, DerivesElse, DerivesHandlers}
+use Rattle.model_lexer.specs.ModelGrammar.Statements.{DerivesForm, DerivesVarTypeAt, DerivesVarType, DerivesPlace, DerivesChannel, DerivesMember, DerivesEvent, DerivesSensitive, DerivesArguments, DerivesIndex, DerivesTarget, NextName, NextExpression, DerivesOperation, DerivesResult, DerivesSpan, DerivesWaiting, DerivesNotification, DerivesHandle, DerivesSpawn, DerivesWho, DerivesPart, DerivesParts, DerivesAction, DerivesInitial, HasHandler, DerivesStatement, DerivesStatements, DerivesElse, DerivesHandlers}
 use Rattle.model_lexer.specs.ModelGrammar.Items.{DerivesConstantForm, DerivesFirstValue, DerivesTime, DerivesStart, DerivesFifoSize, DerivesInterface, DerivesBound, DerivesPortSize, DerivesHandler, DerivesInitiatorRole, DerivesTargetRole, DerivesEnd, DerivesMode, DerivesParameter, DerivesParameters, DerivesAnswer, DerivesItem, DerivesModule, DerivesTop, DerivesModel, DerivesResolution, DerivesHead, DerivesSource}
 use Rattle.model_lexer.specs.ModelGrammar.Brackets.{in_events, in_statement, in_block, in_else, in_handlers, in_item, in_items, in_modules, brackets}
 use Rattle.model_print.specs.declared.shapes.Shape.TheVariants as shape
@@ -194,13 +196,12 @@ result d line at (Some x) = both (name_at d line x) (symbol_taken d shape.Operat
 handle : (d : ℕ) (x : Option (List ℕ)) → Weighs d (Maybe DerivesHandle x) (printed.stored x)
 handle d x = maybe d DerivesHandle (λ y. piece.name y ∷ piece.operator s.Equal ∷ []) (λ y. both (name_taken d y) (symbol_taken d shape.Operator s.Equal refl)) x
 
-spawn : (d line : ℕ) (x : tree.Spawn) → Weighs d (At line (word w.Spawn) ⨾ DerivesSpawn x) (printed.spawn x)
-spawn d line x =
-    both (word_at d line w.Spawn)
-    (moved (five (printed.stored x.handle) (piece.flag w.Method x.method) (piece.name x.function ∷ printed.arguments x.arguments) (printed.sensitive x.sensitive) (piece.flag w.DontInitialize x.dont_initialize))
+spawned : (d : ℕ) (x : tree.Spawn) → Weighs d (DerivesSpawn x) (printed.spawned x)
+spawned d x =
+    moved (five (printed.stored x.handle) (piece.flag w.Method x.method) (piece.name x.function ∷ printed.arguments x.arguments) (printed.sensitive x.sensitive) (piece.flag w.DontInitialize x.dont_initialize))
     (both (handle d x.handle)
     (both (written d w.Method x.method)
-    (both (name_taken d x.function) (both (arguments d x.arguments) (both (sensitive d x.sensitive) (written d w.DontInitialize x.dont_initialize)))))))
+    (both (name_taken d x.function) (both (arguments d x.arguments) (both (sensitive d x.sensitive) (written d w.DontInitialize x.dont_initialize))))))
 
 process_named : (d : ℕ) (x : Who) → Weighs d (DerivesWho x) (leaf.who x ∷ [])
 process_named d (who.Named line x) = name_at d line x
@@ -210,33 +211,34 @@ process_named d (who.Myself line) = word_at d line w.SelfProcess
 with_name : (d line : ℕ) (v : Word) (x : List ℕ) → Weighs d (At line (word v) ⨾ Takes (name x)) (printed.with_name v x)
 with_name d line v x = both (word_at d line v) (name_taken d x)
 
+part : (d : ℕ) (p : Part) → Weighs d (DerivesPart p) (printed.part p)
+part d (made.name r x) = name_taken d x
+part d (made.next_name r x) = next_name d x
+part d (made.reaching_name r x all) = both (name_taken d x) (written d w.Descendants all)
+part d (made.text x) = quoted_taken d x
+part d (made.term u e) = expression d e
+part d (made.term_if u e) = optional d e
+part d (made.next_term u e) = next_expression d e
+part d (made.next_term_if u e) = maybe d NextExpression (λ x. piece.comma ∷ printed.expression x) (next_expression d) e
+part d (made.channel u c) = channel d c
+part d (made.waiting t) = waiting d t
+part d (made.notification t) = notification d t
+part d (made.instance x) = spawned d x
+part d (made.process p) = process_named d p
+part d (made.reaching_process p all) = both (process_named d p) (written d w.Descendants all)
+
+-- a part, and those behind it
+parts : {P : Rule} (d : ℕ) (p : Part) (ps : List Part) → Weighs d P (printed.part p) → Weighs d (DerivesParts P ps) (made.behind printed.part (λ xs ys. xs ++ ys) [] p ps)
+parts {P = P} d p [] a = a
+parts {P = P} d p (q ∷ qs) a = both a (parts {P = DerivesPart q} d q qs (part d q))
+
+-- a word, and parts behind it
+worded : (d line : ℕ) (v : Word) (ps : List Part) → Weighs d (DerivesParts (At line (word v)) ps) (piece.word v ∷ made.joined printed.part (λ xs ys. xs ++ ys) [] ps)
+worded d line v [] = word_at d line v
+worded d line v (p ∷ ps) = both (word_at d line v) (parts d p ps (part d p))
+
 action : (d line : ℕ) (a : tree.Action) → Weighs d (DerivesAction line a) (printed.action a)
-action d line (tree.write c e) = both (word_at d line w.Write) (both (channel d c) (expression d e))
-action d line (tree.print text e) = both (word_at d line w.Print) (both (quoted_taken d text) (optional d e))
-action d line (tree.notify x t) = both (word_at d line w.Notify) (both (name_taken d x) (notification d t))
-action d line (tree.cancel x) = with_name d line w.Cancel x
-action d line (tree.wait t) = both (word_at d line w.Wait) (waiting d t)
-action d line (tree.next_trigger t) = both (word_at d line w.NextTrigger) (waiting d t)
-action d line (tree.lock c) = both (word_at d line w.Lock) (channel d c)
-action d line (tree.sem_wait c) = both (word_at d line w.SemWait) (channel d c)
-action d line (tree.post c) = both (word_at d line w.Post) (channel d c)
-action d line (tree.make x len enables) =
-    both (word_at d line w.Make) (both (name_taken d x) (both (next_expression d len) (maybe d NextExpression (λ e. piece.comma ∷ printed.expression e) (next_expression d) enables)))
-action d line (tree.acquire x) = with_name d line w.Acquire x
-action d line (tree.release x) = with_name d line w.Release x
-action d line (tree.carry p m) = both (word_at d line w.Carry) (both (name_taken d p) (next_name d m))
-action d line (tree.b_transport x p t) = both (word_at d line w.BTransport) (both (name_taken d x) (both (next_name d p) (next_name d t)))
-action d line (tree.qk_global e) = both (word_at d line w.QkGlobal) (expression d e)
-action d line (tree.qk_inc x e) = both (word_at d line w.QkInc) (both (name_taken d x) (expression d e))
-action d line (tree.qk_set x e) = both (word_at d line w.QkSet) (both (name_taken d x) (expression d e))
-action d line (tree.qk_reset x) = with_name d line w.QkReset x
-action d line (tree.qk_sync x) = with_name d line w.QkSync x
-action d line (tree.spawn x) = spawn d line x
-action d line (tree.control c p all) = both (word_at d line (control_word c)) (both (process_named d p) (written d w.Descendants all))
-action d line (tree.throw_it p x all) = both (word_at d line w.ThrowIt) (both (process_named d p) (both (name_taken d x) (written d w.Descendants all)))
-action d line (tree.throw x) = with_name d line w.Throw x
-action d line (tree.return_ e) = both (word_at d line w.Return) (optional d e)
-action d line tree.stop = word_at d line w.Stop
+action d line a = worded d line (word_of_action a) (parts_of a)
 
 initial : (d : ℕ) (o : Option tree.Expression) → Weighs d (Maybe DerivesInitial o) (printed.initial o)
 initial d o = maybe d DerivesInitial (λ e. piece.operator s.Equal ∷ printed.expression e) (λ e. both (symbol_taken d shape.Operator s.Equal refl) (expression d e)) o

@@ -5,6 +5,9 @@ use Rattle.std.specs.List.{find, flat_map, list_any}
 use Rattle.model_tree.specs.SimTime.Times.{picoseconds_in}
 use Rattle.model_tree.specs.SimTime.declared.moments.Time.{Time}
 use Rattle.model_tree.specs.Tree as tree
+use Rattle.model_tree.specs.Parts as part
+use Rattle.model_tree.specs.Parts.{Part, parts_of}
+use Rattle.model_tree.proofs.Parts.{linked}
 use Rattle.model_tree.specs.declared.types.Constant.{Constant}
 use Rattle.model_tree.specs.declared.types.ConstantForm.{ConstantForm}
 use Rattle.model_tree.specs.declared.types.ConstantForm.TheVariants as constant
@@ -17,12 +20,12 @@ use Rattle.model_tree.specs.declared.types.VarType.TheVariants as var_type
 use Rattle.model_tree.specs.declared.items.ClockItem.{ClockItem}
 use Rattle.tick_trees.specs.Laws.{seen}
 use Rattle.tick_trees.specs.Retimed.{span}
-use Rattle.tick_trees.specs.Times.{Timed, timed, in_option, in_expression, in_place, in_channel, in_event, in_events, in_waiting, in_notification, in_operation, in_action, in_statement, in_block, in_else, in_handlers, in_form, in_constant, span_if, in_item, in_module, times_of}
+use Rattle.tick_trees.specs.Times.{Timed, timed, in_option, in_expression, in_place, in_channel, in_event, in_events, in_waiting, in_notification, in_operation, in_part, in_action, in_statement, in_block, in_else, in_handlers, in_form, in_constant, span_if, in_item, in_module, times_of}
 use Rattle.tick_trees.specs.Unfit.{is_past}
 use Rattle.model_rules.specs.declared.needs.Need.{Need}
 use Rattle.model_rules.specs.declared.needs.Need.TheVariants as need_of
 use Rattle.model_rules.specs.Scopes.{Scope, item_scope, with_local, locals_in_block, past, behind, in_unwind}
-use Rattle.model_rules.specs.Sites.{Site, variable_type_sites, interface_sites, constant_sites, sites_as, option_sites, argument_sites, place_sites, channel_sites, event_sites, events_sites, waiting_sites, notification_sites, operation_parts, action_parts, statement_sites, block_sites, else_sites, handler_sites, parameter_sites, answer_sites, function_scope, around_item, item_sites, items_sites, module_sites, modules_sites, top_site, sites}
+use Rattle.model_rules.specs.Sites.{Site, variable_type_sites, interface_sites, constant_sites, sites_as, option_sites, argument_sites, place_sites, channel_sites, event_sites, events_sites, waiting_sites, notification_sites, operation_parts, access_need, part_sites, action_parts, statement_sites, block_sites, else_sites, handler_sites, parameter_sites, answer_sites, function_scope, around_item, item_sites, items_sites, module_sites, modules_sites, top_site, sites}
 use Rattle.model_rules.specs.Values.{is_late, is_late_if, late_constant, late_item, late_in}
 
 abbrev pub line_if : Bool → ℕ → List ℕ
@@ -179,32 +182,24 @@ of_operation s (tree.unlock c) = of_channel s need_of.Mutex c
 of_operation s (tree.sem_trywait c) = of_channel s need_of.Semaphore c
 of_operation s (tree.nb_transport socket payload phase delay) = refl
 
+of_part : (s : Scope) (p : Part) → Same (part_sites s p) (in_part p)
+of_part s (part.name r name) = refl
+of_part s (part.next_name r name) = refl
+of_part s (part.reaching_name r name all) = refl
+of_part s (part.text x) = refl
+of_part s (part.term u e) = of_read s e
+of_part s (part.term_if u e) = of_option s e
+of_part s (part.next_term u e) = of_read s e
+of_part s (part.next_term_if u e) = of_option s e
+of_part s (part.channel u c) = of_channel s (access_need u) c
+of_part s (part.waiting w) = of_waiting s w
+of_part s (part.notification n) = of_notification s n
+of_part s (part.instance x) = joined (argument_sites s x.arguments) (events_sites s true x.sensitive) (flat_map in_expression x.arguments) (in_events x.sensitive) (of_arguments s x.arguments) (of_events s true x.sensitive)
+of_part s (part.process w) = refl
+of_part s (part.reaching_process w all) = refl
+
 of_action : (s : Scope) (a : tree.Action) → Same (action_parts s a) (in_action a)
-of_action s (tree.write c e) = joined (channel_sites s need_of.Written c) (read_sites s e) (in_channel c) (in_expression e) (of_channel s need_of.Written c) (of_read s e)
-of_action s (tree.print text e) = of_option s e
-of_action s (tree.notify name n) = of_notification s n
-of_action s (tree.cancel name) = refl
-of_action s (tree.wait w) = of_waiting s w
-of_action s (tree.next_trigger w) = of_waiting s w
-of_action s (tree.lock c) = of_channel s need_of.Mutex c
-of_action s (tree.sem_wait c) = of_channel s need_of.Semaphore c
-of_action s (tree.post c) = of_channel s need_of.Semaphore c
-of_action s (tree.make name len enables) = joined (read_sites s len) (option_sites s enables) (in_expression len) (in_option in_expression enables) (of_read s len) (of_option s enables)
-of_action s (tree.acquire name) = refl
-of_action s (tree.release name) = refl
-of_action s (tree.carry payload memory) = refl
-of_action s (tree.b_transport socket payload delay) = refl
-of_action s (tree.qk_global e) = of_read s e
-of_action s (tree.qk_inc name e) = of_read s e
-of_action s (tree.qk_set name e) = of_read s e
-of_action s (tree.qk_reset name) = refl
-of_action s (tree.qk_sync name) = refl
-of_action s (tree.spawn x) = joined (argument_sites s x.arguments) (events_sites s true x.sensitive) (flat_map in_expression x.arguments) (in_events x.sensitive) (of_arguments s x.arguments) (of_events s true x.sensitive)
-of_action s (tree.control c w all) = refl
-of_action s (tree.throw_it w name all) = refl
-of_action s (tree.throw name) = refl
-of_action s (tree.return_ e) = of_option s e
-of_action s tree.stop = refl
+of_action s a = linked Same (part_sites s) in_part (λ xs ys. xs ++ ys) (λ ts us. ts ++ us) [] [] joined (of_part s) refl (parts_of a)
 
 of_variable_type : (s : Scope) (t : VarType) → Same (variable_type_sites s t) []
 of_variable_type s (var_type.Plain t) = refl

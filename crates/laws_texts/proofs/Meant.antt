@@ -1,5 +1,5 @@
 -- The tokens of a tree that keeps to its language are the same again, once they are cut as a text is and read in that language.
-use Rattle.std.proofs.Common.{◌≡◌, ℕ, Bool, true, false, List, [], ◌∷◌, ◌++◌, Option, Some, None, refl, sym, ap, subst, ◌∙◌}
+use Rattle.std.proofs.Common.{◌≡◌, ℕ, Bool, true, false, ◌&&◌, ◌||◌, List, [], ◌∷◌, ◌++◌, Option, Some, None, refl, sym, ap, subst, ◌∙◌}
 use Rattle.std.specs.Prelude.{map, option_map, not, is_some}
 use Rattle.std.specs.List.{flat_map, list_all}
 use Rattle.std.proofs.lemmas.Bool.{and_parts}
@@ -56,13 +56,16 @@ use Rattle.model_print.specs.ModelTree.declared.vocabulary.Symbol.TheVariants as
 use Rattle.model_print.specs.ModelTree.Vocabulary.{later_word_of}
 use Rattle.model_print.specs.ModelTree.Spelling.{unary_symbol, binary_symbol, truth_word, conversion_word, constant_word, control_word, signal_word, plain_word, process_word}
 use Rattle.model_print.specs.ModelTree.Tree as tree
+use Rattle.model_tree.specs.Parts as made
+use Rattle.model_tree.specs.Parts.{Part, changed_part, word_of_action, parts_of}
+use Rattle.model_tree.proofs.Parts.{changed_linked}
 use Rattle.model_print.specs.ModelTree.Languages as leaf
 use Rattle.model_print.specs.ModelTree.Languages.{Leaf, Leaves, named, in_unit, descending, may_have}
 use Rattle.model_lexer.specs.ModelGrammar.Tokens.{Token, Tokens, name, number, logic, quoted, word, symbol, unit_token}
 use Rattle.model_lexer.specs.ModelGrammar.Languages.{Front, behind_number, behind_at, behind_other, behind_symbol, behind, word_or_same, later_token, in_second, says_second, in_language}
 use Rattle.model_lexer.specs.ModelGrammar.Rules.{Rule, ◌⨾◌, At, Takes, Nothing, Never, Each, Separated, Maybe, Written, Binds, OnLine}
 use Rattle.model_lexer.specs.ModelGrammar.Expressions.{Short, Parenthesized, DerivesAt, DerivesExpression}
-use Rattle.model_lexer.specs.ModelGrammar.Statements.{DerivesForm, DerivesType, DerivesVarTypeAt, DerivesVarType, DerivesPlace, DerivesChannel, DerivesMember, DerivesEvent, DerivesSensitive, DerivesArguments, DerivesIndex, DerivesTarget, NextName, NextExpression, DerivesOperation, DerivesResult, DerivesSpan, DerivesWaiting, DerivesNotification, DerivesHandle, DerivesSpawn, DerivesWho, DerivesAction, Braced, DerivesInitial, DerivesStatement, DerivesStatements, DerivesElse, HasHandler, DerivesHandlers}
+use Rattle.model_lexer.specs.ModelGrammar.Statements.{DerivesForm, DerivesType, DerivesVarTypeAt, DerivesVarType, DerivesPlace, DerivesChannel, DerivesMember, DerivesEvent, DerivesSensitive, DerivesArguments, DerivesIndex, DerivesTarget, NextName, NextExpression, DerivesOperation, DerivesResult, DerivesSpan, DerivesWaiting, DerivesNotification, DerivesHandle, DerivesSpawn, DerivesWho, DerivesPart, DerivesParts, DerivesAction, Braced, DerivesInitial, DerivesStatement, DerivesStatements, DerivesElse, HasHandler, DerivesHandlers}
 use Rattle.model_lexer.specs.ModelGrammar.Items.{DerivesConstantForm, DerivesFirstValue, DerivesTime, DerivesStart, DerivesFifoSize, DerivesInterface, DerivesBound, DerivesPortSize, DerivesHandler, DerivesInitiatorRole, DerivesTargetRole, DerivesEnd, DerivesMode, DerivesParameter, DerivesParameters, DerivesAnswer, DerivesItem, DerivesModule, DerivesTop, DerivesModel, DerivesResolution, DerivesHead, DerivesSource}
 use Rattle.laws_texts.specs.Unlined as unlined
 use Rattle.laws_texts.proofs.Reading.{as_cut}
@@ -134,24 +137,24 @@ same_who : (x : Who) → leaf.in_who (unlined.process x) ≡ leaf.in_who x
 same_who (who.Named line x) = refl
 same_who (who.Myself line) = refl
 
+same_part : (p : Part) → leaf.in_part (changed_part unlined.change p) ≡ leaf.in_part p
+same_part (made.term u e) = same_expression e
+same_part (made.term_if u e) = same_option e
+same_part (made.next_term u e) = same_expression e
+same_part (made.next_term_if u e) = same_option e
+same_part (made.channel u c) = same_channel c
+same_part (made.waiting t) = same_waiting t
+same_part (made.notification t) = same_notification t
+same_part (made.instance x) = rw (same_all x.arguments, same_events x.sensitive) refl
+same_part (made.process p) = same_who p
+same_part (made.reaching_process p all) = rw (same_who p) refl
+same_part _ = refl
+
+same_both : (xs ys us vs : Leaves) → xs ≡ us → ys ≡ vs → xs ++ ys ≡ us ++ vs
+same_both xs ys us vs a b = rw (a, b) refl
+
 same_action : (a : tree.Action) → leaf.in_action (unlined.action a) ≡ leaf.in_action a
-same_action (tree.write c e) = rw (same_place c.place, same_expression e) refl
-same_action (tree.print text e) = same_option e
-same_action (tree.notify x t) = rw (same_notification t) refl
-same_action (tree.wait t) = same_waiting t
-same_action (tree.next_trigger t) = same_waiting t
-same_action (tree.lock c) = same_channel c
-same_action (tree.sem_wait c) = same_channel c
-same_action (tree.post c) = same_channel c
-same_action (tree.make x len enables) = rw (same_expression len, same_option enables) refl
-same_action (tree.qk_global e) = same_expression e
-same_action (tree.qk_inc x e) = rw (same_expression e) refl
-same_action (tree.qk_set x e) = rw (same_expression e) refl
-same_action (tree.spawn x) = rw (same_all x.arguments, same_events x.sensitive) refl
-same_action (tree.control c p all) = rw (same_who p) refl
-same_action (tree.throw_it p x all) = rw (same_who p) refl
-same_action (tree.return_ e) = same_option e
-same_action _ = refl
+same_action a = changed_linked unlined.change (λ (xs us : Leaves). xs ≡ us) leaf.in_part leaf.in_part (λ xs ys. xs ++ ys) (λ xs ys. xs ++ ys) [] [] same_both same_part refl a
 
 mutual
   same_statement : (x : tree.Statement) → leaf.in_statement (unlined.statement x) ≡ leaf.in_statement x
@@ -323,6 +326,59 @@ unary_calm _ = refl
 binary_calm : (o : BinaryOp) → behind_symbol (binary_symbol o) ≡ behind_other
 binary_calm op.OrElse = refl
 binary_calm _ = refl
+
+action_same : (a : tree.Action) → as_cut (word (word_of_action a)) ≡ word (word_of_action a)
+action_same (tree.control c x all) = control_same c
+action_same _ = refl
+
+-- parts of an action: whether a word or a name may stand behind one, and whether it begins with a comma
+abbrev is_calm : Part → Bool
+is_calm (made.name r x) = true
+is_calm (made.next_name r x) = true
+is_calm (made.reaching_name r x all) = true
+is_calm (made.text x) = true
+is_calm (made.term u e) = false
+is_calm (made.term_if u e) = false
+is_calm (made.next_term u e) = false
+is_calm (made.next_term_if u e) = false
+is_calm (made.channel u c) = true
+is_calm (made.waiting t) = false
+is_calm (made.notification t) = false
+is_calm (made.instance x) = true
+is_calm (made.process p) = true
+is_calm (made.reaching_process p all) = true
+
+abbrev is_next : Part → Bool
+is_next (made.name r x) = false
+is_next (made.next_name r x) = true
+is_next (made.reaching_name r x all) = false
+is_next (made.text x) = false
+is_next (made.term u e) = false
+is_next (made.term_if u e) = false
+is_next (made.next_term u e) = true
+is_next (made.next_term_if u e) = true
+is_next (made.channel u c) = false
+is_next (made.waiting t) = false
+is_next (made.notification t) = false
+is_next (made.instance x) = false
+is_next (made.process p) = false
+is_next (made.reaching_process p all) = false
+
+abbrev Left : Bool → Front → Type 0
+Left true = Calm
+Left false = Any
+
+abbrev is_well : Part → List Part → Bool
+is_well p [] = true
+is_well p (q ∷ qs) = (is_calm p || is_next q) && is_well q qs
+
+abbrev are_well : List Part → Bool
+are_well [] = true
+are_well (p ∷ ps) = is_well p ps
+
+action_well : (a : tree.Action) → are_well (parts_of a) ≡ true
+action_well tree.stop = refl
+action_well _ = refl
 
 abbrev Fine : Head → (Front → Type 0) → Token → (Front → Type 0) → Type 0
 Fine h A t B = (f : Front) → A f → (meant h f (as_cut t) ≡ t) × B (behind f (as_cut t))
@@ -631,41 +687,54 @@ module _ (h : Head) where
   process_of (who.Named line x) k = name_at (only (named x) k)
   process_of (who.Myself line) k = word_at refl
 
+  part : (p : Part) → Has (leaf.in_part p) → Told h Calm (DerivesPart p) (Left (is_calm p))
+  part (made.name r x) k = name_taken (only (named x) k)
+  part (made.next_name r x) k = next_name x (only (named x) k)
+  part (made.reaching_name r x all) k = let (a, b) = leaf_parts (named x) (leaf.descending_if all) k in name_taken a >> descending_taken all b
+  part (made.text x) k = quoted_taken
+  part (made.term u e) k = whole e k
+  part (made.term_if u o) k = optional DerivesExpression whole o k
+  part (made.next_term u e) k = next_expression e k
+  part (made.next_term_if u o) k = optional NextExpression next_expression o k
+  part (made.channel u c) k = channel c k
+  part (made.waiting t) k = waiting t k
+  part (made.notification t) k = notification t k
+  part (made.instance x) k = spawn x k
+  part (made.process x) k = process_of x k
+  part (made.reaching_process x all) k = let (a, b) = parts (leaf.in_who x) (leaf.descending_if all) k in process_of x a >> descending_taken all b
+
+  -- a part that may stand behind anything
+  next : (p : Part) → is_next p ≡ true → Has (leaf.in_part p) → Told h Any (DerivesPart p) (Left (is_calm p))
+  next (made.next_name r x) c k = next_name x (only (named x) k)
+  next (made.next_term u e) c k = next_expression e k
+  next (made.next_term_if u o) c k = optional NextExpression next_expression o k
+  next _ c k = absurd (cc c)
+
+  behind_part : (b : Bool) (q : Part) → (b || is_next q) ≡ true → Has (leaf.in_part q) → Told h (Left b) (DerivesPart q) (Left (is_calm q))
+  behind_part true q c k = part q k
+  behind_part false q c k = next q c k
+
+  loosened : {A : Front → Type 0} {P : Rule} (b : Bool) → Told h A P (Left b) → Told h A P Any
+  loosened true rule = loose rule
+  loosened false rule = rule
+
+  first_has : (p : Part) (ps : List Part) → Has (made.behind leaf.in_part (λ xs ys. xs ++ ys) [] p ps) → Has (leaf.in_part p)
+  first_has p [] k = k
+  first_has p (q ∷ qs) k = (parts (leaf.in_part p) (made.behind leaf.in_part (λ xs ys. xs ++ ys) [] q qs) k).0
+
+  told_behind : {A : Front → Type 0} {P : Rule} (p : Part) (ps : List Part) → is_well p ps ≡ true → Has (made.behind leaf.in_part (λ xs ys. xs ++ ys) [] p ps) → Told h A P (Left (is_calm p)) → Told h A (DerivesParts P ps) Any
+  told_behind {A = A} {P = P} p [] c k rule = loosened (is_calm p) rule
+  told_behind {A = A} {P = P} p (q ∷ qs) c k rule =
+      let (d, e) = and_parts (is_calm p || is_next q) (is_well q qs) c in
+      let (a, b) = parts (leaf.in_part p) (made.behind leaf.in_part (λ xs ys. xs ++ ys) [] q qs) k in
+      rule >> told_behind {A = Left (is_calm p)} {P = DerivesPart q} q qs e b (behind_part (is_calm p) q d (first_has q qs b))
+
+  told_all : (line : ℕ) (v : Word) → as_cut (word v) ≡ word v → (ps : List Part) → are_well ps ≡ true → Has (made.joined leaf.in_part (λ xs ys. xs ++ ys) [] ps) → Told h Calm (DerivesParts (At line (word v)) ps) Any
+  told_all line v same [] c k = loose (word_at same)
+  told_all line v same (p ∷ ps) c k = word_at same >> told_behind {A = Calm} {P = DerivesPart p} p ps c k (part p (first_has p ps k))
+
   action : (line : ℕ) (a : tree.Action) → Has (leaf.in_action a) → Told h Calm (DerivesAction line a) Any
-  action line (tree.write c e) k = let (a, b) = parts (leaf.in_channel c) (leaf.in_expression e) k in word_at refl >> channel c a >> whole e b
-  action line (tree.print text o) k = word_at refl >> quoted_taken >> optional DerivesExpression whole o k
-  action line (tree.notify x t) k = let (a, b) = leaf_parts (named x) (leaf.in_notification t) k in word_at refl >> name_taken a >> notification t b
-  action line (tree.cancel x) k = loose (word_at refl >> name_taken (only (named x) k))
-  action line (tree.wait t) k = word_at refl >> waiting t k
-  action line (tree.next_trigger t) k = word_at refl >> waiting t k
-  action line (tree.lock c) k = loose (word_at refl >> channel c k)
-  action line (tree.sem_wait c) k = loose (word_at refl >> channel c k)
-  action line (tree.post c) k = loose (word_at refl >> channel c k)
-  action line (tree.make x len o) k =
-      let (a, rest) = leaf_parts (named x) (leaf.in_expression len ++ leaf.in_expression_if o) k in
-      let (b, c) = parts (leaf.in_expression len) (leaf.in_expression_if o) rest in
-      word_at refl >> name_taken a >> next_expression len b >> optional NextExpression next_expression o c
-  action line (tree.acquire x) k = loose (word_at refl >> name_taken (only (named x) k))
-  action line (tree.release x) k = loose (word_at refl >> name_taken (only (named x) k))
-  action line (tree.carry p m) k = let (a, b) = leaf_parts (named p) (named m ∷ []) k in loose (word_at refl >> name_taken a >> next_name m (only (named m) b))
-  action line (tree.b_transport x p t) k =
-      let (a, rest) = leaf_parts (named x) (named p ∷ named t ∷ []) k in
-      let (b, rest) = leaf_parts (named p) (named t ∷ []) rest in
-      loose (word_at refl >> name_taken a >> next_name p b >> next_name t (only (named t) rest))
-  action line (tree.qk_global e) k = word_at refl >> whole e k
-  action line (tree.qk_inc x e) k = let (a, b) = leaf_parts (named x) (leaf.in_expression e) k in word_at refl >> name_taken a >> whole e b
-  action line (tree.qk_set x e) k = let (a, b) = leaf_parts (named x) (leaf.in_expression e) k in word_at refl >> name_taken a >> whole e b
-  action line (tree.qk_reset x) k = loose (word_at refl >> name_taken (only (named x) k))
-  action line (tree.qk_sync x) k = loose (word_at refl >> name_taken (only (named x) k))
-  action line (tree.spawn x) k = loose (word_at refl >> spawn x k)
-  action line (tree.control c x all) k = let (a, b) = parts (leaf.in_who x) (leaf.descending_if all) k in loose (word_at (control_same c) >> process_of x a >> descending_taken all b)
-  action line (tree.throw_it x exception all) k =
-      let (a, rest) = parts (leaf.in_who x) (named exception ∷ leaf.descending_if all) k in
-      let (b, c) = leaf_parts (named exception) (leaf.descending_if all) rest in
-      loose (word_at refl >> process_of x a >> name_taken b >> descending_taken all c)
-  action line (tree.throw x) k = loose (word_at refl >> name_taken (only (named x) k))
-  action line (tree.return_ o) k = word_at refl >> optional DerivesExpression whole o k
-  action line tree.stop k = loose (word_at refl)
+  action line a k = told_all line (word_of_action a) (action_same a) (parts_of a) (action_well a) k
 
   -- statements
 

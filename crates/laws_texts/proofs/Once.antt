@@ -1,5 +1,5 @@
 -- Each production of a tree has one site, an outer one before those in it.
-use Rattle.std.proofs.Common.{◌≡◌, ℕ, Bool, true, false, List, [], ◌∷◌, ◌++◌, append_assoc, append-nil, Option, Some, None, refl, sym, subst}
+use Rattle.std.proofs.Common.{◌≡◌, Bool, true, false, List, [], ◌∷◌, ◌++◌, append_assoc, append-nil, Option, Some, None, refl, sym, subst}
 use Rattle.std.specs.Prelude.{map}
 use Rattle.model_rules.specs.ModelTree.declared.types.SignalType.{SignalType}
 use Rattle.model_rules.specs.ModelTree.declared.types.VarType.{VarType}
@@ -11,12 +11,15 @@ use Rattle.model_rules.specs.ModelTree.declared.types.Parameter.{Parameter}
 use Rattle.model_rules.specs.ModelTree.declared.statements.Who.{Who}
 use Rattle.model_rules.specs.ModelTree.declared.statements.Who.TheVariants as who
 use Rattle.model_rules.specs.ModelTree.Tree as tree
+use Rattle.model_tree.specs.Parts as made
+use Rattle.model_tree.specs.Parts.{Part, parts_of}
+use Rattle.model_tree.proofs.Parts.{linked}
 use Rattle.model_rules.specs.declared.needs.Need.{Need}
 use Rattle.model_rules.specs.declared.needs.Need.TheVariants as need_of
 use Rattle.model_rules.specs.Scopes.{Scope, item_scope, with_local, locals_in_block, past, behind, in_unwind}
 use Rattle.model_rules.specs.Sites as site
 use Rattle.model_rules.specs.Sites.{Site}
-use Rattle.laws_texts.specs.Productions.{Production, of_module, of_top, of_item, of_type, of_constant, of_end, of_parameter, of_event, of_channel, of_expression, of_statement, of_operation, of_who, production_of, line_of, term, in_option, in_arguments, in_place, in_events, in_waiting, in_notification, in_operation, in_action, in_var_type, in_block, in_else, in_handlers, in_interface, in_constant, in_answer, in_parameters, in_item, parts, in_model, AreSitesOf, none, one}
+use Rattle.laws_texts.specs.Productions.{Production, of_module, of_item, of_type, of_event, of_channel, of_statement, of_who, production_of, line_of, term, in_option, in_arguments, in_place, in_events, in_waiting, in_notification, in_operation, in_part, in_action, in_var_type, in_block, in_else, in_handlers, in_interface, in_constant, in_answer, in_parameters, in_item, parts, in_model, AreSitesOf, none, one}
 
 next : {p : Production} {ps : List Production} {x : Site} {inner outer : List Site}
     → production_of x.line x.part ≡ p → x.line ≡ line_of p → AreSitesOf (parts p) inner → AreSitesOf ps outer → AreSitesOf (p ∷ ps) (x ∷ inner ++ outer)
@@ -116,32 +119,24 @@ operation s (tree.unlock c) = channel s need_of.Mutex c
 operation s (tree.sem_trywait c) = channel s need_of.Semaphore c
 operation s (tree.nb_transport x p phase t) = none
 
+part : (s : Scope) (p : Part) → AreSitesOf (in_part p) (site.part_sites s p)
+part s (made.name r x) = none
+part s (made.next_name r x) = none
+part s (made.reaching_name r x all) = none
+part s (made.text x) = none
+part s (made.term u e) = expression s e
+part s (made.term_if u e) = optional s e
+part s (made.next_term u e) = expression s e
+part s (made.next_term_if u e) = optional s e
+part s (made.channel u c) = channel s (site.access_need u) c
+part s (made.waiting t) = waiting s t
+part s (made.notification t) = notification s t
+part s (made.instance x) = both (arguments s x.arguments) (events s true x.sensitive)
+part s (made.process p) = named s p
+part s (made.reaching_process p all) = named s p
+
 action : (s : Scope) (a : tree.Action) → AreSitesOf (in_action a) (site.action_parts s a)
-action s (tree.write c e) = both (channel s need_of.Written c) (expression s e)
-action s (tree.print text e) = optional s e
-action s (tree.notify x t) = notification s t
-action s (tree.cancel x) = none
-action s (tree.wait t) = waiting s t
-action s (tree.next_trigger t) = waiting s t
-action s (tree.lock c) = channel s need_of.Mutex c
-action s (tree.sem_wait c) = channel s need_of.Semaphore c
-action s (tree.post c) = channel s need_of.Semaphore c
-action s (tree.make x len enables) = both (expression s len) (optional s enables)
-action s (tree.acquire x) = none
-action s (tree.release x) = none
-action s (tree.carry p m) = none
-action s (tree.b_transport x p t) = none
-action s (tree.qk_global e) = expression s e
-action s (tree.qk_inc x e) = expression s e
-action s (tree.qk_set x e) = expression s e
-action s (tree.qk_reset x) = none
-action s (tree.qk_sync x) = none
-action s (tree.spawn x) = both (arguments s x.arguments) (events s true x.sensitive)
-action s (tree.control c p all) = named s p
-action s (tree.throw_it p x all) = named s p
-action s (tree.throw x) = none
-action s (tree.return_ e) = optional s e
-action s tree.stop = none
+action s a = linked AreSitesOf in_part (site.part_sites s) (λ ps qs. ps ++ qs) (λ xs ys. xs ++ ys) [] [] (λ ps qs xs ys a b. both a b) (part s) none (parts_of a)
 
 typed_as : (s : Scope) (t : SignalType) → AreSitesOf (of_type t ∷ []) (site.type_site s t)
 typed_as s t = alone refl refl none

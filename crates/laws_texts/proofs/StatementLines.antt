@@ -1,5 +1,6 @@
 -- The lines of the constructs of statements never fall.
-use Rattle.std.proofs.Common.{◌≡◌, ℕ, Bool, true, false, List, [], ◌∷◌, ◌++◌, append_assoc, Option, Some, None, refl, sym, subst}
+use Rattle.std.proofs.Common.{ℕ, Bool, true, false, List, [], ◌∷◌, ◌++◌, append_assoc, Option, Some, None, refl, sym, subst}
+use Rattle.model_rules.specs.ModelTree.declared.vocabulary.Word.{Word}
 use Rattle.model_rules.specs.ModelTree.declared.vocabulary.Word.TheVariants as w
 use Rattle.model_rules.specs.ModelTree.declared.vocabulary.Symbol.TheVariants as mark
 use Rattle.model_rules.specs.ModelTree.declared.types.TypeForm.{TypeForm}
@@ -10,15 +11,16 @@ use Rattle.model_rules.specs.ModelTree.declared.types.VarType.TheVariants as var
 use Rattle.model_rules.specs.ModelTree.declared.statements.Who.{Who}
 use Rattle.model_rules.specs.ModelTree.declared.statements.Who.TheVariants as who
 use Rattle.model_rules.specs.ModelTree.Tree as tree
+use Rattle.model_tree.specs.Parts as made
 use Rattle.model_rules.specs.declared.needs.Need.{Need}
 use Rattle.model_rules.specs.declared.needs.Need.TheVariants as need_of
 use Rattle.model_rules.specs.Scopes as scoped
 use Rattle.model_rules.specs.Scopes.{Scope, locals_in_block, behind, in_unwind}
-use Rattle.model_rules.specs.Sites.{Part, Site, site, of_type, of_operation, type_site, variable_type_sites, expression_sites, option_sites, argument_sites, place_sites, channel_sites, event_need, event_sites, events_sites, waiting_sites, notification_sites, who_sites, operation_parts, action_parts, statement_sites, block_sites, else_sites, handler_sites}
+use Rattle.model_rules.specs.Sites.{Part, Site, site, of_type, of_operation, type_site, variable_type_sites, expression_sites, option_sites, argument_sites, place_sites, channel_sites, event_need, event_sites, events_sites, waiting_sites, notification_sites, who_sites, operation_parts, access_need, part_sites, action_parts, statement_sites, block_sites, else_sites, handler_sites}
 use Rattle.model_lexer.specs.ModelGrammar.Tokens.{Tokens, word, symbol}
 use Rattle.model_lexer.specs.ModelGrammar.Rules.{Rule, ◌⨾◌, At, Takes, Each, Separated, Maybe}
 use Rattle.model_lexer.specs.ModelGrammar.Expressions.{DerivesExpression}
-use Rattle.model_lexer.specs.ModelGrammar.Statements.{DerivesForm, DerivesType, DerivesVarTypeAt, DerivesVarType, DerivesPlace, DerivesChannel, DerivesMember, DerivesEvent, DerivesSensitive, DerivesArguments, DerivesIndex, DerivesTarget, NextName, NextExpression, DerivesOperation, DerivesSpan, DerivesWaiting, DerivesNotification, DerivesHandle, DerivesSpawn, DerivesWho, DerivesAction, Braced, DerivesInitial, HasHandler, DerivesStatement, DerivesStatements, DerivesElse, DerivesHandlers}
+use Rattle.model_lexer.specs.ModelGrammar.Statements.{DerivesForm, DerivesType, DerivesVarTypeAt, DerivesVarType, DerivesPlace, DerivesChannel, DerivesMember, DerivesEvent, DerivesSensitive, DerivesArguments, DerivesIndex, NextName, NextExpression, DerivesOperation, DerivesSpan, DerivesWaiting, DerivesNotification, DerivesHandle, DerivesSpawn, DerivesWho, DerivesPart, DerivesParts, DerivesAction, DerivesInitial, HasHandler, DerivesStatement, DerivesStatements, DerivesElse, DerivesHandlers}
 use Rattle.laws_texts.proofs.Along.{Along, nothing, last, last_at, past, trail, headed, alone, both, again, as_one, moved, on_line, any_line, parenthesized, braced, written, maybe}
 use Rattle.laws_texts.proofs.ExpressionLines.{at_expression, expression, optional}
 
@@ -138,32 +140,32 @@ named : (s : Scope) (x : Who) → Along (DerivesWho x) (who_sites s x)
 named s (who.Named line x) = alone
 named s (who.Myself line) = alone
 
+part_along : (s : Scope) (p : made.Part) → Along (DerivesPart p) (part_sites s p)
+part_along s (made.name r x) = last
+part_along s (made.next_name r x) = next_name x
+part_along s (made.reaching_name r x all) = past (written (word w.Descendants) all)
+part_along s (made.text x) = last
+part_along s (made.term u e) = expression s e
+part_along s (made.term_if u e) = optional s e
+part_along s (made.next_term u e) = next_expression s e
+part_along s (made.next_term_if u e) = maybe_next s e
+part_along s (made.channel u c) = channel s (access_need u) c
+part_along s (made.waiting t) = waiting s t
+part_along s (made.notification t) = notification s t
+part_along s (made.instance x) = spawn s x
+part_along s (made.process p) = named s p
+part_along s (made.reaching_process p all) = trail (named s p) (written (word w.Descendants) all)
+
+parts_along : {P : Rule} (s : Scope) (p : made.Part) (ps : List made.Part) → Along P (part_sites s p) → Along (DerivesParts P ps) (made.behind (part_sites s) (λ xs ys. xs ++ ys) [] p ps)
+parts_along {P = P} s p [] a = a
+parts_along {P = P} s p (q ∷ qs) a = both a (parts_along {P = DerivesPart q} s q qs (part_along s q))
+
+all_along : (s : Scope) (line : ℕ) (part : Part) (v : Word) (ps : List made.Part) → Along (DerivesParts (At line (word v)) ps) (site s line part ∷ made.joined (part_sites s) (λ xs ys. xs ++ ys) [] ps)
+all_along s line part v [] = alone
+all_along s line part v (p ∷ ps) = headed (parts_along s p ps (part_along s p))
+
 action : (s : Scope) (line : ℕ) (part : Part) (a : tree.Action) → Along (DerivesAction line a) (site s line part ∷ action_parts s a)
-action s line part (tree.write c e) = headed (both (channel s need_of.Written c) (expression s e))
-action s line part (tree.print text e) = headed (past (optional s e))
-action s line part (tree.notify x t) = headed (past (notification s t))
-action s line part (tree.cancel x) = headed last
-action s line part (tree.wait t) = headed (waiting s t)
-action s line part (tree.next_trigger t) = headed (waiting s t)
-action s line part (tree.lock c) = headed (channel s need_of.Mutex c)
-action s line part (tree.sem_wait c) = headed (channel s need_of.Semaphore c)
-action s line part (tree.post c) = headed (channel s need_of.Semaphore c)
-action s line part (tree.make x len enables) = headed (past (both (next_expression s len) (maybe_next s enables)))
-action s line part (tree.acquire x) = headed last
-action s line part (tree.release x) = headed last
-action s line part (tree.carry p m) = headed (past (next_name m))
-action s line part (tree.b_transport x p t) = headed (past (trail (next_name p) (next_name t)))
-action s line part (tree.qk_global e) = headed (expression s e)
-action s line part (tree.qk_inc x e) = headed (past (expression s e))
-action s line part (tree.qk_set x e) = headed (past (expression s e))
-action s line part (tree.qk_reset x) = headed last
-action s line part (tree.qk_sync x) = headed last
-action s line part (tree.spawn x) = headed (spawn s x)
-action s line part (tree.control c p all) = headed (trail (named s p) (written (word w.Descendants) all))
-action s line part (tree.throw_it p x all) = headed (trail (named s p) (past (written (word w.Descendants) all)))
-action s line part (tree.throw x) = headed last
-action s line part (tree.return_ e) = headed (optional s e)
-action s line part tree.stop = alone
+action s line part a = all_along s line part (made.word_of_action a) (made.parts_of a)
 
 initial : (s : Scope) (o : Option tree.Expression) → Along (Maybe DerivesInitial o) (option_sites s o)
 initial s None = nothing

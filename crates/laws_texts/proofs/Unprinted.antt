@@ -13,6 +13,9 @@ use Rattle.model_print.specs.ModelTree.declared.statements.Who.TheVariants as wh
 use Rattle.model_print.specs.ModelTree.declared.items.Head.{Head}
 use Rattle.model_print.specs.ModelTree.declared.items.Head.TheVariants as head
 use Rattle.model_print.specs.ModelTree.Tree as tree
+use Rattle.model_tree.specs.Parts as made
+use Rattle.model_tree.specs.Parts.{Part, changed_part, parts_of, word_of_action}
+use Rattle.model_tree.proofs.Parts.{changed_linked, changed_word}
 use Rattle.model_print.specs.Layout.{Piece, layout}
 use Rattle.model_print.specs.Pieces as piece
 use Rattle.model_print.specs.Leaves as leaf
@@ -112,24 +115,29 @@ same_one_more : (o : Option tree.Expression) → printed.one_more (option_map un
 same_one_more None = refl
 same_one_more (Some e) = rw (same_expression e) refl
 
+same_part : (p : Part) → printed.part (changed_part unlined.change p) ≡ printed.part p
+same_part (made.term u e) = same_expression e
+same_part (made.term_if u e) = same_option e
+same_part (made.next_term u e) = rw (same_expression e) refl
+same_part (made.next_term_if u e) = same_one_more e
+same_part (made.channel u c) = rw (same_place c.place) refl
+same_part (made.waiting t) = same_waiting t
+same_part (made.notification t) = same_notification t
+same_part (made.instance x) = rw (same_arguments x.arguments, same_sensitive x.sensitive) refl
+same_part (made.process p) = rw (same_who p) refl
+same_part (made.reaching_process p all) = rw (same_who p) refl
+same_part _ = refl
+
+same_both : (xs ys us vs : List Piece) → xs ≡ us → ys ≡ vs → xs ++ ys ≡ us ++ vs
+same_both xs ys us vs a b = rw (a, b) refl
+
+abbrev pieces : List Part → List Piece
+pieces ps = made.joined printed.part (λ xs ys. xs ++ ys) [] ps
+
 same_action : (a : tree.Action) → printed.action (unlined.action a) ≡ printed.action a
-same_action (tree.write c e) = rw (same_place c.place, same_expression e) refl
-same_action (tree.print text e) = rw (same_option e) refl
-same_action (tree.notify x t) = rw (same_notification t) refl
-same_action (tree.wait t) = rw (same_waiting t) refl
-same_action (tree.next_trigger t) = rw (same_waiting t) refl
-same_action (tree.lock c) = rw (same_place c.place) refl
-same_action (tree.sem_wait c) = rw (same_place c.place) refl
-same_action (tree.post c) = rw (same_place c.place) refl
-same_action (tree.make x len enables) = rw (same_expression len, same_one_more enables) refl
-same_action (tree.qk_global e) = rw (same_expression e) refl
-same_action (tree.qk_inc x e) = rw (same_expression e) refl
-same_action (tree.qk_set x e) = rw (same_expression e) refl
-same_action (tree.spawn x) = same_spawn x
-same_action (tree.control c p all) = rw (same_who p) refl
-same_action (tree.throw_it p x all) = rw (same_who p) refl
-same_action (tree.return_ e) = rw (same_option e) refl
-same_action _ = refl
+same_action a =
+    ap (λ v. piece.word v ∷ pieces (parts_of (unlined.action a))) (changed_word unlined.change a)
+    ∙ ap (λ (ps : List Piece). piece.word (word_of_action a) ∷ ps) (changed_linked unlined.change (λ (xs us : List Piece). xs ≡ us) printed.part printed.part (λ xs ys. xs ++ ys) (λ xs ys. xs ++ ys) [] [] same_both same_part refl a)
 
 same_var_type : (t : VarType) → leaf.var_type (unlined.var_type t) ≡ leaf.var_type t
 same_var_type (variable.Plain t) = refl
@@ -146,7 +154,7 @@ mutual
   same_statement (tree.var line t x e) = rw (same_var_type t, same_initial e) refl
   same_statement (tree.assign line t e) = rw (same_index t.index, same_expression e) refl
   same_statement (tree.operate line x at o) = rw (same_operation o) refl
-  same_statement (tree.act line a) = rw (same_action a) refl
+  same_statement (tree.act line a) = ap (λ (ps : List Piece). ps ++ piece.semicolon ∷ []) (same_action a)
   same_statement (tree.if_ line e body other) = rw (same_expression e, same_block body, same_else other) refl
   same_statement (tree.while_ line e body) = rw (same_expression e, same_block body) refl
   same_statement (tree.guard line body undo) = rw (same_block body, same_block undo) refl

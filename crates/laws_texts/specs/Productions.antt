@@ -1,6 +1,8 @@
 -- The productions of a tree, and which of them stand directly in which.
 use Rattle.std.specs.Prelude.{◌≡◌, ℕ, List, [], ◌∷◌, ◌++◌, Option, Some, None, map}
 use Rattle.model_rules.specs.ModelTree.Tree as tree
+use Rattle.model_rules.specs.ModelTree.Parts as part
+use Rattle.model_rules.specs.ModelTree.Parts.{Part, parts_of, joined}
 use Rattle.model_rules.specs.ModelTree.Lines.{item_line, first_line}
 use Rattle.model_rules.specs.ModelTree.declared.types.SignalType.{SignalType}
 use Rattle.model_rules.specs.ModelTree.declared.types.VarType.{VarType}
@@ -157,32 +159,24 @@ in_operation (tree.unlock c) = of_channel c ∷ []
 in_operation (tree.sem_trywait c) = of_channel c ∷ []
 in_operation (tree.nb_transport socket p phase delay) = []
 
+abbrev pub in_part : Part → List Production
+in_part (part.name r x) = []
+in_part (part.next_name r x) = []
+in_part (part.reaching_name r x all) = []
+in_part (part.text x) = []
+in_part (part.term u e) = term e ∷ []
+in_part (part.term_if u e) = in_option e
+in_part (part.next_term u e) = term e ∷ []
+in_part (part.next_term_if u e) = in_option e
+in_part (part.channel u c) = of_channel c ∷ []
+in_part (part.waiting w) = in_waiting w
+in_part (part.notification n) = in_notification n
+in_part (part.instance x) = in_arguments x.arguments ++ in_events x.sensitive
+in_part (part.process w) = of_who w ∷ []
+in_part (part.reaching_process w all) = of_who w ∷ []
+
 abbrev pub in_action : tree.Action → List Production
-in_action (tree.write c e) = of_channel c ∷ term e ∷ []
-in_action (tree.print text e) = in_option e
-in_action (tree.notify name n) = in_notification n
-in_action (tree.cancel name) = []
-in_action (tree.wait w) = in_waiting w
-in_action (tree.next_trigger w) = in_waiting w
-in_action (tree.lock c) = of_channel c ∷ []
-in_action (tree.sem_wait c) = of_channel c ∷ []
-in_action (tree.post c) = of_channel c ∷ []
-in_action (tree.make name n enables) = term n ∷ in_option enables
-in_action (tree.acquire name) = []
-in_action (tree.release name) = []
-in_action (tree.carry p m) = []
-in_action (tree.b_transport socket p delay) = []
-in_action (tree.qk_global e) = term e ∷ []
-in_action (tree.qk_inc name e) = term e ∷ []
-in_action (tree.qk_set name e) = term e ∷ []
-in_action (tree.qk_reset name) = []
-in_action (tree.qk_sync name) = []
-in_action (tree.spawn x) = in_arguments x.arguments ++ in_events x.sensitive
-in_action (tree.control c w all) = of_who w ∷ []
-in_action (tree.throw_it w name all) = of_who w ∷ []
-in_action (tree.throw name) = []
-in_action (tree.return_ e) = in_option e
-in_action tree.stop = []
+in_action a = joined in_part (λ xs ys. xs ++ ys) [] (parts_of a)
 
 abbrev pub in_var_type : VarType → List Production
 in_var_type (var_type.Plain t) = of_type t ∷ []

@@ -1,6 +1,7 @@
 -- A tree without its line numbers: each of them is 0.
 use Rattle.std.specs.Prelude.{◌≡◌, map, option_map}
 use Rattle.model_print.specs.ModelTree.Tree as tree
+use Rattle.model_print.specs.ModelTree.Parts.{Change, changed}
 use Rattle.model_print.specs.ModelTree.declared.types.SignalType.{SignalType}
 use Rattle.model_print.specs.ModelTree.declared.types.VarType.{VarType}
 use Rattle.model_print.specs.ModelTree.declared.types.VarType.TheVariants as variable
@@ -82,32 +83,11 @@ abbrev pub process : Who → Who
 process (who.Named line x) = who.Named 0 x
 process (who.Myself line) = who.Myself 0
 
+abbrev pub change : Change
+change = record { expression = expression; option = λ e. option_map expression e; channel_ = channel; waiting_ = waiting; notification_ = notification; instance_ = spawn; process_ = process }
+
 abbrev pub action : tree.Action → tree.Action
-action (tree.write c e) = tree.write (channel c) (expression e)
-action (tree.print text e) = tree.print text (option_map expression e)
-action (tree.notify x t) = tree.notify x (notification t)
-action (tree.cancel x) = tree.cancel x
-action (tree.wait t) = tree.wait (waiting t)
-action (tree.next_trigger t) = tree.next_trigger (waiting t)
-action (tree.lock c) = tree.lock (channel c)
-action (tree.sem_wait c) = tree.sem_wait (channel c)
-action (tree.post c) = tree.post (channel c)
-action (tree.make x len enables) = tree.make x (expression len) (option_map expression enables)
-action (tree.acquire x) = tree.acquire x
-action (tree.release x) = tree.release x
-action (tree.carry p m) = tree.carry p m
-action (tree.b_transport x p t) = tree.b_transport x p t
-action (tree.qk_global e) = tree.qk_global (expression e)
-action (tree.qk_inc x e) = tree.qk_inc x (expression e)
-action (tree.qk_set x e) = tree.qk_set x (expression e)
-action (tree.qk_reset x) = tree.qk_reset x
-action (tree.qk_sync x) = tree.qk_sync x
-action (tree.spawn x) = tree.spawn (spawn x)
-action (tree.control c p all) = tree.control c (process p) all
-action (tree.throw_it p x all) = tree.throw_it (process p) x all
-action (tree.throw x) = tree.throw x
-action (tree.return_ e) = tree.return_ (option_map expression e)
-action tree.stop = tree.stop
+action a = changed change a
 
 abbrev pub signal_type : SignalType → SignalType
 signal_type t = record { line = 0; form = t.form }
