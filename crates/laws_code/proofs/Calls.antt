@@ -7,7 +7,7 @@ use Rattle.code_rules.specs.ModelTree.Limits.{fits, fits_option, fits_all, fits_
 use Rattle.code_rules.specs.ModelTree.declared.types.VarType.{VarType}
 use Rattle.code_rules.specs.ModelTree.declared.types.Parameter.{Parameter}
 use Rattle.code_rules.specs.FlatDesign.Code as code
-use Rattle.code_rules.specs.FlatDesign.Code.{Term, ArgumentTerm, DestinationTerm, Arena}
+use Rattle.code_rules.specs.FlatDesign.Code.{Term, DestinationTerm}
 use Rattle.code_rules.specs.FlatDesign.Denotes.{Context, declared, variable_type as code_type}
 use Rattle.code_rules.specs.FlatDesign.Typed.{IsPayload, IsMemory, FitsIn, Gives, GivesInteger, IfWritten, Stores, StoresAnswer, IsArgument, AreArguments, AreFirstArguments, IsDestination, IsReturned, IsPrinted, field_type}
 use Rattle.code_rules.specs.FlatDesign.declared.value_types.ValueType.{ValueType}

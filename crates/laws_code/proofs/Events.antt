@@ -6,7 +6,7 @@ use Rattle.code_rules.specs.ModelTree.Tree as tree
 use Rattle.code_rules.specs.ModelTree.Limits.{fits, fits_option, fits_place, fits_channel, fits_event, fits_events, fits_waiting, option_name, is_some_of}
 use Rattle.code_rules.specs.ModelTree.Leaves.{is_name}
 use Rattle.code_rules.specs.FlatDesign.Code as code
-use Rattle.code_rules.specs.FlatDesign.Code.{Term, ChannelTerm, EventTerm, AwaitTerm}
+use Rattle.code_rules.specs.FlatDesign.Code.{Term, ChannelTerm}
 use Rattle.code_rules.specs.FlatDesign.Denotes.{Context, declared, variable_type}
 use Rattle.code_rules.specs.FlatDesign.Typed.{Offers, IsProcess, GivesInteger, IfWritten, EachOf, PlaceFits, UsesAs, HasEvent, HasLocalEvent, IsEventAt, IsEventUse, IsPlaceOfPort, IsStaticUse, GivesTime, IsAwait}
 use Rattle.code_rules.specs.FlatDesign.declared.value_types.ValueType.{ValueType}

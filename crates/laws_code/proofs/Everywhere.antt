@@ -2,6 +2,8 @@
 use Rattle.std.proofs.Common.{◌≡◌, Bool, true, false, List, [], ◌∷◌, ◌++◌, Option, Some, None}
 use Rattle.std.specs.List.{AllByRecursion}
 use Rattle.code_rules.specs.ModelTree.Tree as tree
+use Rattle.model_tree.specs.Parts as made
+use Rattle.model_tree.proofs.Parts.{linked}
 use Rattle.code_rules.specs.ModelTree.Lines.{item_line}
 use Rattle.code_rules.specs.ModelTree.declared.types.VarType.{VarType}
 use Rattle.code_rules.specs.ModelTree.declared.types.VarType.TheVariants as var_type
@@ -14,7 +16,7 @@ use Rattle.code_rules.specs.ModelRules.Scopes.{Scope, item_scope, with_local, lo
 use Rattle.code_rules.specs.ModelRules.declared.needs.Need.{Need}
 use Rattle.code_rules.specs.ModelRules.declared.needs.Need.TheVariants as need_of
 use Rattle.code_rules.specs.ModelRules.Sites as part
-use Rattle.code_rules.specs.ModelRules.Sites.{Site, site, type_site, variable_type_sites, interface_sites, constant_sites, sites_as, expression_site, channel_site, expression_sites, option_sites, argument_sites, place_sites, channel_sites, event_need, event_sites, events_sites, waiting_sites, notification_sites, who_sites, operation_parts, action_parts, statement_sites, block_sites, else_sites, handler_sites, parameter_sites, answer_sites, function_scope, item_parts, item_sites, around_item, items_sites, module_sites, modules_sites, top_site, sites}
+use Rattle.code_rules.specs.ModelRules.Sites.{Site, site, type_site, variable_type_sites, interface_sites, constant_sites, sites_as, expression_sites, option_sites, argument_sites, place_sites, channel_sites, event_need, event_sites, events_sites, waiting_sites, notification_sites, operation_parts, access_need, part_sites, action_parts, statement_sites, block_sites, else_sites, handler_sites, parameter_sites, answer_sites, function_scope, item_parts, item_sites, around_item, items_sites, module_sites, modules_sites, top_site, sites}
 use Rattle.code_rules.specs.ModelRules.Passes.{constructs, fault_of, first_fault}
 use Rattle.laws_code.specs.Known.{TypesAreKnown}
 use Rattle.laws_code.proofs.Typed.{parts_none, head_none}
@@ -118,32 +120,24 @@ module _ (s : Scope) (known : TypesAreKnown s) where
   operation_there (tree.sem_trywait c) = channel_there need_of.Semaphore c
   operation_there (tree.nb_transport socket p phase delay) = tt
 
+  part_there : (p : made.Part) → AllKnown (part_sites s p)
+  part_there (made.name r name) = tt
+  part_there (made.next_name r name) = tt
+  part_there (made.reaching_name r name all) = tt
+  part_there (made.text x) = tt
+  part_there (made.term u e) = expression_there e
+  part_there (made.term_if u e) = option_there e
+  part_there (made.next_term u e) = expression_there e
+  part_there (made.next_term_if u e) = option_there e
+  part_there (made.channel u c) = channel_there (access_need u) c
+  part_there (made.waiting w) = waiting_there w
+  part_there (made.notification n) = notification_there n
+  part_there (made.instance x) = joined (argument_sites s x.arguments) (events_sites s true x.sensitive) (arguments_there x.arguments) (events_there true x.sensitive)
+  part_there (made.process w) = (known, tt)
+  part_there (made.reaching_process w all) = (known, tt)
+
   action_there : (a : tree.Action) → AllKnown (action_parts s a)
-  action_there (tree.write c e) = joined (channel_sites s need_of.Written c) (expression_sites s e) (channel_there need_of.Written c) (expression_there e)
-  action_there (tree.print text e) = option_there e
-  action_there (tree.notify name n) = notification_there n
-  action_there (tree.cancel name) = tt
-  action_there (tree.wait w) = waiting_there w
-  action_there (tree.next_trigger w) = waiting_there w
-  action_there (tree.lock c) = channel_there need_of.Mutex c
-  action_there (tree.sem_wait c) = channel_there need_of.Semaphore c
-  action_there (tree.post c) = channel_there need_of.Semaphore c
-  action_there (tree.make name n enables) = joined (expression_sites s n) (option_sites s enables) (expression_there n) (option_there enables)
-  action_there (tree.acquire name) = tt
-  action_there (tree.release name) = tt
-  action_there (tree.carry p m) = tt
-  action_there (tree.b_transport socket p delay) = tt
-  action_there (tree.qk_global e) = expression_there e
-  action_there (tree.qk_inc name e) = expression_there e
-  action_there (tree.qk_set name e) = expression_there e
-  action_there (tree.qk_reset name) = tt
-  action_there (tree.qk_sync name) = tt
-  action_there (tree.spawn x) = joined (argument_sites s x.arguments) (events_sites s true x.sensitive) (arguments_there x.arguments) (events_there true x.sensitive)
-  action_there (tree.control c w all) = (known, tt)
-  action_there (tree.throw_it w name all) = (known, tt)
-  action_there (tree.throw name) = tt
-  action_there (tree.return_ e) = option_there e
-  action_there tree.stop = tt
+  action_there a = linked (λ xs us. AllKnown xs) (part_sites s) (part_sites s) (λ xs ys. xs ++ ys) (λ xs ys. xs ++ ys) [] [] (λ xs ys us vs a b. joined xs ys a b) part_there tt (made.parts_of a)
 
 mutual
   statement_there : (x : tree.Statement) (s : Scope) → TypesAreKnown s → fault_of constructs (statement_sites x s) ≡ None → AllKnown (statement_sites x s)

@@ -7,7 +7,6 @@ use Rattle.code_rules.specs.ModelTree.declared.types.Parameter.{Parameter}
 use Rattle.code_rules.specs.ModelTree.declared.statements.Who.{Who}
 use Rattle.code_rules.specs.ModelTree.declared.statements.Who.TheVariants as who
 use Rattle.code_rules.specs.FlatDesign.Code as code
-use Rattle.code_rules.specs.FlatDesign.Code.{ArgumentTerm}
 use Rattle.code_rules.specs.FlatDesign.declared.value_types.ValueType.{ValueType}
 use Rattle.code_rules.specs.FlatDesign.declared.names.EventMember.{EventMember}
 use Rattle.code_rules.specs.ModelRules.Members.{row_of, event_member}
@@ -18,7 +17,7 @@ use Rattle.code_rules.specs.ModelRules.declared.meanings.Meaning.TheVariants as 
 use Rattle.code_rules.specs.ModelRules.declared.needs.Need.{Need}
 use Rattle.code_rules.specs.ModelRules.declared.needs.Need.TheVariants as need_of
 use Rattle.code_rules.specs.ModelRules.Sites as part
-use Rattle.code_rules.specs.ModelRules.Sites.{Site, site, channel_site, channel_sites, place_sites, event_need, event_sites, events_sites, waiting_sites, expression_sites, option_sites, argument_sites, who_sites, who_line}
+use Rattle.code_rules.specs.ModelRules.Sites.{Site, site, channel_site, channel_sites, place_sites, event_need, event_sites, events_sites, waiting_sites, expression_sites, option_sites, argument_sites, who_sites}
 use Rattle.code_rules.specs.ModelRules.Names.{meets, is_static, is_wrong_place, row_lacks, is_no_event, unknown_in_row, wrong_in_row, unknown_member, wrong_member}
 use Rattle.code_rules.specs.ModelRules.Calls.{inout_wrong, inouts_wrong, count_differs}
 use Rattle.code_rules.specs.ModelRules.Values.{parameters_of, called_parameters}

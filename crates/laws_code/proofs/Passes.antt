@@ -1,5 +1,5 @@
 -- The first pass with a fault decides.
-use Rattle.std.proofs.Common.{◌≡◌, List, [], ◌∷◌, ◌++◌, Option, Some, None, refl, sym, ◌∙◌, ap, subst}
+use Rattle.std.proofs.Common.{◌≡◌, List, [], ◌∷◌, ◌++◌, Option, Some, None, refl, ◌∙◌, ap}
 use Rattle.std.specs.List.{AllByRecursion}
 use Rattle.std.specs.Option.{option_or}
 use Rattle.code_rules.specs.ModelTree.Tree as tree
@@ -7,7 +7,6 @@ use Rattle.code_rules.specs.ModelTree.declared.faults.Fault.{Fault}
 use Rattle.code_rules.specs.ModelRules.Sites.{Site, sites}
 use Rattle.code_rules.specs.ModelRules.Names.{first}
 use Rattle.code_rules.specs.ModelRules.Passes.{Rule, fault_of, passes, first_fault}
-use Rattle.code_rules.specs.ModelRules.Answered.{IsFirstAt}
 use Rattle.code_rules.proofs.ModelRules.Firsts.{first_at}
 use Rattle.laws_code.specs.Decided.{IsDecided}
 

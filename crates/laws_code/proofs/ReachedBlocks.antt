@@ -11,7 +11,7 @@ use Rattle.code_rules.specs.FlatDesign.declared.code.Handler.{Handler}
 use Rattle.code_rules.specs.ModelRules.Meanings.{variable_type}
 use Rattle.code_rules.specs.ModelRules.Scopes.{Scope, locals_in_block, past, behind, in_unwind}
 use Rattle.code_rules.specs.ModelRules.Sites as part
-use Rattle.code_rules.specs.ModelRules.Sites.{Site, site, variable_type_sites, expression_sites, option_sites, action_parts, statement_sites, block_sites, else_sites, handler_sites}
+use Rattle.code_rules.specs.ModelRules.Sites.{Site, site, expression_sites, action_parts, statement_sites, block_sites, else_sites, handler_sites}
 use Rattle.code_rules.specs.ModelRules.Passes.{constructs, reaches, fault_at}
 use Rattle.code_rules.specs.ModelRules.Reach.{Body, Placed, all_in_statement, all_in_block, all_in_else, all_in_handlers, statements_of}
 use Rattle.code_rules.specs.Deeds.{Home, if_written, store, action_code}

@@ -10,7 +10,7 @@ use Rattle.code_rules.specs.ModelTree.declared.items.ClockItem.{ClockItem}
 use Rattle.code_rules.specs.ModelTree.declared.items.ProcessKind.{ProcessKind}
 use Rattle.code_rules.specs.ModelTree.declared.items.ProcessKind.TheVariants as process
 use Rattle.code_rules.specs.FlatDesign.Code as code
-use Rattle.code_rules.specs.FlatDesign.Code.{Arena, block_at, statement_at, body_at}
+use Rattle.code_rules.specs.FlatDesign.Code.{Arena, block_at, statement_at}
 use Rattle.code_rules.specs.FlatDesign.Typed.{EachOf}
 use Rattle.code_rules.specs.FlatDesign.Reach as reach
 use Rattle.code_rules.specs.FlatDesign.Reach.{inner_blocks, Holds, Reached}

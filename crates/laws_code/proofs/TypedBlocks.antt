@@ -20,7 +20,7 @@ use Rattle.code_rules.specs.ModelRules.Scopes.{Scope, with_local, locals_in, loc
 use Rattle.code_rules.specs.ModelRules.Operators.{is_bool, evaluated_as}
 use Rattle.code_rules.specs.ModelRules.Types.{type_of}
 use Rattle.code_rules.specs.ModelRules.Sites as part
-use Rattle.code_rules.specs.ModelRules.Sites.{site, variable_type_sites, expression_sites, option_sites, statement_sites, block_sites, else_sites, handler_sites}
+use Rattle.code_rules.specs.ModelRules.Sites.{site, expression_sites, statement_sites, block_sites, else_sites, handler_sites}
 use Rattle.code_rules.specs.ModelRules.Values.{fails}
 use Rattle.code_rules.specs.ModelRules.Passes.{constructs, fault_of}
 use Rattle.code_rules.specs.Terms.{term_of}

@@ -12,7 +12,7 @@ use Rattle.code_rules.specs.ModelTree.Leaves.{is_name}
 use Rattle.code_rules.specs.ModelTree.declared.types.Parameter.{Parameter}
 use Rattle.code_rules.specs.ModelTree.declared.items.ClockItem.{ClockItem}
 use Rattle.code_rules.specs.FlatDesign.Code as code
-use Rattle.code_rules.specs.FlatDesign.Code.{Arena, arena_of, block_at, statement_at, body_at}
+use Rattle.code_rules.specs.FlatDesign.Code.{Arena, arena_of, block_at, statement_at}
 use Rattle.code_rules.specs.FlatDesign.Denotes.{Context, declared, denoted_at}
 use Rattle.code_rules.specs.FlatDesign.Typed.{EachOf, IsTyped, Offers}
 use Rattle.code_rules.specs.FlatDesign.Reach.{inner_blocks, Holds, InBody}
