@@ -2,6 +2,8 @@
 -- of exceptions.
 use Rattle.std.specs.Prelude.{ℕ, List, [], ◌∷◌, ◌++◌, Option, Some, None}
 use Rattle.model_tree.specs.Tree as tree
+use Rattle.model_tree.specs.Parts as part
+use Rattle.model_tree.specs.Parts.{Part, parts_of, joined}
 use Rattle.model_tree.specs.declared.statements.Who.{Who}
 use Rattle.model_tree.specs.declared.statements.Who.TheVariants as who
 
@@ -90,29 +92,21 @@ abbrev pub in_who : Who → Names
 in_who (who.Named line x) = x ∷ []
 in_who (who.Myself line) = []
 
+abbrev pub in_part : Part → Names
+in_part (part.name r x) = x ∷ []
+in_part (part.next_name r x) = x ∷ []
+in_part (part.reaching_name r x all) = x ∷ []
+in_part (part.text x) = []
+in_part (part.term u e) = in_expression e
+in_part (part.term_if u e) = in_expression_if e
+in_part (part.next_term u e) = in_expression e
+in_part (part.next_term_if u e) = in_expression_if e
+in_part (part.channel u c) = in_channel c
+in_part (part.waiting t) = in_waiting t
+in_part (part.notification n) = in_notification n
+in_part (part.instance x) = in_spawn x
+in_part (part.process x) = in_who x
+in_part (part.reaching_process x all) = in_who x
+
 abbrev pub in_action : tree.Action → Names
-in_action (tree.write c e) = in_channel c ++ in_expression e
-in_action (tree.print text e) = in_expression_if e
-in_action (tree.notify x n) = x ∷ in_notification n
-in_action (tree.cancel x) = x ∷ []
-in_action (tree.wait t) = in_waiting t
-in_action (tree.next_trigger t) = in_waiting t
-in_action (tree.lock c) = in_channel c
-in_action (tree.sem_wait c) = in_channel c
-in_action (tree.post c) = in_channel c
-in_action (tree.make x len enables) = x ∷ (in_expression len ++ in_expression_if enables)
-in_action (tree.acquire x) = x ∷ []
-in_action (tree.release x) = x ∷ []
-in_action (tree.carry payload memory) = payload ∷ memory ∷ []
-in_action (tree.b_transport socket payload delay) = socket ∷ payload ∷ delay ∷ []
-in_action (tree.qk_global e) = in_expression e
-in_action (tree.qk_inc x e) = x ∷ in_expression e
-in_action (tree.qk_set x e) = x ∷ in_expression e
-in_action (tree.qk_reset x) = x ∷ []
-in_action (tree.qk_sync x) = x ∷ []
-in_action (tree.spawn x) = in_spawn x
-in_action (tree.control c x all) = in_who x
-in_action (tree.throw_it x exception all) = in_who x ++ exception ∷ []
-in_action (tree.throw x) = x ∷ []
-in_action (tree.return_ e) = in_expression_if e
-in_action tree.stop = []
+in_action a = joined in_part (λ xs ys. xs ++ ys) [] (parts_of a)
