@@ -25,8 +25,7 @@ use Rattle.parse_actions.proofs.ChannelLaws.{channel_ok, channel_reads}
 use Rattle.parse_actions.proofs.ArgumentLaws.{optional_expression_ok, optional_expression_reads}
 use Rattle.parse_actions.specs.Operations.{next_name, next_expression}
 use Rattle.parse_actions.specs.Waits.{waiting, notification, who, spawn}
-use Rattle.parse_actions.specs.Actions.{write, print, notify, some_next_expression, optional_next_expression, make, carry, b_transport, name_and_expression, control, throw_it, of_name, of_name_and_expression, of_waiting, of_expression, of_spawn, of_answer, started_action}
-use Rattle.parse_actions.specs.Parse.{action_start}
+use Rattle.parse_actions.specs.Actions.{write, print, notify, some_next_expression, optional_next_expression, make, carry, b_transport, name_and_expression, control, throw_it, of_name, of_name_and_expression, of_waiting, of_expression, of_spawn, of_answer, action_start, started_action}
 use Rattle.parse_actions.proofs.PartLaws.{next_name_ok, next_name_reads, next_expression_ok, next_expression_before, next_expression_between, expression_before}
 use Rattle.parse_actions.proofs.OperationLaws.{of_channel_ok}
 use Rattle.parse_actions.proofs.WaitLaws.{waiting_ok, waiting_reads, notification_ok, notification_reads, who_ok, who_reads, spawn_ok, spawn_reads}

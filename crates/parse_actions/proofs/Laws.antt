@@ -10,6 +10,7 @@ use Rattle.model_tree.specs.declared.vocabulary.Word.{Word}
 use Rattle.model_tree.specs.declared.vocabulary.Word.TheVariants as w
 use Rattle.model_tree.specs.declared.vocabulary.Symbol.TheVariants as s
 use Rattle.model_tree.specs.Tree as tree
+use Rattle.model_tree.specs.Parts.{word_of_action}
 use Rattle.parse_expressions.specs.ModelGrammar.Tokens as t
 use Rattle.parse_expressions.specs.ModelGrammar.Tokens.{Tokens}
 use Rattle.parse_expressions.specs.ModelGrammar.Rules.{At, Takes}
@@ -20,10 +21,10 @@ use Rattle.parse_expressions.specs.ModelGrammar.Brackets.{in_operation, in_actio
 use Rattle.parse_expressions.specs.Parse.{refuse, skip, is_the_word, word_ahead}
 use Rattle.parse_expressions.proofs.Parsers.{where_cases, and_then_ok, made}
 use Rattle.parse_expressions.proofs.OneToken.{skip_reads}
-use Rattle.parse_actions.specs.declared.starts.ActionStart.TheVariants as acts
-use Rattle.parse_actions.specs.Operations.{started_operation}
-use Rattle.parse_actions.specs.Actions.{started_action}
-use Rattle.parse_actions.specs.Parse.{operation_start, action_start, begins_operation, begins_action, sees_operation, sees_action, operation_by, operation, action_by, action}
+use Rattle.parse_actions.specs.declared.actions.ActionStart.TheVariants as acts
+use Rattle.parse_actions.specs.Operations.{operation_start, begins_operation, started_operation}
+use Rattle.parse_actions.specs.Actions.{action_start, begins_action, started_action}
+use Rattle.parse_actions.specs.Parse.{sees_operation, sees_action, operation_by, operation, action_by, action}
 use Rattle.parse_actions.proofs.PartLaws.{word_at, word_comes, semicolon_comes}
 use Rattle.parse_actions.proofs.OperationLaws.{of_channel_reads, started_operation_ok, call_reads, nb_read_reads, nb_write_reads, nb_transport_reads}
 use Rattle.parse_actions.proofs.ActionLaws.{started_action_ok, write_reads, print_reads, notify_reads, make_reads, carry_reads, b_transport_reads, throw_it_reads, of_name_reads, of_both_reads, of_waiting_reads, of_expression_reads, of_spawn_reads, of_answer_reads, control_reads}
@@ -128,31 +129,7 @@ operation_word (tree.nb_transport x y z u) = w.NbTransport
 
 -- the word that an action begins with
 abbrev pub action_word : tree.Action → Word
-action_word (tree.write c e) = w.Write
-action_word (tree.print x e) = w.Print
-action_word (tree.notify x n) = w.Notify
-action_word (tree.cancel x) = w.Cancel
-action_word (tree.wait x) = w.Wait
-action_word (tree.next_trigger x) = w.NextTrigger
-action_word (tree.lock c) = w.Lock
-action_word (tree.sem_wait c) = w.SemWait
-action_word (tree.post c) = w.Post
-action_word (tree.make x e y) = w.Make
-action_word (tree.acquire x) = w.Acquire
-action_word (tree.release x) = w.Release
-action_word (tree.carry x y) = w.Carry
-action_word (tree.b_transport x y z) = w.BTransport
-action_word (tree.qk_global e) = w.QkGlobal
-action_word (tree.qk_inc x e) = w.QkInc
-action_word (tree.qk_set x e) = w.QkSet
-action_word (tree.qk_reset x) = w.QkReset
-action_word (tree.qk_sync x) = w.QkSync
-action_word (tree.spawn x) = w.Spawn
-action_word (tree.control c x all) = control_word c
-action_word (tree.throw_it p x all) = w.ThrowIt
-action_word (tree.throw x) = w.Throw
-action_word (tree.return_ x) = w.Return
-action_word tree.stop = w.Stop
+action_word a = word_of_action a
 
 pub operation_begins : (line : ℕ) (o : tree.Operation) (ts rest : Tokens) → DerivesOperation line o ts rest → (mid : Tokens) × At line (t.word (operation_word o)) ts mid
 operation_begins line (tree.call x es) ts rest h = (h.0, h.1)
@@ -165,31 +142,8 @@ operation_begins line (tree.sem_trywait c) ts rest h = (h.0, h.1)
 operation_begins line (tree.nb_transport x y z u) ts rest h = (h.0, h.1)
 
 pub action_begins : (line : ℕ) (o : tree.Action) (ts rest : Tokens) → DerivesAction line o ts rest → (mid : Tokens) × At line (t.word (action_word o)) ts mid
-action_begins line (tree.write c e) ts rest h = (h.0, h.1)
-action_begins line (tree.print x e) ts rest h = (h.0, h.1)
-action_begins line (tree.notify x n) ts rest h = (h.0, h.1)
-action_begins line (tree.cancel x) ts rest h = (h.0, h.1)
-action_begins line (tree.wait x) ts rest h = (h.0, h.1)
-action_begins line (tree.next_trigger x) ts rest h = (h.0, h.1)
-action_begins line (tree.lock c) ts rest h = (h.0, h.1)
-action_begins line (tree.sem_wait c) ts rest h = (h.0, h.1)
-action_begins line (tree.post c) ts rest h = (h.0, h.1)
-action_begins line (tree.make x e y) ts rest h = (h.0, h.1)
-action_begins line (tree.acquire x) ts rest h = (h.0, h.1)
-action_begins line (tree.release x) ts rest h = (h.0, h.1)
-action_begins line (tree.carry x y) ts rest h = (h.0, h.1)
-action_begins line (tree.b_transport x y z) ts rest h = (h.0, h.1)
-action_begins line (tree.qk_global e) ts rest h = (h.0, h.1)
-action_begins line (tree.qk_inc x e) ts rest h = (h.0, h.1)
-action_begins line (tree.qk_set x e) ts rest h = (h.0, h.1)
-action_begins line (tree.qk_reset x) ts rest h = (h.0, h.1)
-action_begins line (tree.qk_sync x) ts rest h = (h.0, h.1)
-action_begins line (tree.spawn x) ts rest h = (h.0, h.1)
-action_begins line (tree.control c x all) ts rest h = (h.0, h.1)
-action_begins line (tree.throw_it p x all) ts rest h = (h.0, h.1)
-action_begins line (tree.throw x) ts rest h = (h.0, h.1)
-action_begins line (tree.return_ x) ts rest h = (h.0, h.1)
 action_begins line tree.stop ts rest h = (rest, h)
+action_begins line _ ts rest h = (h.0, h.1)
 
 -- each begins as it should, and no operation as an action does
 
@@ -212,31 +166,8 @@ control_words control.Kill = refl
 control_words control.Reset = refl
 
 action_words : (o : tree.Action) → begins_action (action_word o) ≡ true
-action_words (tree.write c e) = refl
-action_words (tree.print x e) = refl
-action_words (tree.notify x n) = refl
-action_words (tree.cancel x) = refl
-action_words (tree.wait x) = refl
-action_words (tree.next_trigger x) = refl
-action_words (tree.lock c) = refl
-action_words (tree.sem_wait c) = refl
-action_words (tree.post c) = refl
-action_words (tree.make x e y) = refl
-action_words (tree.acquire x) = refl
-action_words (tree.release x) = refl
-action_words (tree.carry x y) = refl
-action_words (tree.b_transport x y z) = refl
-action_words (tree.qk_global e) = refl
-action_words (tree.qk_inc x e) = refl
-action_words (tree.qk_set x e) = refl
-action_words (tree.qk_reset x) = refl
-action_words (tree.qk_sync x) = refl
-action_words (tree.spawn x) = refl
 action_words (tree.control c x all) = control_words c
-action_words (tree.throw_it p x all) = refl
-action_words (tree.throw x) = refl
-action_words (tree.return_ x) = refl
-action_words tree.stop = refl
+action_words _ = refl
 
 pub operation_sees : (line : ℕ) (o : tree.Operation) (ts rest : Tokens) → DerivesOperation line o ts rest → sees_operation ts ≡ true
 operation_sees line o ts rest h = rw (operation_begins line o ts rest h).1 (operation_words o).0

@@ -15,8 +15,7 @@ use Rattle.parse_expressions.specs.Parse.{name}
 use Rattle.parse_expressions.proofs.Parsers.{and_then_ok, made}
 use Rattle.parse_expressions.proofs.OneToken.{name_ok, name_reads}
 use Rattle.parse_actions.specs.ChannelParse.{channel, arguments}
-use Rattle.parse_actions.specs.Operations.{next_name, next_expression, call, nb_read, nb_write, nb_transport, of_channel, started_operation}
-use Rattle.parse_actions.specs.Parse.{operation_start}
+use Rattle.parse_actions.specs.Operations.{next_name, next_expression, call, nb_read, nb_write, nb_transport, of_channel, operation_start, started_operation}
 use Rattle.parse_actions.proofs.ChannelLaws.{channel_ok, channel_reads}
 use Rattle.parse_actions.proofs.ArgumentLaws.{arguments_ok, arguments_reads}
 use Rattle.parse_actions.proofs.PartLaws.{next_name_ok, next_name_reads, next_expression_ok, next_expression_before}

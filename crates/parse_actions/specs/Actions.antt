@@ -1,17 +1,61 @@
--- Parser functions on lists of tokens for what stands behind the word of an action.
+-- Parser functions on lists of tokens for an action: its word, and what stands behind it.
 -- They are no definition of the language: the grammar is.
-use Rattle.std.specs.Prelude.{ℕ, List, Option, Some, None}
+use Rattle.std.specs.Prelude.{ℕ, Bool, true, false, List, Option, Some, None}
+use Rattle.model_tree.specs.declared.vocabulary.Word.{Word}
 use Rattle.model_tree.specs.declared.vocabulary.Word.TheVariants as w
 use Rattle.model_tree.specs.declared.vocabulary.Symbol.TheVariants as s
 use Rattle.model_tree.specs.declared.statements.Control.{Control}
+use Rattle.model_tree.specs.declared.statements.Control.TheVariants as order
 use Rattle.model_tree.specs.Tree as tree
 use Rattle.parse_expressions.specs.ModelGrammar.Expressions.{is_the_symbol, sees}
 use Rattle.parse_expressions.specs.Parse.{Parser, ◌>>=◌, pure, choose, refuse, text, name, flag, expression}
 use Rattle.parse_actions.specs.ChannelParse.{channel, optional_expression}
-use Rattle.parse_actions.specs.declared.starts.ActionStart.{ActionStart}
-use Rattle.parse_actions.specs.declared.starts.ActionStart.TheVariants as start
+use Rattle.parse_actions.specs.declared.actions.ActionStart.{ActionStart}
+use Rattle.parse_actions.specs.declared.actions.ActionStart.TheVariants as start
 use Rattle.parse_actions.specs.Operations.{next_name, next_expression, of_channel}
 use Rattle.parse_actions.specs.Waits.{waiting, notification, who, spawn}
+
+-- the action that begins with a word, and whether one does
+
+abbrev pub action_start : Word → ActionStart
+action_start w.Write = start.Write
+action_start w.Print = start.Print
+action_start w.Notify = start.Notify
+action_start w.Cancel = start.Cancel
+action_start w.Wait = start.Wait
+action_start w.NextTrigger = start.NextTrigger
+action_start w.Lock = start.Lock
+action_start w.SemWait = start.SemWait
+action_start w.Post = start.Post
+action_start w.Make = start.Make
+action_start w.Acquire = start.Acquire
+action_start w.Release = start.Release
+action_start w.Carry = start.Carry
+action_start w.BTransport = start.BTransport
+action_start w.QkGlobal = start.QkGlobal
+action_start w.QkInc = start.QkInc
+action_start w.QkSet = start.QkSet
+action_start w.QkReset = start.QkReset
+action_start w.QkSync = start.QkSync
+action_start w.Spawn = start.Spawn
+action_start w.Suspend = start.Control order.Suspend
+action_start w.Resume = start.Control order.Resume
+action_start w.Disable = start.Control order.Disable
+action_start w.Enable = start.Control order.Enable
+action_start w.Kill = start.Control order.Kill
+action_start w.Reset = start.Control order.Reset
+action_start w.ThrowIt = start.ThrowIt
+action_start w.Throw = start.Throw
+action_start w.Return = start.Return
+action_start w.Stop = start.Stop
+action_start _ = start.Nothing
+
+abbrev pub acts_so : ActionStart → Bool
+acts_so start.Nothing = false
+acts_so _ = true
+
+abbrev pub begins_action : Word → Bool
+begins_action v = acts_so (action_start v)
 
 unfoldable pub write : ℕ → Parser tree.Action
 write depth = do

@@ -1,12 +1,34 @@
--- Parser functions on lists of tokens for what stands behind the word of an operation.
+-- Parser functions on lists of tokens for an operation: its word, and what stands behind it.
 -- They are no definition of the language: the grammar is.
-use Rattle.std.specs.Prelude.{ℕ, List}
+use Rattle.std.specs.Prelude.{ℕ, Bool, true, false, List}
+use Rattle.model_tree.specs.declared.vocabulary.Word.{Word}
+use Rattle.model_tree.specs.declared.vocabulary.Word.TheVariants as w
 use Rattle.model_tree.specs.declared.vocabulary.Symbol.TheVariants as s
 use Rattle.model_tree.specs.Tree as tree
 use Rattle.parse_expressions.specs.Parse.{Parser, ◌>>=◌, pure, refuse, symbol, name, expression}
 use Rattle.parse_actions.specs.ChannelParse.{channel, arguments}
-use Rattle.parse_actions.specs.declared.starts.OperationStart.{OperationStart}
-use Rattle.parse_actions.specs.declared.starts.OperationStart.TheVariants as start
+use Rattle.parse_actions.specs.declared.operations.OperationStart.{OperationStart}
+use Rattle.parse_actions.specs.declared.operations.OperationStart.TheVariants as start
+
+-- the operation that begins with a word, and whether one does
+
+abbrev pub operation_start : Word → OperationStart
+operation_start w.Call = start.Call
+operation_start w.Read = start.Read
+operation_start w.NbRead = start.NbRead
+operation_start w.NbWrite = start.NbWrite
+operation_start w.Trylock = start.Trylock
+operation_start w.Unlock = start.Unlock
+operation_start w.SemTrywait = start.SemTrywait
+operation_start w.NbTransport = start.NbTransport
+operation_start _ = start.Nothing
+
+abbrev pub operates_so : OperationStart → Bool
+operates_so start.Nothing = false
+operates_so _ = true
+
+abbrev pub begins_operation : Word → Bool
+begins_operation v = operates_so (operation_start v)
 
 -- a name behind a comma
 unfoldable pub next_name : Parser (List ℕ)

@@ -1,15 +1,121 @@
+ghost use Rattle.std.specs.Prelude.{◌≡◌};
 ghost use Rattle.model_tree.specs.Views as views;
 ghost use Rattle.parse_expressions.specs.Parse.{Parses};
 ghost use Rattle.parse_actions.specs.Actions as spec;
 
 use super::commas::{next_expression, next_name, optional_next_expression};
 use super::spawning::{spawn, who};
-use super::starts::ActionStart;
 use super::waiting::{notification, waiting};
 use crate::{channel, optional_expression};
 use model_tree::{Action, Control, Expression, Name, ParseStop, Word};
 use parse_expressions::{Cursor, expression};
 use std::alloc::Global;
+
+/// An action, by its word.
+#[derive(Clone, Copy)]
+pub enum ActionStart {
+    /// `write`
+    Write,
+    /// `print`
+    Print,
+    /// `notify`
+    Notify,
+    /// `cancel`
+    Cancel,
+    /// `wait`
+    Wait,
+    /// `next_trigger`
+    NextTrigger,
+    /// `lock`
+    Lock,
+    /// `sem_wait`
+    SemWait,
+    /// `post`
+    Post,
+    /// `make`
+    Make,
+    /// `acquire`
+    Acquire,
+    /// `release`
+    Release,
+    /// `carry`
+    Carry,
+    /// `b_transport`
+    BTransport,
+    /// `qk_global`
+    QkGlobal,
+    /// `qk_inc`
+    QkInc,
+    /// `qk_set`
+    QkSet,
+    /// `qk_reset`
+    QkReset,
+    /// `qk_sync`
+    QkSync,
+    /// `spawn`
+    Spawn,
+    /// A control call.
+    Control(Control),
+    /// `throw_it`
+    ThrowIt,
+    /// `throw`
+    Throw,
+    /// `return`
+    Return,
+    /// `stop`
+    Stop,
+    /// No action.
+    Nothing,
+}
+
+/// The action that begins with this word.
+pub fn action_start(word: Word) -> ActionStart
+    ensures { result ≡ spec.action_start word }
+{
+    match word {
+        Word::Write => ActionStart::Write,
+        Word::Print => ActionStart::Print,
+        Word::Notify => ActionStart::Notify,
+        Word::Cancel => ActionStart::Cancel,
+        Word::Wait => ActionStart::Wait,
+        Word::NextTrigger => ActionStart::NextTrigger,
+        Word::Lock => ActionStart::Lock,
+        Word::SemWait => ActionStart::SemWait,
+        Word::Post => ActionStart::Post,
+        Word::Make => ActionStart::Make,
+        Word::Acquire => ActionStart::Acquire,
+        Word::Release => ActionStart::Release,
+        Word::Carry => ActionStart::Carry,
+        Word::BTransport => ActionStart::BTransport,
+        Word::QkGlobal => ActionStart::QkGlobal,
+        Word::QkInc => ActionStart::QkInc,
+        Word::QkSet => ActionStart::QkSet,
+        Word::QkReset => ActionStart::QkReset,
+        Word::QkSync => ActionStart::QkSync,
+        Word::Spawn => ActionStart::Spawn,
+        Word::Suspend => ActionStart::Control(Control::Suspend),
+        Word::Resume => ActionStart::Control(Control::Resume),
+        Word::Disable => ActionStart::Control(Control::Disable),
+        Word::Enable => ActionStart::Control(Control::Enable),
+        Word::Kill => ActionStart::Control(Control::Kill),
+        Word::Reset => ActionStart::Control(Control::Reset),
+        Word::ThrowIt => ActionStart::ThrowIt,
+        Word::Throw => ActionStart::Throw,
+        Word::Return => ActionStart::Return,
+        Word::Stop => ActionStart::Stop,
+        _ => ActionStart::Nothing,
+    }
+}
+
+/// Whether an action begins with this word.
+pub fn begins_action(word: Word) -> bool
+    ensures { result ≡ spec.begins_action word }
+{
+    match action_start(word) {
+        ActionStart::Nothing => false,
+        _ => true,
+    }
+}
 
 /// The channel that is written, and the value.
 #[tactic(auto, unfolding(crate::specs::Actions::write))]

@@ -3,9 +3,8 @@ ghost use Rattle.model_tree.specs.Views as views;
 ghost use Rattle.parse_expressions.specs.Parse.{Parses};
 ghost use Rattle.parse_actions.specs.Parse as spec;
 
-use super::actions::started_action;
-use super::operations::started_operation;
-use super::starts::{action_start, begins_action, begins_operation, operation_start};
+use super::actions::{action_start, begins_action, started_action};
+use super::operations::{begins_operation, operation_start, started_operation};
 use model_tree::{Action, Operation, ParseStop, Word};
 use parse_expressions::Cursor;
 use std::alloc::Global;

@@ -12,7 +12,6 @@ mod exactly;
 mod operations;
 mod parts;
 mod spawning;
-mod starts;
 mod types;
 mod waiting;
 

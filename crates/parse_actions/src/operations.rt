@@ -1,13 +1,63 @@
+ghost use Rattle.std.specs.Prelude.{◌≡◌};
 ghost use Rattle.model_tree.specs.Views as views;
 ghost use Rattle.parse_expressions.specs.Parse.{Parses};
 ghost use Rattle.parse_actions.specs.Operations as spec;
 
 use super::commas::{next_expression, next_name};
-use super::starts::OperationStart;
 use crate::{arguments, channel};
-use model_tree::{Operation, ParseStop};
+use model_tree::{Operation, ParseStop, Word};
 use parse_expressions::Cursor;
 use std::alloc::Global;
+
+/// An operation, by its word.
+#[derive(Clone, Copy)]
+pub enum OperationStart {
+    /// `call`
+    Call,
+    /// `read`
+    Read,
+    /// `nb_read`
+    NbRead,
+    /// `nb_write`
+    NbWrite,
+    /// `trylock`
+    Trylock,
+    /// `unlock`
+    Unlock,
+    /// `sem_trywait`
+    SemTrywait,
+    /// `nb_transport`
+    NbTransport,
+    /// No operation.
+    Nothing,
+}
+
+/// The operation that begins with this word.
+pub fn operation_start(word: Word) -> OperationStart
+    ensures { result ≡ spec.operation_start word }
+{
+    match word {
+        Word::Call => OperationStart::Call,
+        Word::Read => OperationStart::Read,
+        Word::NbRead => OperationStart::NbRead,
+        Word::NbWrite => OperationStart::NbWrite,
+        Word::Trylock => OperationStart::Trylock,
+        Word::Unlock => OperationStart::Unlock,
+        Word::SemTrywait => OperationStart::SemTrywait,
+        Word::NbTransport => OperationStart::NbTransport,
+        _ => OperationStart::Nothing,
+    }
+}
+
+/// Whether an operation begins with this word.
+pub fn begins_operation(word: Word) -> bool
+    ensures { result ≡ spec.begins_operation word }
+{
+    match operation_start(word) {
+        OperationStart::Nothing => false,
+        _ => true,
+    }
+}
 
 /// A call's function and arguments.
 #[tactic(auto, unfolding(crate::specs::Operations::call))]

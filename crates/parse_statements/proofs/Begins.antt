@@ -9,7 +9,8 @@ use Rattle.parse_actions.specs.ModelGrammar.Tokens.{Tokens}
 use Rattle.parse_actions.specs.ModelGrammar.Expressions.{sees}
 use Rattle.parse_actions.specs.ModelGrammar.Statements.{DerivesOperation, DerivesStatement}
 use Rattle.parse_actions.specs.ParseExpressions.Parse.{is_the_word}
-use Rattle.parse_actions.specs.Parse.{begins_operation, begins_action}
+use Rattle.parse_actions.specs.Operations.{begins_operation}
+use Rattle.parse_actions.specs.Actions.{begins_action}
 use Rattle.parse_actions.proofs.Laws.{operation_begins_no, operation_begins_no_symbol, action_begins_no, action_begins_no_symbol}
 use Rattle.parse_statements.specs.Parse.{at_right_brace}
 
