@@ -23,62 +23,16 @@ use Rattle.check_reach.proofs.CallGraph.{call_of, of_call, only_true, true_only,
 -- what statements begin
 
 spawn_in : (method : Bool) (a : tree.Action) (f : List ℕ) (line : ℕ) → spawned_in method a ≡ Some f → is_spawn_of method f (tree.act line a) ≡ true
-spawn_in method (tree.write c e) f line h = cc
-spawn_in method (tree.print text e) f line h = cc
-spawn_in method (tree.notify name n) f line h = cc
-spawn_in method (tree.cancel name) f line h = cc
-spawn_in method (tree.wait w) f line h = cc
-spawn_in method (tree.next_trigger w) f line h = cc
-spawn_in method (tree.lock c) f line h = cc
-spawn_in method (tree.sem_wait c) f line h = cc
-spawn_in method (tree.post c) f line h = cc
-spawn_in method (tree.make name n enables) f line h = cc
-spawn_in method (tree.acquire name) f line h = cc
-spawn_in method (tree.release name) f line h = cc
-spawn_in method (tree.carry p m) f line h = cc
-spawn_in method (tree.b_transport socket p delay) f line h = cc
-spawn_in method (tree.qk_global e) f line h = cc
-spawn_in method (tree.qk_inc name e) f line h = cc
-spawn_in method (tree.qk_set name e) f line h = cc
-spawn_in method (tree.qk_reset name) f line h = cc
-spawn_in method (tree.qk_sync name) f line h = cc
 spawn_in method (tree.spawn x) f line h =
     let w = name_if_true (same_way method x.method) x.function f h in
     and_both (same_way method x.method) (bytes_eq x.function f) w.0 (subst (λ n. bytes_eq x.function n ≡ true) w.1 (same_bytes x.function))
-spawn_in method (tree.control c w all) f line h = cc
-spawn_in method (tree.throw_it w name all) f line h = cc
-spawn_in method (tree.throw name) f line h = cc
-spawn_in method (tree.return_ e) f line h = cc
-spawn_in method tree.stop f line h = cc
+spawn_in method _ f line h = cc
 
 in_spawn : (method : Bool) (a : tree.Action) (f : List ℕ) (line : ℕ) → is_spawn_of method f (tree.act line a) ≡ true → spawned_in method a ≡ Some f
-in_spawn method (tree.write c e) f line h = cc
-in_spawn method (tree.print text e) f line h = cc
-in_spawn method (tree.notify name n) f line h = cc
-in_spawn method (tree.cancel name) f line h = cc
-in_spawn method (tree.wait w) f line h = cc
-in_spawn method (tree.next_trigger w) f line h = cc
-in_spawn method (tree.lock c) f line h = cc
-in_spawn method (tree.sem_wait c) f line h = cc
-in_spawn method (tree.post c) f line h = cc
-in_spawn method (tree.make name n enables) f line h = cc
-in_spawn method (tree.acquire name) f line h = cc
-in_spawn method (tree.release name) f line h = cc
-in_spawn method (tree.carry p m) f line h = cc
-in_spawn method (tree.b_transport socket p delay) f line h = cc
-in_spawn method (tree.qk_global e) f line h = cc
-in_spawn method (tree.qk_inc name e) f line h = cc
-in_spawn method (tree.qk_set name e) f line h = cc
-in_spawn method (tree.qk_reset name) f line h = cc
-in_spawn method (tree.qk_sync name) f line h = cc
 in_spawn method (tree.spawn x) f line h =
     let w = and_true (same_way method x.method) (bytes_eq x.function f) h in
     true_name_if (same_way method x.method) x.function w.0 ∙ ap Some (equal_bytes x.function f w.1)
-in_spawn method (tree.control c w all) f line h = cc
-in_spawn method (tree.throw_it w name all) f line h = cc
-in_spawn method (tree.throw name) f line h = cc
-in_spawn method (tree.return_ e) f line h = cc
-in_spawn method tree.stop f line h = cc
+in_spawn method _ f line h = cc
 
 spawn_of : (method : Bool) (s : tree.Statement) (f : List ℕ) → spawned method s ≡ Some f → is_spawn_of method f s ≡ true
 spawn_of method (tree.var line t name e) f h = cc

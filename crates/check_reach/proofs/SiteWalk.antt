@@ -4,6 +4,8 @@ use Rattle.std.specs.Option.{option_or}
 use Rattle.std.proofs.lemmas.List.{map-append}
 use Rattle.std.proofs.lemmas.List.Elements.{filter_map-append}
 use Rattle.model_tree.specs.Tree as tree
+use Rattle.model_tree.specs.Parts as part
+use Rattle.model_tree.proofs.Parts.{linked}
 use Rattle.model_tree.specs.declared.faults.Fault.{Fault}
 use Rattle.model_tree.specs.declared.types.VarType.{VarType}
 use Rattle.model_tree.specs.declared.types.VarType.TheVariants as var_type
@@ -15,7 +17,7 @@ use Rattle.check_expressions.specs.ModelRules.declared.needs.Need.{Need}
 use Rattle.check_expressions.specs.ModelRules.declared.needs.Need.TheVariants as need_of
 use Rattle.check_expressions.specs.ModelRules.Scopes.{Scope, item_scope, with_local, with_parameters, behind, past, in_unwind, locals_in_block}
 use Rattle.check_expressions.specs.ModelRules.Names.{first}
-use Rattle.check_expressions.specs.ModelRules.Sites.{Site, site, of_statement, type_site, variable_type_sites, interface_sites, constant_sites, sites_as, expression_sites, option_sites, argument_sites, place_sites, channel_sites, event_need, event_sites, events_sites, waiting_sites, notification_sites, operation_parts, action_parts, statement_sites, block_sites, else_sites, handler_sites, parameter_sites, answer_sites, function_scope, around_item, item_sites, items_sites, module_sites, modules_sites, top_site, sites}
+use Rattle.check_expressions.specs.ModelRules.Sites.{Site, site, of_statement, type_site, variable_type_sites, interface_sites, constant_sites, sites_as, expression_sites, option_sites, argument_sites, place_sites, channel_sites, event_need, event_sites, events_sites, waiting_sites, notification_sites, operation_parts, access_need, part_sites, action_parts, statement_sites, block_sites, else_sites, handler_sites, parameter_sites, answer_sites, function_scope, around_item, item_sites, items_sites, module_sites, modules_sites, top_site, sites}
 use Rattle.check_expressions.specs.ModelRules.Passes.{fault_at, fault_of, reaches}
 use Rattle.check_expressions.specs.ModelRules.Reach.{Placed, body_of, bodies_in, all_in_statement, all_in_block, all_in_else, all_in_handlers}
 use Rattle.check_expressions.proofs.ModelRules.Firsts.{first_append}
@@ -111,32 +113,24 @@ in_operation s (tree.unlock c) = in_channel s need_of.Mutex c
 in_operation s (tree.sem_trywait c) = in_channel s need_of.Semaphore c
 in_operation s (tree.nb_transport socket p phase delay) = refl
 
+in_part : (s : Scope) (p : part.Part) → Quiet (part_sites s p)
+in_part s (part.name r name) = refl
+in_part s (part.next_name r name) = refl
+in_part s (part.reaching_name r name all) = refl
+in_part s (part.text x) = refl
+in_part s (part.term u e) = in_value s e
+in_part s (part.term_if u e) = in_option s e
+in_part s (part.next_term u e) = in_value s e
+in_part s (part.next_term_if u e) = in_option s e
+in_part s (part.channel u c) = in_channel s (access_need u) c
+in_part s (part.waiting w) = in_waiting s w
+in_part s (part.notification n) = in_notification s n
+in_part s (part.instance x) = both (argument_sites s x.arguments) (events_sites s true x.sensitive) (in_arguments s x.arguments) (in_events s true x.sensitive)
+in_part s (part.process w) = refl
+in_part s (part.reaching_process w all) = refl
+
 in_action : (s : Scope) (a : tree.Action) → Quiet (action_parts s a)
-in_action s (tree.write c e) = both (channel_sites s need_of.Written c) (expression_sites s e) (in_channel s need_of.Written c) (in_value s e)
-in_action s (tree.print text e) = in_option s e
-in_action s (tree.notify name n) = in_notification s n
-in_action s (tree.cancel name) = refl
-in_action s (tree.wait w) = in_waiting s w
-in_action s (tree.next_trigger w) = in_waiting s w
-in_action s (tree.lock c) = in_channel s need_of.Mutex c
-in_action s (tree.sem_wait c) = in_channel s need_of.Semaphore c
-in_action s (tree.post c) = in_channel s need_of.Semaphore c
-in_action s (tree.make name n enables) = both (expression_sites s n) (option_sites s enables) (in_value s n) (in_option s enables)
-in_action s (tree.acquire name) = refl
-in_action s (tree.release name) = refl
-in_action s (tree.carry p m) = refl
-in_action s (tree.b_transport socket p delay) = refl
-in_action s (tree.qk_global e) = in_value s e
-in_action s (tree.qk_inc name e) = in_value s e
-in_action s (tree.qk_set name e) = in_value s e
-in_action s (tree.qk_reset name) = refl
-in_action s (tree.qk_sync name) = refl
-in_action s (tree.spawn x) = both (argument_sites s x.arguments) (events_sites s true x.sensitive) (in_arguments s x.arguments) (in_events s true x.sensitive)
-in_action s (tree.control c w all) = refl
-in_action s (tree.throw_it w name all) = refl
-in_action s (tree.throw name) = refl
-in_action s (tree.return_ e) = in_option s e
-in_action s tree.stop = refl
+in_action s a = linked (λ xs us. Quiet xs) (part_sites s) (part_sites s) (λ xs ys. xs ++ ys) (λ xs ys. xs ++ ys) [] [] (λ xs ys us vs a b. both xs ys a b) (in_part s) refl (part.parts_of a)
 
 in_type : (s : Scope) (t : VarType) → Quiet (variable_type_sites s t)
 in_type s (var_type.Plain t) = refl

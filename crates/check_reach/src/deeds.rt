@@ -38,25 +38,7 @@ fn action_blocks(names: &ModuleNames<'_>, action: &Action) -> bool
         | Action::SemWait(_)
         | Action::BTransport(_, _, _)
         | Action::QkSync(_) => true,
-        Action::Print(_, _)
-        | Action::Notify(_, _)
-        | Action::Cancel(_)
-        | Action::NextTrigger(_)
-        | Action::Post(_)
-        | Action::Make(_, _, _)
-        | Action::Acquire(_)
-        | Action::Release(_)
-        | Action::Carry(_, _)
-        | Action::QkGlobal(_)
-        | Action::QkInc(_, _)
-        | Action::QkSet(_, _)
-        | Action::QkReset(_)
-        | Action::Spawn(_)
-        | Action::Control(_, _, _)
-        | Action::ThrowIt(_, _, _)
-        | Action::Throw(_)
-        | Action::Return(_)
-        | Action::Stop => false,
+        _ => false,
     }
 }
 

@@ -2,6 +2,8 @@
 use Rattle.std.proofs.Common.{◌≡◌, Bool, true, false, List, [], ◌∷◌, ◌++◌, Option, Some, None, refl, ap, ◌∙◌}
 use Rattle.std.specs.Option.{option_or}
 use Rattle.model_tree.specs.Tree as tree
+use Rattle.model_tree.specs.Parts as part
+use Rattle.model_tree.proofs.Parts.{linked}
 use Rattle.model_tree.specs.declared.types.VarType.{VarType}
 use Rattle.model_tree.specs.declared.types.VarType.TheVariants as var_type
 use Rattle.model_tree.specs.declared.types.Interface.{Interface}
@@ -13,7 +15,7 @@ use Rattle.check_actions.specs.ModelRules.Scopes.{Scope, with_local, with_parame
 use Rattle.check_actions.specs.ModelRules.declared.needs.Need.{Need}
 use Rattle.check_actions.specs.ModelRules.declared.needs.Need.TheVariants as need_of
 use Rattle.check_actions.specs.ModelRules.Passes.{doubles, fault_at, fault_of}
-use Rattle.check_actions.specs.ModelRules.Sites.{Site, type_site, variable_type_sites, interface_sites, constant_sites, sites_as, expression_sites, option_sites, argument_sites, place_sites, channel_sites, event_need, event_sites, events_sites, waiting_sites, notification_sites, operation_parts, action_parts, statement_sites, block_sites, else_sites, handler_sites, parameter_sites, answer_sites, function_scope, item_parts}
+use Rattle.check_actions.specs.ModelRules.Sites.{Site, type_site, variable_type_sites, interface_sites, constant_sites, sites_as, expression_sites, option_sites, argument_sites, place_sites, channel_sites, event_need, event_sites, events_sites, waiting_sites, notification_sites, operation_parts, access_need, part_sites, action_parts, statement_sites, block_sites, else_sites, handler_sites, parameter_sites, answer_sites, function_scope, item_parts}
 use Rattle.check_actions.proofs.ModelRules.Firsts.{first_append}
 use Rattle.check_statements.specs.Doubled.{double_local, in_statement, in_block, in_else, in_handlers, in_parameters, in_item}
 
@@ -129,32 +131,24 @@ over_operation s (tree.unlock c) = over_channel s need_of.Mutex c
 over_operation s (tree.sem_trywait c) = over_channel s need_of.Semaphore c
 over_operation s (tree.nb_transport socket p phase delay) = refl
 
+over_part : (s : Scope) (p : part.Part) → IsPassed (part_sites s p)
+over_part s (part.name r name) = refl
+over_part s (part.next_name r name) = refl
+over_part s (part.reaching_name r name all) = refl
+over_part s (part.text x) = refl
+over_part s (part.term u e) = over_value s e
+over_part s (part.term_if u e) = over_option s e
+over_part s (part.next_term u e) = over_value s e
+over_part s (part.next_term_if u e) = over_option s e
+over_part s (part.channel u c) = over_channel s (access_need u) c
+over_part s (part.waiting w) = over_waiting s w
+over_part s (part.notification n) = over_notification s n
+over_part s (part.instance x) = both (argument_sites s x.arguments) (events_sites s true x.sensitive) (over_arguments s x.arguments) (over_events s true x.sensitive)
+over_part s (part.process w) = refl
+over_part s (part.reaching_process w all) = refl
+
 over_action : (s : Scope) (a : tree.Action) → IsPassed (action_parts s a)
-over_action s (tree.write c e) = both (channel_sites s need_of.Written c) (expression_sites s e) (over_channel s need_of.Written c) (over_value s e)
-over_action s (tree.print text e) = over_option s e
-over_action s (tree.notify name n) = over_notification s n
-over_action s (tree.cancel name) = refl
-over_action s (tree.wait w) = over_waiting s w
-over_action s (tree.next_trigger w) = over_waiting s w
-over_action s (tree.lock c) = over_channel s need_of.Mutex c
-over_action s (tree.sem_wait c) = over_channel s need_of.Semaphore c
-over_action s (tree.post c) = over_channel s need_of.Semaphore c
-over_action s (tree.make name n enables) = both (expression_sites s n) (option_sites s enables) (over_value s n) (over_option s enables)
-over_action s (tree.acquire name) = refl
-over_action s (tree.release name) = refl
-over_action s (tree.carry p m) = refl
-over_action s (tree.b_transport socket p delay) = refl
-over_action s (tree.qk_global e) = over_value s e
-over_action s (tree.qk_inc name e) = over_value s e
-over_action s (tree.qk_set name e) = over_value s e
-over_action s (tree.qk_reset name) = refl
-over_action s (tree.qk_sync name) = refl
-over_action s (tree.spawn x) = both (argument_sites s x.arguments) (events_sites s true x.sensitive) (over_arguments s x.arguments) (over_events s true x.sensitive)
-over_action s (tree.control c w all) = refl
-over_action s (tree.throw_it w name all) = refl
-over_action s (tree.throw name) = refl
-over_action s (tree.return_ e) = over_option s e
-over_action s tree.stop = refl
+over_action s a = linked (λ xs us. IsPassed xs) (part_sites s) (part_sites s) (λ xs ys. xs ++ ys) (λ xs ys. xs ++ ys) [] [] (λ xs ys us vs a b. both xs ys a b) (over_part s) refl (part.parts_of a)
 
 -- statements
 
