@@ -1,6 +1,7 @@
 pub mod ValueTypes
 pub mod Code
 pub mod Denotes
+pub mod Facts
 pub mod Typed
 pub mod Reach
 pub mod Blocking

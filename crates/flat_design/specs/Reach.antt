@@ -1,56 +1,22 @@
 -- What a body or a block reaches: the statements inside it, and those of the bodies that they call.
-use Rattle.std.specs.Prelude.{◌≡◌, ℕ, List, [], ◌∷◌, map, Option, Some, None, Contains}
+use Rattle.std.specs.Prelude.{◌≡◌, ℕ, List, [], ◌∷◌, map, Option, Some, Contains}
 use Rattle.flat_design.specs.Code as code
 use Rattle.flat_design.specs.Code.{Statement, Arena, block_at, statement_at, body_at}
+pub use Rattle.flat_design.specs.Facts.{listed}
+use Rattle.flat_design.specs.Facts.{Inner, no_block, choice, loop, guarded, handled, facts}
 use Rattle.flat_design.specs.declared.code.Handler.{Handler}
 use Rattle.flat_design.specs.declared.code.CodeBody.{CodeBody}
 
-abbrev pub listed : {A : Type 0} → Option A → List A
-listed None = []
-listed (Some x) = x ∷ []
-
 -- the blocks of a statement
+abbrev pub blocks_in : Inner → List ℕ
+blocks_in no_block = []
+blocks_in (choice b other) = b ∷ listed other
+blocks_in (loop b) = b ∷ []
+blocks_in (guarded b u) = b ∷ u ∷ []
+blocks_in (handled b handlers) = b ∷ map (λ (h : Handler). h.block) handlers
+
 abbrev pub inner_blocks : Statement → List ℕ
-inner_blocks (code.var i t e) = []
-inner_blocks (code.assign d e) = []
-inner_blocks (code.call x f arguments) = []
-inner_blocks (code.read x ch) = []
-inner_blocks (code.nb_read x ch y) = []
-inner_blocks (code.nb_write x ch t e) = []
-inner_blocks (code.trylock x ch) = []
-inner_blocks (code.unlock x ch) = []
-inner_blocks (code.sem_trywait x ch) = []
-inner_blocks (code.nb_transport x s p phase delay) = []
-inner_blocks (code.write ch t e) = []
-inner_blocks (code.print text e) = []
-inner_blocks (code.notify n) = []
-inner_blocks (code.notify_delta n) = []
-inner_blocks (code.notify_after n e) = []
-inner_blocks (code.cancel n) = []
-inner_blocks (code.wait w) = []
-inner_blocks (code.next_trigger w) = []
-inner_blocks (code.lock ch) = []
-inner_blocks (code.sem_wait ch) = []
-inner_blocks (code.post ch) = []
-inner_blocks (code.make p n enables) = []
-inner_blocks (code.acquire p) = []
-inner_blocks (code.release p) = []
-inner_blocks (code.carry p m) = []
-inner_blocks (code.b_transport s p delay) = []
-inner_blocks (code.qk_global e) = []
-inner_blocks (code.qk_inc n e) = []
-inner_blocks (code.qk_set n e) = []
-inner_blocks (code.qk_reset n) = []
-inner_blocks (code.spawn s) = []
-inner_blocks (code.control k who all) = []
-inner_blocks (code.throw_it who n all) = []
-inner_blocks (code.throw n) = []
-inner_blocks (code.return_ e) = []
-inner_blocks code.stop = []
-inner_blocks (code.if_ e b other) = b ∷ listed other
-inner_blocks (code.while_ e b) = b ∷ []
-inner_blocks (code.guard b u) = b ∷ u ∷ []
-inner_blocks (code.try_ b handlers) = b ∷ map (λ (h : Handler). h.block) handlers
+inner_blocks s = blocks_in (facts s).inner
 
 -- a statement of a block
 pub record IsIn (a : Arena) (b : ℕ) (s : Statement) : Type 0 where

@@ -10,6 +10,7 @@ use Rattle.flat_design.specs.Code.{Statement, Arena, arena_of, body_at}
 use Rattle.flat_design.specs.ValueTypes.{type_of_value}
 use Rattle.flat_design.specs.Denotes.{denoted_at}
 use Rattle.flat_design.specs.Typed.{IsTyped, ChannelOffers, EachOf, parameters_of}
+use Rattle.flat_design.specs.Facts.{Waiting, for_nothing, for_channel, for_fifo, for_events, for_return, next_time, Called, no_call, function, nonblocking, blocking, facts}
 use Rattle.flat_design.specs.Reach.{IsIn, InBody, Reached, inner_blocks}
 use Rattle.flat_design.specs.Blocking.{DoesNotBlock, IsPlain, SetsNoTrigger}
 use Rattle.flat_design.specs.declared.value_types.ValueType.{ValueType}
@@ -151,93 +152,29 @@ events_of_await (code.for_ e) = 0
 events_of_await (code.any es t) = length es
 events_of_await (code.all es t) = length es
 
+abbrev pub events_waited_for : Waiting → ℕ
+events_waited_for for_nothing = 0
+events_waited_for for_channel = 1
+events_waited_for (for_fifo n) = 1
+events_waited_for (for_events w) = events_of_await w
+events_waited_for for_return = 0
+events_waited_for (next_time w) = events_of_await w
+
 abbrev pub events_of : Statement → ℕ
-events_of (code.var i t e) = 0
-events_of (code.assign to e) = 0
-events_of (code.call x f arguments) = 0
-events_of (code.read x ch) = 1
-events_of (code.nb_read x ch y) = 0
-events_of (code.nb_write x ch t e) = 0
-events_of (code.trylock x ch) = 0
-events_of (code.unlock x ch) = 0
-events_of (code.sem_trywait x ch) = 0
-events_of (code.nb_transport x s p phase delay) = 0
-events_of (code.write ch t e) = 1
-events_of (code.print text e) = 0
-events_of (code.notify n) = 0
-events_of (code.notify_delta n) = 0
-events_of (code.notify_after n e) = 0
-events_of (code.cancel n) = 0
-events_of (code.wait w) = events_of_await w
-events_of (code.next_trigger w) = events_of_await w
-events_of (code.lock ch) = 1
-events_of (code.sem_wait ch) = 1
-events_of (code.post ch) = 0
-events_of (code.make p n enables) = 0
-events_of (code.acquire p) = 0
-events_of (code.release p) = 0
-events_of (code.carry p m) = 0
-events_of (code.b_transport s p delay) = 0
-events_of (code.qk_global e) = 0
-events_of (code.qk_inc n e) = 0
-events_of (code.qk_set n e) = 0
-events_of (code.qk_reset n) = 0
-events_of (code.spawn s) = 0
-events_of (code.control asked who all) = 0
-events_of (code.throw_it who n all) = 0
-events_of (code.throw n) = 0
-events_of (code.return_ e) = 0
-events_of code.stop = 0
-events_of (code.if_ e b other) = 0
-events_of (code.while_ e b) = 0
-events_of (code.guard b u) = 0
-events_of (code.try_ b handlers) = 0
+events_of s = events_waited_for (facts s).waiting
 
 -- the room of a body suffices for a call that it makes
 abbrev pub RoomForCall : Arena → ℕ → ℕ → Type 0
 RoomForCall a room f = (b : CodeBody) → body_at a f ≡ Some b → b.room ≤ room
 
+abbrev pub RoomForCalled : Design → ℕ → ℕ → Called → Type 0
+RoomForCalled d home room no_call = ⊤
+RoomForCalled d home room (function x f arguments) = RoomForCall (arena_of d.code) room f
+RoomForCalled d home room (nonblocking x s p phase delay) = ⊤
+RoomForCalled d home room (blocking s p delay) = (n : ℕ) (forward : Bool) (hop : Hop) (f : ℕ) → denoted_at d home s ≡ denoted.Socket n forward → slice_get d.hops n ≡ Some hop → hop.blocking ≡ Some f → RoomForCall (arena_of d.code) room f
+
 abbrev pub RoomSuffices : Design → ℕ → ℕ → Statement → Type 0
-RoomSuffices d home room (code.var i t e) = ⊤
-RoomSuffices d home room (code.assign to e) = ⊤
-RoomSuffices d home room (code.call x f arguments) = RoomForCall (arena_of d.code) room f
-RoomSuffices d home room (code.read x ch) = ⊤
-RoomSuffices d home room (code.nb_read x ch y) = ⊤
-RoomSuffices d home room (code.nb_write x ch t e) = ⊤
-RoomSuffices d home room (code.trylock x ch) = ⊤
-RoomSuffices d home room (code.unlock x ch) = ⊤
-RoomSuffices d home room (code.sem_trywait x ch) = ⊤
-RoomSuffices d home room (code.nb_transport x s p phase delay) = ⊤
-RoomSuffices d home room (code.write ch t e) = ⊤
-RoomSuffices d home room (code.print text e) = ⊤
-RoomSuffices d home room (code.notify n) = ⊤
-RoomSuffices d home room (code.notify_delta n) = ⊤
-RoomSuffices d home room (code.notify_after n e) = ⊤
-RoomSuffices d home room (code.cancel n) = ⊤
-RoomSuffices d home room (code.wait w) = ⊤
-RoomSuffices d home room (code.next_trigger w) = ⊤
-RoomSuffices d home room (code.lock ch) = ⊤
-RoomSuffices d home room (code.sem_wait ch) = ⊤
-RoomSuffices d home room (code.post ch) = ⊤
-RoomSuffices d home room (code.make p n enables) = ⊤
-RoomSuffices d home room (code.acquire p) = ⊤
-RoomSuffices d home room (code.release p) = ⊤
-RoomSuffices d home room (code.carry p m) = ⊤
-RoomSuffices d home room (code.b_transport s p delay) = (n : ℕ) (forward : Bool) (hop : Hop) (f : ℕ) → denoted_at d home s ≡ denoted.Socket n forward → slice_get d.hops n ≡ Some hop → hop.blocking ≡ Some f → RoomForCall (arena_of d.code) room f
-RoomSuffices d home room (code.qk_global e) = ⊤
-RoomSuffices d home room (code.qk_inc n e) = ⊤
-RoomSuffices d home room (code.qk_set n e) = ⊤
-RoomSuffices d home room (code.qk_reset n) = ⊤
-RoomSuffices d home room (code.spawn s) = ⊤
-RoomSuffices d home room (code.control asked who all) = ⊤
-RoomSuffices d home room (code.throw_it who n all) = ⊤
-RoomSuffices d home room (code.throw n) = ⊤
-RoomSuffices d home room (code.return_ e) = ⊤
-RoomSuffices d home room code.stop = ⊤
-RoomSuffices d home room (code.if_ e b other) = ⊤
-RoomSuffices d home room (code.while_ e b) = ⊤
-RoomSuffices d home room (code.guard b u) = ⊤
-RoomSuffices d home room (code.try_ b handlers) = ⊤
+RoomSuffices d home room s = RoomForCalled d home room (facts s).called
 
 -- A statement of a body, in an instance of its module.
 abbrev pub EachStatement : Design → (ℕ → ℕ → CodeBody → Statement → Type 0) → Type 0
