@@ -66,42 +66,7 @@ fn add_targets(
     ensures { OnOk result (targets.new.items ≡ targets.old.items ++ spec.targets_of (arena_of code.now) (statement_of statement.now)) }
 {
     match statement {
-        Statement::Var(_, _, _) => Ok(()),
-        Statement::Assign(_, _) => Ok(()),
         Statement::Call(_, body, _) => add_body(code, *body, targets),
-        Statement::Read(_, _) => Ok(()),
-        Statement::NbRead(_, _, _) => Ok(()),
-        Statement::NbWrite(_, _, _, _) => Ok(()),
-        Statement::Trylock(_, _) => Ok(()),
-        Statement::Unlock(_, _) => Ok(()),
-        Statement::SemTrywait(_, _) => Ok(()),
-        Statement::NbTransport(_, _, _, _, _) => Ok(()),
-        Statement::Write(_, _, _) => Ok(()),
-        Statement::Print(_, _) => Ok(()),
-        Statement::Notify(_) => Ok(()),
-        Statement::NotifyDelta(_) => Ok(()),
-        Statement::NotifyAfter(_, _) => Ok(()),
-        Statement::Cancel(_) => Ok(()),
-        Statement::Wait(_) => Ok(()),
-        Statement::NextTrigger(_) => Ok(()),
-        Statement::Lock(_) => Ok(()),
-        Statement::SemWait(_) => Ok(()),
-        Statement::Post(_) => Ok(()),
-        Statement::Make(_, _, _) => Ok(()),
-        Statement::Acquire(_) => Ok(()),
-        Statement::Release(_) => Ok(()),
-        Statement::Carry(_, _) => Ok(()),
-        Statement::BTransport(_, _, _) => Ok(()),
-        Statement::QkGlobal(_) => Ok(()),
-        Statement::QkInc(_, _) => Ok(()),
-        Statement::QkSet(_, _) => Ok(()),
-        Statement::QkReset(_) => Ok(()),
-        Statement::Spawn(_) => Ok(()),
-        Statement::Control(_, _, _) => Ok(()),
-        Statement::ThrowIt(_, _, _) => Ok(()),
-        Statement::Throw(_) => Ok(()),
-        Statement::Return(_) => Ok(()),
-        Statement::Stop => Ok(()),
         Statement::If(_, block, other) => {
             add(*block, targets)?;
             add_written(*other, targets)
@@ -115,6 +80,7 @@ fn add_targets(
             add(*block, targets)?;
             add_handlers(handlers.as_slice(), targets)
         }
+        _ => Ok(()),
     }
 }
 
