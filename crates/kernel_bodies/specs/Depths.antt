@@ -1,7 +1,7 @@
 -- The inner blocks and the handlers of a statement, by its number; and how many layers a block may need inside it.
 use Rattle.std.specs.Prelude.{◌<◌, ◌≤◌, ◌+◌, ℕ, List, [], ◌∷◌, Option, Some, None, slice_index, Contains}
-use Rattle.sim_model.specs.FlatDesign.Code as code
 use Rattle.sim_model.specs.FlatDesign.Code.{Arena, Statement, block_at, statement_at, body_at}
+use Rattle.sim_model.specs.FlatDesign.Facts.{Inner, no_block, choice, loop, guarded, handled, facts}
 use Rattle.sim_model.specs.FlatDesign.Reach.{inner_blocks}
 use Rattle.sim_model.specs.FlatDesign.declared.code.Handler.{Handler}
 use Rattle.sim_model.specs.FlatDesign.declared.code.CodeBody.{CodeBody}
@@ -14,47 +14,15 @@ blocks_in (Some s) = inner_blocks s
 abbrev pub blocks_of : Arena → ℕ → List ℕ
 blocks_of a s = blocks_in (statement_at a s)
 
+abbrev pub handlers_by : Inner → List Handler
+handlers_by no_block = []
+handlers_by (choice b other) = []
+handlers_by (loop b) = []
+handlers_by (guarded b u) = []
+handlers_by (handled b handlers) = handlers
+
 abbrev pub handlers_in : Statement → List Handler
-handlers_in (code.var i t e) = []
-handlers_in (code.assign d e) = []
-handlers_in (code.call x f arguments) = []
-handlers_in (code.read x ch) = []
-handlers_in (code.nb_read x ch y) = []
-handlers_in (code.nb_write x ch t e) = []
-handlers_in (code.trylock x ch) = []
-handlers_in (code.unlock x ch) = []
-handlers_in (code.sem_trywait x ch) = []
-handlers_in (code.nb_transport x s p phase delay) = []
-handlers_in (code.write ch t e) = []
-handlers_in (code.print text e) = []
-handlers_in (code.notify n) = []
-handlers_in (code.notify_delta n) = []
-handlers_in (code.notify_after n e) = []
-handlers_in (code.cancel n) = []
-handlers_in (code.wait w) = []
-handlers_in (code.next_trigger w) = []
-handlers_in (code.lock ch) = []
-handlers_in (code.sem_wait ch) = []
-handlers_in (code.post ch) = []
-handlers_in (code.make p n enables) = []
-handlers_in (code.acquire p) = []
-handlers_in (code.release p) = []
-handlers_in (code.carry p m) = []
-handlers_in (code.b_transport s p delay) = []
-handlers_in (code.qk_global e) = []
-handlers_in (code.qk_inc n e) = []
-handlers_in (code.qk_set n e) = []
-handlers_in (code.qk_reset n) = []
-handlers_in (code.spawn s) = []
-handlers_in (code.control k who all) = []
-handlers_in (code.throw_it who n all) = []
-handlers_in (code.throw n) = []
-handlers_in (code.return_ e) = []
-handlers_in code.stop = []
-handlers_in (code.if_ e b other) = []
-handlers_in (code.while_ e b) = []
-handlers_in (code.guard b u) = []
-handlers_in (code.try_ b handlers) = handlers
+handlers_in s = handlers_by (facts s).inner
 
 abbrev pub handlers_if : Option Statement → List Handler
 handlers_if None = []
