@@ -8,7 +8,6 @@ use Rattle.sim_model.specs.SignalChannel.Signals.{conflict_of}
 use Rattle.sim_model.specs.SignalChannel.declared.signal.Signal.{Signal}
 use Rattle.sim_model.specs.SignalChannel.declared.signal.WriterConflict.{WriterConflict}
 use Rattle.sim_model.specs.QuantumKeeper.declared.keeper.Keeper.{Keeper}
-use Rattle.sim_model.specs.QuantumKeeper.Keepers.{after_reset, after_inc, with_local}
 use Rattle.sim_model.specs.ModelTree.declared.expressions.BinaryOp.{BinaryOp}
 use Rattle.sim_model.specs.ModelTree.declared.expressions.BinaryOp.TheVariants as op
 use Rattle.sim_model.specs.ModelTree.declared.statements.Control.{Control}
@@ -41,12 +40,12 @@ use Rattle.sim_model.specs.Unwinding.{catches}
 use Rattle.sim_model.specs.Configuration.{Config, Instance, arena, instance_at}
 use Rattle.sim_model.specs.Payloads.{payload_of}
 use Rattle.sim_model.specs.Waits.{deadline_in}
-use Rattle.sim_model.specs.Reading.{Here, denotes, channel_or, port_channel, channel_of, channel_here, read_denoted, read_name, process_of, payload_handle_of, not_empty, not_freed, payload_number, live_payload, payload_here, member_of_channel, sync_needed, keeper_at, keeper_here, keeper_member, member_value, byte_in, payload_bytes, memory_here, val, val_if, place_in}
+use Rattle.sim_model.specs.Reading.{Here, denotes, channel_or, port_channel, channel_of, channel_here, read_denoted, read_name, process_of, payload_handle_of, not_empty, not_freed, payload_number, live_payload, payload_here, member_of_channel, sync_needed, keeper_here, keeper_member, member_value, byte_in, payload_bytes, memory_here, val, val_if, place_in}
 use Rattle.sim_model.specs.Storing.{passes, bytes_in, do_assign}
 use Rattle.sim_model.specs.Waiting.{object_event, named_object_event, event_of, places_in, events_at, time_if, deadline_if, awaits, awaited, when_after, do_notify_after}
 use Rattle.sim_model.specs.Channels.{channel_in, written_unless, write_signal, write_channel, do_write, do_nb_write}
 use Rattle.sim_model.specs.Calls.{locals_in, argument_value, argument_values, may_enter, do_call, thrown, may_spawn, first_arguments, do_spawn}
-use Rattle.sim_model.specs.Transport.{size_within, size_or, may_make, do_make, kept, with_keeper, keeper_named, on_keeper, do_qk_inc, do_qk_set, do_qk_reset, may_enter_handler, do_b_transport, do_nb_transport}
+use Rattle.sim_model.specs.Transport.{size_within, size_or, may_make, do_make, kept, on_keeper, may_enter_handler, do_b_transport, do_nb_transport}
 use Rattle.sim_model.specs.Statements.{do_statement, owed_call, owed_by}
 use Rattle.sim_model.specs.Control.{is_top, is_below_top, is_thread, ends_or_restarts, injected, throws_at, controlled_by, unless_ended, control_call, throw_call, target_of, do_control, do_throw_it}
 
@@ -405,15 +404,6 @@ module _ (B : ℕ → ℕ → ℕ → Type 0) where
     call_statement : (s f : ℕ) (arguments : List ArgumentTerm) → IfFault (do_call c p r h s f arguments)
     call_statement s f arguments = then_on (argument_values h (locals_in (body_at (arena c) f)) 0 arguments) _ (arguments_are h _ 0 arguments) (λ vs. then_on (may_enter r) _ (enter-fault r) (λ ok. tt))
 
-    inc_statement : (n : ℕ) (e : Term) → IfFault (do_qk_inc c p r h n e)
-    inc_statement n e = then_on (val h e) _ (val_is h e) (λ v. on_keeper_is (passes c p r) _ _ (λ k. kept_is (passes c p r) (keeper_named h n) (after_inc k (moment v))))
-
-    set_statement : (n : ℕ) (e : Term) → IfFault (do_qk_set c p r h n e)
-    set_statement n e = then_on (val h e) _ (val_is h e) (λ v. on_keeper_is (passes c p r) (keeper_at c (keeper_named h n)) (λ k. Ok (with_keeper (passes c p r) (keeper_named h n) (with_local k (moment v)))) (λ k. tt))
-
-    reset_statement : (n : ℕ) → IfFault (do_qk_reset c p r h n)
-    reset_statement n = on_keeper_is (passes c p r) _ _ (λ k. kept_is (passes c p r) (keeper_named h n) (after_reset c.quantum.global c.cycle.now))
-
     after_statement : (n : ℕ) (e : Term) → IfFault (do_notify_after c p r h n e)
     after_statement n e = then_on (val h e) _ (val_is h e) (λ v. then_on (when_after c.cycle.now (moment v)) _ (when_is h c.cycle.now (moment v)) (λ w. tt))
 
@@ -452,9 +442,6 @@ module _ (B : ℕ → ℕ → ℕ → Type 0) where
     statement-fault s (code.carry n m) one two = on_payload_is n _
     statement-fault s (code.b_transport socket n d) one two = one socket n d refl
     statement-fault s (code.qk_global e) one two = then_on (val h e) _ (val_is h e) (λ v. tt)
-    statement-fault s (code.qk_inc n e) one two = inc_statement n e
-    statement-fault s (code.qk_set n e) one two = set_statement n e
-    statement-fault s (code.qk_reset n) one two = reset_statement n
     statement-fault s (code.spawn x) one two = spawn_statement x
     statement-fault s (code.control k who all) one two = control_statement s k who all
     statement-fault s (code.throw_it who e all) one two = throw_it_statement s who e all
@@ -462,7 +449,7 @@ module _ (B : ℕ → ℕ → ℕ → Type 0) where
     statement-fault s (code.return_ e) one two = then_on (val_if h e) _ (val_if_is h e) (λ v. tt)
     statement-fault s (code.if_ e b other) one two = then_on (val h e) _ (val_is h e) (λ v. tt)
     statement-fault s (code.while_ e b) one two = then_on (val h e) _ (val_is h e) (λ v. tt)
-    statement-fault s other one two = tt
+    statement-fault s other one two = search (then_on, val_is h, on_keeper_is (passes c p r), kept_is (passes c p r))
 
   pub begin-fault : (now t : ℕ) (f : ℕ → Result Config RunFault) → ((e : ℕ) → IfFault (f e)) → IfFault (on_ok (time_within (now + t)) f)
   begin-fault now t f h = then_on (time_within (now + t)) f (time_is (now + t)) h

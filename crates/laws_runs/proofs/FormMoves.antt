@@ -39,7 +39,7 @@ use Rattle.sim_model.specs.Storing.{passes, set_payload, chosen, looped, do_var,
 use Rattle.sim_model.specs.Waiting.{channel_event, on_event, event_number, notified_now, do_wait, do_next_trigger, do_notify, do_notify_delta, do_notify_after, do_cancel, do_stop}
 use Rattle.sim_model.specs.Channels.{blocks, set_fifo, set_mutex, set_semaphore, taken_from, fifo_here, write_fifo, write_channel, channel_in, do_write, read_value, read_fifo, do_read, nb_read_value, nb_read_fifo, do_nb_read, nb_write_fifo, do_nb_write, lock_mutex, lock_at, do_lock, do_trylock, do_unlock, sem_wait_value, sem_wait_at, do_sem_wait, do_sem_trywait, do_post}
 use Rattle.sim_model.specs.Calls.{with_left, enters, thrown, do_call, do_return, do_guard, do_try, new_instance, added, runnable_unless, spawns, do_spawn}
-use Rattle.sim_model.specs.Transport.{history, socket_of, may_enter_handler, value_named, int_of, path_of_call, is_complete, with_pool, with_global, do_make, do_acquire, do_release, do_carry, judged_by, enters_handler, blocking_handler, nonblocking_handler, b_transport_on, nb_transport_on, do_qk_global, do_qk_inc, do_qk_set, do_qk_reset}
+use Rattle.sim_model.specs.Transport.{history, socket_of, may_enter_handler, value_named, int_of, path_of_call, is_complete, with_pool, with_global, do_make, do_acquire, do_release, do_carry, judged_by, enters_handler, blocking_handler, nonblocking_handler, b_transport_on, nb_transport_on, do_qk_global}
 use Rattle.sim_model.specs.Control.{with_owed, do_control, do_throw_it}
 use Rattle.sim_model.specs.Statements.{do_statement}
 use Rattle.sim_model.specs.declared.plain.Goal.TheVariants as goal_of
@@ -247,15 +247,6 @@ module _ (who : Option ℕ) (o c : Config) (p : ℕ) (r : Residual) (t : InTurn 
   qk_global-moves : (e : Term) → IfOk (do_qk_global c p r h e) (Moves who o)
   qk_global-moves e = search (if-ok who o, global_moves)
 
-  qk_inc-moves : (k : ℕ) (e : Term) → IfOk (do_qk_inc c p r h k e) (Moves who o)
-  qk_inc-moves k e = search (if-ok who o, on_keeper-moves who o p t.is_turn, kept-moves who o p t.is_turn, passed)
-
-  qk_set-moves : (k : ℕ) (e : Term) → IfOk (do_qk_set c p r h k e) (Moves who o)
-  qk_set-moves k e = search (if-ok who o, on_keeper-moves who o p t.is_turn, keeper-moves who o p t.is_turn, passed)
-
-  qk_reset-moves : (k : ℕ) → IfOk (do_qk_reset c p r h k) (Moves who o)
-  qk_reset-moves k = search (on_keeper-moves who o p t.is_turn, kept-moves who o p t.is_turn, passed)
-
   -- ---- functions, guards, exceptions and control
 
   called_moves : (x : Option Target) (f : ℕ) (arguments : List ArgumentTerm) → statement_at (arena c) n ≡ Some (code.call x f arguments) → (vs : List Value) → Moves who o (enters c p r n f vs None)
@@ -388,9 +379,6 @@ module _ (who : Option ℕ) (o c : Config) (p : ℕ) (r : Residual) (t : InTurn 
   form-moves (code.carry k x) found = carry-moves k x
   form-moves (code.b_transport socket k d) found = b_transport_moves socket k d found (socket_of (denotes h socket))
   form-moves (code.qk_global e) found = qk_global-moves e
-  form-moves (code.qk_inc k e) found = qk_inc-moves k e
-  form-moves (code.qk_set k e) found = qk_set-moves k e
-  form-moves (code.qk_reset k) found = qk_reset-moves k
   form-moves (code.spawn x) found = spawn-moves x found
   form-moves (code.control k whom all) found = control-form k whom all found
   form-moves (code.throw_it whom e all) found = throw_it-form whom e all found
@@ -401,3 +389,4 @@ module _ (who : Option ℕ) (o c : Config) (p : ℕ) (r : Residual) (t : InTurn 
   form-moves (code.while_ e b) found = while-moves e b found
   form-moves (code.guard b u) found = guard-moves b u found
   form-moves (code.try_ b handlers) found = try-moves b handlers found
+  form-moves other found = search (if-ok who o, on_keeper-moves who o p t.is_turn, kept-moves who o p t.is_turn, keeper-moves who o p t.is_turn, passed)

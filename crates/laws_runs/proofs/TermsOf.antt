@@ -4,7 +4,7 @@ use Rattle.sim_model.specs.FlatDesign.Code as code
 use Rattle.sim_model.specs.FlatDesign.Code.{Term, ChannelTerm, EventTerm, AwaitTerm, ArgumentTerm, Statement, Arena}
 use Rattle.sim_model.specs.FlatDesign.Denotes.{Context}
 use Rattle.sim_model.specs.FlatDesign.Typed.{HasType, Gives, GivesInteger, GivesTime, IfWritten, EachOf, PlaceFits, IsEventAt, IsEventUse, IsAwait, AreArguments, AreFirstArguments, IsReturned, IsDestination, IsPrinted, IsTyped}
-use Rattle.sim_model.specs.FlatDesign.Reach.{listed}
+use Rattle.sim_model.specs.FlatDesign.Facts.{listed, terms_of_events, terms_of_await, terms_of_arguments, terms_of_destination}
 use Rattle.sim_model.specs.FlatDesign.declared.value_types.ValueType.{ValueType}
 use Rattle.sim_model.specs.FlatDesign.declared.value_types.ValueType.TheVariants as type
 use Rattle.sim_model.specs.FlatDesign.declared.names.NameUse.{NameUse}
@@ -12,7 +12,7 @@ use Rattle.sim_model.specs.FlatDesign.declared.names.NameUse.TheVariants as name
 use Rattle.sim_model.specs.FlatDesign.declared.names.EventMember.{EventMember}
 use Rattle.sim_model.specs.FlatDesign.declared.code.Local.{Local}
 use Rattle.laws_runs.proofs.EachLists.{each-more}
-use Rattle.laws_runs.specs.Terms.{terms_of_events, terms_of_await, terms_of_arguments, terms_of_destination, terms_of}
+use Rattle.laws_runs.specs.Terms.{terms_of}
 
 module _ (c : Context) where
   abbrev pub IsSome : Term → Type 0
@@ -92,34 +92,16 @@ module _ (c : Context) where
   terms-typed a m answer (code.trylock x ch) h = placed ch h.0.1
   terms-typed a m answer (code.unlock x ch) h = placed ch h.0.1
   terms-typed a m answer (code.sem_trywait x ch) h = placed ch h.0.1
-  terms-typed a m answer (code.nb_transport x s p phase delay) h = tt
   terms-typed a m answer (code.write ch t e) h = placed_with ch t e (⊎_elim (λ u. u.1) (λ u. u.1) h.0) h.1
   terms-typed a m answer (code.print text e) h = if_written (IsPrinted c) (λ x g. (g.0, g.1)) e h
-  terms-typed a m answer (code.notify n) h = tt
-  terms-typed a m answer (code.notify_delta n) h = tt
-  terms-typed a m answer (code.notify_after n e) h = (time e h.1, tt)
-  terms-typed a m answer (code.cancel n) h = tt
   terms-typed a m answer (code.wait w) h = await_typed w h
   terms-typed a m answer (code.next_trigger w) h = await_typed w h
   terms-typed a m answer (code.lock ch) h = placed ch h.1
   terms-typed a m answer (code.sem_wait ch) h = placed ch h.1
   terms-typed a m answer (code.post ch) h = placed ch h.1
   terms-typed a m answer (code.make p n enables) h = (integer n h.1, if_written (GivesInteger c) integer enables h.2)
-  terms-typed a m answer (code.acquire p) h = tt
-  terms-typed a m answer (code.release p) h = tt
-  terms-typed a m answer (code.carry p x) h = tt
-  terms-typed a m answer (code.b_transport s p delay) h = tt
-  terms-typed a m answer (code.qk_global e) h = (time e h, tt)
-  terms-typed a m answer (code.qk_inc n e) h = (time e h.1, tt)
-  terms-typed a m answer (code.qk_set n e) h = (time e h.1, tt)
-  terms-typed a m answer (code.qk_reset n) h = tt
   terms-typed a m answer (code.spawn s) h = first_typed _ s.arguments h.2
-  terms-typed a m answer (code.control k who all) h = tt
-  terms-typed a m answer (code.throw_it who n all) h = tt
-  terms-typed a m answer (code.throw n) h = tt
   terms-typed a m answer (code.return_ e) h = returned_typed answer e h
-  terms-typed a m answer code.stop h = tt
   terms-typed a m answer (code.if_ e b other) h = ((type.Bool, h), tt)
   terms-typed a m answer (code.while_ e b) h = ((type.Bool, h), tt)
-  terms-typed a m answer (code.guard b u) h = tt
-  terms-typed a m answer (code.try_ b handlers) h = tt
+  terms-typed a m answer other h = search (time)

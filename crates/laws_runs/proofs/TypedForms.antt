@@ -57,13 +57,13 @@ use Rattle.sim_model.specs.Values.{on_ok, bits, moment, signed, cut_to, index_wi
 use Rattle.sim_model.specs.Residual.{Residual, Frame, skip, batch, guard, try_, followed, block, entered, put, innermost, next_of, statement}
 use Rattle.sim_model.specs.Unwinding.{returned}
 use Rattle.sim_model.specs.Configuration.{Config, Instance, Wait, waits_for_any, Deadline, no_deadline, change_instance, instance_at, with_residual}
-use Rattle.sim_model.specs.Reading.{far_home, read_denoted, Here, here, denotes, val, val_if, place_in, payload_number, live_payload, memory_number, memory_here, keeper_at}
+use Rattle.sim_model.specs.Reading.{far_home, read_denoted, Here, here, denotes, val, val_if, place_in, payload_number, live_payload, memory_number, memory_here}
 use Rattle.sim_model.specs.Storing.{passes, set_name, stored, stored_if, set_memory, set_payload, low_byte, with_field, with_byte, first_value, chosen, looped, do_var, do_assign, do_print, do_if, do_while}
 use Rattle.sim_model.specs.Waits.{notify, waits, fire}
 use Rattle.sim_model.specs.Waiting.{channel_event, awaited, when_after, cancelled, on_event, event_number, notified_now, do_wait, do_next_trigger, do_notify, do_notify_delta, do_notify_after, do_cancel}
 use Rattle.sim_model.specs.Channels.{mutex_of, semaphore_of, element, set_fifo, taken_from, blocks, written_unless, write_signal, write_fifo, write_channel, channel_in, do_write, fifo_of, fifo_here, with_fifo, read_value, read_fifo, do_read, nb_read_value, nb_read_fifo, do_nb_read, nb_write_fifo, do_nb_write, answered, set_mutex, set_semaphore, lock_mutex, lock_at, trylock_mutex, trylock_at, unlock_mutex, unlock_at, sem_wait_value, sem_wait_at, sem_trywait_value, sem_trywait_at, post_value, post_at}
 use Rattle.sim_model.specs.Calls.{thrown, argument_values, locals_in, may_enter, answer_in, answer_type, cut_answer, do_call, do_return, do_guard, do_try, new_instance, added, runnable_unless, handle_stored, first_arguments, may_spawn, do_spawn}
-use Rattle.sim_model.specs.Transport.{socket_of, may_enter_handler, value_or, value_named, int_of, path_of_call, is_complete, history, judged_by, enters_handler, blocking_handler, nonblocking_handler, b_transport_on, nb_transport_on, may_make, keeper_named, size_within, size_or, with_pool, do_make, do_acquire, do_release, do_carry, kept, on_keeper, do_qk_global, do_qk_inc, do_qk_set, do_qk_reset}
+use Rattle.sim_model.specs.Transport.{socket_of, may_enter_handler, value_or, value_named, int_of, path_of_call, is_complete, history, judged_by, enters_handler, blocking_handler, nonblocking_handler, b_transport_on, nb_transport_on, may_make, size_within, size_or, with_pool, do_make, do_acquire, do_release, do_carry, kept, on_keeper, do_qk_global, with_keeper}
 use Rattle.sim_model.specs.Control.{target_of, targets, with_owed, control_call, throw_call, do_control, do_throw_it}
 use Rattle.laws_runs.proofs.Changes.{change-here}
 use Rattle.laws_runs.specs.Standing.{code_of, place_of, IsStanding}
@@ -540,17 +540,14 @@ module _ (c : Config) (p : ℕ) (i : Instance) (at : instance_at c p ≡ Some i)
     on_keeper_fits None g each = passed.0
     on_keeper_fits (Some y) g each = each y
 
+    if-each : {A : Type 0} (m : Result A RunFault) (f : A → Result Config RunFault) → ((y : A) → IfOk (f y) (Fits d)) → IfOk (on_ok m f) (Fits d)
+    if-each m f each = if-any (Fits d) m f each
+
+    keeper_kept : (o : Option ℕ) (y : Keeper) → Fits d (with_keeper (passes c p r) o y)
+    keeper_kept o y = keeper-fits d (passes c p r) o y passed.0
+
     qk_global-form : (e : Term) → IfOk (do_qk_global c p r h e) (Fits d)
     qk_global-form e = if-any (Fits d) (val h e) _ (λ v. passed.0)
-
-    qk_inc-form : (m : ℕ) (e : Term) → IfOk (do_qk_inc c p r h m e) (Fits d)
-    qk_inc-form m e = if-any (Fits d) (val h e) _ (λ v. on_keeper_fits (keeper_at c (keeper_named h m)) _ (λ y. kept_fits (keeper_named h m) _))
-
-    qk_set-form : (m : ℕ) (e : Term) → IfOk (do_qk_set c p r h m e) (Fits d)
-    qk_set-form m e = if-any (Fits d) (val h e) _ (λ v. on_keeper_fits (keeper_at c (keeper_named h m)) _ (λ y. keeper-fits d (passes c p r) (keeper_named h m) _ passed.0))
-
-    qk_reset-form : (m : ℕ) → IfOk (do_qk_reset c p r h m) (Fits d)
-    qk_reset-form m = on_keeper_fits (keeper_at c (keeper_named h m)) _ (λ y. kept_fits (keeper_named h m) _)
 
     -- ---- spawned instances
 
@@ -682,9 +679,6 @@ module _ (c : Config) (p : ℕ) (i : Instance) (at : instance_at c p ≡ Some i)
     form-fits (code.carry m y) found typed = carry-form m y typed.1
     form-fits (code.b_transport socket m delay) found typed = b_transport-form socket m delay found typed.2 (socket_of (denotes h socket))
     form-fits (code.qk_global e) found typed = qk_global-form e
-    form-fits (code.qk_inc m e) found typed = qk_inc-form m e
-    form-fits (code.qk_set m e) found typed = qk_set-form m e
-    form-fits (code.qk_reset m) found typed = qk_reset-form m
     form-fits (code.spawn x) found typed = spawn-form x typed
     form-fits (code.control x who all) found typed = control-form x who all
     form-fits (code.throw_it who e all) found typed = throw_it-form who e all
@@ -695,6 +689,7 @@ module _ (c : Config) (p : ℕ) (i : Instance) (at : instance_at c p ≡ Some i)
     form-fits (code.while_ e j) found typed = while-fits e j found
     form-fits (code.guard j u) found typed = guard-fits j u found
     form-fits (code.try_ j handlers) found typed = try-fits j handlers found
+    form-fits other found typed = search (if-each, on_keeper_fits, kept_fits, keeper_kept)
 
   pub form-kept : (x : Statement) → statement_at (code_of d) n ≡ Some x → IfOk (do_statement c p i r h n x) (Fits d)
   form-kept x found = form-fits stands.place stands.stands x found (stands.typed x found)
