@@ -53,46 +53,10 @@ module _ (c : Config) where
   via_ends_quiet d (Some via) f k each = each via
 
   hands_back_quiet : (d : Config) (p : ℕ) (h : Here) (x : Frame) (s : Statement) → Quiet c d → QuietIfOk c (hands_back d p h x s)
-  hands_back_quiet d p h x (code.var n t e) k = k
-  hands_back_quiet d p h x (code.assign to e) k = k
   hands_back_quiet d p h x (code.call target f arguments) k = stored_if_quiet c (given_back d p h x 0 arguments) p h target (answer_of (arena d) x) (given_back_quiet d p h x 0 arguments k)
-  hands_back_quiet d p h x (code.read target ch) k = k
-  hands_back_quiet d p h x (code.nb_read target ch y) k = k
-  hands_back_quiet d p h x (code.nb_write target ch t e) k = k
-  hands_back_quiet d p h x (code.trylock target ch) k = k
-  hands_back_quiet d p h x (code.unlock target ch) k = k
-  hands_back_quiet d p h x (code.sem_trywait target ch) k = k
   hands_back_quiet d p h x (code.nb_transport target socket n phase t) k = via_ends_quiet d x.via (λ via. nb_transport_ends d p h x via target phase t) k (λ via. nb_ends_quiet d p h x via target phase t k)
-  hands_back_quiet d p h x (code.write ch t e) k = k
-  hands_back_quiet d p h x (code.print text e) k = k
-  hands_back_quiet d p h x (code.notify n) k = k
-  hands_back_quiet d p h x (code.notify_delta n) k = k
-  hands_back_quiet d p h x (code.notify_after n e) k = k
-  hands_back_quiet d p h x (code.cancel n) k = k
-  hands_back_quiet d p h x (code.wait w) k = k
-  hands_back_quiet d p h x (code.next_trigger w) k = k
-  hands_back_quiet d p h x (code.lock ch) k = k
-  hands_back_quiet d p h x (code.sem_wait ch) k = k
-  hands_back_quiet d p h x (code.post ch) k = k
-  hands_back_quiet d p h x (code.make n e m) k = k
-  hands_back_quiet d p h x (code.acquire n) k = k
-  hands_back_quiet d p h x (code.release n) k = k
-  hands_back_quiet d p h x (code.carry n m) k = k
   hands_back_quiet d p h x (code.b_transport socket n t) k = via_ends_quiet d x.via (λ via. b_transport_ends d p h x via t) k (λ via. b_ends_quiet d p h x via t k)
-  hands_back_quiet d p h x (code.qk_global e) k = k
-  hands_back_quiet d p h x (code.qk_inc n e) k = k
-  hands_back_quiet d p h x (code.qk_set n e) k = k
-  hands_back_quiet d p h x (code.qk_reset n) k = k
-  hands_back_quiet d p h x (code.spawn s) k = k
-  hands_back_quiet d p h x (code.control order who all) k = k
-  hands_back_quiet d p h x (code.throw_it who e all) k = k
-  hands_back_quiet d p h x (code.throw e) k = k
-  hands_back_quiet d p h x (code.return_ e) k = k
-  hands_back_quiet d p h x code.stop k = k
-  hands_back_quiet d p h x (code.if_ e b other) k = k
-  hands_back_quiet d p h x (code.while_ e b) k = k
-  hands_back_quiet d p h x (code.guard b u) k = k
-  hands_back_quiet d p h x (code.try_ b handlers) k = k
+  hands_back_quiet d p h x other k = k
 
   handed_back_quiet : (d : Config) (p : ℕ) (h : Here) (x : Frame) (s : Option Statement) → Quiet c d → QuietIfOk c (handed_back d p h x s)
   handed_back_quiet d p h x None k = k

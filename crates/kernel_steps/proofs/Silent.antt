@@ -13,7 +13,6 @@ use Rattle.exec_channels.specs.TransportPhases.History.{Entry, Call, BCall, Left
 use Rattle.exec_channels.specs.TransportPhases.declared.phases.Rule.{Rule}
 use Rattle.exec_channels.specs.PayloadPool.Transfer.{carried, memory_after}
 use Rattle.exec_channels.specs.PayloadPool.declared.payload.Payload.{Payload}
-use Rattle.exec_channels.specs.QuantumKeeper.Keepers.{after_reset, after_inc, with_local}
 use Rattle.exec_channels.specs.QuantumKeeper.declared.keeper.Keeper.{Keeper}
 use Rattle.exec_channels.specs.ModelTree.declared.statements.Control.{Control}
 use Rattle.exec_channels.specs.ModelTree.declared.statements.Control.TheVariants as control
@@ -39,14 +38,14 @@ use Rattle.exec_channels.specs.SimModel.Values.{on_ok, bits, cut_to, index_withi
 use Rattle.exec_channels.specs.SimModel.Residual.{Residual, put, skip, innermost, goal, has_goal, taken_off}
 use Rattle.exec_channels.specs.SimModel.Unwinding.{returned, return_marks, unw, catches, left_by_unw, left_by_raise, raise}
 use Rattle.exec_channels.specs.SimModel.Configuration.{Config, Instance, Wait, waits_for_nothing, waits_statically, waits_for_any, waits_for_all, line, change_instance, with_residual, with_runnable, with_marks, with_told, instance_at, arena}
-use Rattle.exec_channels.specs.SimModel.Reading.{Here, denotes, val, val_if, place_in, payload_number, live_payload, memory_here, memory_number, keeper_at}
+use Rattle.exec_channels.specs.SimModel.Reading.{Here, denotes, val, val_if, place_in, payload_number, live_payload, memory_here, memory_number}
 use Rattle.exec_channels.specs.SimModel.Storing.{passes, bytes_in, set_local, set_name, set_denoted, set_memory, set_payload, with_field, with_byte, low_byte, first_value, stored, stored_if, chosen, looped, print_line, do_assign, do_print}
 use Rattle.exec_channels.specs.SimModel.Waits.{is_active, is_among, holds, without, freed, joined, woken, struck, wake, wake_instance, left_of_all, reaches, reach_instance, fire_each, fire, leaves_stack, waits, notify}
 use Rattle.exec_channels.specs.SimModel.Waiting.{awaited, channel_event, event_number, on_event, notified_now, cancelled, when_after}
 use Rattle.exec_channels.specs.SimModel.Channels.{channel_in, blocks, set_fifo, set_mutex, set_semaphore, with_fifo, taken_from, written_unless, write_signal, write_fifo, write_channel, read_value, read_fifo, fifo_here, fifo_of, mutex_of, semaphore_of, nb_read_value, nb_read_fifo, nb_write_fifo, answered, lock_mutex, lock_at, trylock_mutex, trylock_at, unlock_mutex, unlock_at, sem_wait_value, sem_wait_at, sem_trywait_value, sem_trywait_at, post_value, post_at}
 use Rattle.exec_channels.specs.SimModel.Calls.{locals_in, argument_values, may_enter, enters, with_entry, with_left, thrown, cut_answer, answer_type, first_arguments, may_spawn, new_instance, added, runnable_unless, handle_stored, spawns, do_call, do_spawn}
 use Rattle.exec_channels.specs.SimModel.Payloads.{Payloads, with_made, with_acquired, with_released}
-use Rattle.exec_channels.specs.SimModel.Transport.{with_pool, size_within, size_or, may_make, do_make, do_carry, socket_of, history, is_complete, judged_by, judged, blocking_handler, nonblocking_handler, path_of_call, may_enter_handler, enters_handler, int_of, value_named, b_transport_on, nb_transport_on, with_global, with_keeper, kept, on_keeper, keeper_named}
+use Rattle.exec_channels.specs.SimModel.Transport.{with_pool, size_within, size_or, may_make, do_make, do_carry, socket_of, history, is_complete, judged_by, judged, blocking_handler, nonblocking_handler, path_of_call, may_enter_handler, enters_handler, int_of, value_named, b_transport_on, nb_transport_on, with_global, with_keeper, kept, on_keeper}
 use Rattle.exec_channels.specs.SimModel.Control.{is_top, is_below_top, is_thread, with_kept, yields, suspends, resumes, pushed, pushed_unless_top, unwinds, ends_or_restarts, injected, throws_at, controlled_by, unless_ended, control_call, throw_call, target_of, targets, with_owed, do_control, do_throw_it, ended_instance, ends, begins, stays_kept, restarts, reaches_goal, done_by}
 use Rattle.exec_channels.specs.SimModel.Statements.{do_statement}
 use Rattle.exec_channels.specs.SimModel.declared.plain.Goal.{Goal}
@@ -500,15 +499,6 @@ module _ (c : Config) where
   statement_quiet p i r h s (code.carry n m) other = carry_quiet p r h n m
   statement_quiet p i r h s (code.b_transport socket n d) other = b_transport_quiet p r h s n d (socket_of (denotes h socket))
   statement_quiet p i r h s (code.qk_global e) other = ok c (val h e) (λ v. Ok (with_global (passes c p r) (moment v))) (λ v. refl)
-  statement_quiet p i r h s (code.qk_inc n e) other =
-      ok c (val h e) (λ v. on_keeper (passes c p r) (keeper_at c (keeper_named h n)) (λ k. kept (passes c p r) (keeper_named h n) (after_inc k (moment v)))) (λ v.
-      on_keeper_quiet p r h (keeper_at c (keeper_named h n)) (λ k. kept (passes c p r) (keeper_named h n) (after_inc k (moment v))) (λ k. kept_quiet p r h (keeper_named h n) (after_inc k (moment v))))
-  statement_quiet p i r h s (code.qk_set n e) other =
-      ok c (val h e) (λ v. on_keeper (passes c p r) (keeper_at c (keeper_named h n)) (λ k. Ok (with_keeper (passes c p r) (keeper_named h n) (with_local k (moment v))))) (λ v.
-      on_keeper_quiet p r h (keeper_at c (keeper_named h n)) (λ k. Ok (with_keeper (passes c p r) (keeper_named h n) (with_local k (moment v)))) (λ k. with_keeper_quiet p r h (keeper_named h n) (with_local k (moment v))))
-  statement_quiet p i r h s (code.qk_reset n) other =
-      on_keeper_quiet p r h (keeper_at c (keeper_named h n)) (λ k. kept (passes c p r) (keeper_named h n) (after_reset c.quantum.global c.cycle.now))
-      (λ k. kept_quiet p r h (keeper_named h n) (after_reset c.quantum.global c.cycle.now))
   statement_quiet p i r h s (code.spawn x) other = spawn_quiet p r h x
   statement_quiet p i r h s (code.control k who all) other = control_quiet p r h s k who all
   statement_quiet p i r h s (code.throw_it who e all) other = throw_it_quiet p r h s who e all
@@ -519,6 +509,7 @@ module _ (c : Config) where
   statement_quiet p i r h s (code.while_ e b) other = ok c (val h e) (λ v. Ok (with_residual c p (put r (looped c (truth v) s b)))) (λ v. refl)
   statement_quiet p i r h s (code.guard b u) other = refl
   statement_quiet p i r h s (code.try_ b handlers) other = refl
+  statement_quiet p i r h s x other = search (ok, on_keeper_quiet p r h, kept_quiet p r h, with_keeper_quiet p r h)
 
   -- a print keeps the design and the script's rest
   pub print_keeps : (p : ℕ) (i : Instance) (r : Residual) (h : Here) (text : List ℕ) (e : Option Term) → KeepsIfOk c (do_print c p i r h text e)
