@@ -25,7 +25,7 @@ use Rattle.sim_model.specs.Storing.{passes, chosen, looped, do_var, do_assign, d
 use Rattle.sim_model.specs.Waiting.{awaited, channel_event, on_event, event_number, do_wait, do_next_trigger, do_notify_delta, do_notify_after, do_cancel}
 use Rattle.sim_model.specs.Channels.{blocks, set_fifo, fifo_of, write_fifo, write_channel, do_write, read_value, read_fifo, do_read, nb_read_value, nb_read_fifo, do_nb_read, nb_write_fifo, do_nb_write}
 use Rattle.sim_model.specs.Calls.{with_left, enters, thrown, do_call, do_return, do_guard, do_try}
-use Rattle.sim_model.specs.Transport.{do_qk_global, do_qk_inc, do_qk_set, do_qk_reset}
+use Rattle.sim_model.specs.Transport.{do_qk_global}
 use Rattle.sim_model.specs.Statements.{do_statement}
 use Rattle.sim_model.specs.declared.plain.Goal.TheVariants as goal_of
 use Rattle.laws_order.specs.Own.{IsOf, IsLeftOf}
@@ -36,26 +36,17 @@ use Rattle.laws_order.proofs.Hearing.{NamesFixed, if_known-then, awaited-fixed}
 use Rattle.laws_order.proofs.Within.{IsWithin, if-ok, either-within, changed-within, triggers-to, residual-within, waits-within, blocks-within, local-within, stored-within, stored_if-within, memory-within, signal-within, fifo-within, keeper-within, kept-within, on_keeper-within, left_calls-within}
 
 -- a statement that acts on nobody else at once, uses nothing that is shared by nature, and waits for no end and no reset of a process
+-- (what any other does stays within its process is proved below, form by form)
 abbrev pub MayDo : Statement → Type 0
-MayDo (code.var k t e) = ⊤
 MayDo (code.assign (code.to_name x) e) = ⊤
 MayDo (code.assign (code.to_field k f) e) = ⊥
 MayDo (code.assign (code.to_element k index) e) = ⊤
 MayDo (code.assign (code.to_payload_byte k b index) e) = ⊥
-MayDo (code.call x f arguments) = ⊤
-MayDo (code.read x ch) = ⊤
-MayDo (code.nb_read x ch y) = ⊤
-MayDo (code.nb_write x ch t e) = ⊤
 MayDo (code.trylock x ch) = ⊥
 MayDo (code.unlock x ch) = ⊥
 MayDo (code.sem_trywait x ch) = ⊥
 MayDo (code.nb_transport x s k phase delay) = ⊥
-MayDo (code.write ch t e) = ⊤
-MayDo (code.print text e) = ⊤
 MayDo (code.notify k) = ⊥
-MayDo (code.notify_delta k) = ⊤
-MayDo (code.notify_after k e) = ⊤
-MayDo (code.cancel k) = ⊤
 MayDo (code.wait w) = NamesFixed w
 MayDo (code.next_trigger w) = NamesFixed w
 MayDo (code.lock ch) = ⊥
@@ -66,20 +57,11 @@ MayDo (code.acquire k) = ⊥
 MayDo (code.release k) = ⊥
 MayDo (code.carry k m) = ⊥
 MayDo (code.b_transport s k delay) = ⊥
-MayDo (code.qk_global e) = ⊤
-MayDo (code.qk_inc k e) = ⊤
-MayDo (code.qk_set k e) = ⊤
-MayDo (code.qk_reset k) = ⊤
 MayDo (code.spawn x) = ⊥
 MayDo (code.control k who all) = ⊥
 MayDo (code.throw_it who e all) = ⊥
-MayDo (code.throw e) = ⊤
-MayDo (code.return_ e) = ⊤
 MayDo code.stop = ⊥
-MayDo (code.if_ e b other) = ⊤
-MayDo (code.while_ e b) = ⊤
-MayDo (code.guard b u) = ⊤
-MayDo (code.try_ b handlers) = ⊤
+MayDo other = ⊤
 
 module _ (c : Config) (p : ℕ) (i : Instance) (r : Residual) (left : IsLeftOf c.design p r) (s : IsWithin c.design p c c) where
   abbrev IsHere : Config → Type 0
@@ -187,15 +169,6 @@ module _ (c : Config) (p : ℕ) (i : Instance) (r : Residual) (left : IsLeftOf c
   qk_global_within : (e : Term) → IfOk (do_qk_global c p r h e) IsHere
   qk_global_within e = search (if-ok c.design p c, passed)
 
-  qk_inc_within : (k : ℕ) (e : Term) → IfOk (do_qk_inc c p r h k e) IsHere
-  qk_inc_within k e = search (if-ok c.design p c, on_keeper-within c.design p c, kept-within c.design p c, passed)
-
-  qk_set_within : (k : ℕ) (e : Term) → IfOk (do_qk_set c p r h k e) IsHere
-  qk_set_within k e = search (if-ok c.design p c, on_keeper-within c.design p c, keeper-within c.design p c, passed)
-
-  qk_reset_within : (k : ℕ) → IfOk (do_qk_reset c p r h k) IsHere
-  qk_reset_within k = search (on_keeper-within c.design p c, kept-within c.design p c, passed)
-
   -- ---- functions, guards, exceptions, choices and loops
 
   returned_within : (v : Option Value) → IsHere (with_marks (with_residual c p (returned v r)) (return_marks p r))
@@ -273,9 +246,6 @@ module _ (c : Config) (p : ℕ) (i : Instance) (r : Residual) (left : IsLeftOf c
     form-within (code.carry k m) found may = absurd may
     form-within (code.b_transport socket k delay) found may = absurd may
     form-within (code.qk_global e) found may = qk_global_within e
-    form-within (code.qk_inc k e) found may = qk_inc_within k e
-    form-within (code.qk_set k e) found may = qk_set_within k e
-    form-within (code.qk_reset k) found may = qk_reset_within k
     form-within (code.spawn x) found may = absurd may
     form-within (code.control k who all) found may = absurd may
     form-within (code.throw_it who e all) found may = absurd may
@@ -286,3 +256,4 @@ module _ (c : Config) (p : ℕ) (i : Instance) (r : Residual) (left : IsLeftOf c
     form-within (code.while_ e b) found may = while_within e b found
     form-within (code.guard b u) found may = guard_within b u found
     form-within (code.try_ b handlers) found may = try_within b handlers found
+    form-within other found may = search (if-ok c.design p c, on_keeper-within c.design p c, kept-within c.design p c, keeper-within c.design p c, passed)

@@ -70,25 +70,15 @@ await_fixed (code.any es t) h = names_fixed es (each_left (flat_map deeds_of_eve
 await_fixed (code.all es t) h = names_fixed es (each_left (flat_map deeds_of_event es) (deeds_of_written t) h)
 
 may_do : (x : Statement) → EachOf IsFit (deeds_of x) → MayDo x
-may_do (code.var k t e) h = tt
 may_do (code.assign (code.to_name x) e) h = tt
 may_do (code.assign (code.to_field k f) e) h = h.0
 may_do (code.assign (code.to_element k index) e) h = tt
 may_do (code.assign (code.to_payload_byte k b index) e) h = h.0
-may_do (code.call x f arguments) h = tt
-may_do (code.read x ch) h = tt
-may_do (code.nb_read x ch y) h = tt
-may_do (code.nb_write x ch t e) h = tt
 may_do (code.trylock x ch) h = h.0
 may_do (code.unlock x ch) h = h.0
 may_do (code.sem_trywait x ch) h = h.0
 may_do (code.nb_transport x s k phase delay) h = h.0
-may_do (code.write ch t e) h = tt
-may_do (code.print text e) h = tt
 may_do (code.notify k) h = h.0
-may_do (code.notify_delta k) h = tt
-may_do (code.notify_after k e) h = tt
-may_do (code.cancel k) h = tt
 may_do (code.wait w) h = await_fixed w h
 may_do (code.next_trigger w) h = await_fixed w h
 may_do (code.lock ch) h = h.0
@@ -99,20 +89,11 @@ may_do (code.acquire k) h = h.0
 may_do (code.release k) h = h.0
 may_do (code.carry k m) h = h.0
 may_do (code.b_transport s k delay) h = h.0
-may_do (code.qk_global e) h = tt
-may_do (code.qk_inc k e) h = tt
-may_do (code.qk_set k e) h = tt
-may_do (code.qk_reset k) h = tt
 may_do (code.spawn x) h = h.0
 may_do (code.control k who all) h = h.0
 may_do (code.throw_it who e all) h = h.0
-may_do (code.throw e) h = tt
-may_do (code.return_ e) h = tt
 may_do code.stop h = h.0
-may_do (code.if_ e b other) h = tt
-may_do (code.while_ e b) h = tt
-may_do (code.guard b u) h = tt
-may_do (code.try_ b handlers) h = tt
+may_do other h = tt
 
 -- ---- the rule leaves no others
 
