@@ -27,46 +27,13 @@ fn events_of(statement: &Statement) -> usize
     ensures { result ≡ sound.events_of (statement_of statement.now) }
 {
     match statement {
-        Statement::Var(_, _, _) => 0,
-        Statement::Assign(_, _) => 0,
-        Statement::Call(_, _, _) => 0,
         Statement::Read(_, _) => 1,
-        Statement::NbRead(_, _, _) => 0,
-        Statement::NbWrite(_, _, _, _) => 0,
-        Statement::Trylock(_, _) => 0,
-        Statement::Unlock(_, _) => 0,
-        Statement::SemTrywait(_, _) => 0,
-        Statement::NbTransport(_, _, _, _, _) => 0,
         Statement::Write(_, _, _) => 1,
-        Statement::Print(_, _) => 0,
-        Statement::Notify(_) => 0,
-        Statement::NotifyDelta(_) => 0,
-        Statement::NotifyAfter(_, _) => 0,
-        Statement::Cancel(_) => 0,
         Statement::Wait(wait) => events_of_await(wait),
         Statement::NextTrigger(wait) => events_of_await(wait),
         Statement::Lock(_) => 1,
         Statement::SemWait(_) => 1,
-        Statement::Post(_) => 0,
-        Statement::Make(_, _, _) => 0,
-        Statement::Acquire(_) => 0,
-        Statement::Release(_) => 0,
-        Statement::Carry(_, _) => 0,
-        Statement::BTransport(_, _, _) => 0,
-        Statement::QkGlobal(_) => 0,
-        Statement::QkInc(_, _) => 0,
-        Statement::QkSet(_, _) => 0,
-        Statement::QkReset(_) => 0,
-        Statement::Spawn(_) => 0,
-        Statement::Control(_, _, _) => 0,
-        Statement::ThrowIt(_, _, _) => 0,
-        Statement::Throw(_) => 0,
-        Statement::Return(_) => 0,
-        Statement::Stop => 0,
-        Statement::If(_, _, _) => 0,
-        Statement::While(_, _) => 0,
-        Statement::Guard(_, _) => 0,
-        Statement::Try(_, _) => 0,
+        _ => 0,
     }
 }
 
@@ -103,42 +70,6 @@ fn in_inner_blocks(table: &[usize], first: usize, statement: &Statement) -> usiz
     ensures { result ≡ spec.in_blocks table.now first (inner_blocks (statement_of statement.now)) }
 {
     match statement {
-        Statement::Var(_, _, _) => first,
-        Statement::Assign(_, _) => first,
-        Statement::Call(_, _, _) => first,
-        Statement::Read(_, _) => first,
-        Statement::NbRead(_, _, _) => first,
-        Statement::NbWrite(_, _, _, _) => first,
-        Statement::Trylock(_, _) => first,
-        Statement::Unlock(_, _) => first,
-        Statement::SemTrywait(_, _) => first,
-        Statement::NbTransport(_, _, _, _, _) => first,
-        Statement::Write(_, _, _) => first,
-        Statement::Print(_, _) => first,
-        Statement::Notify(_) => first,
-        Statement::NotifyDelta(_) => first,
-        Statement::NotifyAfter(_, _) => first,
-        Statement::Cancel(_) => first,
-        Statement::Wait(_) => first,
-        Statement::NextTrigger(_) => first,
-        Statement::Lock(_) => first,
-        Statement::SemWait(_) => first,
-        Statement::Post(_) => first,
-        Statement::Make(_, _, _) => first,
-        Statement::Acquire(_) => first,
-        Statement::Release(_) => first,
-        Statement::Carry(_, _) => first,
-        Statement::BTransport(_, _, _) => first,
-        Statement::QkGlobal(_) => first,
-        Statement::QkInc(_, _) => first,
-        Statement::QkSet(_, _) => first,
-        Statement::QkReset(_) => first,
-        Statement::Spawn(_) => first,
-        Statement::Control(_, _, _) => first,
-        Statement::ThrowIt(_, _, _) => first,
-        Statement::Throw(_) => first,
-        Statement::Return(_) => first,
-        Statement::Stop => first,
         Statement::If(_, block, other) => match other {
             Some(other) => first
                 .max(in_block(table, *block))
@@ -153,5 +84,6 @@ fn in_inner_blocks(table: &[usize], first: usize, statement: &Statement) -> usiz
             let most = first.max(in_block(table, *block));
             in_handlers(table, most, handlers.as_slice())
         }
+        _ => first,
     }
 }
