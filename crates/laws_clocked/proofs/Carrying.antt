@@ -42,7 +42,7 @@ use Rattle.laws_runs.specs.SimModel.Storing.{passes, set_local, set_denoted, set
 use Rattle.laws_runs.specs.SimModel.Waiting.{when_after, channel_event, on_event, event_number, notified_now, cancelled, do_wait, do_next_trigger, do_notify_after}
 use Rattle.laws_runs.specs.SimModel.Channels.{set_fifo, set_mutex, set_semaphore, blocks, written_unless, write_signal, write_channel, write_fifo, do_write, fifo_of, with_fifo, read_value, read_fifo, do_read, nb_read_value, nb_read_fifo, do_nb_read, nb_write_fifo, do_nb_write, answered, lock_mutex, lock_at, do_lock, trylock_mutex, trylock_at, do_trylock, unlock_mutex, unlock_at, do_unlock, sem_wait_value, sem_wait_at, do_sem_wait, sem_trywait_value, sem_trywait_at, do_sem_trywait, post_value, post_at, do_post, mutex_of, semaphore_of, taken_from, channel_in}
 use Rattle.laws_runs.specs.SimModel.Calls.{enters, do_guard, do_try, final_value, given_back, call_ends, handle_stored, with_left, thrown, do_call, do_return, do_spawn, spawns, added, new_instance, runnable_unless}
-use Rattle.laws_runs.specs.SimModel.Transport.{path_of_call, int_of, value_named, is_complete, with_keeper, kept, on_keeper, do_make, do_acquire, do_release, do_carry, b_transport_on, nb_transport_on, judged_by, judged, enters_handler, may_enter_handler, blocking_handler, nonblocking_handler, history, socket_of, do_qk_global, do_qk_inc, do_qk_set, do_qk_reset}
+use Rattle.laws_runs.specs.SimModel.Transport.{path_of_call, int_of, value_named, is_complete, with_keeper, kept, on_keeper, do_make, do_acquire, do_release, do_carry, b_transport_on, nb_transport_on, judged_by, judged, enters_handler, may_enter_handler, blocking_handler, nonblocking_handler, history, socket_of, do_qk_global}
 use Rattle.laws_runs.specs.SimModel.Control.{target_of, is_top, is_below_top, is_thread, with_kept, yields, pushed, unwinds, injected, controlled_by, throws_at, unless_ended, control_call, throw_call, with_owed, do_control, do_throw_it}
 use Rattle.laws_runs.specs.SimModel.Statements.{do_statement}
 use Rattle.laws_runs.specs.SimModel.declared.plain.Goal.TheVariants as goal_of
@@ -433,15 +433,6 @@ module _ (p : ℕ) (l : List Ev) (q : ℕ) (apart : p ≢ q) where
     global_rests : (e : Term) → IfOk (do_qk_global c q r h e) Q
     global_rests e = if-ok (val h e) _ (λ v. past)
 
-    inc_rests : (k : ℕ) (e : Term) → IfOk (do_qk_inc c q r h k e) Q
-    inc_rests k e = search (if-ok, on_keeper_rests, kept_rests, past)
-
-    set_rests : (k : ℕ) (e : Term) → IfOk (do_qk_set c q r h k e) Q
-    set_rests k e = search (if-ok, on_keeper_rests, keeper_rests, past)
-
-    reset_rests : (k : ℕ) → IfOk (do_qk_reset c q r h k) Q
-    reset_rests k = search (on_keeper_rests, kept_rests, past)
-
     spawn_rests : (x : SpawnTerm) → IfOk (do_spawn c q r h x) Q
     spawn_rests x = search (if-ok, spawned_rests x)
 
@@ -497,9 +488,6 @@ module _ (p : ℕ) (l : List Ev) (q : ℕ) (apart : p ≢ q) where
     form_rests i n (code.carry k x) quiet = carry_rests k x
     form_rests i n (code.b_transport socket k d) quiet = b_rests n k d (socket_of (denotes h socket))
     form_rests i n (code.qk_global e) quiet = global_rests e
-    form_rests i n (code.qk_inc k e) quiet = inc_rests k e
-    form_rests i n (code.qk_set k e) quiet = set_rests k e
-    form_rests i n (code.qk_reset k) quiet = reset_rests k
     form_rests i n (code.spawn x) quiet = spawn_rests x
     form_rests i n (code.control k whom all) quiet = control_form n k whom all
     form_rests i n (code.throw_it whom e all) quiet = throw_form n whom e all
@@ -510,3 +498,4 @@ module _ (p : ℕ) (l : List Ev) (q : ℕ) (apart : p ≢ q) where
     form_rests i n (code.while_ e b) quiet = while_rests n e b
     form_rests i n (code.guard b u) quiet = guard_rests b u
     form_rests i n (code.try_ b handlers) quiet = try_rests b handlers
+    form_rests i n other quiet = search (if-ok, on_keeper_rests, kept_rests, keeper_rests, past)

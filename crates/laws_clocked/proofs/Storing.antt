@@ -38,13 +38,13 @@ use Rattle.laws_runs.specs.SimModel.Residual.{Residual, Frame, batch, guard, try
 use Rattle.laws_runs.specs.SimModel.Unwinding.{raise, catches, left_by_raise, left_by_unw, unw, returned}
 use Rattle.laws_runs.specs.SimModel.Configuration.{Config, Instance, arena, change_instance, instance_at, with_residual, with_runnable, change, waits_for_all}
 use Rattle.laws_runs.specs.SimModel.Payloads.{with_made}
-use Rattle.laws_runs.specs.SimModel.Reading.{Here, val, denotes, place_in, payload_number, live_payload, val_if, memory_here, keeper_at}
+use Rattle.laws_runs.specs.SimModel.Reading.{Here, val, denotes, place_in, payload_number, live_payload, val_if, memory_here}
 use Rattle.laws_runs.specs.SimModel.Waits.{fire, holds, without, notify, leaves_stack}
 use Rattle.laws_runs.specs.SimModel.Storing.{passes, set_local, set_denoted, set_name, stored, stored_if, set_memory, chosen, looped, do_var, do_assign, do_print, do_if, do_while, with_local}
 use Rattle.laws_runs.specs.SimModel.Waiting.{when_after, channel_event, on_event, event_number, notified_now, cancelled, do_wait, do_next_trigger, do_notify_after, awaited}
 use Rattle.laws_runs.specs.SimModel.Channels.{set_fifo, set_mutex, set_semaphore, blocks, written_unless, write_signal, write_channel, write_fifo, do_write, fifo_of, fifo_here, with_fifo, read_value, read_fifo, nb_read_value, nb_read_fifo, nb_write_fifo, do_nb_write, answered, lock_mutex, lock_at, trylock_mutex, trylock_at, unlock_mutex, unlock_at, sem_wait_value, sem_wait_at, sem_trywait_value, sem_trywait_at, post_value, post_at, mutex_of, semaphore_of, taken_from, channel_in}
 use Rattle.laws_runs.specs.SimModel.Calls.{final_value, given_back, call_ends, handle_stored, with_left, thrown, do_call, do_return, do_spawn, spawns, added, new_instance, runnable_unless, locals_in, argument_values, may_enter, answer_type, cut_answer, first_arguments, may_spawn}
-use Rattle.laws_runs.specs.SimModel.Transport.{path_of_call, int_of, value_named, is_complete, with_keeper, kept, on_keeper, do_make, do_acquire, do_release, do_carry, b_transport_on, nb_transport_on, judged_by, enters_handler, may_enter_handler, blocking_handler, nonblocking_handler, history, socket_of, do_qk_global, do_qk_inc, do_qk_set, do_qk_reset, with_pool, size_within, size_or, may_make, keeper_named}
+use Rattle.laws_runs.specs.SimModel.Transport.{path_of_call, int_of, value_named, is_complete, with_keeper, kept, on_keeper, do_make, do_acquire, do_release, do_carry, b_transport_on, nb_transport_on, judged_by, enters_handler, may_enter_handler, blocking_handler, nonblocking_handler, history, socket_of, do_qk_global, with_pool, size_within, size_or, may_make}
 use Rattle.laws_runs.specs.SimModel.Control.{target_of, is_top, is_below_top, is_thread, with_kept, yields, pushed, unwinds, injected, controlled_by, throws_at, unless_ended, control_call, throw_call, with_owed, do_control, do_throw_it, targets}
 use Rattle.laws_runs.specs.SimModel.Statements.{do_statement}
 use Rattle.laws_runs.specs.SimModel.declared.plain.Goal.{Goal}
@@ -502,15 +502,6 @@ module _ (p : ℕ) (H F : Residual → Type 0) (P : ℕ → Type 0) (sets : IsKe
     global_held : (e : Term) → IfOk (do_qk_global c p r h e) Left
     global_held e = if-ok p H (val h e) _ (λ v. past)
 
-    inc_held : (n : ℕ) (e : Term) → IfOk (do_qk_inc c p r h n e) Left
-    inc_held n e = if-ok p H (val h e) _ (λ v. on_keeper_held p H (passes c p r) (keeper_at c (keeper_named h n)) _ past (λ y. kept_held p H (passes c p r) (keeper_named h n) _ past))
-
-    set_held : (n : ℕ) (e : Term) → IfOk (do_qk_set c p r h n e) Left
-    set_held n e = if-ok p H (val h e) _ (λ v. on_keeper_held p H (passes c p r) (keeper_at c (keeper_named h n)) _ past (λ y. keeper_held p H (passes c p r) (keeper_named h n) _ past))
-
-    reset_held : (n : ℕ) → IfOk (do_qk_reset c p r h n) Left
-    reset_held n = on_keeper_held p H (passes c p r) (keeper_at c (keeper_named h n)) _ past (λ y. kept_held p H (passes c p r) (keeper_named h n) _ past)
-
     return_held : (e : Option Term) → IfOk (do_return c p r h e) To
     return_held e = if-ok p F (val_if h e) _ (λ v. moved_held p F c p (returned (cut_answer (answer_type (arena c) (innermost r)) v) r) (λ same. returns (cut_answer (answer_type (arena c) (innermost r)) v)) (weaker c s))
 
@@ -548,9 +539,6 @@ module _ (p : ℕ) (H F : Residual → Type 0) (P : ℕ → Type 0) (sets : IsKe
     form-held i (code.carry m x) found so = weakly (do_statement c p i r h n (code.carry m x)) (carry_held m x)
     form-held i (code.b_transport socket m d) found so = weakly (do_statement c p i r h n (code.b_transport socket m d)) (b_held (code.b_transport socket m d) found m d (socket_of (denotes h socket)))
     form-held i (code.qk_global e) found so = weakly (do_statement c p i r h n (code.qk_global e)) (global_held e)
-    form-held i (code.qk_inc m e) found so = weakly (do_statement c p i r h n (code.qk_inc m e)) (inc_held m e)
-    form-held i (code.qk_set m e) found so = weakly (do_statement c p i r h n (code.qk_set m e)) (set_held m e)
-    form-held i (code.qk_reset m) found so = weakly (do_statement c p i r h n (code.qk_reset m)) (reset_held m)
     form-held i (code.spawn x) found so = weakly (do_statement c p i r h n (code.spawn x)) (spawn_held x so)
     form-held i (code.control x whom all) found so = control_form x whom all found
     form-held i (code.throw_it whom e all) found so = throw_form whom e all found
@@ -561,3 +549,4 @@ module _ (p : ℕ) (H F : Residual → Type 0) (P : ℕ → Type 0) (sets : IsKe
     form-held i (code.while_ e b) found so = weakly (do_statement c p i r h n (code.while_ e b)) (while_form e b found)
     form-held i (code.guard b u) found so = weakly (do_statement c p i r h n (code.guard b u)) (placed (code.guard b u) (guard (block (arena c) b) c.trace.next_guard u) found (guards b u c.trace.next_guard))
     form-held i (code.try_ b handlers) found so = weakly (do_statement c p i r h n (code.try_ b handlers)) (placed (code.try_ b handlers) (try_ (block (arena c) b) handlers) found (gives _ _ (move.tries b handlers)))
+    form-held i other found so = weakly (do_statement c p i r h n other) (search (if-ok p H, on_keeper_held p H, kept_held p H, keeper_held p H, past))

@@ -7,8 +7,8 @@ use Rattle.laws_runs.specs.ModelTree.declared.items.ProcessKind.TheVariants as p
 use Rattle.laws_runs.specs.EventCore.declared.event.Ev.{Ev}
 use Rattle.laws_runs.specs.EventCore.declared.event.Ev.TheVariants as ev
 use Rattle.laws_runs.specs.FifoSync.Locks.{is_owner}
-use Rattle.laws_runs.specs.FlatDesign.Code as code
 use Rattle.laws_runs.specs.FlatDesign.Code.{ChannelTerm, Statement, statement_at}
+use Rattle.laws_runs.specs.FlatDesign.Facts.{Fired, no_event, named, unlocked, posted, facts}
 use Rattle.laws_runs.specs.FlatDesign.declared.names.EventMember.TheVariants as event
 use Rattle.laws_runs.specs.FlatDesign.declared.design.ChannelId.{ChannelId}
 use Rattle.laws_runs.specs.FlatDesign.declared.faults.RunFault.{RunFault}
@@ -56,47 +56,14 @@ by_post c ch (Some n) = by_value ch (slice_get c.channels.semaphores n)
 abbrev pub channel_named : Here → ChannelTerm → Result ChannelId RunFault
 channel_named h t = on_ok (place_in h t.place) (channel_in h t)
 
+abbrev pub by_fired : Config → ℕ → Here → Fired → List Ev
+by_fired c p h no_event = []
+by_fired c p h (named n) = fixed (event_number (denotes h n))
+by_fired c p h (unlocked t) = of_channel (channel_named h t) (λ ch. by_unlock c p ch (mutex_of ch))
+by_fired c p h (posted t) = of_channel (channel_named h t) (λ ch. by_post c ch (semaphore_of ch))
+
 abbrev pub by_statement : Config → ℕ → Here → Statement → List Ev
-by_statement c p h (code.var i t e) = []
-by_statement c p h (code.assign to e) = []
-by_statement c p h (code.call x f arguments) = []
-by_statement c p h (code.read x ch) = []
-by_statement c p h (code.nb_read x ch y) = []
-by_statement c p h (code.nb_write x ch t e) = []
-by_statement c p h (code.trylock x ch) = []
-by_statement c p h (code.unlock x t) = of_channel (channel_named h t) (λ ch. by_unlock c p ch (mutex_of ch))
-by_statement c p h (code.sem_trywait x ch) = []
-by_statement c p h (code.nb_transport x s y phase delay) = []
-by_statement c p h (code.write ch t e) = []
-by_statement c p h (code.print text e) = []
-by_statement c p h (code.notify n) = fixed (event_number (denotes h n))
-by_statement c p h (code.notify_delta n) = []
-by_statement c p h (code.notify_after n e) = []
-by_statement c p h (code.cancel n) = []
-by_statement c p h (code.wait w) = []
-by_statement c p h (code.next_trigger w) = []
-by_statement c p h (code.lock ch) = []
-by_statement c p h (code.sem_wait ch) = []
-by_statement c p h (code.post t) = of_channel (channel_named h t) (λ ch. by_post c ch (semaphore_of ch))
-by_statement c p h (code.make x n enables) = []
-by_statement c p h (code.acquire x) = []
-by_statement c p h (code.release x) = []
-by_statement c p h (code.carry x m) = []
-by_statement c p h (code.b_transport s x delay) = []
-by_statement c p h (code.qk_global e) = []
-by_statement c p h (code.qk_inc n e) = []
-by_statement c p h (code.qk_set n e) = []
-by_statement c p h (code.qk_reset n) = []
-by_statement c p h (code.spawn s) = []
-by_statement c p h (code.control asked who all) = []
-by_statement c p h (code.throw_it who n all) = []
-by_statement c p h (code.throw n) = []
-by_statement c p h (code.return_ e) = []
-by_statement c p h code.stop = []
-by_statement c p h (code.if_ e b other) = []
-by_statement c p h (code.while_ e b) = []
-by_statement c p h (code.guard b u) = []
-by_statement c p h (code.try_ b handlers) = []
+by_statement c p h s = by_fired c p h (facts s).fired
 
 abbrev pub by_statement_if : Config → ℕ → Here → Option Statement → List Ev
 by_statement_if c p h None = []
