@@ -22,45 +22,7 @@ fn print_text(statement: &Statement) -> &[u8]
 {
     match statement {
         Statement::Print(text, _) => text.bytes(),
-        Statement::Var(_, _, _)
-        | Statement::Assign(_, _)
-        | Statement::Call(_, _, _)
-        | Statement::Read(_, _)
-        | Statement::NbRead(_, _, _)
-        | Statement::NbWrite(_, _, _, _)
-        | Statement::Trylock(_, _)
-        | Statement::Unlock(_, _)
-        | Statement::SemTrywait(_, _)
-        | Statement::NbTransport(_, _, _, _, _)
-        | Statement::Write(_, _, _)
-        | Statement::Notify(_)
-        | Statement::NotifyDelta(_)
-        | Statement::NotifyAfter(_, _)
-        | Statement::Cancel(_)
-        | Statement::Wait(_)
-        | Statement::NextTrigger(_)
-        | Statement::Lock(_)
-        | Statement::SemWait(_)
-        | Statement::Post(_)
-        | Statement::Make(_, _, _)
-        | Statement::Acquire(_)
-        | Statement::Release(_)
-        | Statement::Carry(_, _)
-        | Statement::BTransport(_, _, _)
-        | Statement::QkGlobal(_)
-        | Statement::QkInc(_, _)
-        | Statement::QkSet(_, _)
-        | Statement::QkReset(_)
-        | Statement::Spawn(_)
-        | Statement::Control(_, _, _)
-        | Statement::ThrowIt(_, _, _)
-        | Statement::Throw(_)
-        | Statement::Return(_)
-        | Statement::Stop
-        | Statement::If(_, _, _)
-        | Statement::While(_, _)
-        | Statement::Guard(_, _)
-        | Statement::Try(_, _) => &[],
+        _ => &[],
     }
 }
 
