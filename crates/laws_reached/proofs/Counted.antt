@@ -18,7 +18,6 @@ use Rattle.laws_runs.specs.TransportPhases.History.{Entry, Call, Return, BCall, 
 use Rattle.laws_runs.specs.TransportPhases.declared.phases.Rule.{Rule as Broken}
 use Rattle.laws_runs.specs.PayloadPool.Transfer.{carried, memory_after}
 use Rattle.laws_runs.specs.PayloadPool.declared.payload.Payload.{Payload}
-use Rattle.laws_runs.specs.QuantumKeeper.Keepers.{after_reset, after_inc, with_local as local_set}
 use Rattle.laws_runs.specs.QuantumKeeper.declared.keeper.Keeper.{Keeper}
 use Rattle.laws_runs.specs.SignalChannel.Signals.{conflict_of}
 use Rattle.laws_runs.specs.SignalChannel.declared.signal.Signal.{Signal}
@@ -44,13 +43,13 @@ use Rattle.laws_runs.specs.SimModel.Residual as residual
 use Rattle.laws_runs.specs.SimModel.Residual.{Residual, Frame, Next, put, skip, settle, next_of, taken_off, innermost, goal, has_goal}
 use Rattle.laws_runs.specs.SimModel.Unwinding.{unw, left_by_unw, returned, return_marks, catches, left_by_raise, raise}
 use Rattle.laws_runs.specs.SimModel.Configuration.{Config, Instance, Wait, changed_at, waits_for_nothing, waits_statically, waits_for_any, waits_for_all, line, change_instance, with_residual, with_runnable, with_marks, with_told, instance_at, arena}
-use Rattle.laws_runs.specs.SimModel.Reading.{Here, here, denotes, keeper_at, val, val_if, place_in, payload_number, live_payload, memory_here, memory_number}
+use Rattle.laws_runs.specs.SimModel.Reading.{Here, here, denotes, val, val_if, place_in, payload_number, live_payload, memory_here, memory_number}
 use Rattle.laws_runs.specs.SimModel.Storing.{passes, bytes_in, set_local, set_name, set_denoted, set_memory, set_payload, with_field, with_byte, low_byte, first_value, stored, stored_if, chosen, looped, print_line, do_assign}
 use Rattle.laws_runs.specs.SimModel.Waits.{holds, without, is_active, is_among, freed, joined, woken, struck, wake, wake_instance, left_of_all, reaches, reach_instance, fire_each, fire, leaves_stack, waits, notify}
 use Rattle.laws_runs.specs.SimModel.Waiting.{awaited, channel_event, event_number, on_event, notified_now, cancelled, when_after}
 use Rattle.laws_runs.specs.SimModel.Channels.{channel_in, blocks, set_fifo, set_mutex, set_semaphore, with_fifo, taken_from, written_unless, write_signal, write_fifo, write_channel, read_value, read_fifo, fifo_here, fifo_of, mutex_of, semaphore_of, nb_read_value, nb_read_fifo, nb_write_fifo, answered, lock_mutex, lock_at, trylock_mutex, trylock_at, unlock_mutex, unlock_at, sem_wait_value, sem_wait_at, sem_trywait_value, sem_trywait_at, post_value, post_at}
 use Rattle.laws_runs.specs.SimModel.Calls.{argument_values, locals_in, may_enter, enters, final_value, given_back, call_ends, answer_of, with_entry, with_left, thrown, cut_answer, answer_type, first_arguments, may_spawn, new_instance, added, runnable_unless, handle_stored, spawns}
-use Rattle.laws_runs.specs.SimModel.Transport.{with_pool, size_within, size_or, may_make, socket_of, history, is_complete, judged, judged_by, blocking_handler, nonblocking_handler, path_of_call, may_enter_handler, enters_handler, int_of, value_named, b_transport_on, nb_transport_on, complete_now, for_freed, b_transport_ends, nb_transport_ends, with_global, with_keeper, kept as keeps_time, on_keeper, keeper_named}
+use Rattle.laws_runs.specs.SimModel.Transport.{with_pool, size_within, size_or, may_make, socket_of, history, is_complete, judged, judged_by, blocking_handler, nonblocking_handler, path_of_call, may_enter_handler, enters_handler, int_of, value_named, b_transport_on, nb_transport_on, complete_now, for_freed, b_transport_ends, nb_transport_ends, with_global, with_keeper, kept as keeps_time, on_keeper}
 use Rattle.laws_runs.specs.SimModel.Payloads.{with_made, with_acquired, with_released}
 use Rattle.laws_runs.specs.SimModel.Control.{is_top, is_below_top, is_thread, with_kept, yields, suspends, resumes, pushed, pushed_unless_top, unwinds, ends_or_restarts, injected, throws_at, controlled_by, unless_ended, control_call, throw_call, target_of, targets, with_owed, ended_instance, ends, begins, stays_kept, restarts, reaches_goal, done_by}
 use Rattle.laws_runs.specs.SimModel.Statements.{via_ends, hands_back, handed_back, calling_statement, on_statement, do_statement, owed_call, owed_by, do_next, settled_in, step_by, statement_step}
@@ -457,6 +456,9 @@ module _ (c : Config) where
 
   -- ---- all forms
 
+  past : (p : ℕ) (r : Residual) → Near c (passes c p r)
+  past p r = stays c
+
   pub statement_near : (p : ℕ) (i : Instance) (r : Residual) (h : Here) (s : ℕ) (x : Statement) → NearIfOk c (do_statement c p i r h s x)
   statement_near p i r h s (code.var n t e) = ok c (val_if h e) (λ v. Ok (set_local (passes c p r) p n (first_value t v))) (λ v. (stays c))
   statement_near p i r h s (code.assign to e) = assign_near p r h to e
@@ -508,17 +510,6 @@ module _ (c : Config) where
       ok c (live_payload c t) (λ q. Ok (after t q)) (λ q. memory_near (passes c p r) (memory_number (denotes h m)) (memory_after q (memory_here h m)) (stays c)))
   statement_near p i r h s (code.b_transport socket n d) = b_transport_near p r h s n d (socket_of (denotes h socket))
   statement_near p i r h s (code.qk_global e) = ok c (val h e) (λ v. Ok (with_global (passes c p r) (moment v))) (λ v. stays c)
-  statement_near p i r h s (code.qk_inc n e) =
-      ok c (val h e) (λ v. on_keeper (passes c p r) (keeper_at c (keeper_named h n)) (λ k. keeps_time (passes c p r) (keeper_named h n) (after_inc k (moment v)))) (λ v.
-      on_keeper_near (passes c p r) (keeper_at c (keeper_named h n)) (λ k. keeps_time (passes c p r) (keeper_named h n) (after_inc k (moment v))) (stays c) (λ k.
-      kept_near (passes c p r) (keeper_named h n) (after_inc k (moment v)) (stays c)))
-  statement_near p i r h s (code.qk_set n e) =
-      ok c (val h e) (λ v. on_keeper (passes c p r) (keeper_at c (keeper_named h n)) (λ k. Ok (with_keeper (passes c p r) (keeper_named h n) (local_set k (moment v))))) (λ v.
-      on_keeper_near (passes c p r) (keeper_at c (keeper_named h n)) (λ k. Ok (with_keeper (passes c p r) (keeper_named h n) (local_set k (moment v)))) (stays c) (λ k.
-      keeper_near (passes c p r) (keeper_named h n) (local_set k (moment v)) (stays c)))
-  statement_near p i r h s (code.qk_reset n) =
-      on_keeper_near (passes c p r) (keeper_at c (keeper_named h n)) (λ k. keeps_time (passes c p r) (keeper_named h n) (after_reset c.quantum.global c.cycle.now)) (stays c) (λ k.
-      kept_near (passes c p r) (keeper_named h n) (after_reset c.quantum.global c.cycle.now) (stays c))
   statement_near p i r h s (code.spawn x) =
       ok c (first_arguments h (locals_in (body_at (arena c) x.function)) 0 x.arguments) (λ vs. on_ok (may_spawn c) (λ u. Ok (spawns (passes c p r) p h x vs))) (λ vs.
       ok c (may_spawn c) (λ u. Ok (spawns (passes c p r) p h x vs)) (λ u. spawns_near (passes c p r) p h x vs (stays c)))
@@ -533,6 +524,7 @@ module _ (c : Config) where
   statement_near p i r h s (code.while_ e b) = ok c (val h e) (λ v. Ok (with_residual c p (put r (looped c (truth v) s b)))) (λ v. (stays c))
   statement_near p i r h s (code.guard b u) = stays c
   statement_near p i r h s (code.try_ b handlers) = stays c
+  statement_near p i r h s other = search (ok, on_keeper_near, kept_near, keeper_near, past p r)
 
   -- ---- calls that end
 
