@@ -1,6 +1,6 @@
 -- The words on entries against those on finite maps.
 use Rattle.std.proofs.Common.{◌≡◌, ◌+◌, ◌≤◌, Bool, true, false, cond, not, List, [], ◌∷◌, length, Some, None, Option, refl, sym, ap, ◌∙◌, subst, arith}
-use Rattle.std.specs.Prelude.{T, ◌&&◌, is_some}
+use Rattle.std.specs.Prelude.{T, ◌&&◌, ◌==◌, is_some}
 use Rattle.std.specs.declared.cmp.Ordering.{Ordering}
 use Rattle.std.specs.declared.cmp.Ordering.TheVariants.{Less, Equal, Greater}
 use Rattle.std.specs.Ordering.{is_lt, is_eq, eq_by_cmp}
@@ -8,9 +8,10 @@ use Rattle.std.specs.Cmp.{IsTotalOrder, alike_right}
 use Rattle.std.specs.FinMap as map
 use Rattle.std.specs.FinMap.{FinMap, find, put, is_sorted}
 use Rattle.std.specs.FinMap.Entries.{by_order, below_all, length-put, where_key, find-where_key, is_sorted-where_key}
+use Rattle.std.proofs.lemmas.Bool.{eqb-true}
 use Rattle.std.proofs.lemmas.List.Filters.{length-filter_both}
 use Rattle.room_map.specs.Entries.{AllAbove, IsRising, without, as_map}
-use Rattle.room_map.proofs.Rising.{above_at, without-above, rising-put, rising-without}
+use Rattle.room_map.proofs.Rising.{above_at, without-absent, without-above, rising-put, rising-without}
 
 both : (a b : Bool) → T a → T b → T (a && b)
 both true b p q = q
@@ -118,6 +119,15 @@ module _ {K V : Type 0} {R : K → K → Ordering} (o : IsTotalOrder R) where
   pub as_map-without : map.IsAntisymmetric R → (k : K) (es : List (K × V)) → as_map R (without R k es) ≡ map.remove (as_map R es) k
   as_map-without exact k es = map.same_map o exact (as_map R (without R k es)) (map.remove (as_map R es) k) (λ q.
       get-as_map (without R k es) q ∙ find-without k q es ∙ ap (cond (eq_by_cmp R q k) None) (sym (get-as_map es q)) ∙ sym (map.get-remove o (as_map R es) k q))
+
+  -- ---- a map with no entry
+
+  pub get-none : (k : K) (es : List (K × V)) → (length es == 0) ≡ true → None ≡ map.get (as_map R es) k
+  get-none k es none = sym (get-as_map es k ∙ ap (find R k) (no_items es (eqb-true (length es) 0 none)))
+
+  pub remove-none : map.IsAntisymmetric R → (k : K) (es : List (K × V)) → (length es == 0) ≡ true → as_map R es ≡ map.remove (as_map R es) k
+  remove-none exact k es none =
+      ap (as_map R) (sym (without-absent o k es (ap (λ l. is_some (find R k l)) (no_items es (eqb-true (length es) 0 none))))) ∙ as_map-without exact k es
 
   -- ---- any map, by its entries
 

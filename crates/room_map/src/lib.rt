@@ -60,6 +60,7 @@ impl<K: Ord + Copy, V: Copy> RoomMap<K, V> {
     }
 
     /// How many entries there are.
+    #[inline(always)]
     pub fn len(&self) -> u32
         ensures len { result ≡ length self.now.entries }
         ensures rising { IsRising K.cmp self.now.entries }
@@ -70,10 +71,11 @@ impl<K: Ord + Copy, V: Copy> RoomMap<K, V> {
     }
 
     /// Whether there is no entry.
+    #[inline(always)]
     pub fn is_empty(&self) -> bool
         ensures { result ≡ (length self.now.entries == 0) }
     {
-        self.len() == 0
+        self.root == NONE
     }
 
     /// For how many entries more there is room.
@@ -84,14 +86,19 @@ impl<K: Ord + Copy, V: Copy> RoomMap<K, V> {
     }
 
     /// The value at the key, or `None` where there is none.
+    #[inline(always)]
     pub fn get(&self, key: K) -> Option<V>
         ensures value { result ≡ map.find K.cmp key self.now.entries }
         ensures in_map { result ≡ map.get (as_map K.cmp self.now.entries) key }
     {
+        if self.is_empty() {
+            return None;
+        }
         finding::get(self.nodes.as_slice(), self.root, key)
     }
 
     /// Whether there is a value at the key.
+    #[inline(always)]
     pub fn contains(&self, key: K) -> bool
         ensures found { result ≡ is_some (map.find K.cmp key self.now.entries) }
         ensures in_map { result ≡ map.contains_key (as_map K.cmp self.now.entries) key }
@@ -100,13 +107,18 @@ impl<K: Ord + Copy, V: Copy> RoomMap<K, V> {
     }
 
     /// The entry at place `k` of the rising order, counted from 0, or `None` where there are at most `k`.
+    #[inline(always)]
     pub fn kth(&self, k: u32) -> Option<(K, V)>
         ensures { result ≡ slice_get self.now.entries k }
     {
+        if self.is_empty() {
+            return None;
+        }
         finding::kth(self.nodes.as_slice(), self.root, k)
     }
 
     /// The entry of the least key, or `None` where there is none.
+    #[inline(always)]
     pub fn least(&self) -> Option<(K, V)>
         ensures { result ≡ slice_get self.now.entries 0 }
     {
@@ -162,8 +174,8 @@ impl<K: Ord + Copy, V: Copy> RoomMap<K, V> {
         set_value(self.nodes.as_mut_slice(), root, key, value);
     }
 
-    /// Takes the entry of the key out, if there is one: its place is spare again. The result is its value.
-    pub fn remove(&mut self, key: K) -> Option<V>
+    // Takes the entry of the key out, if there is one: its place is spare again. The result is its value.
+    fn take_out(&mut self, key: K) -> Option<V>
         ensures value { result ≡ map.find K.cmp key self.old.entries }
         ensures entries { self.new.entries ≡ without K.cmp key self.old.entries }
         ensures in_map { map.IsAntisymmetric K.cmp → as_map K.cmp self.new.entries ≡ map.remove (as_map K.cmp self.old.entries) key }
@@ -182,6 +194,22 @@ impl<K: Ord + Copy, V: Copy> RoomMap<K, V> {
             self.spare += 1;
         }
         found
+    }
+
+    /// Takes the entry of the key out, if there is one: its place is spare again. The result is its value.
+    #[inline(always)]
+    pub fn remove(&mut self, key: K) -> Option<V>
+        ensures value { result ≡ map.find K.cmp key self.old.entries }
+        ensures entries { self.new.entries ≡ without K.cmp key self.old.entries }
+        ensures in_map { map.IsAntisymmetric K.cmp → as_map K.cmp self.new.entries ≡ map.remove (as_map K.cmp self.old.entries) key }
+        ensures gives_one { self.new.spare ≡ (if is_some result then self.old.spare + 1 else self.old.spare) }
+        ensures same_places { length self.new.entries + self.new.spare ≡ length self.old.entries + self.old.spare }
+        ensures rising { IsRising K.cmp self.new.entries }
+    {
+        if self.is_empty() {
+            return None;
+        }
+        self.take_out(key)
     }
 }
 
