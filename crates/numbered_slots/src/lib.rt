@@ -46,6 +46,7 @@ impl<T> Model for Slots<T> {
 }
 
 // The slot of a live number, with no search where the value stands in the number's own slot.
+#[inline(always)]
 fn slot_of(keys: &BTreeMap<u32, usize>, at_home: &[bool], number: u32) -> Option<usize>
     requires { TellsHomes at_home.now keys.now }
     ensures { result ≡ tree.get nat_cmp keys.now number }
@@ -109,6 +110,7 @@ impl<T> Slots<T> {
     }
 
     /// The live value of this number, if there is one. The number was given before: each one from the next on finds nothing.
+    #[inline(always)]
     pub fn get(&self, number: u32) -> Option<&T>
         ensures value { option_copied result ≡ map.get self.now.live number }
         ensures given { IsSome result → number < self.now.next }
@@ -120,6 +122,7 @@ impl<T> Slots<T> {
     }
 
     /// The live value of this number for writing, if there is one.
+    #[inline(always)]
     pub fn get_mut(&mut self, number: u32) -> Option<&mut T>
         ensures* writes_back { sem 𝓛 (lends_value T.row self.entry number result) }
         ensures value { option_copied_mut result ≡ map.get self.old.live number }
