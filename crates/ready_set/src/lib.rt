@@ -40,6 +40,7 @@ impl Model for ReadySet {
 }
 
 // The key of an entry.
+#[inline(always)]
 fn key_of(entry: Option<(u32, ())>) -> Option<u32>
     ensures { result ≡ option_map (λ e. e.0) entry }
 {
@@ -85,6 +86,7 @@ impl ReadySet {
     }
 
     /// Takes the serial out, and says whether it was a member.
+    #[inline(always)]
     pub fn remove(&mut self, p: u32) -> bool
         ensures answer { result ≡ set.contains self.old.members p }
         ensures left { self.new ≡ without_member self.old p }
@@ -100,6 +102,7 @@ impl ReadySet {
     }
 
     /// Whether the serial is a member.
+    #[inline(always)]
     pub fn has(&self, p: u32) -> bool
         ensures { result ≡ set.contains self.now.members p }
     {
@@ -107,6 +110,7 @@ impl ReadySet {
     }
 
     /// The member at place `k` of the rising order, counted from 0, or `None` where there are at most `k`.
+    #[inline(always)]
     pub fn kth(&self, k: u32) -> Option<u32>
         ensures { result ≡ slice_get (rising self.now.members) k }
     {
@@ -114,6 +118,7 @@ impl ReadySet {
     }
 
     /// The least member, or `None` where there is none.
+    #[inline(always)]
     pub fn least(&self) -> Option<u32>
         ensures { result ≡ slice_get (rising self.now.members) 0 }
     {
