@@ -12,6 +12,7 @@ ghost use Rattle.kernel_processes.specs.Moved.{PutsBody};
 use crate::Schedule;
 
 /// What the caller keeps for a live instance.
+#[inline(always)]
 pub fn body<B>(s: &Schedule<B>, p: u32) -> Option<&B>
     ensures { option_copied result ≡ body_at s.now p }
 {

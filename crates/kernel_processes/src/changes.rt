@@ -16,6 +16,7 @@ use timed_queue::sim_time_api::Time;
 use wait_lists::event_core_api::Ev;
 
 /// Makes room for an instance that has room, so that it can wait for as many as `items` events, and until a time.
+#[inline(always)]
 pub fn hold_room<B>(s: &mut Schedule<B>, p: u32, items: u32) -> Result<(), AllocError>
     requires { map.contains_key s.old.lists.room p ≡ true }
     ensures changes { Changes p (λ x. x) s.old s.new }
@@ -36,6 +37,7 @@ pub fn hold_room<B>(s: &mut Schedule<B>, p: u32, items: u32) -> Result<(), Alloc
 }
 
 /// Takes an instance out of all wait lists.
+#[inline(always)]
 pub fn leave_lists<B>(s: &mut Schedule<B>, p: u32)
     ensures { Changes p (λ x. record x { wait = None }) s.old s.new }
 {
@@ -51,6 +53,7 @@ pub fn mute<B>(s: &mut Schedule<B>, p: u32, on: bool)
 }
 
 /// Gives an instance this time-out, in place of the one that it had.
+#[inline(always)]
 pub fn put_time<B>(s: &mut Schedule<B>, p: u32, d: Deadline)
     requires below { p < 2 ^ 32 - 1 }
     requires times { 0 < s.old.deadlines.spare }
@@ -69,6 +72,7 @@ pub fn put_time<B>(s: &mut Schedule<B>, p: u32, d: Deadline)
 }
 
 /// Takes an instance out of the runnable ones, and answers whether it was among them.
+#[inline(always)]
 pub fn unready<B>(s: &mut Schedule<B>, p: u32) -> bool
     ensures answer { result ≡ set.contains s.old.ready.members p }
     ensures changes { Changes p (λ x. record x { ready = false }) s.old s.new }
@@ -77,6 +81,7 @@ pub fn unready<B>(s: &mut Schedule<B>, p: u32) -> bool
 }
 
 /// The events of a wait, of an instance with this static sensitivity.
+#[inline(always)]
 fn events_of<'a>(wait: &'a Wait, sensitive: &'a [Ev]) -> &'a [Ev]
     ensures { result.now ≡ events_of wait.now sensitive.now }
 {
@@ -87,6 +92,7 @@ fn events_of<'a>(wait: &'a Wait, sensitive: &'a [Ev]) -> &'a [Ev]
 }
 
 /// How many events there are in a wait of an instance, where they are not too many to be counted.
+#[inline(always)]
 pub fn count_events<B>(s: &Schedule<B>, p: u32, wait: &Wait) -> Option<u32>
     ensures counted { IfSome result (λ n. n ≡ length (events_of wait.now (sensitive_of (map.get s.now.table.live p)))) }
     ensures few { length (events_of wait.now (sensitive_of (map.get s.now.table.live p))) < 2 ^ 32 → IsSome result }
@@ -113,6 +119,7 @@ pub fn put_wait<B>(s: &mut Schedule<B>, p: u32, wait: &Wait)
     }
 }
 
+#[inline(always)]
 fn waiting_by(wait: &Wait) -> Waiting
     ensures { result ≡ waiting_by wait.now }
 {
@@ -124,6 +131,7 @@ fn waiting_by(wait: &Wait) -> Waiting
 }
 
 /// Notes how an instance waits.
+#[inline(always)]
 pub fn mark_wait<B>(s: &mut Schedule<B>, p: u32, t: &Trigger)
     ensures { Changes p (with_entry (λ x. record x { wait = waiting_by t.now.wait; deadline = t.now.deadline })) s.old s.new }
 {
@@ -134,6 +142,7 @@ pub fn mark_wait<B>(s: &mut Schedule<B>, p: u32, t: &Trigger)
 }
 
 /// Notes that an instance waits for nothing, and is not kept.
+#[inline(always)]
 pub fn mark_free<B>(s: &mut Schedule<B>, p: u32)
     ensures { Changes p (with_entry (λ x. record x { wait = waiting.None; deadline = due.None; kept = false })) s.old s.new }
 {
@@ -145,6 +154,7 @@ pub fn mark_free<B>(s: &mut Schedule<B>, p: u32)
 }
 
 /// Notes that an instance is kept till it is resumed.
+#[inline(always)]
 pub fn mark_kept<B>(s: &mut Schedule<B>, p: u32)
     ensures { Changes p (with_entry (λ x. record x { kept = true })) s.old s.new }
 {
@@ -154,6 +164,7 @@ pub fn mark_kept<B>(s: &mut Schedule<B>, p: u32)
 }
 
 /// Notes that an instance is suspended.
+#[inline(always)]
 pub fn mark_suspended<B>(s: &mut Schedule<B>, p: u32)
     ensures { Changes p (with_entry (λ x. record x { suspended = true })) s.old s.new }
 {
@@ -186,6 +197,7 @@ pub fn mark_disabled<B>(s: &mut Schedule<B>, p: u32, on: bool)
 }
 
 /// Notes whether the body of an instance has begun.
+#[inline(always)]
 pub fn mark_started<B>(s: &mut Schedule<B>, p: u32, on: bool)
     ensures { Changes p (with_entry (λ x. record x { started = on })) s.old s.new }
 {

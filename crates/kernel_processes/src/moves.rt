@@ -19,6 +19,7 @@ pub enum Heard {
 }
 
 /// What a wake makes of the entry of an instance.
+#[inline(always)]
 fn hear<B>(x: &mut Instance<Process<B>>) -> Heard
     ensures entry { x.new ≡ heard x.old }
     ensures answer { result ≡ heard_as x.old }
@@ -36,6 +37,7 @@ fn hear<B>(x: &mut Instance<Process<B>>) -> Heard
 }
 
 /// Ends the time-outs of an instance.
+#[inline(always)]
 pub fn end_time<B>(s: &mut Schedule<B>, p: u32)
     ensures { Changes p (λ x. record x { time = None; zero = false }) s.old s.new }
 {
@@ -44,6 +46,7 @@ pub fn end_time<B>(s: &mut Schedule<B>, p: u32)
 }
 
 /// Makes a live instance runnable.
+#[inline(always)]
 pub fn join<B>(s: &mut Schedule<B>, p: u32)
     requires places { HasPlaces s.old }
     requires live { map.contains_key s.old.table.live p ≡ true }
@@ -54,6 +57,7 @@ pub fn join<B>(s: &mut Schedule<B>, p: u32)
 }
 
 /// What a wake makes of the entry of the instance of a serial.
+#[inline(always)]
 fn hear_at<B>(s: &mut Schedule<B>, p: u32) -> Heard
     ensures changes { Changes p heard_seen s.old s.new }
     ensures answer { result ≡ hears_at (map.get s.old.table.live p) }

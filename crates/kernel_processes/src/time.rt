@@ -84,6 +84,7 @@ pub fn wake_due<B>(s: &mut Schedule<B>)
 }
 
 /// A time that no wait ends before, in the time of a few tests; none where no time ends one.
+#[inline(always)]
 pub fn not_before<B>(s: &Schedule<B>) -> Option<Time>
     requires { IsSound s.now }
     ensures none { IfNone result (HasNoTime s.now) }

@@ -11,6 +11,7 @@ ghost use Rattle.kernel_processes.specs.Moved.{IsTop, LeavesTop, joins_top, same
 use crate::{Schedule, end_time, join, leave_lists, mark_free, mark_started, unready};
 
 /// The active instance that is on top, if one is active.
+#[inline(always)]
 pub fn top<B>(s: &Schedule<B>) -> Option<u32>
     ensures none { IfNone result (s.now.stack.items ≡ []) }
     ensures some { IfSome result (λ p. IsTop p s.now.stack.items) }
@@ -19,6 +20,7 @@ pub fn top<B>(s: &Schedule<B>) -> Option<u32>
 }
 
 /// The instance on top leaves the stack.
+#[inline(always)]
 pub(crate) fn leave_stack<B>(s: &mut Schedule<B>, p: u32)
     requires sound { IsSound s.old }
     requires top { IsTop p s.old.stack.items }
@@ -29,6 +31,7 @@ pub(crate) fn leave_stack<B>(s: &mut Schedule<B>, p: u32)
 }
 
 /// What is left of a wait of an instance is taken back.
+#[inline(always)]
 pub(crate) fn free<B>(s: &mut Schedule<B>, p: u32)
     ensures { Changes p untimed_free s.old s.new }
 {
@@ -38,6 +41,7 @@ pub(crate) fn free<B>(s: &mut Schedule<B>, p: u32)
 }
 
 /// A runnable instance is taken: it is the only active one now (IEEE 1666-2011, 4.2.1.2).
+#[inline(always)]
 pub fn take<B>(s: &mut Schedule<B>, p: u32)
     requires sound { IsSound s.old }
     requires runs { set.contains s.old.ready.members p ≡ true }
@@ -50,6 +54,7 @@ pub fn take<B>(s: &mut Schedule<B>, p: u32)
 }
 
 /// Notes whether the body of an instance has begun.
+#[inline(always)]
 pub fn begin<B>(s: &mut Schedule<B>, p: u32, on: bool)
     requires sound { IsSound s.old }
     requires lives { map.contains_key s.old.table.live p ≡ true }

@@ -13,6 +13,7 @@ use crate::{
 use std::alloc::AllocError;
 
 /// Makes room for a wait of the instance.
+#[inline(always)]
 fn make_room<B>(s: &mut Schedule<B>, p: u32, t: &Trigger) -> Result<(), AllocError>
     requires { map.contains_key s.old.lists.room p ≡ true }
     ensures changes { Changes p (λ x. x) s.old s.new }
@@ -59,6 +60,7 @@ pub fn wait<B>(s: &mut Schedule<B>, p: u32, t: &Trigger) -> Result<(), AllocErro
 }
 
 /// Makes room for the instance on top, so that it can wait for as many as `items` events, and until a time. Nothing else changes.
+#[inline(always)]
 pub fn hold<B>(s: &mut Schedule<B>, p: u32, items: u32) -> Result<(), AllocError>
     requires sound { IsSound s.old }
     requires top { IsTop p s.old.stack.items }
@@ -75,6 +77,7 @@ pub fn hold<B>(s: &mut Schedule<B>, p: u32, items: u32) -> Result<(), AllocError
 
 /// The method on top has returned: it leaves the stack and waits so, and its body has not begun (IEEE 1666-2011, 5.2.10).
 /// There is room for the wait, so it takes no memory.
+#[inline(always)]
 pub fn rest_ready<B>(s: &mut Schedule<B>, p: u32, t: &Trigger)
     requires sound { IsSound s.old }
     requires top { IsTop p s.old.stack.items }

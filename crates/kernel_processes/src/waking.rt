@@ -12,6 +12,7 @@ use wait_lists::event_core_api::Ev;
 use wait_lists::{as_many_as_have_room, who_waits_has_room};
 
 /// Whether an instance is among the active ones.
+#[inline(always)]
 pub fn is_active(stack: &[u32], p: u32) -> bool
     ensures { result ≡ is_on stack.now p }
 {
@@ -19,6 +20,7 @@ pub fn is_active(stack: &[u32], p: u32) -> bool
 }
 
 /// Whether there is a live instance of this serial that is not disabled.
+#[inline(always)]
 fn hears<B>(table: &Table<Process<B>>, p: u32) -> bool
     ensures { result ≡ is_heard (map.get table.now.live p) }
 {
@@ -43,6 +45,7 @@ pub fn wake<B>(s: &mut Schedule<B>, p: u32)
 }
 
 /// Those that an event woke meet their wakes.
+#[inline(always)]
 fn meet_all<B>(s: &mut Schedule<B>)
     requires { HasPlaces s.old }
     ensures { MeetsAll s.old s.new }
