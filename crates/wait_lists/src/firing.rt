@@ -14,6 +14,7 @@ use crate::waiter::Waiter;
 use event_core::Ev;
 
 // The place of the waiter in whose list the node stands.
+#[inline(always)]
 fn owner(kept: &Kept, i: u32) -> u32
     requires { i < length kept.now.nodes.items }
     ensures { IsOf kept.now result i }
@@ -21,6 +22,7 @@ fn owner(kept: &Kept, i: u32) -> u32
     kept.nodes[i as usize].waiter
 }
 
+#[inline(always)]
 fn waiter_at(kept: &Kept, at: u32) -> Waiter
     requires { at < length kept.now.waiters.items }
     ensures { slice_get kept.now.waiters.items at ≡ Some result }
@@ -29,6 +31,7 @@ fn waiter_at(kept: &Kept, at: u32) -> Waiter
 }
 
 // Takes from the wait of the waiter at this place what its event strikes: the node alone where it waits for all, and else all.
+#[inline(always)]
 fn strike_wait(kept: &mut Kept, i: u32, at: u32, for_all: bool)
     requires sound { IsSound kept.old }
     requires used { IsUsed kept.old i }
@@ -50,6 +53,7 @@ fn strike_wait(kept: &mut Kept, i: u32, at: u32, for_all: bool)
 
 // Takes from the wait in which the node stands what its event strikes, and adds the serial if that was all. It answers whether
 // the node stays, as that of a waiter that is muted does.
+#[inline(always)]
 fn strike(kept: &mut Kept, i: u32, out: &mut Vec<u32>) -> bool
     requires sound { IsSound kept.old }
     requires used { IsUsed kept.old i }
@@ -76,6 +80,7 @@ fn strike(kept: &mut Kept, i: u32, out: &mut Vec<u32>) -> bool
 }
 
 // The node behind one of this code that stays, or the first one where none stays yet.
+#[inline(always)]
 fn next_behind(kept: &Kept, stays: u32, code: u64) -> u32
     requires sound { IsSound kept.now }
     requires inside { stays ≢ none → stays < length kept.now.nodes.items }
@@ -88,6 +93,7 @@ fn next_behind(kept: &Kept, stays: u32, code: u64) -> u32
 }
 
 // Strikes the event from each wait, and adds the serials of those that are met.
+#[inline(always)]
 fn strike_each(kept: &mut Kept, e: Ev, out: &mut Vec<u32>)
     requires sound { IsSound kept.old }
     requires room { vec_len out.old + map.len (waits_naming (waits_by kept.old) e) ≤ vec_capacity out.old }
@@ -109,11 +115,14 @@ fn strike_each(kept: &mut Kept, e: Ev, out: &mut Vec<u32>)
 }
 
 // Sorts the numbers from this place on.
+#[inline(always)]
 fn sort_from(list: &mut [u32], from: usize)
     requires { from ≤ length list.old }
     ensures { (front back : List ℕ) → list.old ≡ front ++ back → length front ≡ from → (more : List ℕ) × (list.new ≡ front ++ more) × IsPermutation back more × IsSorted nat_cmp more }
 {
-    list[from..].sort_unstable();
+    if 1 < list.len() - from {
+        list[from..].sort_unstable();
+    }
 }
 
 // Strikes the event from each wait, and adds the serials of those that are met, by rising serials.

@@ -27,6 +27,7 @@ pub(crate) struct Heads {
 }
 
 // What stands at the place of this code.
+#[inline(always)]
 fn at_code(near: &[u32], code: u64) -> u32
     ensures { result ≡ at_tag near.now code }
 {
@@ -64,6 +65,7 @@ impl Heads {
     }
 
     // The first node of the list of this code.
+    #[inline(always)]
     pub(crate) fn first(&self, code: u64) -> u32
         ensures { result ≡ first_in self.now.events self.now.free code }
     {
@@ -81,6 +83,7 @@ impl Heads {
     }
 
     // Lets the list of an event begin with this node, or ends it.
+    #[inline(always)]
     fn set_event(&mut self, code: u64, first: u32)
         requires heads { IsHeads self.old.events }
         requires event { 1 < code }

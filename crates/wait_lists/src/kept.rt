@@ -46,6 +46,7 @@ pub(crate) fn nothing_kept(alloc: Global) -> Kept
     }
 }
 
+#[inline(always)]
 pub(crate) fn event_code(e: Ev) -> u64
     ensures { result ≡ code_of e }
 {
@@ -74,6 +75,7 @@ pub(crate) fn drop_node(kept: &mut Kept, i: u32)
 }
 
 // Lets the waiter at this place wait for the event of this code too, before all others. It has room for that.
+#[inline(always)]
 fn add_node(kept: &mut Kept, at: u32, code: u64)
     requires sound { IsSound kept.old }
     requires event { 1 < code }
@@ -93,6 +95,7 @@ fn add_node(kept: &mut Kept, at: u32, code: u64)
 }
 
 // The first node of the list of the waiter at this place.
+#[inline(always)]
 pub(crate) fn first_node(kept: &Kept, at: u32) -> u32
     requires { at < length kept.now.waiters.items }
     ensures { (w : Waiter) → slice_get kept.now.waiters.items at ≡ Some w → result ≡ w.first }
@@ -101,6 +104,7 @@ pub(crate) fn first_node(kept: &Kept, at: u32) -> u32
 }
 
 // For how many events the waiter at this place has room.
+#[inline(always)]
 pub(crate) fn room_at(kept: &Kept, at: u32) -> u32
     requires { at < length kept.now.waiters.items }
     ensures { (w : Waiter) → slice_get kept.now.waiters.items at ≡ Some w → result ≡ w.room }
@@ -109,6 +113,7 @@ pub(crate) fn room_at(kept: &Kept, at: u32) -> u32
 }
 
 // Takes the waiter at this place out of all lists.
+#[inline(always)]
 pub(crate) fn clear_wait(kept: &mut Kept, at: u32)
     requires sound { IsSound kept.old }
     requires inside { at < length kept.old.waiters.items }
@@ -128,6 +133,7 @@ pub(crate) fn clear_wait(kept: &mut Kept, at: u32)
 }
 
 // Lets a waiter that waits for nothing wait for these events, for which it has room.
+#[inline(always)]
 fn begin_wait(kept: &mut Kept, at: u32, for_all: bool, list: &[Ev])
     requires sound { IsSound kept.old }
     requires inside { at < length kept.old.waiters.items }
@@ -141,6 +147,7 @@ fn begin_wait(kept: &mut Kept, at: u32, for_all: bool, list: &[Ev])
 }
 
 // Lets a waiter that waits for nothing yet wait for these events, from the last to the first.
+#[inline(always)]
 fn list_events(kept: &mut Kept, at: u32, list: &[Ev])
     requires sound { IsSound kept.old }
     requires inside { at < length kept.old.waiters.items }
@@ -157,6 +164,7 @@ fn list_events(kept: &mut Kept, at: u32, list: &[Ev])
 }
 
 // The place of the instance, if it has one. It is looked for first at the place of its own number.
+#[inline(always)]
 pub(crate) fn place_of(kept: &Kept, p: u32) -> Option<u32>
     requires { IsSound kept.now }
     ensures { result ≡ map.find nat_cmp p kept.now.places.entries }

@@ -11,6 +11,7 @@ use crate::nodes::{
 use crate::waiter::Waiter;
 
 // Cuts the node out of the list of its code.
+#[inline(always)]
 pub(crate) fn cut_event(nodes: &mut Vec<Node>, heads: &mut Heads, i: u32)
     requires inside { i < length nodes.old.items }
     requires few { length nodes.old.items ≤ none }
@@ -35,6 +36,7 @@ pub(crate) fn cut_event(nodes: &mut Vec<Node>, heads: &mut Heads, i: u32)
 }
 
 // Puts a node that stands in no such list at the front of the list of this code.
+#[inline(always)]
 pub(crate) fn put_event(nodes: &mut Vec<Node>, heads: &mut Heads, i: u32, code: u64)
     requires code { 0 < code }
     requires heads { IsHeads heads.old.events }
@@ -54,6 +56,7 @@ pub(crate) fn put_event(nodes: &mut Vec<Node>, heads: &mut Heads, i: u32, code: 
 }
 
 // Lets the list of the waiter at this place begin with this node.
+#[inline(always)]
 fn set_first(waiters: &mut Vec<Waiter>, at: u32, first: u32)
     requires { at < length waiters.old.items }
     ensures firsts { (k : ℕ) → slice_get waiters.new.items k ≡ refirst (first_at at first k) (slice_get waiters.old.items k) }
@@ -64,6 +67,7 @@ fn set_first(waiters: &mut Vec<Waiter>, at: u32, first: u32)
 }
 
 // Cuts the node out of the list of its waiter.
+#[inline(always)]
 pub(crate) fn cut_wait(nodes: &mut Vec<Node>, waiters: &mut Vec<Waiter>, i: u32)
     requires inside { i < length nodes.old.items }
     requires home { (l : Link) → by_wait nodes.old.items i ≡ Some l → l.tag < length waiters.old.items }
@@ -85,6 +89,7 @@ pub(crate) fn cut_wait(nodes: &mut Vec<Node>, waiters: &mut Vec<Waiter>, i: u32)
 }
 
 // Puts a node that stands in no such list at the front of the list of the waiter at this place.
+#[inline(always)]
 pub(crate) fn put_wait(nodes: &mut Vec<Node>, waiters: &mut Vec<Waiter>, i: u32, at: u32)
     requires { at < length waiters.old.items }
     ensures waits { (w : Waiter) → slice_get waiters.old.items at ≡ Some w → (j : ℕ) → by_wait nodes.new.items j ≡ put at i w.first (by_wait nodes.old.items) j }

@@ -40,6 +40,7 @@ pub(crate) fn loose_node() -> Node
     }
 }
 
+#[inline(always)]
 pub(crate) fn set_next(nodes: &mut Vec<Node>, i: u32, next: u32)
     ensures events { (j : ℕ) → by_event nodes.new.items j ≡ upd i (with_next next) (by_event nodes.old.items) j }
     ensures waits { (j : ℕ) → by_wait nodes.new.items j ≡ by_wait nodes.old.items j }
@@ -51,6 +52,7 @@ pub(crate) fn set_next(nodes: &mut Vec<Node>, i: u32, next: u32)
     }
 }
 
+#[inline(always)]
 pub(crate) fn set_prev(nodes: &mut Vec<Node>, i: u32, prev: u32)
     ensures events { (j : ℕ) → by_event nodes.new.items j ≡ upd i (with_prev prev) (by_event nodes.old.items) j }
     ensures waits { (j : ℕ) → by_wait nodes.new.items j ≡ by_wait nodes.old.items j }
@@ -62,6 +64,7 @@ pub(crate) fn set_prev(nodes: &mut Vec<Node>, i: u32, prev: u32)
     }
 }
 
+#[inline(always)]
 pub(crate) fn set_after(nodes: &mut Vec<Node>, i: u32, after: u32)
     ensures waits { (j : ℕ) → by_wait nodes.new.items j ≡ upd i (with_next after) (by_wait nodes.old.items) j }
     ensures events { (j : ℕ) → by_event nodes.new.items j ≡ by_event nodes.old.items j }
@@ -73,6 +76,7 @@ pub(crate) fn set_after(nodes: &mut Vec<Node>, i: u32, after: u32)
     }
 }
 
+#[inline(always)]
 pub(crate) fn set_before(nodes: &mut Vec<Node>, i: u32, before: u32)
     ensures waits { (j : ℕ) → by_wait nodes.new.items j ≡ upd i (with_prev before) (by_wait nodes.old.items) j }
     ensures events { (j : ℕ) → by_event nodes.new.items j ≡ by_event nodes.old.items j }
@@ -85,6 +89,7 @@ pub(crate) fn set_before(nodes: &mut Vec<Node>, i: u32, before: u32)
 }
 
 // Lets the node stand before the others of this code, of which `first` was the first.
+#[inline(always)]
 pub(crate) fn enlist(nodes: &mut Vec<Node>, i: u32, code: u64, first: u32)
     ensures events { (j : ℕ) → by_event nodes.new.items j ≡ upd i (at_front code first) (by_event nodes.old.items) j }
     ensures waits { (j : ℕ) → by_wait nodes.new.items j ≡ by_wait nodes.old.items j }
@@ -103,6 +108,7 @@ pub(crate) fn enlist(nodes: &mut Vec<Node>, i: u32, code: u64, first: u32)
 }
 
 // Lets the node stand before the others of the waiter at this place, of which `first` was the first.
+#[inline(always)]
 pub(crate) fn enlist_wait(nodes: &mut Vec<Node>, i: u32, waiter: u32, first: u32)
     ensures waits { (j : ℕ) → by_wait nodes.new.items j ≡ upd i (at_front waiter first) (by_wait nodes.old.items) j }
     ensures events { (j : ℕ) → by_event nodes.new.items j ≡ by_event nodes.old.items j }

@@ -30,6 +30,7 @@ pub(crate) fn idle_waiter(serial: u32, room: u32) -> Waiter
 }
 
 // Lets the waiter at this place wait for all of its events, or for any.
+#[inline(always)]
 pub(crate) fn set_kind(waiters: &mut Vec<Waiter>, at: u32, for_all: bool)
     requires { at < length waiters.old.items }
     ensures { (w : Waiter) → slice_get waiters.old.items at ≡ Some w → waiters.new.items ≡ slice_set waiters.old.items at (record w { for_all = for_all }) }
@@ -38,6 +39,7 @@ pub(crate) fn set_kind(waiters: &mut Vec<Waiter>, at: u32, for_all: bool)
 }
 
 // Mutes the waiter at this place, or ends that.
+#[inline(always)]
 pub(crate) fn set_muted(waiters: &mut Vec<Waiter>, at: u32, is_muted: bool)
     requires { at < length waiters.old.items }
     ensures { (w : Waiter) → slice_get waiters.old.items at ≡ Some w → waiters.new.items ≡ slice_set waiters.old.items at (record w { is_muted = is_muted }) }
