@@ -156,6 +156,10 @@ module _ (m : maps.FinMap nat_cmp Time) (t : Time) where
         (cases_eq q name)
         ∙ sym (get-retained m (λ q. not (is_due m t q)) q))
 
+-- where there is no name none has this time
+pub none_due : (m : maps.FinMap nat_cmp Time) (t : Time) → maps.len m ≡ 0 → (q : ℕ) → is_due m t q ≡ false
+none_due m t none q = ap (is_at t) (ap (λ n. maps.get n q) (maps.empty_of_len m none) ∙ maps.get-empty nat_cmp q)
+
 pub left_none : (q : Timed) (t : Time) → ((p : ℕ) → is_due q.times t p ≡ false) → without_due q t ≡ q
 left_none q t none = λ i. record {
   times = all_stay q.times t none i;

@@ -46,6 +46,7 @@ impl Wheel {
     }
 
     // Takes the entry of the node out.
+    #[inline(never)]
     pub(crate) fn remove(&mut self, i: u32)
         requires sound { IsWheel self.old }
         requires settled { IsSettled self.old }

@@ -69,6 +69,7 @@ impl TimedQueue {
     }
 
     /// How many names there are.
+    #[inline(always)]
     pub fn len(&self) -> u32
         ensures { result ≡ map.len self.now.times }
     {
@@ -76,6 +77,7 @@ impl TimedQueue {
     }
 
     /// Whether there is no name.
+    #[inline(always)]
     pub fn is_empty(&self) -> bool
         ensures { IsTrue result ↔ (map.len self.now.times ≡ 0) }
     {
@@ -83,6 +85,7 @@ impl TimedQueue {
     }
 
     // Makes room where there is less than for `n` names more.
+    #[inline(never)]
     fn make_room(&mut self, n: u32) -> Result<(), AllocError>
         ensures ok { OnOk result (n ≤ self.new.spare) }
         ensures grows { self.old.spare ≤ self.new.spare }
@@ -200,6 +203,9 @@ impl TimedQueue {
         ensures order { out.new.items ≡ out.old.items ++ map.keys (due_at self.old.times t) }
         ensures capacity { vec_capacity out.new ≡ vec_capacity out.old }
     {
+        if self.is_empty() {
+            return;
+        }
         let had = out.len();
         self.follow(t);
         self.move_due(t, out);
