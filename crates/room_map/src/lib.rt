@@ -175,6 +175,7 @@ impl<K: Ord + Copy, V: Copy> RoomMap<K, V> {
     }
 
     // Takes the entry of the key out, if there is one: its place is spare again. The result is its value.
+    #[inline(never)]
     fn take_out(&mut self, key: K) -> Option<V>
         ensures value { result ≡ map.find K.cmp key self.old.entries }
         ensures entries { self.new.entries ≡ without K.cmp key self.old.entries }
@@ -215,6 +216,7 @@ impl<K: Ord + Copy, V: Copy> RoomMap<K, V> {
 
 impl<K: Ord + Copy + Default, V: Copy + Default> RoomMap<K, V> {
     // Makes room where there is less than for `n` entries more.
+    #[inline(never)]
     fn make_room(&mut self, n: u32) -> Result<(), AllocError>
         ensures ok { OnOk result (n ≤ self.new.spare) }
         ensures exact { OnOk result (self.new.spare ≡ max self.old.spare n) }
@@ -239,6 +241,7 @@ impl<K: Ord + Copy + Default, V: Copy + Default> RoomMap<K, V> {
     }
 
     /// Makes room for at least `n` entries more, or runs out of memory, as it also does where there would be 2^32 places or more.
+    #[inline(always)]
     pub fn reserve(&mut self, n: u32) -> Result<(), AllocError>
         ensures ok { OnOk result (n ≤ self.new.spare) }
         ensures exact { OnOk result (self.new.spare ≡ max self.old.spare n) }
