@@ -34,6 +34,7 @@ fn add_free(kept: &mut Kept)
 }
 
 // Makes nodes for so many events more than there is room for.
+#[inline(never)]
 fn make_nodes(kept: &mut Kept, more: u32) -> Result<(), AllocError>
     requires { IsSound kept.old }
     ensures sound { IsSound kept.new }
@@ -131,6 +132,7 @@ fn take_place(kept: &mut Kept, p: u32, items: u32)
 }
 
 // Makes room for an instance that has none, and for so many events.
+#[inline(never)]
 fn admit(kept: &mut Kept, p: u32, items: u32) -> Result<(), AllocError>
     requires sound { IsSound kept.old }
     requires absent { map.find nat_cmp p kept.old.places.entries ≡ None }
@@ -146,6 +148,7 @@ fn admit(kept: &mut Kept, p: u32, items: u32) -> Result<(), AllocError>
 }
 
 // Makes room for so many events of an instance that has room.
+#[inline(always)]
 fn widen(kept: &mut Kept, p: u32, at: u32, items: u32) -> Result<(), AllocError>
     requires sound { IsSound kept.old }
     requires place { map.find nat_cmp p kept.old.places.entries ≡ Some at }
@@ -164,6 +167,7 @@ fn widen(kept: &mut Kept, p: u32, at: u32, items: u32) -> Result<(), AllocError>
 }
 
 // Makes room for the instance, so that it can wait for so many events.
+#[inline(always)]
 pub(crate) fn make_room(kept: &mut Kept, p: u32, items: u32) -> Result<(), AllocError>
     requires { IsSound kept.old }
     ensures sound { IsSound kept.new }
