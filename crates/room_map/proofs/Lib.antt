@@ -15,3 +15,4 @@ pub mod Sides
 pub mod Results
 pub mod Stacks
 pub mod Looks
+pub mod Lone

@@ -3,7 +3,7 @@ ghost use Rattle.std.specs.Prelude.{◌≡◌, ◌+◌};
 ghost use Rattle.room_map.specs.Shape.{Shape, is_at, times};
 ghost use Rattle.room_map.specs.Nodes.{Under, Changed, CanSplit, IsSplit, CanJoin, IsJoined, CanEnter, HasEntered, HasKey, HasValue, CanLeave, HasLeft};
 
-use crate::nodes::{NONE, Node, Spot, close, node_at, put};
+use crate::nodes::{NONE, Node, Spot, close, len, node_at, put};
 use crate::turns::balance;
 use std::cmp::Ordering;
 
@@ -118,8 +118,25 @@ pub(crate) fn set_value<K: Ord + Copy, V: Copy>(nodes: &mut [Node<K, V>], at: u3
     }
 }
 
-// The tree without the entry of a key that it has, and the place that the entry left.
+// The tree without the entry of a key that it has, and the place that the entry left. Where it is the only one, no other node is
+// looked at.
+#[inline(always)]
 pub(crate) fn unlink<K: Ord + Copy, V: Copy>(nodes: &mut [Node<K, V>], at: u32, key: K) -> Unlinked
+    requires { (t : Shape K V) × CanLeave K.cmp nodes.old at key t }
+    ensures { (t : Shape K V) → CanLeave K.cmp nodes.old at key t → (u : Shape K V) × Under nodes.new result.root u × HasLeft K.cmp t key result.freed u × Changed (λ q. times q t) nodes.old nodes.new }
+{
+    let count = len(nodes, at);
+    if count == 1 {
+        return Unlinked {
+            root: NONE,
+            freed: at,
+        };
+    }
+    unlink_below(nodes, at, key)
+}
+
+// The same, by the way down to the key.
+fn unlink_below<K: Ord + Copy, V: Copy>(nodes: &mut [Node<K, V>], at: u32, key: K) -> Unlinked
     requires { (t : Shape K V) × CanLeave K.cmp nodes.old at key t }
     ensures { (t : Shape K V) → CanLeave K.cmp nodes.old at key t → (u : Shape K V) × Under nodes.new result.root u × HasLeft K.cmp t key result.freed u × Changed (λ q. times q t) nodes.old nodes.new }
 {
@@ -133,7 +150,7 @@ pub(crate) fn unlink<K: Ord + Copy, V: Copy>(nodes: &mut [Node<K, V>], at: u32, 
             };
             match key.cmp(&node.key) {
                 Ordering::Less => {
-                    let side = unlink(nodes, node.left, key);
+                    let side = unlink_below(nodes, node.left, key);
                     let root = balance(nodes, side.root, here, node.right);
                     Unlinked {
                         root,
@@ -145,7 +162,7 @@ pub(crate) fn unlink<K: Ord + Copy, V: Copy>(nodes: &mut [Node<K, V>], at: u32, 
                     Unlinked { root, freed: at }
                 }
                 Ordering::Greater => {
-                    let side = unlink(nodes, node.right, key);
+                    let side = unlink_below(nodes, node.right, key);
                     let root = balance(nodes, node.left, here, side.root);
                     Unlinked {
                         root,
