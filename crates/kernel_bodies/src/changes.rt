@@ -43,6 +43,7 @@ fn put_by(saved: Saved, spare: &mut Spare)
 }
 
 /// Pops the innermost frame. The vectors of the body's own call are kept.
+#[inline(always)]
 fn drop_frame(frames: &mut Vec<Saved>, spare: &mut Spare)
     requires { 0 < vec_len frames.old }
     ensures items { frames.new.items ≡ take (vec_len frames.old - 1) frames.old.items }

@@ -15,6 +15,7 @@ use sim_model::flat_design_api::{BlockId, CodeId, Local, StmtId, default_value};
 use sim_model::logic_values_api::Value;
 
 /// Adds a value where there is room for it.
+#[inline(always)]
 pub fn place<T: Drop>(items: &mut Vec<T>, value: T)
     requires { vec_len items.old < vec_capacity items.old }
     ensures items { items.new.items ≡ items.old.items ++ value ∷ [] }
