@@ -42,25 +42,25 @@ pub(crate) fn end(k: &mut Kernel, p: u32)
     fire(k, Ev::Terminated(p));
 }
 
-/// How many events there are in the wait of an instance by this next trigger, or by its static sensitivity, where they are not too
-/// many to be counted.
+/// How many events there are, where they are not too many to be counted.
 #[inline(always)]
-fn count_next(k: &Kernel, p: u32, next: &Option<Trigger>) -> Option<u32>
-    ensures { IfSome result (λ n. n ≡ rest_count next.now (map.get k.now.schedule.table.live p)) }
+fn count(events: &[Ev]) -> Option<u32>
+    ensures { IfSome result (λ n. n ≡ length events.now) }
 {
-    match next {
-        Some(t) => count_events(&k.schedule, p, &t.wait),
-        None => count_events(&k.schedule, p, &Wait::Static),
-    }
+    u32::try_from(events.len()).ok()
 }
 
-/// The same of the next trigger that is kept of an instance.
+/// How many events there are in the wait of an instance by the next trigger that is kept of it, or by its static sensitivity, where
+/// they are not too many to be counted.
 fn count_rest(k: &Kernel, p: u32) -> Option<u32>
     ensures { IfSome result (λ n. n ≡ rest_count (next_kept (map.get k.now.schedule.table.live p)) (map.get k.now.schedule.table.live p)) }
 {
     match k.schedule.table.get(p) {
-        Some(x) => count_next(k, p, &x.body.body.trigger),
-        None => count_next(k, p, &None),
+        Some(x) => match &x.body.body.trigger {
+            Some(t) => count_events(&k.schedule, p, &t.wait),
+            None => count(x.body.sensitive.as_slice()),
+        },
+        None => count(&[]),
     }
 }
 
@@ -84,6 +84,18 @@ fn hold_rest(k: &mut Kernel, p: u32) -> Result<(), AllocError>
     }
 }
 
+/// What stands in a place is taken out of it.
+#[inline(always)]
+fn take_out(place: &mut Option<Trigger>) -> Option<Trigger>
+    ensures value { result ≡ place.old }
+    ensures after { place.new ≡ None }
+{
+    match place {
+        Some(_) => mem::replace(place, None),
+        None => None,
+    }
+}
+
 /// The next trigger of an instance is taken from it. Where there was room to rest by it there still is.
 fn take_trigger(k: &mut Kernel, p: u32) -> Option<Trigger>
     requires sound { IsSound k.old }
@@ -98,7 +110,7 @@ fn take_trigger(k: &mut Kernel, p: u32) -> Option<Trigger>
     ensures made { k.new.made ≡ k.old.made }
 {
     match k.schedule.table.get_mut(p) {
-        Some(x) => mem::replace(&mut x.body.body.trigger, None),
+        Some(x) => take_out(&mut x.body.body.trigger),
         None => None,
     }
 }

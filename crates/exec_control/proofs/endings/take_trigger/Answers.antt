@@ -8,21 +8,21 @@ use Rattle.exec_control.proofs.endings.take_trigger.Goals as goal
 
 pub returns-in-Some-clause-shown : goal.returns-in-Some-clause-shown
 returns-in-Some-clause-shown c = λ d i h there.
-    (shows_at c.args.k.now c.args.p c.in-Some.x.now (sym c.get_mut.ensures.value ∙ ap option_copied_mut c.in-Some.is) d i h there).trigger ∙ ap (option_map trigger_of) (sym c.replace.ensures.value)
+    (shows_at c.args.k.now c.args.p c.in-Some.x.now (sym c.get_mut.ensures.value ∙ ap option_copied_mut c.in-Some.is) d i h there).trigger ∙ ap (option_map trigger_of) (sym c.take_out.ensures.value)
 
 pub returns-in-Some-clause-moves : goal.returns-in-Some-clause-moves
 returns-in-Some-clause-moves c = λ d h.
     let at = sym c.get_mut.ensures.value ∙ ap option_copied_mut c.in-Some.is in
-    subst (λ t. StandsFor (record c.args.k.now { schedule = with_trigger c.args.k.now c.args.p c.in-Some.x.now c.replace.new.dest at }) (change_instance d c.args.p (λ i. record i { trigger = option_map trigger_of t })))
-    c.replace.ensures.after (trigger_moves c.args.k.now c.args.p c.in-Some.x.now c.replace.new.dest at d h)
+    subst (λ t. StandsFor (record c.args.k.now { schedule = with_trigger c.args.k.now c.args.p c.in-Some.x.now c.take_out.new.place at }) (change_instance d c.args.p (λ i. record i { trigger = option_map trigger_of t })))
+    c.take_out.ensures.after (trigger_moves c.args.k.now c.args.p c.in-Some.x.now c.take_out.new.place at d h)
 
 pub returns-in-Some-clause-lives : goal.returns-in-Some-clause-lives
-returns-in-Some-clause-lives c = trigger_there c.args.k.now c.args.p c.in-Some.x.now c.replace.new.dest (sym c.get_mut.ensures.value ∙ ap option_copied_mut c.in-Some.is)
+returns-in-Some-clause-lives c = trigger_there c.args.k.now c.args.p c.in-Some.x.now c.take_out.new.place (sym c.get_mut.ensures.value ∙ ap option_copied_mut c.in-Some.is)
 
 pub returns-in-Some-clause-sound : goal.returns-in-Some-clause-sound
-returns-in-Some-clause-sound c = trigger_sound c.args.k.now c.args.p c.in-Some.x.now c.replace.new.dest (sym c.get_mut.ensures.value ∙ ap option_copied_mut c.in-Some.is) c.requires.sound
+returns-in-Some-clause-sound c = trigger_sound c.args.k.now c.args.p c.in-Some.x.now c.take_out.new.place (sym c.get_mut.ensures.value ∙ ap option_copied_mut c.in-Some.is) c.requires.sound
 
 pub returns-in-Some-clause-room : goal.returns-in-Some-clause-room
 returns-in-Some-clause-room c =
     let at = sym c.get_mut.ensures.value ∙ ap option_copied_mut c.in-Some.is in
-    trigger_rests c.args.k.now c.args.p c.in-Some.x.now c.replace.new.dest at c.replace.result (subst (CanRest c.args.k.now c.args.p) (ap next_kept at ∙ sym c.replace.ensures.value) c.requires.room)
+    trigger_rests c.args.k.now c.args.p c.in-Some.x.now c.take_out.new.place at c.take_out.result (subst (CanRest c.args.k.now c.args.p) (ap next_kept at ∙ sym c.take_out.ensures.value) c.requires.room)
