@@ -1,4 +1,5 @@
 pub mod Frames
+pub mod Passed
 pub mod Stepping
 pub mod KernelBodies
 pub mod Relation

@@ -148,3 +148,11 @@ pub record Begins (p : Program) (old : List Saved) (frame : Kept) (most : ℕ) (
   pub room : most ≤ vec_capacity inner.blocks
   pub left : whole (arena_of p.code) inner (standing s) ≡ residual.frame (begun_in (arena_of p.code) (body_at (arena_of p.code) frame.body)) (call_of frame)
   pub fits : FitsIn (arena_of p.code) p.depths.items inner s
+
+-- the cursor c stands behind the first statement of the rest of a block that l is
+pub record IsBehindFirst (a : Arena) (l : Open) (c : Cursor) : Type 0 where
+  pub at : Cursor
+  pub first : ℕ
+  pub rest : l ≡ layer.Rest at
+  pub block : c.block ≡ at.block
+  pub behind : rest_at a at ≡ first ∷ rest_at a c

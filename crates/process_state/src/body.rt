@@ -1,22 +1,23 @@
 //! Bodies.
-ghost use Rattle.std.specs.Prelude.{◌≡◌, ℕ, ◌+◌, ◌≤◌, length, Contains, vec_len, vec_capacity};
+ghost use Rattle.std.specs.Prelude.{◌≡◌, ℕ, ◌+◌, ◌≤◌, length, Contains, vec_len, vec_capacity, true, false, List, None, IfSome};
 ghost use Rattle.kernel_bodies.specs.FlatDesign.Code.{Arena, arena_of};
 ghost use Rattle.kernel_bodies.specs.SimModel.Residual as residual;
-ghost use Rattle.kernel_bodies.specs.SimModel.Residual.{next_of, put, skip, in_innermost};
+ghost use Rattle.kernel_bodies.specs.SimModel.Residual.{next_of, put, settle, skip, in_innermost};
 ghost use Rattle.kernel_bodies.specs.SimModel.Unwinding.{returned};
 ghost use Rattle.kernel_bodies.specs.SimModel.Storing.{with_local};
 ghost use Rattle.kernel_bodies.specs.Depths.{blocks_of};
 ghost use Rattle.kernel_bodies.specs.Around.{around_at};
 ghost use Rattle.kernel_bodies.specs.SimModel.declared.plain.Goal.{Goal as Aim};
 ghost use Rattle.kernel_bodies.specs.declared.program.Program.{Program as Whole};
-ghost use Rattle.kernel_bodies.specs.Layers.{call_of, shown_by, statement_of};
-ghost use Rattle.process_state.specs.Bodies.{left_of, left_in, settled_in, next_in, IsSound, Keeps, IsStatement, IsGoal, EndsIn, enclosed};
+ghost use Rattle.kernel_bodies.specs.Layers.{call_of, inside, shown_by, statement_of};
+ghost use Rattle.kernel_bodies.specs.Room.{FitsIn, SameCall};
+ghost use Rattle.process_state.specs.Bodies.{left_of, left_in, settled_in, next_in, IsSound, Keeps, IsStatement, IsGoal, IsBehindFirst, EndsIn, enclosed};
 
 use kernel_bodies::flat_design_api::{BlockId, CodeId, StmtId};
 use kernel_bodies::logic_values_api::Value;
 use kernel_bodies::sim_model_api::Goal;
 use kernel_bodies::{
-    Comes, Frame, Next, Open, Program, Saved, Spare, begin_in, drop_block, end_in, fill,
+    Comes, Cursor, Frame, Next, Open, Program, Saved, Spare, begin_in, drop_block, end_in, fill,
     keep_frames, land, last_exit, next_shown, set_local_in, take_frame, under_goal,
 };
 
@@ -38,6 +39,50 @@ pub struct Body {
     pub(crate) spare: Spare,
     /// A vector for what stands open in the next call.
     pub(crate) room: Vec<Open>,
+}
+
+/// The place behind the first statement of the rest of a block, where this is one with a statement in it.
+#[inline(always)]
+fn behind_first(program: &Program, block: &Open) -> Option<Cursor>
+    ensures { IfSome result (IsBehindFirst (arena_of program.now.code) block.now) }
+{
+    match block {
+        Open::Rest(cursor) => match program.statement_at(*cursor) {
+            Some(_) => Some(Cursor {
+                block: cursor.block,
+                place: cursor.place + 1,
+            }),
+            None => None,
+        },
+        Open::Again(_) => None,
+        Open::Owed(_) => None,
+        Open::Guard(_) => None,
+        Open::Try(_) => None,
+        Open::Run => None,
+        Open::Goal(_) => None,
+    }
+}
+
+/// Where the rest of a block stands innermost in a call, and has a statement in it, that statement is past. The answer is
+/// whether it is so; where it is not nothing changes.
+#[inline(always)]
+fn pass_in(program: &Program, saved: &mut Saved) -> bool
+    ensures past { result ≡ true → (s : ℕ) × (settle (arena_of program.now.code) (inside (arena_of program.now.code) saved.old.blocks.items skip) ≡ inside (arena_of program.now.code) saved.new.blocks.items (residual.one s)) }
+    ensures stays { result ≡ false → saved.new ≡ saved.old }
+    ensures same { SameCall saved.old saved.new }
+    ensures room { (depths : List ℕ) → FitsIn (arena_of program.now.code) depths saved.old None → FitsIn (arena_of program.now.code) depths saved.new None }
+{
+    let many = saved.blocks.len();
+    if many == 0 {
+        return false;
+    }
+    match behind_first(program, &saved.blocks[many - 1]) {
+        Some(rest) => {
+            saved.blocks[many - 1] = Open::Rest(rest);
+            true
+        }
+        None => false,
+    }
 }
 
 impl Body {
@@ -104,8 +149,33 @@ impl Body {
         ensures sound { IsSound program.now self.new }
         ensures kept { Keeps self.old self.new }
     {
+        if self.statement.is_some() {
+            self.statement = None;
+            return;
+        }
+        if self.pass_first(program) {
+            return;
+        }
         let _ = self.settle_to(program);
         self.statement = None;
+    }
+
+    /// Where the rest of a block stands innermost in the innermost call, and has a statement in it, that statement is past. The
+    /// answer is whether it is so; where it is not all that is left stays.
+    #[inline(always)]
+    fn pass_first(&mut self, program: &Program) -> bool
+        requires sound { IsSound program.now self.old }
+        requires none { self.old.statement ≡ None }
+        ensures left { result ≡ true → left_in program.now self.new ≡ put (settled_in program.now self.old) skip }
+        ensures stays { result ≡ false → left_in program.now self.new ≡ left_in program.now self.old }
+        ensures sound { IsSound program.now self.new }
+        ensures kept { Keeps self.old self.new }
+    {
+        let many = self.frames.len();
+        if many == 0 {
+            return false;
+        }
+        pass_in(program, &mut self.frames[many - 1])
     }
 
     /// The statement in place goes on with one of its blocks, and with what it puts around that.

@@ -62,6 +62,19 @@ fn begin_call(
     first
 }
 
+/// Adds the arguments of a call, for which there is room.
+#[inline(always)]
+fn add_arguments(values: &mut Vec<Value>, arguments: &[Value])
+    requires { vec_len values.old + length arguments.now ≤ vec_capacity values.old }
+    ensures items { values.new.items ≡ values.old.items ++ arguments.now }
+    ensures capacity { vec_capacity values.old ≤ vec_capacity values.new }
+{
+    if arguments.is_empty() {
+        return;
+    }
+    let _ = values.extend_from_slice(arguments);
+}
+
 /// The first values of the local variables of a call, in a vector that has room for them.
 fn begin_locals(values: &mut Vec<Value>, arguments: &[Value], locals: &[Local])
     requires { length (first_locals arguments.now locals.now) ≤ vec_capacity values.old }
@@ -69,7 +82,7 @@ fn begin_locals(values: &mut Vec<Value>, arguments: &[Value], locals: &[Local])
     ensures capacity { vec_capacity values.old ≤ vec_capacity values.new }
 {
     values.clear();
-    let _ = values.extend_from_slice(arguments);
+    add_arguments(values, arguments);
     add_locals(values, locals);
 }
 
@@ -126,13 +139,13 @@ impl Body {
     {
         keep_frames(&mut self.frames, &mut self.spare, 0);
         self.goal = None;
-        let mut locals = take_locals(&mut self.spare);
-        let blocks = take_blocks(&mut self.spare.blocks);
         begin_locals(
-            &mut locals,
+            &mut self.spare.locals,
             self.arguments.as_slice(),
             locals_in(program, self.code),
         );
+        let locals = take_locals(&mut self.spare);
+        let blocks = take_blocks(&mut self.spare.blocks);
         let frame = Frame {
             body: self.code,
             locals,
