@@ -1,5 +1,5 @@
 //! Bodies.
-ghost use Rattle.std.specs.Prelude.{◌≡◌, ℕ, Contains};
+ghost use Rattle.std.specs.Prelude.{◌≡◌, ℕ, None, Contains};
 ghost use Rattle.kernel_bodies.specs.FlatDesign.Code.{Arena, arena_of};
 ghost use Rattle.kernel_bodies.specs.SimModel.Residual as residual;
 ghost use Rattle.kernel_bodies.specs.SimModel.Residual.{next_of, put, skip, in_innermost};
@@ -41,6 +41,17 @@ pub struct Body {
     pub(crate) owed: Option<Owed>,
 }
 
+/// Nothing is owed from now on. Where nothing was, nothing is written.
+#[inline(always)]
+pub(crate) fn let_go(owed: &mut Option<Owed>)
+    ensures { owed.new ≡ None }
+{
+    match owed {
+        Some(_) => *owed = None,
+        None => {}
+    }
+}
+
 impl Body {
     /// Whether the call in place is owed to somebody.
     pub(crate) fn owes(&self) -> bool
@@ -75,7 +86,7 @@ impl Body {
         ensures kept { Keeps self.old self.new }
     {
         self.calls.past(program);
-        self.owed = None;
+        let_go(&mut self.owed);
     }
 
     /// The statement in place goes on with one of its blocks, and with what it puts around that.
@@ -89,7 +100,7 @@ impl Body {
         ensures kept { Keeps self.old self.new }
     {
         self.calls.begin_block(program, block);
-        self.owed = None;
+        let_go(&mut self.owed);
     }
 
     /// A call ends: its frame is taken away.

@@ -8,7 +8,7 @@ ghost use Rattle.kernel_bodies.specs.declared.program.Program.{Program as Whole}
 ghost use Rattle.kernel_bodies.specs.Room.{locals_with};
 ghost use Rattle.process_bodies.specs.Bodies.{left_of, left_in, settled_in, next_in, IsSound, Keeps, IsStatement, HasRoomFor};
 
-use crate::body::Body;
+use crate::body::{Body, let_go};
 use kernel_bodies::Program;
 use kernel_bodies::flat_design_api::CodeId;
 use kernel_bodies::logic_values_api::Value;
@@ -43,7 +43,7 @@ impl Body {
         ensures kept { Keeps self.old self.new }
     {
         self.calls.restart(program);
-        self.owed = None;
+        let_go(&mut self.owed);
     }
 
     /// Makes the body one that was not begun. It keeps its first arguments, and takes no memory.
@@ -53,7 +53,7 @@ impl Body {
         ensures kept { Keeps self.old self.new }
     {
         self.calls.idle();
-        self.owed = None;
+        let_go(&mut self.owed);
     }
 
     /// Makes room for a call of this code. It is refused where as many calls are open as may be once finished
