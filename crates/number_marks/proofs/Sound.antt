@@ -1,11 +1,11 @@
 -- What is kept stays sound when a mark is set or taken back.
-use Rattle.std.proofs.Common.{◌≡◌, ℕ, ◌+◌, ◌-◌, ◌<◌, ◌≤◌, ◌^◌, Bool, true, false, cond, List, [], ◌∷◌, ◌++◌, length, get_or, set, replicate, slice_get, unwrap_or, Some, None, vec_items, count_by, refl, sym, ap, ◌∙◌, subst, ⊎_elim, arith}
+use Rattle.std.proofs.Common.{◌≡◌, ℕ, ◌+◌, ◌-◌, ◌<◌, ◌≤◌, ◌^◌, Bool, true, false, cond, List, [], ◌∷◌, ◌++◌, length, get_or, set, replicate, slice_get, unwrap_or, Some, None, vec_items, vec_len, count_by, refl, sym, ap, ◌∙◌, subst, ⊎_elim, arith}
 use Rattle.std.specs.Prelude.{◌==◌}
-use Rattle.std.proofs.lemmas.Bool.{cases_eq, cases_lt}
+use Rattle.std.proofs.lemmas.Bool.{cases_eq, cases_lt, eqb-true}
 use Rattle.std.specs.List.Sorted.{IsPermutation}
 use Rattle.std.specs.Global.{Vec}
 use Rattle.std.specs.Vec.{with_items}
-use Rattle.std.proofs.lemmas.List.{map-set, length-set, length-replicate, get_or-replicate, get_or_past, set_past, set-get_or, with_items_is, length-map, length-append, get_or-set_same, get_or-set_other}
+use Rattle.std.proofs.lemmas.List.{nil_from_length, map-set, length-set, length-replicate, get_or-replicate, get_or_past, set_past, set-get_or, with_items_is, length-map, length-append, get_or-set_same, get_or-set_other}
 use Rattle.std.proofs.lemmas.List.Folds.{sum_by-replicate}
 use Rattle.std.proofs.lemmas.List.Sorted.{sum_by-IsPermutation}
 use Rattle.std.proofs.lemmas.List.Sums.{sum_by-set, count_by-le-length}
@@ -13,7 +13,8 @@ use Rattle.std.proofs.lemmas.Option.{slice_get-get_or, unwrap_or-slice_get}
 use Rattle.number_marks.specs.declared.flags.Flag.{Flag}
 use Rattle.number_marks.specs.declared.flags.Flag.TheVariants.{Free, Marked, Struck}
 use Rattle.number_marks.specs.Kept.{is_marked, is_listed, marks_of, ListsEachOnce, IsSound}
-use Rattle.number_marks.proofs.Listed.{times, times-pushed, times-push_other, one_if, mark_at, marks_of_free, no_count}
+use Rattle.number_marks.specs.Places.{marked_places}
+use Rattle.number_marks.proofs.Listed.{times, times-pushed, times-push_other, one_if, mark_at, marks_of_free, no_count, no_places, all_free}
 
 module _ (flags : List Flag) (n : ℕ) (h : n < length flags) (f : Flag) where
   -- how many are marked and how many are listed, after the flag of n has changed
@@ -162,3 +163,19 @@ module _ (flags : List Flag) (n : ℕ) where
 
 pub clear_again : (marks : List Bool) (n : ℕ) → unwrap_or (slice_get marks n) false ≡ false → marks ≡ set marks n false
 clear_again marks n none = sym (set-get_or marks n false) ∙ ap (λ mark. set marks n mark) (sym (unwrap_or-slice_get marks n false) ∙ none)
+
+-- where no number is listed
+module _ (flags : List Flag) (xs : List ℕ) (lists : ListsEachOnce flags xs) (none : xs ≡ []) where
+  free_where_none : flags ≡ replicate (length flags) Free
+  free_where_none = all_free flags (subst (λ (ys : List ℕ). ListsEachOnce flags ys) none lists)
+
+  pub unmarked_where_none : (marks : List Bool) → marks_of flags ≡ marks → marks ≡ replicate (length marks) false
+  unmarked_where_none marks is = sym is ∙ ap marks_of free_where_none ∙ marks_of_free (length flags)
+      ∙ ap (λ (k : ℕ). replicate k false) (sym (length-map flags is_marked) ∙ ap length is)
+
+  pub no_places_where_none : (marks : List Bool) → marks_of flags ≡ marks → marked_places marks ≡ []
+  no_places_where_none marks is = ap marked_places (sym is) ∙ ap (λ (fs : List Flag). marked_places (marks_of fs)) free_where_none ∙ no_places (length flags)
+
+-- a vector that is told to be empty
+pub no_items : (v : Vec ℕ) (told : Bool) → told ≡ (vec_len v == 0) → told ≡ true → vec_items v ≡ []
+no_items v told is so = nil_from_length (vec_items v) (sym v.ok.0 ∙ eqb-true (vec_len v) 0 (sym is ∙ so))

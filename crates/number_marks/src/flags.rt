@@ -1,6 +1,6 @@
 // The flags of the numbers, and what is done with all that are listed.
 ghost use Rattle.std.specs.Prelude.{◌≡◌, ◌+◌, ◌≤◌, ◌++◌, false, length, replicate, count_by, slice_get, vec_len, vec_capacity};
-ghost use Rattle.std.specs.List.Sorted.{IsNonDecreasing};
+ghost use Rattle.std.specs.List.Sorted.{IsNonDecreasing, IsPermutation};
 ghost use Rattle.std.specs.Option.{unwrap_or};
 ghost use Rattle.number_marks.specs.declared.flags.Flag.TheVariants as flag;
 ghost use Rattle.number_marks.specs.Kept.{is_marked, marks_of, ListsEachOnce};
@@ -53,6 +53,18 @@ pub(super) fn free_listed(flags: &mut [Flag], listed: &[u32])
 {
     for n in listed {
         flags[*n as usize] = Flag::Free;
+    }
+}
+
+// Puts the numbers in rising order. A list of one stands so.
+#[inline(always)]
+pub(super) fn put_in_order(listed: &mut Vec<u32>)
+    ensures sorted { IsNonDecreasing listed.new.items }
+    ensures moved { IsPermutation listed.old.items listed.new.items }
+    ensures capacity { vec_capacity listed.new ≡ vec_capacity listed.old }
+{
+    if listed.len() > 1 {
+        listed.sort_unstable();
     }
 }
 

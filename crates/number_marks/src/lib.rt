@@ -11,7 +11,7 @@ ghost use Rattle.std.specs.Option.{unwrap_or};
 mod flags;
 mod laws;
 
-use flags::{Flag, flag_of, free_listed, is_marked_at, move_marked};
+use flags::{Flag, flag_of, free_listed, is_marked_at, move_marked, put_in_order};
 pub use laws::{marked_places_are_those_of_the_marks, only_marked_places_rise};
 use std::alloc::{AllocError, Global};
 use std::marker::Model;
@@ -108,7 +108,18 @@ impl Marks {
     }
 
     /// Takes all marks back.
+    #[inline(always)]
     pub fn clear_all(&mut self)
+        ensures { self.new ≡ replicate (length self.old) false }
+    {
+        if self.listed.is_empty() {
+            return;
+        }
+        self.clear_listed();
+    }
+
+    // Takes the marks of all that are listed back.
+    fn clear_listed(&mut self)
         ensures { self.new ≡ replicate (length self.old) false }
     {
         free_listed(self.flags.as_mut_slice(), self.listed.as_slice());
@@ -117,13 +128,27 @@ impl Marks {
     }
 
     /// Adds the marked numbers to `out`, in rising order, and takes their marks back. It takes no memory.
+    #[inline(always)]
     pub fn take_all(&mut self, out: &mut Vec<u32>)
         requires { vec_len out.old + count_by (λ mark. mark) self.old ≤ vec_capacity out.old }
         ensures taken { out.new.items ≡ out.old.items ++ marked_places self.old }
         ensures capacity { vec_capacity out.new ≡ vec_capacity out.old }
         ensures left { self.new ≡ replicate (length self.old) false }
     {
-        self.listed.sort_unstable();
+        if self.listed.is_empty() {
+            return;
+        }
+        self.take_listed(out);
+    }
+
+    // The same, of those that are listed.
+    fn take_listed(&mut self, out: &mut Vec<u32>)
+        requires { vec_len out.old + count_by (λ mark. mark) self.old ≤ vec_capacity out.old }
+        ensures taken { out.new.items ≡ out.old.items ++ marked_places self.old }
+        ensures capacity { vec_capacity out.new ≡ vec_capacity out.old }
+        ensures left { self.new ≡ replicate (length self.old) false }
+    {
+        put_in_order(&mut self.listed);
         move_marked(self.flags.as_mut_slice(), self.listed.as_slice(), out);
         self.listed.clear();
         self.marked = 0;

@@ -1,12 +1,6 @@
-use Rattle.std.proofs.Common.{◌≤◌, length, vec_capacity, arith}
-use Rattle.number_marks.proofs.Sound.{marks_freed, sound_freed}
+use Rattle.number_marks.proofs.Sound.{no_items, unmarked_where_none}
 use Rattle.number_marks.proofs.Marks.clear_all.Goals as goal
 
-pub invariant_of-self : goal.invariant_of-self
-invariant_of-self c =
-    let enough : length c.self.inside.flags.items ≤ vec_capacity c.clear.new.self = omega (arith, c.self.invariant.enough, c.clear.ensures.capacity) in
-    sound_freed c.self.inside.flags c.as_mut_slice.result.now c.free_listed.new.flags c.as_mut_slice.ensures.value c.free_listed.ensures
-    c.clear.new.self.items (vec_capacity c.clear.new.self) c.clear.ensures.items c.self.invariant.size enough
-
-pub returns : goal.returns
-returns c = marks_freed c.self.inside.flags c.as_mut_slice.result.now c.free_listed.new.flags c.as_mut_slice.ensures.value c.free_listed.ensures c.args.self.now c.self.view_is
+pub returns-then-is_empty : goal.returns-then-is_empty
+returns-then-is_empty c = unmarked_where_none c.self.inside.flags.items c.self.inside.listed.items c.self.invariant.lists
+    (no_items c.self.inside.listed c.is_empty.result c.is_empty.ensures c.if-is_empty.true) c.args.self.now c.self.view_is

@@ -1,18 +1,12 @@
-use Rattle.std.proofs.Common.{◌≤◌, ℕ, List, length, vec_capacity, sym, subst, arith}
-use Rattle.std.specs.List.Sorted.{IsNonDecreasing}
-use Rattle.std.proofs.lemmas.List.Sorted.{IsNonDecreasingBy-from_sort}
-use Rattle.number_marks.proofs.Sound.{marks_freed, sound_freed}
+use Rattle.std.proofs.Common.{◌++◌, sym, ap, ◌∙◌, append-nil}
+use Rattle.number_marks.proofs.Sound.{no_items, unmarked_where_none, no_places_where_none}
 use Rattle.number_marks.proofs.Marks.take_all.Goals as goal
 
-pub move_marked-requires-clause-sorted : goal.move_marked-requires-clause-sorted
-move_marked-requires-clause-sorted c = subst (λ (xs : List ℕ). IsNonDecreasing xs) (sym c.as_slice.ensures.value)
-    (IsNonDecreasingBy-from_sort (λ x. x) c.sort_unstable.new.self.items c.sort_unstable.ensures.sorted)
+pub returns-then-is_empty-clause-taken : goal.returns-then-is_empty-clause-taken
+returns-then-is_empty-clause-taken c = sym (append-nil c.args.out.now.items) ∙ ap (λ ps. c.args.out.now.items ++ ps)
+    (sym (no_places_where_none c.self.inside.flags.items c.self.inside.listed.items c.self.invariant.lists
+    (no_items c.self.inside.listed c.is_empty.result c.is_empty.ensures c.if-is_empty.true) c.args.self.now c.self.view_is))
 
-pub invariant_of-self : goal.invariant_of-self
-invariant_of-self c =
-    let enough : length c.self.inside.flags.items ≤ vec_capacity c.clear.new.self = omega (arith, c.self.invariant.enough, c.sort_unstable.ensures.capacity, c.clear.ensures.capacity) in
-    sound_freed c.self.inside.flags c.as_mut_slice.result.now c.move_marked.new.flags c.as_mut_slice.ensures.value c.move_marked.ensures.freed
-    c.clear.new.self.items (vec_capacity c.clear.new.self) c.clear.ensures.items c.self.invariant.size enough
-
-pub returns-clause-left : goal.returns-clause-left
-returns-clause-left c = marks_freed c.self.inside.flags c.as_mut_slice.result.now c.move_marked.new.flags c.as_mut_slice.ensures.value c.move_marked.ensures.freed c.args.self.now c.self.view_is
+pub returns-then-is_empty-clause-left : goal.returns-then-is_empty-clause-left
+returns-then-is_empty-clause-left c = unmarked_where_none c.self.inside.flags.items c.self.inside.listed.items c.self.invariant.lists
+    (no_items c.self.inside.listed c.is_empty.result c.is_empty.ensures c.if-is_empty.true) c.args.self.now c.self.view_is
