@@ -140,7 +140,7 @@ impl Signal {
     {
         let differs = self.differs();
         Changed {
-            changed: self.asked && (self.policy.is_buffer() || !is_same(self.value, self.next)),
+            changed: differs || self.asked && self.policy.is_buffer(),
             pos: differs && is_one(self.next),
             neg: differs && is_zero(self.next),
         }
