@@ -1,18 +1,20 @@
 -- What is kept stays tied where what is pending for one event changes.
-use Rattle.std.proofs.Common.{◌≡◌, ◌⊎◌, ◌<◌, ◌≤◌, ◌+◌, ◌-◌, inl, inr, ℕ, zero, suc, Bool, true, false, cond, List, ◌∷◌, length, get_or, set, refl, sym, ap, ◌∙◌, ⊎_elim, arith}
-use Rattle.std.specs.Prelude.{is_some, count_by, IsTrue, map, replicate}
+use Rattle.std.proofs.Common.{◌≡◌, ◌⊎◌, ◌<◌, ◌≤◌, ◌+◌, ◌-◌, inl, inr, ℕ, zero, suc, Bool, true, false, cond, List, ◌∷◌, length, get_or, set, refl, sym, ap, ◌∙◌, ⊎_elim, arith, Option, None, Some, true≢false}
+use Rattle.std.specs.Prelude.{◌==◌, is_some, count_by, IsTrue, map, replicate}
 use Rattle.std.specs.FinMap as maps
-use Rattle.std.proofs.lemmas.Bool.{cases_eq}
+use Rattle.std.proofs.lemmas.Bool.{cases_eq, eq-eqb, ne_eqb}
 use Rattle.std.proofs.lemmas.List.{map-set, length-set, get_or-set_same, get_or-set_other, length-replicate}
 use Rattle.std.proofs.lemmas.List.Sums.{sum_by-set, count_by-le-length}
 use Rattle.std.proofs.lemmas.Option.{slice_get-get_or, slice_get_past}
 use Rattle.sim_model.specs.Lemmas.Updated.{updated}
-use Rattle.sim_model.proofs.Lemmas.MapLemmas.{get-updated_same, get-updated_other}
+use Rattle.sim_model.proofs.Lemmas.MapLemmas.{same_gets, get-updated_same, get-updated_other}
+use Rattle.timed_queue.proofs.MapLemmas.{get-removed}
 use Rattle.sim_model.specs.EventCore.declared.notifications.Pending.{Pending}
 use Rattle.sim_model.specs.EventCore.declared.notifications.Pending.TheVariants as pending
 use Rattle.sim_model.specs.EventCore.declared.notifications.When.{When}
 use Rattle.sim_model.specs.EventCore.Notifications.{pending_at, notified, comes_first, left_pending}
-use Rattle.timed_queue.specs.Timed.{Timed}
+use Rattle.timed_queue.specs.SimTime.declared.moments.Time.{Time}
+use Rattle.timed_queue.specs.Timed.{Timed, without}
 use Rattle.sim_model.specs.Configuration.{change, changed_at}
 use Rattle.sim_model.specs.Phases.{is_delta}
 use Rattle.kernel_events.specs.Kept.{time_of, is_timed, IsTied, with_pending}
@@ -54,7 +56,7 @@ spare_then q e (pending.At t) b is room = ap (λ c. cond c q.spare (q.spare - 1)
     by_test false some = let h = some refl in omega (arith, h)
 
 module _ (events : List Pending) (marks : List Bool) (timed : Timed) (n : ℕ) (tied : IsTied events marks timed n) (e : ℕ) (h : e < length events) where
-  has_time : maps.contains_key timed.times e ≡ is_timed (pending_at events e)
+  pub has_time : maps.contains_key timed.times e ≡ is_timed (pending_at events e)
   has_time = ap is_some (tied.times e)
 
   counted : (p : Pending) → count_by is_timed (set events e p) + one_if (is_timed (pending_at events e)) ≡ count_by is_timed events + one_if (is_timed p)
@@ -96,6 +98,26 @@ module _ (events : List Pending) (marks : List Bool) (timed : Timed) (n : ℕ) (
           ∙ ap time_of (sym (ap (λ k. get_or (set events e p) k pending.Nothing) same ∙ get_or-set_same events e p pending.Nothing h)))
           (λ apart. get-updated_other timed.times e (time_of p) q apart ∙ tied.times q ∙ ap time_of (sym (get_or-set_other events e q p pending.Nothing apart)))
           (cases_eq q e)
+
+-- an event that has no time is as it is without one
+pub without_none : (q : Timed) (e : ℕ) → maps.contains_key q.times e ≡ false → q ≡ without q e
+without_none q e none = λ i. record { times = same i; spare = spare i }
+  where
+    no_time : (o : Option Time) → is_some o ≡ false → o ≡ None
+    no_time None h = refl
+    no_time (Some t) h = absurd (true≢false h)
+
+    at : (p : ℕ) → maps.get q.times p ≡ cond (p == e) None (maps.get q.times p)
+    at p = ⊎_elim
+        (λ same. ap (λ k. maps.get q.times k) same ∙ no_time (maps.get q.times e) none ∙ sym (ap (λ b. cond b None (maps.get q.times p)) (eq-eqb p e same)))
+        (λ apart. sym (ap (λ b. cond b None (maps.get q.times p)) (ne_eqb p e apart)))
+        (cases_eq p e)
+
+    same : q.times ≡ maps.remove q.times e
+    same = same_gets (maps.remove q.times e) q.times (λ p. at p ∙ sym (get-removed q.times e p))
+
+    spare : q.spare ≡ cond (maps.contains_key q.times e) (q.spare + 1) q.spare
+    spare = ap (λ b. cond b (q.spare + 1) q.spare) (sym none)
 
 -- ---- a notification that overrides, or not
 

@@ -1,5 +1,5 @@
 -- What is kept stays tied where all notifications of a kind are taken out.
-use Rattle.std.proofs.Common.{◌≡◌, ◌<◌, ◌≤◌, ◌+◌, ◌-◌, ℕ, zero, suc, Bool, true, false, cond, not, List, [], ◌∷◌, ◌++◌, Some, None, length, get_or, take, drop, slice_get, refl, sym, ap, ◌∙◌, subst, arith, append_assoc}
+use Rattle.std.proofs.Common.{◌≡◌, ◌<◌, ◌≤◌, ◌+◌, ◌-◌, ℕ, zero, suc, Bool, true, false, cond, not, List, [], ◌∷◌, ◌++◌, Some, None, length, get_or, take, drop, slice_get, refl, sym, ap, ◌∙◌, subst, arith, append_assoc, true≢false}
 use Rattle.std.specs.Prelude.{is_some, ◌==◌, ◌&&◌, count_by, map, replicate, unwrap_or, T}
 use Rattle.std.specs.List.{list_any}
 use Rattle.std.specs.List.Sorted.{IsStrictlyIncreasing}
@@ -9,9 +9,10 @@ use Rattle.std.specs.Ordering.{nat_cmp, eq_by_cmp, is_lt}
 use Rattle.std.specs.Cmp.{nat_cmp_total, unsigned_tied, ranked, eq_by_cmp_equiv}
 use Rattle.std.specs.FinMap as maps
 use Rattle.std.proofs.Math.ListN.{get_or-map}
-use Rattle.std.proofs.lemmas.List.{length-map, length-append, map-append, set_at, drop_at, take_rest}
+use Rattle.std.proofs.lemmas.List.{nil_from_length, length-map, length-append, map-append, set_at, drop_at, take_rest}
 use Rattle.std.proofs.lemmas.List.Sums.{sum_by-cons}
 use Rattle.std.proofs.lemmas.Option.{unwrap_or-slice_get}
+use Rattle.timed_queue.proofs.MapLemmas.{same_gets}
 use Rattle.timed_queue.specs.SimTime.declared.moments.Time.{Time}
 use Rattle.sim_model.specs.EventCore.declared.event.Ev.TheVariants as ev
 use Rattle.sim_model.specs.EventCore.declared.notifications.Pending.{Pending}
@@ -227,3 +228,30 @@ module _ (events : List Pending) (marks : List Bool) (timed : Timed) (n : ℕ) (
         by_case pending.Nothing = refl
         by_case pending.Delta = refl
         by_case (pending.At u) = by_test u (u.0 == t.0)
+
+-- ---- where there are no times
+
+none_at : {X : Type 0} (m : maps.FinMap nat_cmp X) → maps.len m ≡ 0 → (q : ℕ) → maps.get m q ≡ None
+none_at m none q = maps.get-entries m q ∙ ap (λ es. maps.find nat_cmp q es) (nil_from_length (maps.entries m) (sym (maps.len-entries m) ∙ none))
+
+pub empty_from_len : {X : Type 0} (m : maps.FinMap nat_cmp X) → maps.len m ≡ 0 → m ≡ maps.empty
+empty_from_len m none = same_gets maps.empty m (λ q. none_at m none q ∙ sym (maps.get-empty nat_cmp q))
+
+not_at : (m : ℕ) (p : Pending) → None ≡ time_of p → is_at m p ≡ false
+not_at m pending.Nothing h = refl
+not_at m pending.Delta h = refl
+not_at m (pending.At u) h = absurd (true≢false (sym (ap is_some h)))
+
+pub none_is_at : (events : List Pending) (marks : List Bool) (timed : Timed) (n : ℕ) → IsTied events marks timed n → maps.len timed.times ≡ 0
+    → (m q : ℕ) → is_at m (pending_at events q) ≡ false
+none_is_at events marks timed n tied none m q = not_at m (pending_at events q) (sym (none_at timed.times none q) ∙ tied.times q)
+
+module _ (test : Pending → Bool) where
+  pub none_due : (n : ℕ) (events : List Pending) → ((q : ℕ) → test (pending_at events q) ≡ false) → due_events test n events ≡ []
+  none_due n [] none = refl
+  none_due n (e ∷ events) none = ap (λ b. cond b (ev.Fixed n ∷ due_events test (suc n) events) (due_events test (suc n) events)) (none 0)
+      ∙ none_due (suc n) events (λ q. none (suc q))
+
+  pub all_left : (events : List Pending) → ((q : ℕ) → test (pending_at events q) ≡ false) → map (without_pending test) events ≡ events
+  all_left [] none = refl
+  all_left (e ∷ events) none = λ i. ap (λ b. cond b pending.Nothing e) (none 0) i ∷ all_left events (λ q. none (suc q)) i

@@ -6,7 +6,7 @@ ghost use Rattle.std.specs.Prelude.{◌≡◌, ◌++◌, ◌+◌, ◌≤◌, ℕ
 
 mod kept;
 
-use kept::{cancel_all, follow, left_by};
+use kept::{cancel_all, follow, has_time, left_by};
 use number_marks::{Marks, only_marked_places_rise};
 use sim_model::event_core_api::{Effect, Events, Pending, When};
 use std::alloc::{AllocError, Global};
@@ -84,10 +84,12 @@ impl EventBoard {
         if e >= self.size {
             return;
         }
+        let had_time = has_time(&self.events, e);
         match self.events.notify(e, w) {
             Effect::Kept => {}
             Effect::Fire | Effect::Set => {
-                follow(&mut self.deltas, &mut self.times, e, left_by(w));
+                let left = left_by(w);
+                follow(&mut self.deltas, &mut self.times, e, left, had_time);
             }
         }
     }
@@ -99,8 +101,15 @@ impl EventBoard {
         if e >= self.size {
             return;
         }
+        let had_time = has_time(&self.events, e);
         self.events.cancel(e);
-        follow(&mut self.deltas, &mut self.times, e, Pending::Nothing);
+        follow(
+            &mut self.deltas,
+            &mut self.times,
+            e,
+            Pending::Nothing,
+            had_time,
+        );
     }
 
     /// A time that no timed notification is before, in the time of a few tests; none where there is none.
@@ -109,6 +118,9 @@ impl EventBoard {
         ensures nothing { earliest_event self.now None ≡ None → IsNone result }
         ensures bound { IfSome result (λ t. (u : ℕ) → earliest_event self.now None ≡ Some u → t.0 ≤ u) }
     {
+        if self.times.is_empty() {
+            return None;
+        }
         self.times.not_before()
     }
 
@@ -140,6 +152,9 @@ impl EventBoard {
         ensures capacity { vec_capacity out.new ≡ vec_capacity out.old }
         ensures left { self.new ≡ map (without_pending (is_at t.0)) self.old }
     {
+        if self.times.is_empty() {
+            return;
+        }
         only_marked_places_rise();
         let before = out.len();
         self.times.take_due(t, out);

@@ -2,13 +2,16 @@ use Rattle.std.proofs.Common.{◌<◌, length, sym, ap, ◌∙◌, subst, arith}
 use Rattle.sim_model.specs.EventCore.declared.notifications.Pending.TheVariants as pending
 use Rattle.sim_model.specs.Configuration.{change}
 use Rattle.kernel_events.specs.Kept.{IsTied}
-use Rattle.kernel_events.proofs.Changed.{changed_is, room_for, tied_changed}
+use Rattle.kernel_events.proofs.Changed.{changed_is, has_time, room_for, tied_changed}
 use Rattle.kernel_events.proofs.EventBoard.cancel.Goals as goal
 
 pub follow-requires : goal.follow-requires
 follow-requires c =
     let h : c.args.e < length c.self.inside.events = let size = c.self.invariant.size in omega arith in
-    record { room = room_for c.self.inside.events c.self.inside.deltas c.self.inside.times c.self.inside.size c.self.invariant c.args.e h }
+    record {
+      room = room_for c.self.inside.events c.self.inside.deltas c.self.inside.times c.self.inside.size c.self.invariant c.args.e h;
+      had = has_time c.self.inside.events c.self.inside.deltas c.self.inside.times c.self.inside.size c.self.invariant c.args.e h ∙ sym c.has_time-had_time.ensures;
+    }
 
 pub invariant_of-self : goal.invariant_of-self
 invariant_of-self c =

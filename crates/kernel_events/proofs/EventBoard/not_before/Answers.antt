@@ -1,6 +1,7 @@
 use Rattle.std.proofs.Common.{◌≡◌, Option, None, Some, refl, ap, ◌∙◌, sym}
 use Rattle.std.specs.Prelude.{IsNone, IfNone, IfSome, ◌↔◌}
 use Rattle.sim_model.specs.Phases.{earliest_event}
+use Rattle.kernel_events.proofs.Taken.{empty_from_len}
 use Rattle.kernel_events.proofs.Earliest.{none_told, none_timed, bound_told}
 use Rattle.kernel_events.proofs.EventBoard.not_before.Goals as goal
 
@@ -30,3 +31,8 @@ pub returns-clause-nothing : goal.returns-clause-nothing
 returns-clause-nothing c = λ nothing.
     c.not_before.ensures.none.1 (none_timed c.self.inside.events c.self.inside.deltas c.self.inside.times c.self.inside.size c.self.invariant
     (ap (λ es. earliest_event es None) c.self.view_is ∙ nothing))
+
+pub returns-then-is_empty-clause-none : goal.returns-then-is_empty-clause-none
+returns-then-is_empty-clause-none c = ap (λ es. earliest_event es None) (sym c.self.view_is)
+    ∙ none_told c.self.inside.events c.self.inside.deltas c.self.inside.times c.self.inside.size c.self.invariant
+    (empty_from_len c.self.inside.times.times (c.is_empty.ensures.0 c.if-is_empty.true))

@@ -7,7 +7,7 @@ use Rattle.sim_model.specs.EventCore.declared.notifications.When.TheVariants as 
 use Rattle.sim_model.specs.EventCore.Notifications.{pending_at, notified, comes_first, effect_of}
 use Rattle.sim_model.specs.Configuration.{change}
 use Rattle.kernel_events.specs.Kept.{IsTied}
-use Rattle.kernel_events.proofs.Changed.{changed_is, room_for, tied_changed, overridden}
+use Rattle.kernel_events.proofs.Changed.{changed_is, has_time, room_for, tied_changed, overridden}
 use Rattle.kernel_events.proofs.EventBoard.notify.Goals as goal
 
 -- what is told, and which survives
@@ -27,16 +27,19 @@ fires_or_sets (when.At t) p x is told = by_test (comes_first (when.At t) p) is t
 pub follow-requires : goal.follow-requires
 follow-requires c =
     let h : c.args.e < length c.self.inside.events = let size = c.self.invariant.size in omega arith in
-    record { room = room_for c.self.inside.events c.self.inside.deltas c.self.inside.times c.self.inside.size c.self.invariant c.args.e h }
+    record {
+      room = room_for c.self.inside.events c.self.inside.deltas c.self.inside.times c.self.inside.size c.self.invariant c.args.e h;
+      had = has_time c.self.inside.events c.self.inside.deltas c.self.inside.times c.self.inside.size c.self.invariant c.args.e h ∙ sym c.has_time-had_time.ensures;
+    }
 
 pub invariant_of-self-in-Fire : goal.invariant_of-self-in-Fire
 invariant_of-self-in-Fire c =
     let events = c.self.inside.events in
     let h : c.args.e < length events = let size = c.self.invariant.size in omega arith in
     let first = overridden c.args.w (pending_at events c.args.e) (fires_or_sets c.args.w (pending_at events c.args.e) c.notify.result c.notify.ensures.effect c.in-Fire.is) in
-    let now = c.notify.ensures.after ∙ ap (λ p. set events c.args.e p) (first ∙ sym c.left_by.ensures) in
+    let now = c.notify.ensures.after ∙ ap (λ p. set events c.args.e p) (first ∙ sym c.left_by-left.ensures) in
     subst (λ es. IsTied es c.follow.new.deltas c.follow.new.times c.self.inside.size) (sym now)
-    (tied_changed events c.self.inside.deltas c.self.inside.times c.self.inside.size c.self.invariant c.args.e h c.left_by.result
+    (tied_changed events c.self.inside.deltas c.self.inside.times c.self.inside.size c.self.invariant c.args.e h c.left_by-left.result
     c.follow.new.deltas c.follow.new.times c.follow.ensures.mark c.follow.ensures.time)
 
 pub returns-in-Kept : goal.returns-in-Kept

@@ -1,9 +1,10 @@
-use Rattle.std.proofs.Common.{◌≡◌, ◌++◌, ◌-◌, length, map, take, drop, sym, ap, ◌∙◌, subst, arith}
+use Rattle.std.proofs.Common.{◌≡◌, ◌++◌, ◌-◌, ℕ, false, length, map, take, drop, sym, ap, ◌∙◌, subst, arith, append-nil}
 use Rattle.std.specs.Prelude.{count_by}
 use Rattle.sim_model.specs.Phases.{is_at, due_events, without_pending}
 use Rattle.kernel_events.specs.Numbered.{fixed}
 use Rattle.kernel_events.specs.Kept.{IsTied, nothing_at, AreBelow}
-use Rattle.kernel_events.proofs.Taken.{due, fixed-append, nothing_left, below-due, behind, keys_due, len_due, tied_at}
+use Rattle.sim_model.specs.EventCore.Notifications.{pending_at}
+use Rattle.kernel_events.proofs.Taken.{none_is_at, none_due, all_left, due, fixed-append, nothing_left, below-due, behind, keys_due, len_due, tied_at}
 use Rattle.kernel_events.proofs.EventBoard.take_at.Goals as goal
 
 pub take_due-requires : goal.take_due-requires
@@ -54,3 +55,16 @@ returns-clause-left c =
     let all : s ≡ c.args.out.now.items ++ due test events = c.as_slice.ensures.value ∙ c.take_due.ensures.order ∙ ap (λ ks. c.args.out.now.items ++ ks) keys in
     let rest : take (length s - k) (drop k s) ≡ due test events = behind test c.args.out.now.items events s k all (c.len-before.ensures ∙ c.args.out.now.ok.0) in
     c.cancel_all.ensures ∙ ap (λ ns. nothing_at ns events) rest ∙ nothing_left test events ∙ ap (λ es. map (without_pending test) es) c.self.view_is
+
+pub returns-then-is_empty-clause-taken : goal.returns-then-is_empty-clause-taken
+returns-then-is_empty-clause-taken c =
+    let none : (q : ℕ) → is_at c.args.t.0 (pending_at c.self.inside.events q) ≡ false =
+    none_is_at c.self.inside.events c.self.inside.deltas c.self.inside.times c.self.inside.size c.self.invariant (c.is_empty.ensures.0 c.if-is_empty.true) c.args.t.0 in
+    sym (append-nil (fixed c.args.out.now.items)) ∙ ap (λ es. fixed c.args.out.now.items ++ es) (sym (none_due (is_at c.args.t.0) 0 c.self.inside.events none))
+    ∙ ap (λ es. fixed c.args.out.now.items ++ due_events (is_at c.args.t.0) 0 es) c.self.view_is
+
+pub returns-then-is_empty-clause-left : goal.returns-then-is_empty-clause-left
+returns-then-is_empty-clause-left c =
+    let none : (q : ℕ) → is_at c.args.t.0 (pending_at c.self.inside.events q) ≡ false =
+    none_is_at c.self.inside.events c.self.inside.deltas c.self.inside.times c.self.inside.size c.self.invariant (c.is_empty.ensures.0 c.if-is_empty.true) c.args.t.0 in
+    sym c.self.view_is ∙ sym (all_left (is_at c.args.t.0) c.self.inside.events none) ∙ ap (λ es. map (without_pending (is_at c.args.t.0)) es) c.self.view_is
