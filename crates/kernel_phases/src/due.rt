@@ -52,9 +52,11 @@ pub(crate) fn phase_after(k: &Kernel) -> Phase
     ensures { (c : Config) → StandsFor k.now c → result ≡ phases.phase_after c.processes.runnable }
 {
     least_of_a_set();
-    match k.schedule.ready.least() {
-        None => Phase::Timed,
-        Some(_) => Phase::Evaluate,
+    let runnable = k.schedule.ready.len();
+    if runnable == 0 {
+        Phase::Timed
+    } else {
+        Phase::Evaluate
     }
 }
 

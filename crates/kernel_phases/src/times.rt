@@ -81,11 +81,11 @@ pub fn earliest(k: &Kernel) -> Option<Time>
     requires { IsSound k.now }
     ensures { (c : Config) → StandsFor k.now c → option_map (λ t. t.0) result ≡ phases.earliest c }
 {
-    match no_deadline_before(&k.schedule) {
-        None => k.events.earliest(),
-        Some(deadline) => match k.events.not_before() {
-            None => with_deadlines(k, None),
-            Some(event) => {
+    match k.events.not_before() {
+        None => with_deadlines(k, None),
+        Some(event) => match no_deadline_before(&k.schedule) {
+            None => k.events.earliest(),
+            Some(deadline) => {
                 if event.0 <= deadline.0 {
                     events_first(k, deadline)
                 } else {

@@ -1,5 +1,4 @@
-use Rattle.std.proofs.Common.{refl, sym, ap, ◌∙◌}
-use Rattle.kernel_state.specs.SimModel.Phases as phases
+use Rattle.std.proofs.Common.{sym}
 use Rattle.kernel_phases.proofs.EarliestTime.{event_first}
 use Rattle.kernel_phases.proofs.times.events_first.Goals as goal
 

@@ -1,4 +1,4 @@
-use Rattle.std.proofs.Common.{refl, sym, ap, ◌∙◌}
+use Rattle.std.proofs.Common.{sym, ap, ◌∙◌}
 use Rattle.kernel_state.specs.SimModel.Phases as phases
 use Rattle.kernel_phases.proofs.EarliestTime.{event_alone, with_deadline}
 use Rattle.kernel_phases.proofs.times.with_deadlines.Goals as goal
