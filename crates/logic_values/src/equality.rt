@@ -25,6 +25,7 @@ fn is_same_handle(a: Option<u32>, b: Option<u32>) -> bool
 }
 
 /// Whether two values are the same: of one kind, and equal in every part.
+#[inline(always)]
 pub fn is_same(a: Value, b: Value) -> bool
     ensures { result ≡ spec.is_same a b }
 {
