@@ -1,22 +1,27 @@
 //! The value of an expression.
-ghost use Rattle.std.specs.Prelude.{◌≡◌, option_map};
+ghost use Rattle.std.specs.Prelude.{◌≡◌, Ok, if◌then◌else◌, option_map};
+ghost use Rattle.flat_design.specs.Code as code;
 ghost use Rattle.flat_design.specs.Code.{term_of};
 ghost use Rattle.sim_model.specs.Reading.{Here, val, val_if, place_in};
+ghost use Rattle.sim_model.specs.Values as spec;
+ghost use Rattle.sim_model.specs.Values.{on_ok};
 ghost use Rattle.expr_eval.specs.Readings.{reading_value};
 
 use crate::conversions::converted;
 use crate::digits::{digit_at, digits_between, joined_digits};
-use crate::operators::{binary, decides, unary};
+use crate::operators::{decides, operate, unary};
 use crate::values::{bits, truth, widened};
 use crate::views::{Reading, View};
-use flat_design::{Expr, RunFault};
+use flat_design::{Expr, Member, NameUse, PayloadBytes, RunFault, ValueType};
 use sim_model::logic_values_api::Value;
+use sim_model::model_tree_api::{BinaryOp, UnaryOp};
 
 /// The value of the expression, or its first fault from left to right. It takes no memory.
 ///
 /// Operands are evaluated from the left to the right, and the right one of `&&` and `||` only where the left one does not
 /// decide. A name with places and indices is taken piece by piece: what a further index is taken of is read before that
 /// index is evaluated.
+#[cycle(parts)]
 pub fn eval<V: View>(view: &V, e: &Expr) -> Result<Value, RunFault>
     ensures { (h : Here) → V.Shows view.now h → result ≡ val h (term_of e.now) }
 {
@@ -24,58 +29,165 @@ pub fn eval<V: View>(view: &V, e: &Expr) -> Result<Value, RunFault>
         Expr::Literal(value) => Ok(*value),
         Expr::Now => Ok(Value::Moment(view.now().0)),
         Expr::Myself => Ok(Value::Handle(Some(view.own()))),
-        Expr::Name(n) => read(view, Reading::Name(*n)),
-        Expr::Placed(n, place) => {
-            let k = bits(eval(view, place)?);
-            read(view, Reading::Placed(*n, k))
-        }
-        Expr::Member(n, m) => read(view, Reading::Member(*n, *m)),
-        Expr::PlacedMember(n, place, m) => {
-            let k = bits(eval(view, place)?);
-            read(view, Reading::PlacedMember(*n, k, *m))
-        }
-        Expr::Element(n, index) => {
-            let i = bits(eval(view, index)?);
-            read(view, Reading::Element(*n, i))
-        }
-        Expr::PayloadByte(n, b, index) => {
-            let i = bits(eval(view, index)?);
-            read(view, Reading::PayloadByte(*n, *b, i))
-        }
+        Expr::Name(n) => named(view, *n),
+        Expr::Placed(n, place) => placed(view, *n, place),
+        Expr::Member(n, m) => member(view, *n, *m),
+        Expr::PlacedMember(n, place, m) => placed_member(view, *n, place, *m),
+        Expr::Element(n, index) => element(view, *n, index),
+        Expr::PayloadByte(n, b, index) => payload_byte(view, *n, *b, index),
         Expr::Digit(t, of, index) => {
-            let v = eval(view, of)?;
-            let i = bits(eval(view, index)?);
-            digit_at(*t, v, i)
+            let whole = part(view, of)?;
+            one_digit(view, *t, whole, index)
         }
-        Expr::Digits(t, of, high, low) => {
-            let v = eval(view, of)?;
-            Ok(digits_between(*t, v, *high, *low))
-        }
-        Expr::Unary(op, t, operand) => {
-            let v = eval(view, operand)?;
-            Ok(unary(*op, *t, v))
-        }
+        Expr::Digits(t, of, high, low) => some_digits(view, *t, of, *high, *low),
+        Expr::Unary(op, t, operand) => of_one(view, *op, *t, operand),
         Expr::Binary(op, t, left, right) => {
-            let l = eval(view, left)?;
-            if decides(*op, l) {
-                return Ok(Value::Bool(truth(l)));
-            }
-            let r = eval(view, right)?;
-            binary(*op, *t, l, r)
+            let l = part(view, left)?;
+            of_two(view, *op, *t, l, right)
         }
-        Expr::Convert(to, from, operand) => {
-            let v = eval(view, operand)?;
-            Ok(converted(*to, *from, v))
-        }
+        Expr::Convert(to, from, operand) => convert(view, *to, *from, operand),
         Expr::Concat(upper, lower) => {
-            let u = eval(view, upper)?;
-            let l = eval(view, lower)?;
-            Ok(joined_digits(u, l))
+            let u = part(view, upper)?;
+            join(view, u, lower)
         }
     }
 }
 
+// The value of an operand: most are literals or names, for which no call is made.
+#[inline(always)]
+#[cycle(parts)]
+fn part<V: View>(view: &V, e: &Expr) -> Result<Value, RunFault>
+    ensures { (h : Here) → V.Shows view.now h → result ≡ val h (term_of e.now) }
+{
+    match e {
+        Expr::Literal(value) => Ok(*value),
+        Expr::Name(n) => named(view, *n),
+        _ => eval(view, e),
+    }
+}
+
+fn named<V: View>(view: &V, n: NameUse) -> Result<Value, RunFault>
+    ensures { (h : Here) → V.Shows view.now h → result ≡ val h (code.name n) }
+{
+    read(view, Reading::Name(n))
+}
+
+#[cycle(parts)]
+fn placed<V: View>(view: &V, n: u32, place: &Expr) -> Result<Value, RunFault>
+    ensures { (h : Here) → V.Shows view.now h → result ≡ val h (code.placed n (term_of place.now)) }
+{
+    let k = bits(part(view, place)?);
+    read(view, Reading::Placed(n, k))
+}
+
+fn member<V: View>(view: &V, n: NameUse, m: Member) -> Result<Value, RunFault>
+    ensures { (h : Here) → V.Shows view.now h → result ≡ val h (code.member n m) }
+{
+    read(view, Reading::Member(n, m))
+}
+
+#[cycle(parts)]
+fn placed_member<V: View>(view: &V, n: u32, place: &Expr, m: Member) -> Result<Value, RunFault>
+    ensures { (h : Here) → V.Shows view.now h → result ≡ val h (code.placed_member n (term_of place.now) m) }
+{
+    let k = bits(part(view, place)?);
+    read(view, Reading::PlacedMember(n, k, m))
+}
+
+#[cycle(parts)]
+fn element<V: View>(view: &V, n: u32, index: &Expr) -> Result<Value, RunFault>
+    ensures { (h : Here) → V.Shows view.now h → result ≡ val h (code.element n (term_of index.now)) }
+{
+    let i = bits(part(view, index)?);
+    read(view, Reading::Element(n, i))
+}
+
+#[cycle(parts)]
+fn payload_byte<V: View>(
+    view: &V,
+    n: NameUse,
+    b: PayloadBytes,
+    index: &Expr,
+) -> Result<Value, RunFault>
+    ensures { (h : Here) → V.Shows view.now h → result ≡ val h (code.payload_byte n b (term_of index.now)) }
+{
+    let i = bits(part(view, index)?);
+    read(view, Reading::PayloadByte(n, b, i))
+}
+
+// The digit, or the bit, of a value at an index.
+#[cycle(parts)]
+fn one_digit<V: View>(view: &V, t: ValueType, whole: Value, index: &Expr) -> Result<Value, RunFault>
+    ensures { (h : Here) → V.Shows view.now h → result ≡ on_ok (val h (term_of index.now)) (λ k. spec.digit_at t whole (spec.bits k)) }
+{
+    let i = bits(part(view, index)?);
+    digit_at(t, whole, i)
+}
+
+#[cycle(parts)]
+fn some_digits<V: View>(
+    view: &V,
+    t: ValueType,
+    of: &Expr,
+    high: u8,
+    low: u8,
+) -> Result<Value, RunFault>
+    ensures { (h : Here) → V.Shows view.now h → result ≡ val h (code.digits t (term_of of.now) high low) }
+{
+    let v = part(view, of)?;
+    Ok(digits_between(t, v, high, low))
+}
+
+#[cycle(parts)]
+fn of_one<V: View>(view: &V, op: UnaryOp, t: ValueType, operand: &Expr) -> Result<Value, RunFault>
+    ensures { (h : Here) → V.Shows view.now h → result ≡ val h (code.unary op t (term_of operand.now)) }
+{
+    let v = part(view, operand)?;
+    Ok(unary(op, t, v))
+}
+
+// An operator behind its left operand: the right one is evaluated where that does not decide.
+#[cycle(parts)]
+fn of_two<V: View>(
+    view: &V,
+    op: BinaryOp,
+    t: ValueType,
+    l: Value,
+    right: &Expr,
+) -> Result<Value, RunFault>
+    ensures { (h : Here) → V.Shows view.now h → result ≡ (if spec.decides op l then Ok (spec.bool_value (spec.truth l)) else on_ok (val h (term_of right.now)) (λ r. spec.binary op t l r)) }
+{
+    if decides(op, l) {
+        return Ok(Value::Bool(truth(l)));
+    }
+    let r = part(view, right)?;
+    operate(op, t, l, r)
+}
+
+#[cycle(parts)]
+fn convert<V: View>(
+    view: &V,
+    to: ValueType,
+    from: ValueType,
+    operand: &Expr,
+) -> Result<Value, RunFault>
+    ensures { (h : Here) → V.Shows view.now h → result ≡ val h (code.convert to from (term_of operand.now)) }
+{
+    let v = part(view, operand)?;
+    Ok(converted(to, from, v))
+}
+
+// A vector behind the one above it.
+#[cycle(parts)]
+fn join<V: View>(view: &V, upper: Value, lower: &Expr) -> Result<Value, RunFault>
+    ensures { (h : Here) → V.Shows view.now h → result ≡ on_ok (val h (term_of lower.now)) (λ l. Ok (spec.joined_digits upper l)) }
+{
+    let l = part(view, lower)?;
+    Ok(joined_digits(upper, l))
+}
+
 // The value of a reading in an expression.
+#[inline(always)]
 fn read<V: View>(view: &V, reading: Reading) -> Result<Value, RunFault>
     ensures { (h : Here) → V.Shows view.now h → result ≡ reading_value h reading }
 {

@@ -103,6 +103,24 @@ pub(crate) fn binary(op: BinaryOp, t: ValueType, l: Value, r: Value) -> Result<V
     }
 }
 
+/// The same; the sum and the order of two unsigned numbers, which loops count with, are no call.
+#[inline(always)]
+pub(crate) fn operate(op: BinaryOp, t: ValueType, l: Value, r: Value) -> Result<Value, RunFault>
+    ensures { result ≡ spec.binary op t l r }
+{
+    match (op, t) {
+        (BinaryOp::Add, ValueType::Uint(_)) => {
+            Ok(unsigned(sim_model::logic_values_api::add(bits(l), bits(r))))
+        }
+        (BinaryOp::Less, ValueType::Uint(_)) => Ok(Value::Bool(sim_model::logic_values_api::lt(
+            Sign::Unsigned,
+            bits(l),
+            bits(r),
+        ))),
+        _ => binary(op, t, l, r),
+    }
+}
+
 // The digits of two values, cut to as many as both have.
 fn pair(l: Value, r: Value) -> Option<(Lv, Lv)>
     ensures alike { IfSome result (λ p. p.0.width ≡ p.1.width) }
