@@ -11,6 +11,7 @@ use flat_design::{ChannelId, Denoted, Design, Member, RunFault};
 use kernel_state::kernel_channels_api::ChannelBoard;
 
 /// What the name at a place of its module stands for in the instance of this number.
+#[inline(always)]
 pub fn denoted_in(design: &Design, home: u32, n: u32) -> Denoted
     ensures { result ≡ denoted_at design.now home n }
 {
@@ -24,6 +25,7 @@ pub fn denoted_in(design: &Design, home: u32, n: u32) -> Denoted
 }
 
 /// The channel at a place; one past the last is a fault.
+#[inline(always)]
 fn channel_at(channels: &[ChannelId], k: u64) -> Result<ChannelId, RunFault>
     ensures { result ≡ reading.channel_or channels.now k (slice_get channels.now k) }
 {
@@ -37,6 +39,7 @@ fn channel_at(channels: &[ChannelId], k: u64) -> Result<ChannelId, RunFault>
 }
 
 /// The channel of a port at a place.
+#[inline(always)]
 fn port_channel(design: &Design, n: u32, k: u64) -> Result<ChannelId, RunFault>
     ensures { result ≡ reading.port_channel (slice_get design.now.ports n) k }
 {
@@ -60,6 +63,7 @@ fn place_or_first(place: Option<u64>) -> u64
 ///
 /// # Errors
 /// A place past the last channel of a port; a name that has no channel.
+#[inline(always)]
 pub(crate) fn channel_of(
     design: &Design,
     denoted: Denoted,
@@ -81,6 +85,7 @@ pub(crate) fn channel_of(
 }
 
 /// The value of a channel that has one.
+#[inline(always)]
 pub(crate) fn channel_value(board: &ChannelBoard, channel: ChannelId) -> Value
     ensures { (c : Config) → c.channels ≡ board.now → result ≡ reading.channel_value c channel }
 {

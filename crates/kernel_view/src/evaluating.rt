@@ -8,7 +8,7 @@ ghost use Rattle.kernel_view.specs.Standings.{ShowsHere, Everywhere, Gives, Give
 use crate::standings::{Standing, standing_at};
 use expr_eval::logic_values_api::Value;
 use expr_eval::sim_time_api::Time;
-use expr_eval::{Reading, View, eval, eval_if, eval_place};
+use expr_eval::{Reading, View, bits, eval};
 use flat_design::{ChannelId, Denoted, Expr, NameUse, RunFault};
 use kernel_state::Kernel;
 
@@ -62,8 +62,11 @@ pub fn eval_if_at(k: &Kernel, p: u32, e: &Option<Expr>) -> Result<Option<Value>,
     requires { Lives k.now p }
     ensures { GivesIf k.now p result (option_map term_of e.now) }
 {
-    match standing_at(k, p) {
-        Some(x) => eval_if(&x, e),
+    match e {
+        Some(e) => match eval_at(k, p, e) {
+            Ok(value) => Ok(Some(value)),
+            Err(fault) => Err(fault),
+        },
         None => Ok(None),
     }
 }
@@ -76,8 +79,11 @@ pub fn eval_place_at(k: &Kernel, p: u32, e: &Option<Expr>) -> Result<Option<u64>
     requires { Lives k.now p }
     ensures { GivesPlace k.now p result (option_map term_of e.now) }
 {
-    match standing_at(k, p) {
-        Some(x) => eval_place(&x, e),
+    match e {
+        Some(e) => match eval_at(k, p, e) {
+            Ok(value) => Ok(Some(bits(value))),
+            Err(fault) => Err(fault),
+        },
         None => Ok(None),
     }
 }

@@ -92,6 +92,7 @@ pub(crate) fn keeper_number(denoted: Denoted) -> Option<u32>
 
 impl<'a> Standing<'a> {
     /// What a name that the module declares stands for here.
+    #[inline(always)]
     pub fn denotes(&self, n: u32) -> Denoted
         ensures { (h : Here) → ShowsHere self.now h → result ≡ reading.denotes h n }
     {
@@ -102,6 +103,7 @@ impl<'a> Standing<'a> {
     ///
     /// # Errors
     /// A place past the last channel of a port; a name that has no channel.
+    #[inline(always)]
     pub fn channel_here(&self, n: u32, place: Option<u64>) -> Result<ChannelId, RunFault>
         ensures { (h : Here) → ShowsHere self.now h → result ≡ reading.channel_here h n place }
     {
@@ -109,6 +111,7 @@ impl<'a> Standing<'a> {
     }
 
     /// The value of a channel.
+    #[inline(always)]
     pub(crate) fn channel_value(&self, channel: ChannelId) -> Value
         ensures { (h : Here) → ShowsHere self.now h → result ≡ reading.channel_value h.config channel }
     {
@@ -126,6 +129,7 @@ impl<'a> Standing<'a> {
     }
 
     /// The value of a port's first channel.
+    #[inline(always)]
     fn first_channel(&self, n: u32) -> Result<Value, RunFault>
         ensures { (h : Here) → ShowsHere self.now h → result ≡ on_ok (reading.channel_of h.config.design (denoted.Port n) None) (λ ch. Ok (reading.channel_value h.config ch)) }
     {
@@ -136,6 +140,7 @@ impl<'a> Standing<'a> {
     }
 
     /// The value of a variable of an instance of a module.
+    #[inline(always)]
     fn variable(&self, n: u32) -> Value
         ensures { (h : Here) → ShowsHere self.now h → result ≡ reading.variable_value h n }
     {
@@ -146,6 +151,7 @@ impl<'a> Standing<'a> {
     }
 
     /// The value of a local variable.
+    #[inline(always)]
     fn local(&self, n: u32) -> Value
         ensures { (h : Here) → ShowsHere self.now h → result ≡ reading.local_value h n }
     {
@@ -156,6 +162,7 @@ impl<'a> Standing<'a> {
     }
 
     /// What a declared name is as a value.
+    #[inline(always)]
     fn declared(&self, denoted: Denoted) -> Result<Value, RunFault>
         ensures { (h : Here) → ShowsHere self.now h → result ≡ reading.read_denoted h denoted }
     {
