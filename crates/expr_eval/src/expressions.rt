@@ -2,7 +2,7 @@
 ghost use Rattle.std.specs.Prelude.{◌≡◌, Ok, if◌then◌else◌, option_map};
 ghost use Rattle.flat_design.specs.Code as code;
 ghost use Rattle.flat_design.specs.Code.{term_of};
-ghost use Rattle.sim_model.specs.Reading.{Here, val, val_if, place_in};
+ghost use Rattle.sim_model.specs.Reading.{Here, val, place_in};
 ghost use Rattle.sim_model.specs.Values as spec;
 ghost use Rattle.sim_model.specs.Values.{on_ok};
 ghost use Rattle.expr_eval.specs.Readings.{reading_value};
@@ -53,7 +53,7 @@ pub fn eval<V: View>(view: &V, e: &Expr) -> Result<Value, RunFault>
     }
 }
 
-// The value of an operand: most are literals or names, for which no call is made.
+// The value of an operand. Most are literals or names, for which `eval` is not called.
 #[inline(always)]
 #[cycle(parts)]
 fn part<V: View>(view: &V, e: &Expr) -> Result<Value, RunFault>
@@ -198,16 +198,6 @@ fn read<V: View>(view: &V, reading: Reading) -> Result<Value, RunFault>
         | Reading::PlacedMember(..)
         | Reading::Element(..)
         | Reading::PayloadByte(..) => Ok(value),
-    }
-}
-
-/// The value of the expression, where one is written, or its first fault.
-pub fn eval_if<V: View>(view: &V, e: &Option<Expr>) -> Result<Option<Value>, RunFault>
-    ensures { (h : Here) → V.Shows view.now h → result ≡ val_if h (option_map term_of e.now) }
-{
-    match e {
-        Some(e) => Ok(Some(eval(view, e)?)),
-        None => Ok(None),
     }
 }
 

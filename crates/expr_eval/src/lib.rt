@@ -11,7 +11,7 @@ mod operators;
 mod values;
 mod views;
 
-pub use expressions::{eval, eval_if, eval_place};
+pub use expressions::{eval, eval_place};
 pub use values::{bits, cut_to, moment, payload_handle, process_handle, truth, widened};
 pub use views::{Reading, View};
 
