@@ -21,8 +21,22 @@ use sim_model::model_tree_api::{BinaryOp, UnaryOp};
 /// Operands are evaluated from the left to the right, and the right one of `&&` and `||` only where the left one does not
 /// decide. A name with places and indices is taken piece by piece: what a further index is taken of is read before that
 /// index is evaluated.
+#[inline(always)]
 #[cycle(parts)]
 pub fn eval<V: View>(view: &V, e: &Expr) -> Result<Value, RunFault>
+    ensures { (h : Here) → V.Shows view.now h → result ≡ val h (term_of e.now) }
+{
+    // Most operands are literals or names.
+    match e {
+        Expr::Literal(value) => Ok(*value),
+        Expr::Name(n) => named(view, *n),
+        _ => composed(view, e),
+    }
+}
+
+// The same of an expression of any form.
+#[cycle(parts)]
+fn composed<V: View>(view: &V, e: &Expr) -> Result<Value, RunFault>
     ensures { (h : Here) → V.Shows view.now h → result ≡ val h (term_of e.now) }
 {
     match e {
@@ -36,33 +50,20 @@ pub fn eval<V: View>(view: &V, e: &Expr) -> Result<Value, RunFault>
         Expr::Element(n, index) => element(view, *n, index),
         Expr::PayloadByte(n, b, index) => payload_byte(view, *n, *b, index),
         Expr::Digit(t, of, index) => {
-            let whole = part(view, of)?;
+            let whole = eval(view, of)?;
             one_digit(view, *t, whole, index)
         }
         Expr::Digits(t, of, high, low) => some_digits(view, *t, of, *high, *low),
         Expr::Unary(op, t, operand) => of_one(view, *op, *t, operand),
         Expr::Binary(op, t, left, right) => {
-            let l = part(view, left)?;
+            let l = eval(view, left)?;
             of_two(view, *op, *t, l, right)
         }
         Expr::Convert(to, from, operand) => convert(view, *to, *from, operand),
         Expr::Concat(upper, lower) => {
-            let u = part(view, upper)?;
+            let u = eval(view, upper)?;
             join(view, u, lower)
         }
-    }
-}
-
-// The value of an operand. Most are literals or names, for which `eval` is not called.
-#[inline(always)]
-#[cycle(parts)]
-fn part<V: View>(view: &V, e: &Expr) -> Result<Value, RunFault>
-    ensures { (h : Here) → V.Shows view.now h → result ≡ val h (term_of e.now) }
-{
-    match e {
-        Expr::Literal(value) => Ok(*value),
-        Expr::Name(n) => named(view, *n),
-        _ => eval(view, e),
     }
 }
 
@@ -76,7 +77,7 @@ fn named<V: View>(view: &V, n: NameUse) -> Result<Value, RunFault>
 fn placed<V: View>(view: &V, n: u32, place: &Expr) -> Result<Value, RunFault>
     ensures { (h : Here) → V.Shows view.now h → result ≡ val h (code.placed n (term_of place.now)) }
 {
-    let k = bits(part(view, place)?);
+    let k = bits(eval(view, place)?);
     read(view, Reading::Placed(n, k))
 }
 
@@ -90,7 +91,7 @@ fn member<V: View>(view: &V, n: NameUse, m: Member) -> Result<Value, RunFault>
 fn placed_member<V: View>(view: &V, n: u32, place: &Expr, m: Member) -> Result<Value, RunFault>
     ensures { (h : Here) → V.Shows view.now h → result ≡ val h (code.placed_member n (term_of place.now) m) }
 {
-    let k = bits(part(view, place)?);
+    let k = bits(eval(view, place)?);
     read(view, Reading::PlacedMember(n, k, m))
 }
 
@@ -98,7 +99,7 @@ fn placed_member<V: View>(view: &V, n: u32, place: &Expr, m: Member) -> Result<V
 fn element<V: View>(view: &V, n: u32, index: &Expr) -> Result<Value, RunFault>
     ensures { (h : Here) → V.Shows view.now h → result ≡ val h (code.element n (term_of index.now)) }
 {
-    let i = bits(part(view, index)?);
+    let i = bits(eval(view, index)?);
     read(view, Reading::Element(n, i))
 }
 
@@ -111,7 +112,7 @@ fn payload_byte<V: View>(
 ) -> Result<Value, RunFault>
     ensures { (h : Here) → V.Shows view.now h → result ≡ val h (code.payload_byte n b (term_of index.now)) }
 {
-    let i = bits(part(view, index)?);
+    let i = bits(eval(view, index)?);
     read(view, Reading::PayloadByte(n, b, i))
 }
 
@@ -120,7 +121,7 @@ fn payload_byte<V: View>(
 fn one_digit<V: View>(view: &V, t: ValueType, whole: Value, index: &Expr) -> Result<Value, RunFault>
     ensures { (h : Here) → V.Shows view.now h → result ≡ on_ok (val h (term_of index.now)) (λ k. spec.digit_at t whole (spec.bits k)) }
 {
-    let i = bits(part(view, index)?);
+    let i = bits(eval(view, index)?);
     digit_at(t, whole, i)
 }
 
@@ -134,7 +135,7 @@ fn some_digits<V: View>(
 ) -> Result<Value, RunFault>
     ensures { (h : Here) → V.Shows view.now h → result ≡ val h (code.digits t (term_of of.now) high low) }
 {
-    let v = part(view, of)?;
+    let v = eval(view, of)?;
     Ok(digits_between(t, v, high, low))
 }
 
@@ -142,7 +143,7 @@ fn some_digits<V: View>(
 fn of_one<V: View>(view: &V, op: UnaryOp, t: ValueType, operand: &Expr) -> Result<Value, RunFault>
     ensures { (h : Here) → V.Shows view.now h → result ≡ val h (code.unary op t (term_of operand.now)) }
 {
-    let v = part(view, operand)?;
+    let v = eval(view, operand)?;
     Ok(unary(op, t, v))
 }
 
@@ -160,7 +161,7 @@ fn of_two<V: View>(
     if decides(op, l) {
         return Ok(Value::Bool(truth(l)));
     }
-    let r = part(view, right)?;
+    let r = eval(view, right)?;
     operate(op, t, l, r)
 }
 
@@ -173,7 +174,7 @@ fn convert<V: View>(
 ) -> Result<Value, RunFault>
     ensures { (h : Here) → V.Shows view.now h → result ≡ val h (code.convert to from (term_of operand.now)) }
 {
-    let v = part(view, operand)?;
+    let v = eval(view, operand)?;
     Ok(converted(to, from, v))
 }
 
@@ -182,7 +183,7 @@ fn convert<V: View>(
 fn join<V: View>(view: &V, upper: Value, lower: &Expr) -> Result<Value, RunFault>
     ensures { (h : Here) → V.Shows view.now h → result ≡ on_ok (val h (term_of lower.now)) (λ l. Ok (spec.joined_digits upper l)) }
 {
-    let l = part(view, lower)?;
+    let l = eval(view, lower)?;
     Ok(joined_digits(upper, l))
 }
 
