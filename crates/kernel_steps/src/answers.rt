@@ -39,3 +39,14 @@ pub(crate) fn taking(done: Result<(), StatementStop>) -> StepAnswer
         Err(StatementStop::NoMemory) => StepAnswer::NoMemory,
     }
 }
+
+/// The same answer. That a step is made, as most are, is told by itself, with nothing of the rest moved.
+#[inline(always)]
+pub(crate) fn straight(answer: &StepAnswer) -> StepAnswer
+    ensures { result ≡ answer.now }
+{
+    match answer {
+        StepAnswer::Went => StepAnswer::Went,
+        StepAnswer::Printed(_, _, _) | StepAnswer::Fault(_) | StepAnswer::NoMemory => *answer,
+    }
+}

@@ -18,7 +18,7 @@ ghost use Rattle.kernel_steps.specs.Ready.{Ready};
 ghost use Rattle.kernel_steps.specs.Shown.{ComesNext};
 ghost use Rattle.kernel_steps.specs.Told.{MakesAll, MakesStep};
 
-use crate::answers::{StepAnswer, plain};
+use crate::answers::{StepAnswer, plain, straight};
 use crate::carrying::carry_out;
 use crate::leaving::leave;
 use crate::owing::on_owed;
@@ -69,7 +69,7 @@ fn on_statement(k: &mut Kernel, alloc: Global, p: u32, s: StmtId) -> StepAnswer
     top_lives(k, p);
     let program = k.program;
     match program.statement(s) {
-        Some(x) => carry_out(k, alloc, p, s, x),
+        Some(x) => straight(&carry_out(k, alloc, p, s, x)),
         None => {
             pass(k, p);
             StepAnswer::Went
@@ -78,6 +78,7 @@ fn on_statement(k: &mut Kernel, alloc: Global, p: u32, s: StmtId) -> StepAnswer
 }
 
 /// The body of the instance on top has ended.
+#[inline(always)]
 fn end_body(k: &mut Kernel, p: u32) -> StepAnswer
     requires sound { IsSound k.old }
     requires top { IsOnTop k.old p }

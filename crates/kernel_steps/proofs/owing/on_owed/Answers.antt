@@ -1,5 +1,5 @@
 use Rattle.std.proofs.Common.{refl, sym, ap, ◌∙◌, subst, option_map}
-use Rattle.flat_design.specs.Code.{statement_of, statement_at}
+use Rattle.flat_design.specs.Code.{statement_of}
 use Rattle.exec_channels.specs.SimModel.Residual.{taken_off}
 use Rattle.exec_channels.specs.SimModel.Configuration.{with_residual}
 use Rattle.exec_channels.specs.SimModel.Statements.{owed_by}
