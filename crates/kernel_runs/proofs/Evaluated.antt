@@ -1,6 +1,7 @@
 -- A step of the evaluation phase.
-use Rattle.std.proofs.Common.{◌≡◌, ◌||◌, ℕ, Bool, true, false, List, [], ◌∷◌, reverse, Option, Some, None, Result, Ok, Err, refl, sym, ap, ◌∙◌, subst, true≢false, eq-eqb}
-use Rattle.std.specs.Prelude.{is_some, if◌then◌else◌}
+use Rattle.std.proofs.Common.{◌≡◌, ◌≢◌, ◌||◌, ℕ, Bool, true, false, List, [], ◌∷◌, reverse, Option, Some, None, Result, Ok, Err, refl, sym, ap, ◌∙◌, subst, true≢false, eq-eqb}
+use Rattle.std.specs.Prelude.{is_some, slice_get, if◌then◌else◌}
+use Rattle.std.specs.Ordering.{nat_cmp}
 use Rattle.std.proofs.lemmas.List.{reverse-append}
 use Rattle.std.specs.FinSet as set
 use Rattle.flat_design.specs.declared.faults.RunFault.{RunFault}
@@ -9,7 +10,7 @@ use Rattle.kernel_phases.specs.SimModel.Waits.{holds}
 use Rattle.kernel_phases.specs.SimModel.Statements.{statement_step}
 use Rattle.kernel_phases.specs.SimModel.Phases.{update_step}
 use Rattle.kernel_phases.specs.SimModel.Steps.{went, takes, as_outcome, evaluate, taken_if, taking}
-use Rattle.kernel_phases.specs.ReadySet.Ready.{rising, in_order}
+use Rattle.kernel_phases.specs.ReadySet.Ready.{rising, in_order, IsLeast}
 use Rattle.std.specs.FinMap as map
 use Rattle.kernel_phases.specs.InstanceTable.declared.instances.Instance.{Instance as Entry}
 use Rattle.kernel_phases.specs.KernelProcesses.Seen.{Seen, seen, shown_at}
@@ -106,6 +107,19 @@ module _ (k new : Kernel) where
     top_asks picks later held m c h = subst (λ xs. AskedAs picks later held held c m (evaluate c xs c.processes.runnable)) (sym (stack_on c h)) (not_asked picks later held m c (statement_step c p))
 
 -- ---- with no instance active
+
+-- a set that is not empty has a member: the first of its rising order
+pub has_one : (s : set.FinSet nat_cmp) → ((p : ℕ) → slice_get (rising s) 0 ≡ Some p → IsLeast s p) → (slice_get (rising s) 0 ≡ None → s ≡ set.empty) → set.len s ≢ 0
+    → (r : ℕ) × (set.contains s r ≡ true)
+has_one s least none some = by (slice_get (rising s) 0) refl
+  where
+    by : (o : Option ℕ) → slice_get (rising s) 0 ≡ o → (r : ℕ) × (set.contains s r ≡ true)
+    by None is = absurd (some (ap set.len (none is) ∙ set.len-empty nat_cmp))
+    by (Some p) is = (p, (least p is).member)
+
+-- and one without members has none
+pub has_none : (s : set.FinSet nat_cmp) → set.len s ≡ 0 → (q : ℕ) → set.contains s q ≡ false
+has_none s none q = ap (λ s. set.contains s q) (set.empty_of_len s none) ∙ set.contains-empty nat_cmp q
 
 stack_is : (k : Kernel) (c : Config) → StandsFor k c → k.schedule.stack.items ≡ [] → c.processes.stack ≡ []
 stack_is k c h nobody = h.processes.stack ∙ ap reverse nobody

@@ -18,6 +18,8 @@ use Rattle.kernel_runs.specs.declared.answers.Telling.{Telling}
 use Rattle.kernel_runs.specs.declared.answers.Telling.TheVariants as telling
 use Rattle.kernel_runs.specs.declared.answers.Made.{Made}
 use Rattle.kernel_runs.specs.declared.answers.Made.TheVariants as made
+use Rattle.kernel_runs.specs.declared.answers.Brief.{Brief}
+use Rattle.kernel_runs.specs.declared.answers.Brief.TheVariants as brief
 
 -- the step of an instance as one of the session
 abbrev pub made_of : StepAnswer → Made
@@ -25,6 +27,12 @@ made_of answer.Went = made.Went telling.Nothing
 made_of (answer.Printed p s v) = made.Went (telling.Print p s v)
 made_of (answer.Fault f) = made.Fault f
 made_of answer.NoMemory = made.NoMemory
+
+-- what became of a step, by its brief answer and what was said
+abbrev pub whole_of : Brief → Made → Made
+whole_of brief.Went said = made.Went telling.Nothing
+whole_of (brief.Took p) said = made.Took p
+whole_of brief.Said said = said
 
 -- what a show tells: nothing where there is no such object
 abbrev pub told_by_show : Config → Option Visible → List Told

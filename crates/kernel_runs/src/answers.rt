@@ -1,6 +1,6 @@
 //! What a step of a session answers.
 ghost use Rattle.std.specs.Prelude.{◌≡◌};
-ghost use Rattle.kernel_runs.specs.Made.{made_of};
+ghost use Rattle.kernel_runs.specs.Made.{made_of, whole_of};
 
 use flat_design::{RunFault, StmtId};
 use kernel_phases::logic_values_api::Value;
@@ -34,7 +34,46 @@ pub enum Made {
     NoMemory,
 }
 
+/// What became of a step, in a word or two.
+#[derive(Clone, Copy)]
+pub(crate) enum Brief {
+    /// The run went on, and nothing is told of it.
+    Went,
+    /// The process of this serial was taken.
+    Took(u32),
+    /// What was said of it.
+    Said,
+}
+
+/// What became of a step, in a word or two where that says it, and else said.
+#[inline(always)]
+pub(crate) fn brief_of(made: &Made, said: &mut Made) -> Brief
+    ensures { whole_of result said.new ≡ made.now }
+{
+    match made {
+        Made::Went(Telling::Nothing) => Brief::Went,
+        Made::Took(p) => Brief::Took(*p),
+        Made::Went(_) | Made::Ended | Made::Fault(_) | Made::NotReady | Made::NoMemory => {
+            *said = *made;
+            Brief::Said
+        }
+    }
+}
+
+/// What became of a step, by its brief answer and what was said.
+#[inline(always)]
+pub(crate) fn whole_of(brief: Brief, said: &Made) -> Made
+    ensures { result ≡ whole_of brief said.now }
+{
+    match brief {
+        Brief::Went => Made::Went(Telling::Nothing),
+        Brief::Took(p) => Made::Took(p),
+        Brief::Said => *said,
+    }
+}
+
 /// The step of an instance as one of the session.
+#[inline(always)]
 pub(crate) fn of_instance(answer: StepAnswer) -> Made
     ensures { result ≡ made_of answer }
 {

@@ -26,15 +26,13 @@ fn evaluate_next<C: Chooser>(k: &mut Kernel, chooser: &mut C) -> Made
     ensures made { k.new.made ≡ k.old.made }
 {
     least_of_a_set();
-    match k.schedule.ready.least() {
-        None => {
-            update(k);
-            Made::Went(Telling::Nothing)
-        }
-        Some(_) => match take(k, chooser) {
-            Some(p) => Made::Took(p),
-            None => Made::NotReady,
-        },
+    if k.schedule.ready.len() == 0 {
+        update(k);
+        return Made::Went(Telling::Nothing);
+    }
+    match take(k, chooser) {
+        Some(p) => Made::Took(p),
+        None => Made::NotReady,
     }
 }
 

@@ -8,9 +8,9 @@ ghost use Rattle.kernel_phases.specs.KernelState.Kernel.{IsSound};
 ghost use Rattle.kernel_phases.specs.Due.{HasRoom};
 ghost use Rattle.kernel_phases.specs.Fresh.{IsFresh};
 ghost use Rattle.kernel_runs.specs.Asked.{MayStep};
-ghost use Rattle.kernel_runs.specs.Made.{Makes, StepsOn, Asks};
+ghost use Rattle.kernel_runs.specs.Made.{Makes, StepsOn, Asks, whole_of};
 
-use crate::answers::{Made, Telling};
+use crate::answers::{Brief, Made, Telling, brief_of, whole_of};
 use crate::commands::next_command;
 use crate::evaluation::evaluate;
 use kernel_phases::kernel_state_api::Kernel;
@@ -109,6 +109,7 @@ fn go_on<C: Chooser>(k: &mut Kernel, alloc: Global, chooser: &mut C, events: &mu
 }
 
 /// The next step, of a kernel that is sound.
+#[inline(always)]
 fn make<C: Chooser>(
     k: &mut Kernel,
     alloc: Global,
@@ -140,11 +141,40 @@ fn make<C: Chooser>(
     }
 }
 
+/// The same, answered in a word or two where nothing else is to be said of it.
+#[inline(never)]
+fn make_briefly<C: Chooser>(
+    k: &mut Kernel,
+    alloc: Global,
+    script: &[Command],
+    place: &mut usize,
+    chooser: &mut C,
+    events: &mut Vec<u32>,
+    said: &mut Made,
+) -> Brief
+    requires sound { IsSound k.old }
+    requires asked { MayStep k.old }
+    requires room { k.old.made < 2 ^ 31 }
+    requires within { place.old ≤ length script.now }
+    requires none { events.old.items ≡ [] }
+    ensures steps { StepsOn k.old k.new (drop place.old script.now) (drop place.new script.now) (whole_of result said.new) spec.step }
+    ensures asks { Asks C.picks C.later k.old chooser.old chooser.new (whole_of result said.new) spec.step }
+    ensures sound { IsSound k.new }
+    ensures within { place.new ≤ length script.now }
+    ensures none { events.new.items ≡ [] }
+    ensures made { k.new.made ≤ k.old.made + 1 }
+    ensures refused { whole_of result said.new ≡ Made.NoMemory → k.new.made ≡ k.old.made }
+    ensures faulted { (f : RunFault) → whole_of result said.new ≡ Made.Fault f → k.new.made ≡ k.old.made }
+{
+    brief_of(&make(k, alloc, script, place, chooser, events), said)
+}
+
 /// Makes the next step of a session: the next command of the script where the kernel is idle, else the step of its phase
 /// (IEEE 1666-2011, 4.2.1). The chooser is asked once where the step takes a process, and in no other step. `place` counts the
 /// commands that were carried out; `events` is a list without members, whose room is used again.
 ///
 /// At most one instance, payload or reference to a payload is made, and none where the step is refused.
+#[inline(always)]
 pub fn make_step<C: Chooser>(
     k: &mut SoundKernel,
     alloc: Global,
@@ -165,5 +195,15 @@ pub fn make_step<C: Chooser>(
     ensures refused { result ≡ Made.NoMemory → k.new.kernel.made ≡ k.old.kernel.made }
     ensures faulted { (f : RunFault) → result ≡ Made.Fault f → k.new.kernel.made ≡ k.old.kernel.made }
 {
-    make(&mut k.kernel, alloc, script, place, chooser, events)
+    let mut said = Made::Ended;
+    let brief = make_briefly(
+        &mut k.kernel,
+        alloc,
+        script,
+        place,
+        chooser,
+        events,
+        &mut said,
+    );
+    whole_of(brief, &said)
 }

@@ -1,0 +1,14 @@
+use Rattle.std.proofs.Common.{sym, ◌∙◌}
+use Rattle.kernel_runs.proofs.stepping.make_briefly.Goals as goal
+
+pub returns-clause-steps : goal.returns-clause-steps
+returns-clause-steps g c = rw c.brief_of.ensures c.make.ensures.steps
+
+pub returns-clause-asks : goal.returns-clause-asks
+returns-clause-asks g c = rw c.brief_of.ensures c.make.ensures.asks
+
+pub returns-clause-refused : goal.returns-clause-refused
+returns-clause-refused g c = λ is. c.make.ensures.refused (sym c.brief_of.ensures ∙ is)
+
+pub returns-clause-faulted : goal.returns-clause-faulted
+returns-clause-faulted g c = λ f is. c.make.ensures.faulted f (sym c.brief_of.ensures ∙ is)
