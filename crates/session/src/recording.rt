@@ -17,6 +17,7 @@ use vcd_trace::sim_model_api::{Log, Stop};
 use write_buffer::sim_io_api::{Shelf, Sink, Trouble};
 
 /// Gives what a step that was begun at this time adds, by the kernel after it: its line, and then its point of the trace.
+#[inline(always)]
 fn give_step<S: Shelf, O: Sink>(
     alloc: Global,
     k: &Kernel,
@@ -122,6 +123,7 @@ pub(crate) fn record_begin<S: Shelf, O: Sink>(
 }
 
 /// Gives what a step that was begun at this time adds, by the kernel after it. What cuts it lets go what is held.
+#[inline(always)]
 pub(crate) fn record_step<S: Shelf, O: Sink>(
     alloc: Global,
     k: &Kernel,

@@ -45,6 +45,7 @@ fn write_text<O: Sink>(held: &mut Held, out: &mut O, text: &Option<Line>) -> Res
 }
 
 /// Gives what a step adds to a report, by the kernel after it. A line that is printed is made in `line`.
+#[inline(always)]
 pub(crate) fn tell<O: Sink>(
     alloc: Global,
     k: &Kernel,

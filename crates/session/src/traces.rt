@@ -35,6 +35,7 @@ pub(crate) fn begin_trace<S: Shelf>(
 }
 
 /// Gives the point of a step that was begun at this time, by the kernel after it.
+#[inline(never)]
 fn trace_point<S: Shelf>(
     alloc: Global,
     k: &Kernel,
@@ -56,6 +57,7 @@ fn trace_point<S: Shelf>(
 }
 
 /// Gives what a step that was begun at this time adds to the trace, where there is one, by the kernel after it.
+#[inline(always)]
 pub(crate) fn trace_step<S: Shelf>(
     alloc: Global,
     k: &Kernel,
