@@ -1,5 +1,5 @@
 //! The steps of a session, one after another.
-ghost use Rattle.std.specs.Prelude.{◌≡◌, ◌≤◌, ◌<◌, ◌-◌, ◌^◌, All, [], ◌∷◌, ◌++◌, length, IfOk, IfSome, vec_len, vec_capacity};
+ghost use Rattle.std.specs.Prelude.{◌≡◌, ◌≤◌, ◌<◌, ◌-◌, ◌^◌, All, [], ◌∷◌, ◌++◌, length, IfOk, IfSome, OnOk, vec_len, vec_capacity};
 ghost use Rattle.flat_design.specs.Sound.{SoundDesign};
 ghost use Rattle.flat_design.specs.declared.design.SemaphorePart.{SemaphorePart};
 ghost use Rattle.kernel_start.specs.InstanceTable.declared.TheConstants.{MAX_LIVE};
@@ -22,10 +22,22 @@ use kernel_runs::{Made, make_step};
 use kernel_start::{SoundKernel, SplitDesign, apart, first_kernel};
 use laws_reached::kernel_phases_api::Choosing;
 use laws_reached::runs_begin;
-use std::alloc::Global;
+use std::alloc::{AllocError, Global};
 use vcd_trace::Tracing;
 use vcd_trace::sim_model_api::{Command, Stop};
 use write_buffer::sim_io_api::{Shelf, Sink, Trouble};
+
+/// Makes the place of one more choice, where there is none.
+#[inline(always)]
+fn make_place(choices: &mut Vec<u32>) -> Result<(), AllocError>
+    ensures items { choices.new.items ≡ choices.old.items }
+    ensures place { OnOk result (vec_len choices.new < vec_capacity choices.new) }
+{
+    if choices.len() < choices.capacity() {
+        return Ok(());
+    }
+    choices.reserve(1)
+}
 
 /// Adds a choice to those that were taken, in the place that was made for it.
 fn add_choice(choices: &mut Vec<u32>, choice: u32)
@@ -80,7 +92,7 @@ fn run_on<S: Shelf, O: Sink>(
         held.hold_little();
         let time = k.kernel.now();
         // A step may be a taking: the place of its choice is made before it.
-        match choices.reserve(1) {
+        match make_place(&mut choices) {
             Ok(()) => {}
             Err(_) => return cut_between(choices, steps, vcd, list, &mut held, shelf, out),
         }

@@ -6,7 +6,8 @@ ghost use Rattle.write_buffer.specs.Moved.{SinkTook};
 ghost use Rattle.session.specs.Course.{IsEnd};
 ghost use Rattle.session.specs.Telling.{Into, IsClosing, TextOf, TextOfTurn, text_if};
 
-use flat_design::Line;
+use flat_design::logic_values_api::Value;
+use flat_design::{Line, StmtId};
 use kernel_runs::Telling;
 use kernel_start::kernel_state_api::Kernel;
 use report_texts::{closing, print_in, show, turn_text};
@@ -44,6 +45,45 @@ fn write_text<O: Sink>(held: &mut Held, out: &mut O, text: &Option<Line>) -> Res
     }
 }
 
+/// Gives the line of a print that shows this value, by the kernel after it. The line is made in `line`.
+#[inline(never)]
+fn tell_print<O: Sink>(
+    alloc: Global,
+    k: &Kernel,
+    p: u32,
+    s: StmtId,
+    value: Option<Value>,
+    line: &mut Vec<u8>,
+    held: &mut Held,
+    out: &mut O,
+) -> Result<(), Trouble>
+    ensures tells { Into (TextOf k.now (Telling.Print p s value)) (Grew (O.holds out.old) (O.holds out.new)) held.old held.new result }
+    ensures cause { RoseIf (O.faults out.old) (O.faults out.new) (result ≡ Err Trouble.Failed) }
+{
+    match print_in(alloc, line, k, p, s, value) {
+        Ok(()) => held.put(out, line.as_slice()),
+        Err(_) => Err(Trouble::NoMemory),
+    }
+}
+
+/// Gives the line of a show of this object, by the kernel after it.
+#[inline(never)]
+fn tell_show<O: Sink>(
+    alloc: Global,
+    k: &Kernel,
+    number: u32,
+    held: &mut Held,
+    out: &mut O,
+) -> Result<(), Trouble>
+    ensures tells { Into (TextOf k.now (Telling.Show number)) (Grew (O.holds out.old) (O.holds out.new)) held.old held.new result }
+    ensures cause { RoseIf (O.faults out.old) (O.faults out.new) (result ≡ Err Trouble.Failed) }
+{
+    match show(alloc, k, number) {
+        Ok(text) => write_text(held, out, &text),
+        Err(_) => Err(Trouble::NoMemory),
+    }
+}
+
 /// Gives what a step adds to a report, by the kernel after it. A line that is printed is made in `line`.
 #[inline(always)]
 pub(crate) fn tell<O: Sink>(
@@ -59,14 +99,8 @@ pub(crate) fn tell<O: Sink>(
 {
     match told {
         Telling::Nothing => Ok(()),
-        Telling::Print(p, s, value) => match print_in(alloc, line, k, p, s, value) {
-            Ok(()) => held.put(out, line.as_slice()),
-            Err(_) => Err(Trouble::NoMemory),
-        },
-        Telling::Show(number) => match show(alloc, k, number) {
-            Ok(text) => write_text(held, out, &text),
-            Err(_) => Err(Trouble::NoMemory),
-        },
+        Telling::Print(p, s, value) => tell_print(alloc, k, p, s, value, line, held, out),
+        Telling::Show(number) => tell_show(alloc, k, number, held, out),
     }
 }
 

@@ -51,20 +51,20 @@ loop-steps-preserved-in-Ok-record_step g c = record {
   faults_later = omega (arith, c.in-Ok-record_step.ensures.cause.faults_later);
   writes_later = omega (arith, c.in-Ok-record_step.ensures.cause.writes_later);
   kept = write_keeps_on _ _ _ _ _ _ _ _ c.loop-steps.invariant.kept c.in-Ok-record_step.ensures.kept;
-  going = λ first h s r z. rw c.reserve.ensures.items
+  going = λ first h s r z. rw c.make_place.ensures.items
       (told_on c.sound_runs_go_on.ensures c.args.plan first _ _ _ _ _ _ _ _ _ (AreNames g.S.Shelf.stands c.args.shelf.now c.args.plan.vcd c.args.plan.choices) _ _ _ _ _ (c.loop-steps.invariant.going first h s r z)
       c.in-Went.told c.now-time.result.0 c.now-time.ensures c.in-Went.ensures.steps _ c.in-Went.ensures.asks
       (recorded_from g.S.Shelf.stands c.args.shelf.now c.loop-steps.shelf c.args.plan.vcd c.args.plan.choices c.loop-steps.invariant.kept.ids.stands _ _ _ _ _ _ _ _ c.in-Ok-record_step.ensures.records));
 }
 
 pub returns-in-Err-record_step-clause-ran : goal.returns-in-Err-record_step-clause-ran
-returns-in-Err-record_step-clause-ran g c = λ first h s r z. rw (c.cut-in-Err-record_step.ensures, c.from_vec-in-Err-record_step.ensures, c.reserve.ensures.items)
+returns-in-Err-record_step-clause-ran g c = λ first h s r z. rw (c.cut-in-Err-record_step.ensures, c.from_vec-in-Err-record_step.ensures, c.make_place.ensures.items)
     (told_cut c.sound_runs_go_on.ensures c.args.plan first _ _ _ _ _ _ _ _ _ (AreNames g.S.Shelf.stands c.args.shelf.now c.args.plan.vcd c.args.plan.choices) _ _ _ _ _ (c.loop-steps.invariant.going first h s r z)
     c.in-Went.told c.now-time.result.0 c.now-time.ensures c.in-Went.ensures.steps c.in-Err-record_step.trouble (omega arith) c.hold_little.ensures
     (recorded_from g.S.Shelf.stands c.args.shelf.now c.loop-steps.shelf c.args.plan.vcd c.args.plan.choices c.loop-steps.invariant.kept.ids.stands _ _ _ _ _ _ _ _ c.in-Err-record_step.ensures.records))
 
-pub returns-in-Err-reserve-clause-ran : goal.returns-in-Err-reserve-clause-ran
-returns-in-Err-reserve-clause-ran g c = λ first h s r z. rw (c.cut_between.ensures.cut, c.reserve.ensures.items)
+pub returns-in-Err-make_place-clause-ran : goal.returns-in-Err-make_place-clause-ran
+returns-in-Err-make_place-clause-ran g c = λ first h s r z. rw (c.cut_between.ensures.cut, c.make_place.ensures.items)
     (cut_before_step c.args.plan first _ _ _ (AreNames g.S.Shelf.stands c.args.shelf.now c.args.plan.vcd c.args.plan.choices) _ _ _ _ _ _ _ (c.loop-steps.invariant.going first h s r z) (omega arith) c.hold_little.ensures
     (let_go_from g.S.Shelf.stands c.args.shelf.now c.loop-steps.shelf c.args.plan.vcd c.args.plan.choices c.loop-steps.invariant.kept.ids.stands _ _ _ c.cut_between.ensures.goes))
 
@@ -79,7 +79,7 @@ loop-steps-preserved g c = record {
   kept = write_keeps_on _ _ _ _ _ _ _ _ c.loop-steps.invariant.kept c.in-Ok-record_turn.ensures.kept;
   going = λ first h s r z.
       took_on c.sound_runs_go_on.ensures c.args.plan first _ _ _ _ _ _ _ _ c.loop-steps.tracing (AreNames g.S.Shelf.stands c.args.shelf.now c.args.plan.vcd c.args.plan.choices) _ _ _ _ _ (c.loop-steps.invariant.going first h s r z)
-      c.in-Took.serial _ _ (rw c.reserve.ensures.items at c.add_choice.ensures) c.in-Took.ensures.steps c.in-Took.ensures.asks
+      c.in-Took.serial _ _ (rw c.make_place.ensures.items at c.add_choice.ensures) c.in-Took.ensures.steps c.in-Took.ensures.asks
       (recorded_from g.S.Shelf.stands c.args.shelf.now c.loop-steps.shelf c.args.plan.vcd c.args.plan.choices c.loop-steps.invariant.kept.ids.stands _ _ _ _ _ _ _ _ c.in-Ok-record_turn.ensures.records);
 }
 
@@ -92,29 +92,29 @@ record_turn-requires-clause-listed g c = IfSome_then c.args.plan.choices c.requi
 pub returns-in-Err-record_turn-clause-ran : goal.returns-in-Err-record_turn-clause-ran
 returns-in-Err-record_turn-clause-ran g c = λ first h s r z. rw (c.cut-in-Err-record_turn.ensures, c.from_vec-in-Err-record_turn.ensures)
     (took_cut c.sound_runs_go_on.ensures c.args.plan first _ _ _ _ _ _ _ _ c.loop-steps.tracing (AreNames g.S.Shelf.stands c.args.shelf.now c.args.plan.vcd c.args.plan.choices) _ _ _ _ _ (c.loop-steps.invariant.going first h s r z)
-    c.in-Took.serial _ _ (rw c.reserve.ensures.items at c.add_choice.ensures) c.in-Took.ensures.steps c.in-Took.ensures.asks c.in-Err-record_turn.trouble (omega arith) c.hold_little.ensures
+    c.in-Took.serial _ _ (rw c.make_place.ensures.items at c.add_choice.ensures) c.in-Took.ensures.steps c.in-Took.ensures.asks c.in-Err-record_turn.trouble (omega arith) c.hold_little.ensures
     (recorded_from g.S.Shelf.stands c.args.shelf.now c.loop-steps.shelf c.args.plan.vcd c.args.plan.choices c.loop-steps.invariant.kept.ids.stands _ _ _ _ _ _ _ _ c.in-Err-record_turn.ensures.records))
 
 pub returns-in-Ended-clause-ran : goal.returns-in-Ended-clause-ran
-returns-in-Ended-clause-ran g c = λ first h s r z. rw (c.finish.ensures.choices, c.finish.ensures.steps, c.reserve.ensures.items)
+returns-in-Ended-clause-ran g c = λ first h s r z. rw (c.finish.ensures.choices, c.finish.ensures.steps, c.make_place.ensures.items)
     (ended_run c.args.plan first _ _ _ (AreNames g.S.Shelf.stands c.args.shelf.now c.args.plan.vcd c.args.plan.choices) _ _ c.sound_runs_go_on.ensures _ _ _ _ _ _ _ _ c.hold_little.ensures (c.loop-steps.invariant.going first h s r z)
     _ c.ended_as-ending.ensures.end c.in-Ended.ensures.steps c.loop-steps-test.true c.ended_as-ending.ensures.ended
     (finishes_from g.S.Shelf.stands c.args.shelf.now c.loop-steps.shelf c.args.plan.vcd c.args.plan.choices c.loop-steps.invariant.kept.ids.stands _ _ _ _ _ _ _ c.finish.ensures.finishes))
 
 pub returns-in-Fault-clause-ran : goal.returns-in-Fault-clause-ran
-returns-in-Fault-clause-ran g c = λ first h s r z. rw (c.finish-in-Fault.ensures.choices, c.finish-in-Fault.ensures.steps, c.reserve.ensures.items)
+returns-in-Fault-clause-ran g c = λ first h s r z. rw (c.finish-in-Fault.ensures.choices, c.finish-in-Fault.ensures.steps, c.make_place.ensures.items)
     (faulted_run c.args.plan first _ _ _ (AreNames g.S.Shelf.stands c.args.shelf.now c.args.plan.vcd c.args.plan.choices) _ _ c.sound_runs_go_on.ensures _ _ _ _ _ _ _ _ c.hold_little.ensures (c.loop-steps.invariant.going first h s r z)
     _ c.in-Fault.ensures.steps c.loop-steps-test.true
     (finishes_from g.S.Shelf.stands c.args.shelf.now c.loop-steps.shelf c.args.plan.vcd c.args.plan.choices c.loop-steps.invariant.kept.ids.stands _ _ _ _ _ _ _ c.finish-in-Fault.ensures.finishes))
 
 pub returns-in-NotReady-clause-ran : goal.returns-in-NotReady-clause-ran
-returns-in-NotReady-clause-ran g c = λ first h s r z. rw (c.finish-in-NotReady.ensures.choices, c.finish-in-NotReady.ensures.steps, c.reserve.ensures.items)
+returns-in-NotReady-clause-ran g c = λ first h s r z. rw (c.finish-in-NotReady.ensures.choices, c.finish-in-NotReady.ensures.steps, c.make_place.ensures.items)
     (unready_run c.args.plan first _ _ _ (AreNames g.S.Shelf.stands c.args.shelf.now c.args.plan.vcd c.args.plan.choices) _ _ c.sound_runs_go_on.ensures _ _ _ _ _ _ _ _ c.hold_little.ensures (c.loop-steps.invariant.going first h s r z)
     (length c.loop-steps.choices.items + 1) c.make_step.new.chooser refl c.in-NotReady.ensures.steps c.in-NotReady.ensures.asks c.loop-steps-test.true
-    (finishes_from g.S.Shelf.stands c.args.shelf.now c.loop-steps.shelf c.args.plan.vcd c.args.plan.choices c.loop-steps.invariant.kept.ids.stands _ _ _ _ _ _ _ (rw (c.not_ready-ending.ensures.place, c.as_slice.ensures.value, c.reserve.ensures.items) at c.finish-in-NotReady.ensures.finishes)))
+    (finishes_from g.S.Shelf.stands c.args.shelf.now c.loop-steps.shelf c.args.plan.vcd c.args.plan.choices c.loop-steps.invariant.kept.ids.stands _ _ _ _ _ _ _ (rw (c.not_ready-ending.ensures.place, c.as_slice.ensures.value, c.make_place.ensures.items) at c.finish-in-NotReady.ensures.finishes)))
 
 pub returns-in-NoMemory-clause-ran : goal.returns-in-NoMemory-clause-ran
-returns-in-NoMemory-clause-ran g c = λ first h s r z. rw (c.cut_between-in-NoMemory.ensures.cut, c.reserve.ensures.items)
+returns-in-NoMemory-clause-ran g c = λ first h s r z. rw (c.cut_between-in-NoMemory.ensures.cut, c.make_place.ensures.items)
     (cut_before_step c.args.plan first _ _ _ (AreNames g.S.Shelf.stands c.args.shelf.now c.args.plan.vcd c.args.plan.choices) _ _ _ _ _ _ _ (c.loop-steps.invariant.going first h s r z) (omega arith) c.hold_little.ensures
     (let_go_from g.S.Shelf.stands c.args.shelf.now c.loop-steps.shelf c.args.plan.vcd c.args.plan.choices c.loop-steps.invariant.kept.ids.stands _ _ _ c.cut_between-in-NoMemory.ensures.goes))
 
