@@ -6,3 +6,4 @@ pub mod Shows
 pub mod Returned
 pub mod Endings
 pub mod OwedCalls
+pub mod Takes

@@ -5,3 +5,4 @@ pub mod Shown
 pub mod Ready
 pub mod Owing
 pub mod ExecControl
+pub mod Taking

@@ -1,5 +1,5 @@
 //! A statement of any form, carried out.
-ghost use Rattle.std.specs.Prelude.{◌≡◌, ◌≤◌, ◌<◌, ◌+◌, ◌-◌, ◌^◌, All, Some};
+ghost use Rattle.std.specs.Prelude.{◌≡◌, ◌≤◌, ◌<◌, ◌+◌, ◌-◌, ◌^◌, true, All, Some};
 ghost use Rattle.flat_design.specs.declared.faults.RunFault.{RunFault};
 ghost use Rattle.flat_design.specs.Code.{arena_of, statement_at, statement_of};
 ghost use Rattle.exec_channels.specs.KernelState.Kernel.{IsSound, whole_design};
@@ -9,6 +9,7 @@ ghost use Rattle.exec_control.specs.ExecData.Written.{NamesFit};
 ghost use Rattle.exec_transactions.specs.ExecEvents.Numbers.{NumbersEvents};
 ghost use Rattle.exec_control.specs.Thrown.{OthersHaveNoGoal};
 ghost use Rattle.exec_control.specs.Unwound.{ThrowsFree};
+ghost use Rattle.kernel_steps.specs.Taking.{takes_memory};
 ghost use Rattle.kernel_steps.specs.Told.{CarriesAll};
 
 use crate::answers::{StepAnswer, plain, taking};
@@ -35,7 +36,7 @@ fn has_statement(k: &Kernel, p: u32, s: StmtId)
     let _ = s;
 }
 
-/// Statement s, which comes next in the body of the instance on top, is carried out.
+/// Statement s, which comes next in the body of the instance on top, is carried out. Memory is refused only where it may take any.
 pub(crate) fn carry_out(
     k: &mut Kernel,
     alloc: Global,
@@ -58,6 +59,7 @@ pub(crate) fn carry_out(
     ensures made { k.new.made ≤ k.old.made + 1 }
     ensures refused { result ≡ StepAnswer.NoMemory → k.new.made ≡ k.old.made }
     ensures faulted { (f : RunFault) → result ≡ StepAnswer.Fault f → k.new.made ≡ k.old.made }
+    ensures memory { result ≡ StepAnswer.NoMemory → takes_memory (statement_of statement.now) ≡ true }
 {
     top_lives(k, p);
     has_statement(k, p, s);

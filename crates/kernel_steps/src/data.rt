@@ -1,5 +1,5 @@
 //! Statements of data, whole: their expressions are evaluated, and then the statement acts.
-ghost use Rattle.std.specs.Prelude.{◌≡◌, Some, option_map};
+ghost use Rattle.std.specs.Prelude.{◌≡◌, ◌≢◌, Some, option_map};
 ghost use Rattle.flat_design.specs.Code as code;
 ghost use Rattle.flat_design.specs.Code.{arena_of, statement_at, term_of};
 ghost use Rattle.exec_channels.specs.KernelState.Kernel.{IsSound};
@@ -27,6 +27,7 @@ pub(crate) fn var_step(
     requires top { IsOnTop k.old p }
     requires statement { HasStatement k.old p }
     ensures carries { Carries k.old k.new result p s (code.var n t (option_map term_of e.now)) }
+    ensures takes_none { result ≢ StepAnswer.NoMemory }
     ensures sound { IsSound k.new }
     ensures made { k.new.made ≡ k.old.made }
 {
@@ -48,6 +49,7 @@ pub(crate) fn print_step(
     requires statement { HasStatement k.old p }
     requires there { statement_at (arena_of k.old.program.now.code) s ≡ Some (code.print text.now (option_map term_of e.now)) }
     ensures carries { CarriesAll k.old k.new result p s (code.print text.now (option_map term_of e.now)) }
+    ensures takes_none { result ≢ StepAnswer.NoMemory }
     ensures sound { IsSound k.new }
     ensures made { k.new.made ≡ k.old.made }
 {
@@ -75,6 +77,7 @@ pub(crate) fn if_step(
     requires next { Shows k.old p s }
     requires there { statement_at (arena_of k.old.program.now.code) s ≡ Some (code.if_ (term_of e.now) b other) }
     ensures carries { Carries k.old k.new result p s (code.if_ (term_of e.now) b other) }
+    ensures takes_none { result ≢ StepAnswer.NoMemory }
     ensures sound { IsSound k.new }
     ensures made { k.new.made ≡ k.old.made }
 {
@@ -91,6 +94,7 @@ pub(crate) fn while_step(k: &mut Kernel, p: u32, s: StmtId, e: &Expr, b: BlockId
     requires next { Shows k.old p s }
     requires there { statement_at (arena_of k.old.program.now.code) s ≡ Some (code.while_ (term_of e.now) b) }
     ensures carries { Carries k.old k.new result p s (code.while_ (term_of e.now) b) }
+    ensures takes_none { result ≢ StepAnswer.NoMemory }
     ensures sound { IsSound k.new }
     ensures made { k.new.made ≡ k.old.made }
 {

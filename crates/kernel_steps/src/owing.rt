@@ -1,5 +1,5 @@
 //! A control call that a statement owes, made for one instance.
-ghost use Rattle.std.specs.Prelude.{◌≡◌};
+ghost use Rattle.std.specs.Prelude.{◌≡◌, ◌≢◌};
 ghost use Rattle.flat_design.specs.Code.{arena_of, statement_at, statement_of};
 ghost use Rattle.exec_channels.specs.SimModel.Residual.{taken_off};
 ghost use Rattle.exec_channels.specs.SimModel.Configuration.{with_residual};
@@ -39,13 +39,14 @@ fn call_of(statement: &Statement) -> OwedCall
     }
 }
 
-/// A call that is owed to instance `q` first is made for it.
+/// A call that is owed to instance `q` first is made for it. It takes no memory.
 fn make_owed(k: &mut Kernel, p: u32, q: u32, statement: &Statement) -> StepAnswer
     requires sound { IsSound k.old }
     requires top { IsOnTop k.old p }
     requires owes { HasOwed k.old p }
     requires others { OthersHaveNoGoal k.old }
     ensures makes { MakesAll k.old k.new result p (λ c t i r. statements.owed_call (with_residual c t (taken_off r)) q (statement_of statement.now)) }
+    ensures takes_none { result ≢ StepAnswer.NoMemory }
     ensures sound { IsSound k.new }
     ensures made { k.new.made ≡ k.old.made }
 {
@@ -68,6 +69,7 @@ pub(crate) fn on_owed(k: &mut Kernel, p: u32, s: StmtId, q: u32) -> StepAnswer
     requires owes { Owes k.old p s q }
     requires others { OthersHaveNoGoal k.old }
     ensures makes { MakesAll k.old k.new result p (λ c t i r. statements.owed_by (with_residual c t (taken_off r)) q (statement_at (arena_of k.old.program.now.code) s)) }
+    ensures takes_none { result ≢ StepAnswer.NoMemory }
     ensures sound { IsSound k.new }
     ensures made { k.new.made ≡ k.old.made }
 {

@@ -1,5 +1,5 @@
 //! The step of an instance.
-ghost use Rattle.std.specs.Prelude.{◌≡◌, ◌≤◌, ◌<◌, ◌+◌, ◌-◌, ◌^◌, ℕ, All, Ok};
+ghost use Rattle.std.specs.Prelude.{◌≡◌, ◌≤◌, ◌<◌, ◌+◌, ◌-◌, ◌^◌, ℕ, true, All, Ok};
 ghost use Rattle.flat_design.specs.declared.faults.RunFault.{RunFault};
 ghost use Rattle.flat_design.specs.Code.{arena_of, statement_at};
 ghost use Rattle.exec_channels.specs.SimModel.Residual as residual;
@@ -16,6 +16,7 @@ ghost use Rattle.exec_control.specs.Thrown.{OthersHaveNoGoal};
 ghost use Rattle.kernel_steps.specs.Owing.{Owes};
 ghost use Rattle.kernel_steps.specs.Ready.{Ready};
 ghost use Rattle.kernel_steps.specs.Shown.{ComesNext};
+ghost use Rattle.kernel_steps.specs.Taking.{takes_memory_if, StepTakes, IsNoThread};
 ghost use Rattle.kernel_steps.specs.Told.{MakesAll, MakesStep};
 
 use crate::answers::{StepAnswer, plain, straight};
@@ -50,7 +51,8 @@ fn next_at(k: &Kernel, p: u32) -> Next
     }
 }
 
-/// The statement of this number comes next, and is carried out; where there is none it is past.
+/// The statement of this number comes next, and is carried out; where there is none it is past. Memory is refused only where it may
+/// take any.
 fn on_statement(k: &mut Kernel, alloc: Global, p: u32, s: StmtId) -> StepAnswer
     requires sound { IsSound k.old }
     requires top { IsOnTop k.old p }
@@ -65,6 +67,7 @@ fn on_statement(k: &mut Kernel, alloc: Global, p: u32, s: StmtId) -> StepAnswer
     ensures made { k.new.made ≤ k.old.made + 1 }
     ensures refused { result ≡ StepAnswer.NoMemory → k.new.made ≡ k.old.made }
     ensures faulted { (f : RunFault) → result ≡ StepAnswer.Fault f → k.new.made ≡ k.old.made }
+    ensures memory { result ≡ StepAnswer.NoMemory → takes_memory_if (statement_at (arena_of k.old.program.now.code) s) ≡ true }
 {
     top_lives(k, p);
     let program = k.program;
@@ -77,12 +80,13 @@ fn on_statement(k: &mut Kernel, alloc: Global, p: u32, s: StmtId) -> StepAnswer
     }
 }
 
-/// The body of the instance on top has ended.
+/// The body of the instance on top has ended. A thread takes no memory.
 #[inline(always)]
 fn end_body(k: &mut Kernel, p: u32) -> StepAnswer
     requires sound { IsSound k.old }
     requires top { IsOnTop k.old p }
     ensures makes { MakesAll k.old k.new result p (λ c q i r. Ok (control.done_by c q i i.kind)) }
+    ensures memory { result ≡ StepAnswer.NoMemory → IsNoThread k.old p }
     ensures sound { IsSound k.new }
     ensures made { k.new.made ≡ k.old.made }
 {
@@ -93,7 +97,7 @@ fn end_body(k: &mut Kernel, p: u32) -> StepAnswer
 }
 
 /// One step of the instance on top (IEEE 1666-2011, 4.2.1.2): finished parts of its body fall away, and what comes next is
-/// carried out.
+/// carried out. Memory is refused only to a statement that may take any, and to a method that waits again.
 pub fn step_statement(k: &mut Kernel, alloc: Global, p: u32) -> StepAnswer
     requires sound { IsSound k.old }
     requires top { IsOnTop k.old p }
@@ -107,6 +111,7 @@ pub fn step_statement(k: &mut Kernel, alloc: Global, p: u32) -> StepAnswer
     ensures made { k.new.made ≤ k.old.made + 1 }
     ensures refused { result ≡ StepAnswer.NoMemory → k.new.made ≡ k.old.made }
     ensures faulted { (f : RunFault) → result ≡ StepAnswer.Fault f → k.new.made ≡ k.old.made }
+    ensures memory { result ≡ StepAnswer.NoMemory → StepTakes k.old p }
 {
     top_lives(k, p);
     match next_at(k, p) {

@@ -6,10 +6,12 @@ use Rattle.exec_channels.specs.SimModel.Calls.{do_call}
 use Rattle.exec_channels.specs.KernelState.Stopping.{DoesOrStops}
 use Rattle.exec_channels.specs.KernelBodies.Around.{around_if}
 use Rattle.exec_channels.specs.KernelBodies.Depths.{blocks_in}
+use Rattle.kernel_steps.specs.Taking.{takes_memory}
 use Rattle.kernel_steps.specs.Told.{CarriesAll}
 use Rattle.kernel_steps.specs.declared.answers.StepAnswer.TheVariants as answer
 use Rattle.kernel_steps.proofs.Blocks.{is_first}
 use Rattle.kernel_steps.proofs.Answered.{carried, plain_carried, plain_faulted, plain_refused, taking_carried, taking_faulted, taking_refused, sending_carried, try_carried}
+use Rattle.kernel_steps.proofs.Takes.{plain_takes_none, all_takes}
 use Rattle.kernel_steps.proofs.carrying.carry_out.Goals as goal
 
 pub returns-in-Var-clause-carries : goal.returns-in-Var-clause-carries
@@ -174,3 +176,93 @@ returns-in-Spawn-clause-refused c = taking_refused c.taking-in-Spawn.result c.sp
 
 pub returns-in-Spawn-clause-faulted : goal.returns-in-Spawn-clause-faulted
 returns-in-Spawn-clause-faulted c = taking_faulted c.taking-in-Spawn.result c.spawn.result _ c.taking-in-Spawn.ensures c.spawn.ensures.refused
+
+pub returns-in-Assign-clause-memory : goal.returns-in-Assign-clause-memory
+returns-in-Assign-clause-memory c = λ e. absurd (plain_takes_none c.plain.result c.assign.result c.plain.ensures e)
+
+pub returns-in-NbRead-clause-memory : goal.returns-in-NbRead-clause-memory
+returns-in-NbRead-clause-memory c = λ e. absurd (plain_takes_none c.plain-in-NbRead.result c.nb_read.result c.plain-in-NbRead.ensures e)
+
+pub returns-in-NbWrite-clause-memory : goal.returns-in-NbWrite-clause-memory
+returns-in-NbWrite-clause-memory c = λ e. absurd (plain_takes_none c.plain-in-NbWrite.result c.nb_write.result c.plain-in-NbWrite.ensures e)
+
+pub returns-in-Trylock-clause-memory : goal.returns-in-Trylock-clause-memory
+returns-in-Trylock-clause-memory c = λ e. absurd (plain_takes_none c.plain-in-Trylock.result c.trylock.result c.plain-in-Trylock.ensures e)
+
+pub returns-in-Unlock-clause-memory : goal.returns-in-Unlock-clause-memory
+returns-in-Unlock-clause-memory c = λ e. absurd (plain_takes_none c.plain-in-Unlock.result c.unlock.result c.plain-in-Unlock.ensures e)
+
+pub returns-in-SemTrywait-clause-memory : goal.returns-in-SemTrywait-clause-memory
+returns-in-SemTrywait-clause-memory c = λ e. absurd (plain_takes_none c.plain-in-SemTrywait.result c.sem_trywait.result c.plain-in-SemTrywait.ensures e)
+
+pub returns-in-NotifyAfter-clause-memory : goal.returns-in-NotifyAfter-clause-memory
+returns-in-NotifyAfter-clause-memory c = λ e. absurd (plain_takes_none c.plain-in-NotifyAfter.result c.notify_after.result c.plain-in-NotifyAfter.ensures e)
+
+pub returns-in-Post-clause-memory : goal.returns-in-Post-clause-memory
+returns-in-Post-clause-memory c = λ e. absurd (plain_takes_none c.plain-in-Post.result c.post.result c.plain-in-Post.ensures e)
+
+pub returns-in-Acquire-clause-memory : goal.returns-in-Acquire-clause-memory
+returns-in-Acquire-clause-memory c = λ e. absurd (plain_takes_none c.plain-in-Acquire.result c.acquire.result c.plain-in-Acquire.ensures e)
+
+pub returns-in-Release-clause-memory : goal.returns-in-Release-clause-memory
+returns-in-Release-clause-memory c = λ e. absurd (plain_takes_none c.plain-in-Release.result c.release.result c.plain-in-Release.ensures e)
+
+pub returns-in-Carry-clause-memory : goal.returns-in-Carry-clause-memory
+returns-in-Carry-clause-memory c = λ e. absurd (plain_takes_none c.plain-in-Carry.result c.carry.result c.plain-in-Carry.ensures e)
+
+pub returns-in-QkGlobal-clause-memory : goal.returns-in-QkGlobal-clause-memory
+returns-in-QkGlobal-clause-memory c = λ e. absurd (plain_takes_none c.plain-in-QkGlobal.result c.qk_global.result c.plain-in-QkGlobal.ensures e)
+
+pub returns-in-QkInc-clause-memory : goal.returns-in-QkInc-clause-memory
+returns-in-QkInc-clause-memory c = λ e. absurd (plain_takes_none c.plain-in-QkInc.result c.qk_inc.result c.plain-in-QkInc.ensures e)
+
+pub returns-in-QkSet-clause-memory : goal.returns-in-QkSet-clause-memory
+returns-in-QkSet-clause-memory c = λ e. absurd (plain_takes_none c.plain-in-QkSet.result c.qk_set.result c.plain-in-QkSet.ensures e)
+
+pub returns-in-QkReset-clause-memory : goal.returns-in-QkReset-clause-memory
+returns-in-QkReset-clause-memory c = λ e. absurd (plain_takes_none c.plain-in-QkReset.result c.qk_reset.result c.plain-in-QkReset.ensures e)
+
+pub returns-in-Throw-clause-memory : goal.returns-in-Throw-clause-memory
+returns-in-Throw-clause-memory c = λ e. absurd (plain_takes_none c.plain-in-Throw.result c.throw.result c.plain-in-Throw.ensures e)
+
+pub returns-in-Return-clause-memory : goal.returns-in-Return-clause-memory
+returns-in-Return-clause-memory c = λ e. absurd (plain_takes_none c.plain-in-Return.result c.return_value.result c.plain-in-Return.ensures e)
+
+pub returns-in-Call-clause-memory : goal.returns-in-Call-clause-memory
+returns-in-Call-clause-memory c = λ e. ap (λ z. takes_memory (statement_of z)) c.in-Call.is
+
+pub returns-in-Read-clause-memory : goal.returns-in-Read-clause-memory
+returns-in-Read-clause-memory c = λ e. ap (λ z. takes_memory (statement_of z)) c.in-Read.is
+
+pub returns-in-NbTransport-clause-memory : goal.returns-in-NbTransport-clause-memory
+returns-in-NbTransport-clause-memory c = λ e. ap (λ z. takes_memory (statement_of z)) c.in-NbTransport.is
+
+pub returns-in-Write-clause-memory : goal.returns-in-Write-clause-memory
+returns-in-Write-clause-memory c = λ e. ap (λ z. takes_memory (statement_of z)) c.in-Write.is
+
+pub returns-in-Wait-clause-memory : goal.returns-in-Wait-clause-memory
+returns-in-Wait-clause-memory c = λ e. ap (λ z. takes_memory (statement_of z)) c.in-Wait.is
+
+pub returns-in-NextTrigger-clause-memory : goal.returns-in-NextTrigger-clause-memory
+returns-in-NextTrigger-clause-memory c = λ e. ap (λ z. takes_memory (statement_of z)) c.in-NextTrigger.is
+
+pub returns-in-Lock-clause-memory : goal.returns-in-Lock-clause-memory
+returns-in-Lock-clause-memory c = λ e. ap (λ z. takes_memory (statement_of z)) c.in-Lock.is
+
+pub returns-in-SemWait-clause-memory : goal.returns-in-SemWait-clause-memory
+returns-in-SemWait-clause-memory c = λ e. ap (λ z. takes_memory (statement_of z)) c.in-SemWait.is
+
+pub returns-in-Make-clause-memory : goal.returns-in-Make-clause-memory
+returns-in-Make-clause-memory c = λ e. ap (λ z. takes_memory (statement_of z)) c.in-Make.is
+
+pub returns-in-BTransport-clause-memory : goal.returns-in-BTransport-clause-memory
+returns-in-BTransport-clause-memory c = λ e. ap (λ z. takes_memory (statement_of z)) c.in-BTransport.is
+
+pub returns-in-Spawn-clause-memory : goal.returns-in-Spawn-clause-memory
+returns-in-Spawn-clause-memory c = λ e. ap (λ z. takes_memory (statement_of z)) c.in-Spawn.is
+
+pub returns-in-Control-clause-memory : goal.returns-in-Control-clause-memory
+returns-in-Control-clause-memory c = λ e. ap (λ z. takes_memory (statement_of z)) c.in-Control.is ∙ all_takes c.taking-in-Control.result c.control.result c.in-Control.descendants c.taking-in-Control.ensures c.control.ensures.alone e
+
+pub returns-in-ThrowIt-clause-memory : goal.returns-in-ThrowIt-clause-memory
+returns-in-ThrowIt-clause-memory c = λ e. ap (λ z. takes_memory (statement_of z)) c.in-ThrowIt.is ∙ all_takes c.taking-in-ThrowIt.result c.throw_it.result c.in-ThrowIt.descendants c.taking-in-ThrowIt.ensures c.throw_it.ensures.alone e

@@ -7,6 +7,7 @@ use Rattle.exec_channels.specs.SimModel.Reading.{here}
 use Rattle.exec_channels.specs.SimModel.Storing.{do_while}
 use Rattle.kernel_steps.proofs.Answered.{plain_made}
 use Rattle.kernel_steps.proofs.Blocks.{is_first}
+use Rattle.kernel_steps.proofs.Takes.{plain_takes_none}
 use Rattle.kernel_steps.proofs.data.while_step.Goals as goal
 
 pub while_do-requires-clause-again : goal.while_do-requires-clause-again
@@ -19,3 +20,6 @@ pub returns-clause-carries : goal.returns-clause-carries
 returns-clause-carries c =
     plain_made c.args.k.now c.while_do.new.k c.args.p (λ d q i r. do_while d q r (here d q i r) c.args.s (term_of c.args.e.now) c.args.b) c.plain.result c.while_do.result c.plain.ensures
     (c.while_do.ensures.does (term_of c.args.e.now) c.eval_at-value.ensures)
+
+pub returns-clause-takes_none : goal.returns-clause-takes_none
+returns-clause-takes_none c = plain_takes_none c.plain.result c.while_do.result c.plain.ensures

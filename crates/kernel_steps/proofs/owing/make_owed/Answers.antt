@@ -9,6 +9,7 @@ use Rattle.kernel_steps.specs.declared.answers.StepAnswer.TheVariants as answer
 use Rattle.kernel_steps.proofs.Answered.{left}
 use Rattle.kernel_steps.proofs.Silent.{owed_control_quiet, owed_throw_quiet}
 use Rattle.kernel_steps.proofs.OwedCalls.{control_is, throw_is, nothing_is}
+use Rattle.kernel_steps.proofs.Takes.{plain_takes_none}
 use Rattle.kernel_steps.proofs.owing.make_owed.Goals as goal
 
 pub move_on-requires-clause-may : goal.move_on-requires-clause-may
@@ -35,3 +36,9 @@ returns-in-Nothing-clause-makes c d i h there =
     let past = with_residual (settled_in d c.args.p i.residual) c.args.p (taken_off (settle (arena d) i.residual)) in
     subst (TellsAll c.move_on.new.k answer.Went d i) (sym (nothing_is past c.args.q (statement_of c.args.statement.now) (sym c.call_of.ensures ∙ c.in-Nothing.is)))
     (c.move_on.ensures.steps d i h there, refl)
+
+pub returns-in-Control-clause-takes_none : goal.returns-in-Control-clause-takes_none
+returns-in-Control-clause-takes_none c = plain_takes_none c.plain.result c.control_owed.result c.plain.ensures
+
+pub returns-in-Throw-clause-takes_none : goal.returns-in-Throw-clause-takes_none
+returns-in-Throw-clause-takes_none c = plain_takes_none c.plain-in-Throw.result c.throw_owed.result c.plain-in-Throw.ensures

@@ -1,6 +1,7 @@
 use Rattle.std.proofs.Common.{option_map, refl, sym, ap, ◌∙◌, subst}
 use Rattle.flat_design.specs.Code.{statement_of}
 use Rattle.exec_channels.specs.SimModel.Statements.{on_statement}
+use Rattle.kernel_steps.specs.Taking.{takes_memory_if}
 use Rattle.kernel_steps.specs.Told.{MakesAll}
 use Rattle.kernel_steps.specs.declared.answers.StepAnswer.TheVariants as answer
 use Rattle.kernel_steps.proofs.Shows.{has_statement}
@@ -37,3 +38,6 @@ returns-in-None-clause-makes c =
     subst (λ o. MakesAll c.args.k.now c.pass.new.k answer.Went c.args.p (λ d q i r. on_statement d q i r c.args.s o))
     (sym (sym c.statement.ensures ∙ ap (option_map (λ z. statement_of z.now)) c.in-None.is))
     (λ d i h there. (c.pass.ensures.steps d i h there, refl))
+
+pub returns-in-Some-clause-memory : goal.returns-in-Some-clause-memory
+returns-in-Some-clause-memory c = λ e. ap takes_memory_if (sym c.statement.ensures ∙ ap (option_map (λ z. statement_of z.now)) c.in-Some.is) ∙ c.carry_out.ensures.memory e

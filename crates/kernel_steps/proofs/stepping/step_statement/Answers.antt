@@ -7,6 +7,7 @@ use Rattle.kernel_steps.proofs.Silent.{goal_quiet}
 use Rattle.kernel_steps.proofs.Returned.{leaves_quiet}
 use Rattle.kernel_steps.proofs.Answered.{left}
 use Rattle.kernel_steps.proofs.Shows.{next_made, owed_made, statement_made}
+use Rattle.kernel_steps.proofs.Takes.{plain_takes_none, statement_takes, ended_takes, nothing_takes}
 use Rattle.kernel_steps.proofs.stepping.step_statement.Goals as goal
 
 pub on_statement-requires-clause-next : goal.on_statement-requires-clause-next
@@ -51,3 +52,18 @@ returns-in-Goal-clause-makes c =
 
 pub returns-in-Nothing-clause-makes : goal.returns-in-Nothing-clause-makes
 returns-in-Nothing-clause-makes c = next_made c.args.k.now c.end_body-in-Nothing.new.k c.end_body-in-Nothing.result c.args.p residual.nothing (c.next_at.ensures.shows_nothing c.in-Nothing.is) c.end_body-in-Nothing.ensures.makes
+
+pub returns-in-Statement-clause-memory : goal.returns-in-Statement-clause-memory
+returns-in-Statement-clause-memory c = λ e. statement_takes c.args.k.now c.args.p c.in-Statement.s (c.next_at.ensures.shows_statement c.in-Statement.s c.in-Statement.is) (c.on_statement.ensures.memory e)
+
+pub returns-in-Batch-clause-memory : goal.returns-in-Batch-clause-memory
+returns-in-Batch-clause-memory c = λ e. absurd (c.on_owed.ensures.takes_none e)
+
+pub returns-in-Leave-clause-memory : goal.returns-in-Leave-clause-memory
+returns-in-Leave-clause-memory c = λ e. absurd (plain_takes_none c.plain.result c.leave.result c.plain.ensures e)
+
+pub returns-in-Done-clause-memory : goal.returns-in-Done-clause-memory
+returns-in-Done-clause-memory c = λ e. ended_takes c.args.k.now c.args.p (c.next_at.ensures.shows_done c.in-Done.is) (c.end_body.ensures.memory e)
+
+pub returns-in-Nothing-clause-memory : goal.returns-in-Nothing-clause-memory
+returns-in-Nothing-clause-memory c = λ e. nothing_takes c.args.k.now c.args.p (c.next_at.ensures.shows_nothing c.in-Nothing.is) (c.end_body-in-Nothing.ensures.memory e)
