@@ -92,7 +92,7 @@ module _ (k new : Kernel) where
     told_made (answer.Fault g) (Ok d) t = absurd t
     told_made (answer.Fault g) (Err f) t = t
     told_made answer.NoMemory (Ok d) t = t
-    told_made answer.NoMemory (Err f) t = t.1
+    told_made answer.NoMemory (Err f) t = t
 
   module _ (p : ℕ) (top : IsOnTop k p) where
     stack_on : (c : Config) → StandsFor k c → c.processes.stack ≡ p ∷ reverse top.0

@@ -11,6 +11,7 @@ use Rattle.kernel_phases.specs.SimModel.Waits.{holds}
 use Rattle.kernel_phases.specs.SimModel.declared.plain.Command.{Command}
 use Rattle.kernel_phases.specs.KernelState.Kernel.{StandsFor}
 use Rattle.kernel_phases.specs.KernelState.declared.kernel.Kernel.{Kernel}
+use Rattle.kernel_steps.specs.ExecTransactions.Calling.{IsOfProtocol}
 use Rattle.kernel_steps.specs.Told.{AddsLine}
 use Rattle.kernel_steps.specs.declared.answers.StepAnswer.{StepAnswer}
 use Rattle.kernel_steps.specs.declared.answers.StepAnswer.TheVariants as answer
@@ -94,6 +95,14 @@ IsOver new c (faulted f) = ⊥
 IsOver new c takes = ⊥
 IsOver new c ended = StandsFor new c
 
+-- memory was refused: the kernel stands for what it stood for, and the step would have gone on, or have broken a rule of the base
+-- protocol
+abbrev pub IsRefused : Kernel → Config → Outcome → Type 0
+IsRefused new c (went d) = StandsFor new c
+IsRefused new c (faulted f) = IsOfProtocol f × StandsFor new c
+IsRefused new c takes = ⊥
+IsRefused new c ended = ⊥
+
 -- the answer of a step is what the step is
 abbrev pub MadeAs : Kernel → Config → Outcome → Made → Type 0
 MadeAs new c outcome (made.Went t) = GoesTo new t c outcome
@@ -101,7 +110,7 @@ MadeAs new c outcome (made.Took p) = TookTo new p c outcome
 MadeAs new c outcome made.Ended = IsOver new c outcome
 MadeAs new c outcome (made.Fault f) = IsFault new f c outcome
 MadeAs new c outcome made.NotReady = IsUntaken new c outcome
-MadeAs new c outcome made.NoMemory = StandsFor new c
+MadeAs new c outcome made.NoMemory = IsRefused new c outcome
 
 -- whatever configuration the kernel stood for
 abbrev pub Makes : Kernel → Kernel → Made → (Config → Outcome) → Type 0
@@ -114,7 +123,7 @@ StepAs new script c outcome (made.Took p) = TookTo new p c outcome × (script �
 StepAs new script c outcome made.Ended = IsOver new c outcome × (script ≡ c.script)
 StepAs new script c outcome (made.Fault f) = IsFault new f c outcome × (script ≡ c.script)
 StepAs new script c outcome made.NotReady = IsUntaken new c outcome × (script ≡ c.script)
-StepAs new script c outcome made.NoMemory = StandsFor new c × (script ≡ c.script)
+StepAs new script c outcome made.NoMemory = IsRefused new c outcome × (script ≡ c.script)
 
 abbrev pub StepsOn : Kernel → Kernel → List Command → List Command → Made → (Config → Outcome) → Type 0
 StepsOn old new before after result f =
@@ -142,11 +151,11 @@ module _ {C : Type 0} (picks : C → List ℕ → Option ℕ) (later : C → Lis
 abbrev pub NoDoubles : Config → Type 0
 NoDoubles c = (q : ℕ) → times q c.processes.runnable ≤ 1
 
--- a step that takes no process
+-- a step that takes no process and no memory
 abbrev pub IsPlain : Made → Type 0
 IsPlain (made.Went t) = Unit {0}
 IsPlain (made.Took p) = ⊥
 IsPlain made.Ended = Unit {0}
 IsPlain (made.Fault f) = Unit {0}
 IsPlain made.NotReady = ⊥
-IsPlain made.NoMemory = Unit {0}
+IsPlain made.NoMemory = ⊥

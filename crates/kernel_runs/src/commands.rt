@@ -50,7 +50,6 @@ pub(crate) fn next_command(k: &mut Kernel, script: &[Command], place: &mut usize
         }
         Made::Ended => Made::Ended,
         Made::Fault(fault) => Made::Fault(fault),
-        Made::NoMemory => Made::NoMemory,
-        Made::Took(_) | Made::NotReady => unreachable!(),
+        Made::Took(_) | Made::NotReady | Made::NoMemory => unreachable!(),
     }
 }

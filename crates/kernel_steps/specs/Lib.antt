@@ -6,3 +6,4 @@ pub mod Ready
 pub mod Owing
 pub mod ExecControl
 pub mod Taking
+pub mod ExecTransactions

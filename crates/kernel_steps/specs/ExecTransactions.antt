@@ -1,0 +1,1 @@
+pub use Rattle.exec_transactions.specs.Calling as Calling
