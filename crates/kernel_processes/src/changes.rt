@@ -17,7 +17,7 @@ use wait_lists::event_core_api::Ev;
 
 /// Makes room for an instance that has room, so that it can wait for as many as `items` events, and until a time.
 #[inline(always)]
-pub fn hold_room<B>(s: &mut Schedule<B>, p: u32, items: u32) -> Result<(), AllocError>
+pub(crate) fn hold_room<B>(s: &mut Schedule<B>, p: u32, items: u32) -> Result<(), AllocError>
     requires { map.contains_key s.old.lists.room p ≡ true }
     ensures changes { Changes p (λ x. x) s.old s.new }
     ensures stays { s.new ≡ record s.old { lists = record s.old.lists { room = s.new.lists.room }; deadlines = record s.old.deadlines { spare = s.new.deadlines.spare }; zero = record s.old.zero { spare = s.new.zero.spare } } }
@@ -38,14 +38,14 @@ pub fn hold_room<B>(s: &mut Schedule<B>, p: u32, items: u32) -> Result<(), Alloc
 
 /// Takes an instance out of all wait lists.
 #[inline(always)]
-pub fn leave_lists<B>(s: &mut Schedule<B>, p: u32)
+pub(crate) fn leave_lists<B>(s: &mut Schedule<B>, p: u32)
     ensures { Changes p (λ x. record x { wait = None }) s.old s.new }
 {
     s.lists.leave(p);
 }
 
 /// Mutes an instance or ends that.
-pub fn mute<B>(s: &mut Schedule<B>, p: u32, on: bool)
+pub(crate) fn mute<B>(s: &mut Schedule<B>, p: u32, on: bool)
     requires { map.contains_key s.old.lists.room p ≡ true }
     ensures { Changes p (λ x. record x { muted = on }) s.old s.new }
 {
@@ -54,7 +54,7 @@ pub fn mute<B>(s: &mut Schedule<B>, p: u32, on: bool)
 
 /// Gives an instance this time-out, in place of the one that it had.
 #[inline(always)]
-pub fn put_time<B>(s: &mut Schedule<B>, p: u32, d: Deadline)
+pub(crate) fn put_time<B>(s: &mut Schedule<B>, p: u32, d: Deadline)
     requires below { p < 2 ^ 32 - 1 }
     requires times { 0 < s.old.deadlines.spare }
     requires zeros { 0 < s.old.zero.spare }
@@ -73,7 +73,7 @@ pub fn put_time<B>(s: &mut Schedule<B>, p: u32, d: Deadline)
 
 /// Takes an instance out of the runnable ones, and answers whether it was among them.
 #[inline(always)]
-pub fn unready<B>(s: &mut Schedule<B>, p: u32) -> bool
+pub(crate) fn unready<B>(s: &mut Schedule<B>, p: u32) -> bool
     ensures answer { result ≡ set.contains s.old.ready.members p }
     ensures changes { Changes p (λ x. record x { ready = false }) s.old s.new }
 {
@@ -105,7 +105,7 @@ pub fn count_events<B>(s: &Schedule<B>, p: u32, wait: &Wait) -> Option<u32>
 
 /// Lets an instance wait in the lists, in place of what it waited for.
 #[inline(always)]
-pub fn put_wait<B>(s: &mut Schedule<B>, p: u32, wait: &Wait)
+pub(crate) fn put_wait<B>(s: &mut Schedule<B>, p: u32, wait: &Wait)
     requires { length (events_of wait.now (sensitive_of (map.get s.old.table.live p))) ≤ room_for s.old.lists p }
     ensures { Changes p (λ x. record x { wait = listed_as wait.now (sensitive_of x.entry) }) s.old s.new }
 {
@@ -132,7 +132,7 @@ fn waiting_by(wait: &Wait) -> Waiting
 
 /// Notes how an instance waits.
 #[inline(always)]
-pub fn mark_wait<B>(s: &mut Schedule<B>, p: u32, t: &Trigger)
+pub(crate) fn mark_wait<B>(s: &mut Schedule<B>, p: u32, t: &Trigger)
     ensures { Changes p (with_entry (λ x. record x { wait = waiting_by t.now.wait; deadline = t.now.deadline })) s.old s.new }
 {
     if let Some(x) = s.table.get_mut(p) {
@@ -143,7 +143,7 @@ pub fn mark_wait<B>(s: &mut Schedule<B>, p: u32, t: &Trigger)
 
 /// Notes that an instance waits for nothing, and is not kept.
 #[inline(always)]
-pub fn mark_free<B>(s: &mut Schedule<B>, p: u32)
+pub(crate) fn mark_free<B>(s: &mut Schedule<B>, p: u32)
     ensures { Changes p (with_entry (λ x. record x { wait = waiting.None; deadline = due.None; kept = false })) s.old s.new }
 {
     if let Some(x) = s.table.get_mut(p) {
@@ -155,7 +155,7 @@ pub fn mark_free<B>(s: &mut Schedule<B>, p: u32)
 
 /// Notes that an instance is kept till it is resumed.
 #[inline(always)]
-pub fn mark_kept<B>(s: &mut Schedule<B>, p: u32)
+pub(crate) fn mark_kept<B>(s: &mut Schedule<B>, p: u32)
     ensures { Changes p (with_entry (λ x. record x { kept = true })) s.old s.new }
 {
     if let Some(x) = s.table.get_mut(p) {
@@ -165,7 +165,7 @@ pub fn mark_kept<B>(s: &mut Schedule<B>, p: u32)
 
 /// Notes that an instance is suspended.
 #[inline(always)]
-pub fn mark_suspended<B>(s: &mut Schedule<B>, p: u32)
+pub(crate) fn mark_suspended<B>(s: &mut Schedule<B>, p: u32)
     ensures { Changes p (with_entry (λ x. record x { suspended = true })) s.old s.new }
 {
     if let Some(x) = s.table.get_mut(p) {
@@ -174,7 +174,7 @@ pub fn mark_suspended<B>(s: &mut Schedule<B>, p: u32)
 }
 
 /// Notes that an instance is suspended no more, nor kept, and answers whether it was kept.
-pub fn mark_resumed<B>(s: &mut Schedule<B>, p: u32) -> bool
+pub(crate) fn mark_resumed<B>(s: &mut Schedule<B>, p: u32) -> bool
     ensures answer { result ≡ is_kept (map.get s.old.table.live p) }
     ensures changes { Changes p (with_entry (λ x. record x { suspended = false; kept = false })) s.old s.new }
 {
@@ -188,7 +188,7 @@ pub fn mark_resumed<B>(s: &mut Schedule<B>, p: u32) -> bool
 }
 
 /// Notes whether an instance is disabled.
-pub fn mark_disabled<B>(s: &mut Schedule<B>, p: u32, on: bool)
+pub(crate) fn mark_disabled<B>(s: &mut Schedule<B>, p: u32, on: bool)
     ensures { Changes p (with_entry (λ x. record x { disabled = on })) s.old s.new }
 {
     if let Some(x) = s.table.get_mut(p) {
@@ -198,7 +198,7 @@ pub fn mark_disabled<B>(s: &mut Schedule<B>, p: u32, on: bool)
 
 /// Notes whether the body of an instance has begun.
 #[inline(always)]
-pub fn mark_started<B>(s: &mut Schedule<B>, p: u32, on: bool)
+pub(crate) fn mark_started<B>(s: &mut Schedule<B>, p: u32, on: bool)
     ensures { Changes p (with_entry (λ x. record x { started = on })) s.old s.new }
 {
     if let Some(x) = s.table.get_mut(p) {

@@ -7,10 +7,10 @@ ghost use Rattle.kernel_processes.specs.Sound.{IsSound};
 ghost use Rattle.kernel_processes.specs.Moves.{is_kept, MovesOne};
 ghost use Rattle.kernel_processes.specs.Moved.{IsTop, Ends, leaves_top, joins_top, same_stack, leaves_if, is_suspended, pushed_as, suspended_as, resumed_as, disabled_as, kept_as};
 
+use super::changes::{mark_disabled, mark_kept, mark_resumed, mark_suspended, mute, unready};
+use super::moves::join;
 use super::turns::{free, leave_stack};
-use crate::{
-    Schedule, join, mark_disabled, mark_kept, mark_resumed, mark_suspended, mute, unready,
-};
+use crate::Schedule;
 
 /// An instance that is not active gets on top of the stack: what it waited for, its mark to be kept and its place among the
 /// runnable ones are gone.

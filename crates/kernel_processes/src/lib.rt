@@ -20,13 +20,9 @@ mod wakes_told;
 mod waking;
 
 pub use bodies::{bodies_are_the_callers, body};
-pub use changes::{
-    count_events, hold_room, leave_lists, mark_disabled, mark_free, mark_kept, mark_resumed,
-    mark_started, mark_suspended, mark_wait, mute, put_time, put_wait, unready,
-};
+pub use changes::count_events;
 pub use control::{disable, end, push, resume, stay_kept, suspend};
 pub use making::empty;
-pub use moves::{end_time, join};
 pub use parts::{Process, Schedule, Trigger, Wait};
 pub use spawning::spawn;
 pub use time::{earliest, not_before, take_due, take_zero, wake_due};

@@ -38,7 +38,7 @@ fn hear<B>(x: &mut Instance<Process<B>>) -> Heard
 
 /// Ends the time-outs of an instance.
 #[inline(always)]
-pub fn end_time<B>(s: &mut Schedule<B>, p: u32)
+pub(crate) fn end_time<B>(s: &mut Schedule<B>, p: u32)
     ensures { Changes p (λ x. record x { time = None; zero = false }) s.old s.new }
 {
     s.deadlines.clear(p);
@@ -47,7 +47,7 @@ pub fn end_time<B>(s: &mut Schedule<B>, p: u32)
 
 /// Makes a live instance runnable.
 #[inline(always)]
-pub fn join<B>(s: &mut Schedule<B>, p: u32)
+pub(crate) fn join<B>(s: &mut Schedule<B>, p: u32)
     requires places { HasPlaces s.old }
     requires live { map.contains_key s.old.table.live p ≡ true }
     ensures changes { Changes p (λ x. record x { ready = true }) s.old s.new }
@@ -70,7 +70,7 @@ fn hear_at<B>(s: &mut Schedule<B>, p: u32) -> Heard
 
 /// A wake of an instance that has no wait in the wait lists any more.
 #[inline(always)]
-pub fn meet<B>(s: &mut Schedule<B>, p: u32)
+pub(crate) fn meet<B>(s: &mut Schedule<B>, p: u32)
     requires { HasPlaces s.old }
     ensures changes { Changes p met s.old s.new }
     ensures places { HasPlaces s.new }

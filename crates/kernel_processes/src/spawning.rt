@@ -8,7 +8,9 @@ ghost use Rattle.kernel_processes.specs.Sound.{IsSound};
 ghost use Rattle.kernel_processes.specs.Moves.{MovesOne};
 ghost use Rattle.kernel_processes.specs.Moved.{Stays, Spawns, Adds, HasPlaceMore, IsFresh, same_stack, spawned_as, settled_as};
 
-use crate::{Process, Schedule, Trigger, Wait, join, mark_wait, put_wait};
+use super::changes::{mark_wait, put_wait};
+use super::moves::join;
+use crate::{Process, Schedule, Trigger, Wait};
 use instance_table::{Deadline, MAX_LIVE, ProcessKind, SpawnStop};
 use sim_model::plain_lists_api::Items;
 use std::alloc::AllocError;

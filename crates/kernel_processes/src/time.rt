@@ -8,7 +8,8 @@ ghost use Rattle.kernel_processes.specs.Sound.{IsSound};
 ghost use Rattle.kernel_processes.specs.Moves.{with_entry, Changes};
 ghost use Rattle.kernel_processes.specs.Times.{over_entry, over, PutsAllOver, TakesDue, HasNoTime, HasNoTimeBefore, IsEarliestTime, WakesThose};
 
-use crate::{Schedule, end_time, wake};
+use super::moves::end_time;
+use crate::{Schedule, wake};
 use instance_table::Deadline;
 use ready_set::least_of_a_set;
 use timed_queue::due_names_are_held;

@@ -8,7 +8,9 @@ ghost use Rattle.kernel_processes.specs.Sound.{IsSound};
 ghost use Rattle.kernel_processes.specs.Moves.{Changes, MovesOne};
 ghost use Rattle.kernel_processes.specs.Moved.{IsTop, LeavesTop, joins_top, same_stack, started_as, is_suspended, untimed_free};
 
-use crate::{Schedule, end_time, join, leave_lists, mark_free, mark_started, unready};
+use super::changes::{leave_lists, mark_free, mark_started, unready};
+use super::moves::{end_time, join};
+use crate::Schedule;
 
 /// The active instance that is on top, if one is active.
 #[inline(always)]

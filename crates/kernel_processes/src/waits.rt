@@ -6,10 +6,9 @@ ghost use Rattle.kernel_processes.specs.Sound.{IsSound};
 ghost use Rattle.kernel_processes.specs.Moves.{events_of, sensitive_of, Changes, MovesOne};
 ghost use Rattle.kernel_processes.specs.Moved.{HasRoom, IsTop, Stays, leaves_top, waits_as, rests_as, waiting_seen};
 
+use super::changes::{hold_room, mark_started, mark_wait, put_time, put_wait};
 use super::turns::leave_stack;
-use crate::{
-    Schedule, Trigger, count_events, hold_room, mark_started, mark_wait, put_time, put_wait,
-};
+use crate::{Schedule, Trigger, count_events};
 use std::alloc::AllocError;
 
 /// Makes room for a wait of the instance.
