@@ -1,5 +1,5 @@
 -- A write is for a channel that is there.
-use Rattle.std.proofs.Common.{◌≡◌, ℕ, zero, suc, List, [], ◌∷◌, slice_get, Option, Some, None, Result, Ok, Err, refl, sym, ap, ◌∙◌, subst}
+use Rattle.std.proofs.Common.{◌≡◌, ℕ, zero, suc, true, List, [], ◌∷◌, slice_get, Option, Some, None, Result, Ok, Err, refl, sym, ap, ◌∙◌, subst}
 use Rattle.std.specs.Prelude.{unwrap_or}
 use Rattle.flat_design.specs.Code.{Term, ChannelTerm}
 use Rattle.flat_design.specs.Sound.{ChannelFits, DenotedFits}
@@ -18,7 +18,9 @@ use Rattle.kernel_view.specs.SimModel.Residual.{Residual}
 use Rattle.kernel_view.specs.SimModel.Configuration.{Config}
 use Rattle.kernel_view.specs.SimModel.Reading.{Here, denotes, val, place_in, channel_or, port_channel, channel_of}
 use Rattle.kernel_view.specs.SimModel.Channels.{channel_in, write_channel, do_write}
-use Rattle.exec_data.specs.Written.{NamesFit, to_write}
+use Rattle.kernel_view.specs.KernelState.declared.kernel.Kernel.{Kernel}
+use Rattle.kernel_view.specs.Standings.{Everywhere}
+use Rattle.exec_data.specs.Written.{NamesFit, WriteTakes, to_write, write_takes}
 use Rattle.exec_data.specs.declared.writes.Transfer.{Transfer}
 
 -- ---- channels of a design
@@ -98,3 +100,8 @@ module _ (h : Here) (ch : ChannelTerm) (t : ValueType) (e : Term) where
 
     pub write_is : do_write c p r h ch t e ≡ on_ok (to_write h ch t e) (λ (x : Transfer). write_channel c p r x.value x.channel)
     write_is = written_by (place_in h ch.place)
+
+-- what a write of this channel may take it may take where the statement stands
+module _ (k : Kernel) (p : ℕ) (ch : ChannelTerm) (t : ValueType) (e : Term) (answer : Result Transfer RunFault) (gives : Everywhere k p (λ h. answer ≡ to_write h ch t e)) (x : Transfer) (is : answer ≡ Ok x) where
+  pub takes_here : write_takes x.channel ≡ true → Everywhere k p (λ h. WriteTakes h ch t e)
+  takes_here takes c i h there = ap (λ o. on_ok o (λ (y : Transfer). Ok (write_takes y.channel))) (sym (gives c i h there) ∙ is) ∙ ap Ok takes

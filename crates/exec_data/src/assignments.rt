@@ -20,7 +20,7 @@ use kernel_view::payload_at;
 ///
 /// # Errors
 /// The fault of its expression, and then nothing changes.
-pub fn assign_name(
+pub(crate) fn assign_name(
     k: &mut Kernel,
     p: u32,
     target: Store,
@@ -46,7 +46,7 @@ pub fn assign_name(
 ///
 /// # Errors
 /// The fault of its expression; an empty handle; a payload that was freed. Then nothing changes.
-pub fn assign_field(
+pub(crate) fn assign_field(
     k: &mut Kernel,
     p: u32,
     n: NameUse,
@@ -75,7 +75,7 @@ pub fn assign_field(
 /// # Errors
 /// The fault of its index, and then that of its expression; an empty handle; a payload that was freed; an index past the last
 /// byte. Then nothing changes.
-pub fn assign_payload_byte(
+pub(crate) fn assign_payload_byte(
     k: &mut Kernel,
     p: u32,
     n: NameUse,

@@ -18,9 +18,7 @@ mod updates;
 mod variables;
 mod writes;
 
-pub use assignments::{assign_field, assign_name, assign_payload_byte};
 pub use blocks::{if_then, while_do};
-pub use elements::assign_element;
 pub use prints::print;
 pub use stored_assignments::assign;
 pub use stored_returns::return_value;

@@ -7,8 +7,8 @@ ghost use Rattle.kernel_view.specs.SimModel.Storing.{do_assign};
 ghost use Rattle.kernel_view.specs.KernelState.Kernel.{IsSound};
 ghost use Rattle.kernel_view.specs.KernelState.Moves.{Does, HasStatement, IsOnTop};
 
+use crate::assignments::{assign_field, assign_name, assign_payload_byte};
 use crate::elements::assign_element;
-use crate::{assign_field, assign_name, assign_payload_byte};
 use flat_design::{Destination, Expr, NameUse, PayloadBytes, PayloadField, RunFault, Store};
 use kernel_view::eval_at;
 use kernel_view::kernel_state_api::{Kernel, top_lives};

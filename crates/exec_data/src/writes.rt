@@ -1,5 +1,5 @@
 //! Writes of channels.
-ghost use Rattle.std.specs.Prelude.{◌≡◌, ◌+◌, ◌<◌, OnOk, OnErr, slice_get};
+ghost use Rattle.std.specs.Prelude.{◌≡◌, ◌+◌, ◌<◌, Err, true, OnOk, OnErr, slice_get};
 ghost use Rattle.flat_design.specs.Code.{term_of, channel_term};
 ghost use Rattle.flat_design.specs.Sound.{ChannelFits};
 ghost use Rattle.flat_design.specs.declared.design.ChannelId.TheVariants as channel_id;
@@ -10,7 +10,7 @@ ghost use Rattle.kernel_view.specs.KernelState.Kernel.{IsSound, whole_design};
 ghost use Rattle.kernel_view.specs.KernelState.Moves.{Moves, Steps, Lives, HasStatement, IsOnTop};
 ghost use Rattle.kernel_view.specs.KernelState.Stopping.{DoesOrStops};
 ghost use Rattle.kernel_view.specs.Standings.{Everywhere, ShowsHere};
-ghost use Rattle.exec_data.specs.Written.{NamesFit, to_write};
+ghost use Rattle.exec_data.specs.Written.{NamesFit, WriteTakes, to_write, write_takes};
 
 use crate::updates::{drive, write_signal};
 use flat_design::{ChannelId, ChannelUse, Expr, RunFault, ValueType};
@@ -106,6 +106,7 @@ fn write_channel(
     requires top { IsOnTop k.old p }
     requires statement { HasStatement k.old p }
     ensures does { ChannelFits (whole_design k.old) channel → DoesOrStops k.old k.new result p (λ c q i r. channels.write_channel c q r v channel) }
+    ensures memory { result ≡ Err StatementStop.NoMemory → write_takes channel ≡ true }
     ensures sound { IsSound k.new }
     ensures made { k.new.made ≡ k.old.made }
 {
@@ -136,7 +137,7 @@ fn write_channel(
 ///
 /// # Errors
 /// The fault of its place, then that of its expression, then a place past the last channel of a port; another process stands
-/// as the writer of a signal; no memory. Then nothing changes.
+/// as the writer of a signal; no memory for a resolved signal or to block at a fifo. Then nothing changes.
 pub fn write(
     k: &mut Kernel,
     alloc: Global,
@@ -150,6 +151,7 @@ pub fn write(
     requires statement { HasStatement k.old p }
     requires names { NamesFit (whole_design k.old) }
     ensures does { DoesOrStops k.old k.new result p (λ c q i r. do_write c q r (here c q i r) (channel_term to.now) t (term_of e.now)) }
+    ensures memory { result ≡ Err StatementStop.NoMemory → Everywhere k.old p (λ h. WriteTakes h (channel_term to.now) t (term_of e.now)) }
     ensures sound { IsSound k.new }
     ensures made { k.new.made ≡ k.old.made }
 {

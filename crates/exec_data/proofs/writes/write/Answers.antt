@@ -10,7 +10,7 @@ use Rattle.kernel_view.specs.KernelState.declared.stops.StatementStop.TheVariant
 use Rattle.kernel_view.specs.Standings.{next_here}
 use Rattle.exec_data.specs.Written.{to_write}
 use Rattle.kernel_view.proofs.Stopped.{evaluated, at_fault}
-use Rattle.exec_data.proofs.Fitting.{write_fits, write_is}
+use Rattle.exec_data.proofs.Fitting.{takes_here, write_fits, write_is}
 use Rattle.exec_data.proofs.writes.write.Goals as goal
 
 pub returns-in-Ok-clause-does : goal.returns-in-Ok-clause-does
@@ -29,3 +29,7 @@ returns-in-Err-clause-does c = λ d i h there.
     (sym (write_is (next_here d c.args.p i) (channel_term c.args.to.now) c.args.t (term_of c.args.e.now) (settled_in d c.args.p i.residual) c.args.p (settle (arena d) i.residual)))
     (at_fault NoFault c.args.k.now c.args.p c.what_is_written.result (λ y. to_write y (channel_term c.args.to.now) c.args.t (term_of c.args.e.now)) c.what_is_written.ensures (λ b q j r x. write_channel b q r x.value x.channel)
     c.in-Err.fault c.in-Err.is d i h there)
+
+pub returns-in-Ok-clause-memory : goal.returns-in-Ok-clause-memory
+returns-in-Ok-clause-memory c = λ refused.
+    takes_here c.args.k.now c.args.p (channel_term c.args.to.now) c.args.t (term_of c.args.e.now) c.what_is_written.result c.what_is_written.ensures c.in-Ok.x c.in-Ok.is (c.write_channel.ensures.memory refused)
