@@ -40,4 +40,4 @@ returns-in-None-clause-makes c =
     (λ d i h there. (c.pass.ensures.steps d i h there, refl))
 
 pub returns-in-Some-clause-memory : goal.returns-in-Some-clause-memory
-returns-in-Some-clause-memory c = λ e. ap takes_memory_if (sym c.statement.ensures ∙ ap (option_map (λ z. statement_of z.now)) c.in-Some.is) ∙ c.carry_out.ensures.memory e
+returns-in-Some-clause-memory c = λ e. ap takes_memory_if (sym c.statement.ensures ∙ ap (option_map (λ z. statement_of z.now)) c.in-Some.is) ∙ c.carry_out.ensures.memory (sym c.straight.ensures ∙ e)
