@@ -32,6 +32,13 @@ use Rattle.parse_actions.proofs.WaitLaws.{waiting_ok, waiting_reads, notificatio
 
 -- what is read is derived
 
+-- the brackets of a part that has none are not counted
+pub within : (n d : ℕ) → max 0 n ≤ d → n ≤ d
+within n d few = omega (arith, few)
+
+counted : (n d : ℕ) → n ≤ d → max 0 n ≤ d
+counted n d few = omega (arith, few)
+
 abbrev pub Acts : ℕ → ℕ → Tokens → tree.Action → Tokens → Type 0
 Acts d line ts o rest = DerivesAction line o ts rest × (in_action o ≤ d)
 
@@ -51,7 +58,8 @@ print_ok d line ts a rest o at h =
     let (x, b, one, h1) = and_then_ok (text a) _ (o, rest) h in
     let (e, f, two, h2) = and_then_ok (optional_expression d b) _ (o, rest) h1 in
     let right = optional_expression_ok d b f e two in
-    made (Acts d line ts) h2 ((a, at, (b, text_ok a b x one, right.0)), right.1)
+    let few : max 0 (in_option e) ≤ d = omega (arith, right.1) in
+    made (Acts d line ts) h2 ((a, at, (b, text_ok a b x one, right.0)), few)
 
 notify_ok : (d line : ℕ) (ts a rest : Tokens) (o : tree.Action) → At line (t.word w.Notify) ts a → notify d a ≡ Some (o, rest) → Acts d line ts o rest
 unfolding notify
@@ -59,7 +67,8 @@ notify_ok d line ts a rest o at h =
     let (x, b, one, h1) = and_then_ok (name a) _ (o, rest) h in
     let (n, f, two, h2) = and_then_ok (notification d b) _ (o, rest) h1 in
     let right = notification_ok d b f n two in
-    made (Acts d line ts) h2 ((a, at, (b, name_ok a b x one, right.0)), right.1)
+    let few : max 0 (in_notification n) ≤ d = omega (arith, right.1) in
+    made (Acts d line ts) h2 ((a, at, (b, name_ok a b x one, right.0)), few)
 
 optional_next_ok : (d : ℕ) (ts rest : Tokens) (x : Option tree.Expression) → optional_next_expression d ts ≡ Some (x, rest) → Maybe NextExpression x ts rest × (in_option x ≤ d)
 unfolding optional_next_expression
@@ -78,7 +87,7 @@ make_ok d line ts a rest o at h =
     let (y, f, three, h3) = and_then_ok (optional_next_expression d c) _ (o, rest) h2 in
     let left = next_expression_ok d b c e two in
     let right = optional_next_ok d c f y three in
-    let few : max (depth e) (in_option y) ≤ d = omega (arith, left.1, right.1) in
+    let few : max 0 (max (depth e) (in_option y)) ≤ d = omega (arith, left.1, right.1) in
     made (Acts d line ts) h3 ((a, at, (b, name_ok a b x one, (c, left.0, right.0))), few)
 
 carry_ok : (d line : ℕ) (ts a rest : Tokens) (o : tree.Action) → At line (t.word w.Carry) ts a → carry a ≡ Some (o, rest) → Acts d line ts o rest
@@ -168,8 +177,8 @@ started_action_ok w.Release d line ts a rest o at h = of_name_ok (Acts d line ts
 started_action_ok w.Carry d line ts a rest o at h = carry_ok d line ts a rest o at h
 started_action_ok w.BTransport d line ts a rest o at h = b_transport_ok d line ts a rest o at h
 started_action_ok w.QkGlobal d line ts a rest o at h = of_expression_ok d line ts a rest o at h
-started_action_ok w.QkInc d line ts a rest o at h = of_both_ok (Acts d line ts) d tree.qk_inc a rest o (λ x e mid last one two few. ((a, at, (mid, one, two)), few)) h
-started_action_ok w.QkSet d line ts a rest o at h = of_both_ok (Acts d line ts) d tree.qk_set a rest o (λ x e mid last one two few. ((a, at, (mid, one, two)), few)) h
+started_action_ok w.QkInc d line ts a rest o at h = of_both_ok (Acts d line ts) d tree.qk_inc a rest o (λ x e mid last one two few. ((a, at, (mid, one, two)), counted (depth e) d few)) h
+started_action_ok w.QkSet d line ts a rest o at h = of_both_ok (Acts d line ts) d tree.qk_set a rest o (λ x e mid last one two few. ((a, at, (mid, one, two)), counted (depth e) d few)) h
 started_action_ok w.QkReset d line ts a rest o at h = of_name_ok (Acts d line ts) tree.qk_reset a rest o (λ x mid one. ((a, at, one), omega arith)) h
 started_action_ok w.QkSync d line ts a rest o at h = of_name_ok (Acts d line ts) tree.qk_sync a rest o (λ x mid one. ((a, at, one), omega arith)) h
 started_action_ok w.Spawn d line ts a rest o at h = of_spawn_ok d line ts a rest o at h

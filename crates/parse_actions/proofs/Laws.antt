@@ -1,4 +1,5 @@
 -- Operations and actions: what is read is derived, what is derived is read, and what each begins with.
+use Rattle.std.specs.Prelude.{max}
 use Rattle.std.proofs.Common.{◌≡◌, ℕ, ◌≤◌, Bool, true, false, Some, refl, sym, ◌∙◌, ⊎_elim}
 use Rattle.std.proofs.lemmas.Bool.{cases_Bool}
 use denote.Enum.Bare.{sameb, same_true}
@@ -10,6 +11,7 @@ use Rattle.model_tree.specs.declared.vocabulary.Word.{Word}
 use Rattle.model_tree.specs.declared.vocabulary.Word.TheVariants as w
 use Rattle.model_tree.specs.declared.vocabulary.Symbol.TheVariants as s
 use Rattle.model_tree.specs.Tree as tree
+use Rattle.model_tree.specs.Limits.{depth}
 use Rattle.model_tree.specs.Parts.{word_of_action}
 use Rattle.parse_expressions.specs.ModelGrammar.Tokens as t
 use Rattle.parse_expressions.specs.ModelGrammar.Tokens.{Tokens}
@@ -17,7 +19,7 @@ use Rattle.parse_expressions.specs.ModelGrammar.Rules.{At, Takes}
 use Rattle.parse_expressions.specs.ModelGrammar.Expressions.{is_the_symbol, sees}
 use Rattle.parse_expressions.specs.ModelGrammar.Statements.{DerivesOperation, DerivesAction}
 use Rattle.model_tree.specs.Spelling.{control_word}
-use Rattle.parse_expressions.specs.ModelGrammar.Brackets.{in_operation, in_action}
+use Rattle.parse_expressions.specs.ModelGrammar.Brackets.{in_operation, in_action, in_option, in_notification}
 use Rattle.parse_expressions.specs.Parse.{refuse, skip, is_the_word, word_ahead}
 use Rattle.parse_expressions.proofs.Parsers.{where_cases, and_then_ok, made}
 use Rattle.parse_expressions.proofs.OneToken.{skip_reads}
@@ -27,7 +29,7 @@ use Rattle.parse_actions.specs.Actions.{action_start, begins_action, started_act
 use Rattle.parse_actions.specs.Parse.{sees_operation, sees_action, operation_by, operation, action_by, action}
 use Rattle.parse_actions.proofs.PartLaws.{word_at, word_comes, semicolon_comes}
 use Rattle.parse_actions.proofs.OperationLaws.{of_channel_reads, started_operation_ok, call_reads, nb_read_reads, nb_write_reads, nb_transport_reads}
-use Rattle.parse_actions.proofs.ActionLaws.{started_action_ok, write_reads, print_reads, notify_reads, make_reads, carry_reads, b_transport_reads, throw_it_reads, of_name_reads, of_both_reads, of_waiting_reads, of_expression_reads, of_spawn_reads, of_answer_reads, control_reads}
+use Rattle.parse_actions.proofs.ActionLaws.{within, started_action_ok, write_reads, print_reads, notify_reads, make_reads, carry_reads, b_transport_reads, throw_it_reads, of_name_reads, of_both_reads, of_waiting_reads, of_expression_reads, of_spawn_reads, of_answer_reads, control_reads}
 
 -- operations
 
@@ -86,22 +88,22 @@ control_starts control.Reset = refl
 action_before : (d line : ℕ) (o : tree.Action) (ts rest last : Tokens) → DerivesAction line o ts rest → in_action o ≤ d → Takes (t.symbol s.Semicolon) rest last → action d ts ≡ Some ((line, o), rest)
 unfolding started_action
 action_before d line (tree.write c e) ts rest last (a, at, (b, one, two)) few end = action_so w.Write d line (tree.write c e) ts a rest at (write_reads d c e a b rest last one two few end)
-action_before d line (tree.print x e) ts rest last (a, at, (b, one, two)) few end = action_so w.Print d line (tree.print x e) ts a rest at (print_reads d x e a b rest last one two few end)
-action_before d line (tree.notify x n) ts rest last (a, at, (b, one, two)) few end = action_so w.Notify d line (tree.notify x n) ts a rest at (notify_reads d x n a b rest last one two few end)
+action_before d line (tree.print x e) ts rest last (a, at, (b, one, two)) few end = action_so w.Print d line (tree.print x e) ts a rest at (print_reads d x e a b rest last one two (within (in_option e) d few) end)
+action_before d line (tree.notify x n) ts rest last (a, at, (b, one, two)) few end = action_so w.Notify d line (tree.notify x n) ts a rest at (notify_reads d x n a b rest last one two (within (in_notification n) d few) end)
 action_before d line (tree.cancel x) ts rest last (a, at, one) few end = action_so w.Cancel d line (tree.cancel x) ts a rest at (of_name_reads tree.cancel x a rest one)
 action_before d line (tree.wait x) ts rest last (a, at, one) few end = action_so w.Wait d line (tree.wait x) ts a rest at (of_waiting_reads d tree.wait x a rest last one few end)
 action_before d line (tree.next_trigger x) ts rest last (a, at, one) few end = action_so w.NextTrigger d line (tree.next_trigger x) ts a rest at (of_waiting_reads d tree.next_trigger x a rest last one few end)
 action_before d line (tree.lock c) ts rest last (a, at, one) few end = action_so w.Lock d line (tree.lock c) ts a rest at (of_channel_reads d tree.lock c a rest last one few end)
 action_before d line (tree.sem_wait c) ts rest last (a, at, one) few end = action_so w.SemWait d line (tree.sem_wait c) ts a rest at (of_channel_reads d tree.sem_wait c a rest last one few end)
 action_before d line (tree.post c) ts rest last (a, at, one) few end = action_so w.Post d line (tree.post c) ts a rest at (of_channel_reads d tree.post c a rest last one few end)
-action_before d line (tree.make x e y) ts rest last (a, at, (b, one, (c, two, three))) few end = action_so w.Make d line (tree.make x e y) ts a rest at (make_reads d x e y a b c rest last one two three few end)
+action_before d line (tree.make x e y) ts rest last (a, at, (b, one, (c, two, three))) few end = action_so w.Make d line (tree.make x e y) ts a rest at (make_reads d x e y a b c rest last one two three (within (max (depth e) (in_option y)) d few) end)
 action_before d line (tree.acquire x) ts rest last (a, at, one) few end = action_so w.Acquire d line (tree.acquire x) ts a rest at (of_name_reads tree.acquire x a rest one)
 action_before d line (tree.release x) ts rest last (a, at, one) few end = action_so w.Release d line (tree.release x) ts a rest at (of_name_reads tree.release x a rest one)
 action_before d line (tree.carry x y) ts rest last (a, at, (b, one, two)) few end = action_so w.Carry d line (tree.carry x y) ts a rest at (carry_reads x y a b rest one two)
 action_before d line (tree.b_transport x y z) ts rest last (a, at, (b, one, (c, two, three))) few end = action_so w.BTransport d line (tree.b_transport x y z) ts a rest at (b_transport_reads x y z a b c rest one two three)
 action_before d line (tree.qk_global e) ts rest last (a, at, one) few end = action_so w.QkGlobal d line (tree.qk_global e) ts a rest at (of_expression_reads d e a rest last one few end)
-action_before d line (tree.qk_inc x e) ts rest last (a, at, (b, one, two)) few end = action_so w.QkInc d line (tree.qk_inc x e) ts a rest at (of_both_reads d tree.qk_inc x e a b rest last one two few end)
-action_before d line (tree.qk_set x e) ts rest last (a, at, (b, one, two)) few end = action_so w.QkSet d line (tree.qk_set x e) ts a rest at (of_both_reads d tree.qk_set x e a b rest last one two few end)
+action_before d line (tree.qk_inc x e) ts rest last (a, at, (b, one, two)) few end = action_so w.QkInc d line (tree.qk_inc x e) ts a rest at (of_both_reads d tree.qk_inc x e a b rest last one two (within (depth e) d few) end)
+action_before d line (tree.qk_set x e) ts rest last (a, at, (b, one, two)) few end = action_so w.QkSet d line (tree.qk_set x e) ts a rest at (of_both_reads d tree.qk_set x e a b rest last one two (within (depth e) d few) end)
 action_before d line (tree.qk_reset x) ts rest last (a, at, one) few end = action_so w.QkReset d line (tree.qk_reset x) ts a rest at (of_name_reads tree.qk_reset x a rest one)
 action_before d line (tree.qk_sync x) ts rest last (a, at, one) few end = action_so w.QkSync d line (tree.qk_sync x) ts a rest at (of_name_reads tree.qk_sync x a rest one)
 action_before d line (tree.spawn x) ts rest last (a, at, one) few end = action_so w.Spawn d line (tree.spawn x) ts a rest at (of_spawn_reads d x a rest last one few end)
