@@ -132,12 +132,12 @@ fn write_channel(
 }
 
 /// `write`: of a signal, a buffer or a resolved signal, which asks for an update, or of a fifo, which may block the instance.
-/// The channel is named, or is that of a port at a place; the value is cut to its type. It takes memory where a process drives a
-/// resolved signal for the first time, and where it blocks.
+/// The channel is named, or is that of a port at a place; the value is cut to its type. Only a write of a resolved signal or of
+/// a fifo may take memory.
 ///
 /// # Errors
 /// The fault of its place, then that of its expression, then a place past the last channel of a port; another process stands
-/// as the writer of a signal; no memory for a resolved signal or to block at a fifo. Then nothing changes.
+/// as the writer of a signal; no memory for a resolved signal or a fifo. Then nothing changes.
 pub fn write(
     k: &mut Kernel,
     alloc: Global,

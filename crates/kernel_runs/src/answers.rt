@@ -30,7 +30,7 @@ pub enum Made {
     Fault(RunFault),
     /// The step takes a process, and the chooser picked none that is runnable; of the kernel nothing has changed.
     NotReady,
-    /// Memory was refused; nothing has changed. There was no fault, but one of the base protocol.
+    /// Memory was refused; nothing has changed. No fault but one of the base protocol can have been there.
     NoMemory,
 }
 

@@ -15,7 +15,7 @@ pub enum StepAnswer {
     Printed(u32, StmtId, Option<Value>),
     /// The run is at fault, and nothing changed.
     Fault(RunFault),
-    /// There is no memory, and nothing changed; there was no fault, but one of the base protocol.
+    /// There is no memory, and nothing changed. No fault but one of the base protocol can have been there.
     NoMemory,
 }
 
