@@ -8,5 +8,5 @@ pub mod Sums
 pub mod Marked
 pub mod Followed
 pub mod Upward
-pub mod Kept
+pub mod PortChannels
 pub mod Whole

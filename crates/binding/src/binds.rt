@@ -10,8 +10,8 @@ use super::forms::{begins_path, is_port};
 use super::judge::{judge_bindings, judge_objects};
 use super::known::{Known, find_out};
 use design_rules::flat_design_api::{ObjectForm, Objects};
+use design_rules::logic_values_api::Items;
 use design_rules::model_tree_api::CheckStop;
-use design_rules::plain_lists_api::Items;
 use design_rules::{Bindings, BoundPort, Joined};
 use std::alloc::{AllocError, Global};
 

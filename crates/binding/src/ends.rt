@@ -10,7 +10,7 @@ ghost use Rattle.binding.specs.Ends.{kept_ends, leads};
 use super::forms::is_end;
 use super::rows::Rows;
 use design_rules::flat_design_api::{Binding, Objects};
-use design_rules::plain_lists_api::Items;
+use design_rules::logic_values_api::Items;
 use std::alloc::{AllocError, Global};
 
 /// One more than the greatest number of channels of a port: so many are kept of an object.

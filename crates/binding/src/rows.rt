@@ -2,7 +2,7 @@
 ghost use Rattle.std.specs.Prelude.{◌≡◌, ◌<◌, ◌++◌, ◌∷◌, [], List, length, replicate, slice_set, IfOk, OnOk};
 ghost use Rattle.binding.specs.Rows.{row_at};
 
-use design_rules::plain_lists_api::Items;
+use design_rules::logic_values_api::Items;
 use std::alloc::{AllocError, Global};
 use std::marker::Model;
 

@@ -1,2 +1,2 @@
-pub use Rattle.traffic_file.proofs.DmiMap.Kept as Kept
 pub use Rattle.traffic_file.proofs.DmiMap.OneOrder as OneOrder
+pub use Rattle.traffic_file.proofs.DmiMap.OrderedPlaces as OrderedPlaces

@@ -13,6 +13,10 @@ pub mod Plans
 pub mod Regions
 pub mod Found
 pub mod OneSet
+pub mod AnswerPlaces
+pub mod Served
+pub mod OneAnswer
+pub mod Added
 pub mod TrafficFile
 pub mod PayloadPool
 pub mod DmiMap

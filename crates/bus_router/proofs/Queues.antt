@@ -8,7 +8,7 @@ use Rattle.std.specs.FinMap.{nat_cmp-IsAntisymmetric}
 use Rattle.std.proofs.lemmas.Bool.{cases_eq}
 use Rattle.std.proofs.lemmas.List.Sums.{sum_by-cons}
 use Rattle.std.proofs.lemmas.List.Sorted.{sum_by-IsPermutation}
-use Rattle.lemmas.proofs.MapLemmas.{get-insert_same, get-insert_other}
+use Rattle.numbered_slots.proofs.MapLemmas.{get-insert_same, get-insert_other}
 use Rattle.timed_queue.specs.SimTime.declared.moments.Time.{Time}
 use Rattle.timed_queue.specs.Timed.{is_due, is_at, IsEarliest, AddsEach}
 use Rattle.traffic_file.specs.declared.Bus.{Bus}

@@ -4,6 +4,9 @@ pub mod Making
 pub mod Holding
 pub mod Leaving
 pub mod GrantsSofar
+pub mod Answers
+pub mod Serving
+pub mod Pools
 pub mod TrafficFile
 pub mod TextLines
 pub mod DmiMap

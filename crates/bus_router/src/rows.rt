@@ -1,5 +1,5 @@
 //! The times of one access.
-use traffic_file::plain_lists_api::Items;
+use traffic_file::logic_values_api::Items;
 
 /// The times of one access, in picoseconds.
 #[derive(Clone, Copy)]

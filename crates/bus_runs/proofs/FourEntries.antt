@@ -2,9 +2,9 @@
 use Rattle.std.proofs.Common.{◌≡◌, ℕ, Bool, true, false, cond, ◌&&◌, not, pos, List, [], ◌∷◌, ◌++◌, None, refl, ap, ◌∙◌, eq-eqb}
 use Rattle.std.specs.Prelude.{◌||◌, ◌==◌}
 use Rattle.transport_phases.specs.declared.phases.Path.TheVariants.{Forward, Backward}
-use Rattle.transport_phases.specs.declared.kept.State.TheVariants.{Req, Resp}
-use Rattle.transport_phases.specs.declared.kept.Open.TheVariants.{Nothing, NonBlocking}
-use Rattle.transport_phases.specs.declared.kept.Kept.{Kept}
+use Rattle.transport_phases.specs.declared.transaction.State.TheVariants.{Req, Resp}
+use Rattle.transport_phases.specs.declared.transaction.Open.TheVariants.{Nothing, NonBlocking}
+use Rattle.transport_phases.specs.declared.transaction.Kept.{Kept}
 use Rattle.transport_phases.specs.Phases.{phase_of, answer_of, fresh, is_requesting, is_responding, first_broken, call_rules, return_rules}
 use Rattle.transport_phases.specs.History.{Entry, Call, Return, transaction, after_entry, kept_from, kept_of, is_other_among, other_requests, other_responds, broken}
 use Rattle.transport_phases.specs.Unbroken.{UnbrokenFrom, Unbroken}

@@ -5,3 +5,7 @@ pub mod EachOnce
 pub mod OwnHops
 pub mod Live
 pub mod OneRun
+pub mod Turns
+pub mod Routed
+pub mod Direct
+pub mod Whole

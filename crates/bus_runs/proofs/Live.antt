@@ -1,11 +1,11 @@
 -- In the pool of a run the payload of each access is live.
 use Rattle.std.proofs.Common.{ℕ, ◌<◌, [], length, Some, sym, ap, ◌∙◌, arith}
 use Rattle.std.specs.Prelude.{unwrap_or}
-use Rattle.bus_answers.specs.PayloadPool.Payloads.{Payloads, payload_in}
-use Rattle.bus_answers.specs.PayloadPool.declared.payload.TheConstants.{IGNORE, INCOMPLETE}
+use Rattle.bus_router.specs.PayloadPool.Payloads.{Payloads, payload_in}
+use Rattle.bus_router.specs.PayloadPool.declared.payload.TheConstants.{IGNORE, INCOMPLETE}
 use Rattle.bus_router.specs.TrafficFile.declared.Bus.{Bus}
 use Rattle.bus_router.specs.Times.{Table}
-use Rattle.bus_answers.specs.Pools.{IsLive}
+use Rattle.bus_router.specs.Pools.{IsLive}
 use Rattle.bus_runs.specs.Runs.{AreAnswersIn}
 
 pub all_live : (bus : Bus) (table : Table) (pool : Payloads) → AreAnswersIn bus table pool → (k : ℕ) → k < length bus.lines → IsLive pool k

@@ -9,7 +9,7 @@ use Rattle.bus_runs.specs.Hops.{entries_of}
 use Rattle.bus_runs.proofs.FourEntries.{never_broken}
 use Rattle.bus_router.specs.TrafficFile.declared.Bus.{Bus}
 use Rattle.bus_router.specs.Times.{Table}
-use Rattle.bus_answers.proofs.OneAnswer.{same_service}
+use Rattle.bus_router.proofs.OneAnswer.{same_service}
 use Rattle.bus_runs.specs.declared.entries.BusEntry.{BusEntry}
 use Rattle.bus_runs.specs.declared.entries.BusEntry.TheVariants as entry
 use Rattle.bus_runs.specs.Entries.{entry_of, IsHopOf, is_routed, sent_by, IsTargetHop, AreHops}

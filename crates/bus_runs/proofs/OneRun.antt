@@ -2,9 +2,9 @@
 use Rattle.std.proofs.Common.{◌≡◌, ℕ, ◌<◌, List, [], length, Result, Ok, sym, ap, ◌∙◌, subst, inl, inr, arith}
 use Rattle.std.specs.Prelude.{unwrap_or}
 use Rattle.std.proofs.lemmas.Bool.{cases_lt}
-use Rattle.bus_answers.specs.PayloadPool.Payloads.{Payloads, payload_in, payload_of}
-use Rattle.bus_answers.specs.PayloadPool.declared.payload.Payload.{Payload}
-use Rattle.bus_answers.specs.PayloadPool.declared.payload.TheConstants.{IGNORE, INCOMPLETE}
+use Rattle.bus_router.specs.PayloadPool.Payloads.{Payloads, payload_in, payload_of}
+use Rattle.bus_router.specs.PayloadPool.declared.payload.Payload.{Payload}
+use Rattle.bus_router.specs.PayloadPool.declared.payload.TheConstants.{IGNORE, INCOMPLETE}
 use Rattle.bus_router.specs.TrafficFile.declared.Bus.{Bus}
 use Rattle.bus_router.specs.TrafficFile.declared.stops.BusStop.{BusStop}
 use Rattle.bus_router.specs.TrafficFile.BusText.{bus_of}
@@ -13,11 +13,11 @@ use Rattle.bus_router.specs.declared.rows.BusRow.{BusRow}
 use Rattle.bus_router.specs.Times.{row_at}
 use Rattle.bus_router.proofs.OneTable.{one_table_of}
 use Rattle.bus_router.proofs.TrafficFile.Runnable.{read_runs}
-use Rattle.bus_answers.specs.Answers.{payload_at, AreAnswers}
-use Rattle.bus_answers.proofs.OneAnswer.{same_answers}
+use Rattle.bus_router.specs.Answers.{payload_at, AreAnswers}
+use Rattle.bus_router.proofs.OneAnswer.{same_answers}
 use Rattle.bus_router.specs.Leaving.{AreLeft}
 use Rattle.bus_router.proofs.OneSet.{same_grants}
-use Rattle.bus_answers.specs.Pools.{payload_with, IsPoolOf}
+use Rattle.bus_router.specs.Pools.{payload_with, IsPoolOf}
 use Rattle.bus_runs.specs.Entries.{AreHops}
 use Rattle.bus_runs.proofs.OneList.{same_hops}
 use Rattle.result_texts.specs.Lines.{IsTextOf}

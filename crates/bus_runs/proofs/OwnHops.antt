@@ -11,8 +11,8 @@ use Rattle.bus_runs.specs.Hops.{entries_of}
 use Rattle.bus_router.specs.TrafficFile.declared.Bus.{Bus}
 use Rattle.bus_router.specs.TrafficFile.Traffic.{CanRun, initiator_of, home_of}
 use Rattle.bus_router.specs.Times.{Table}
-use Rattle.bus_answers.proofs.Served.{places_of}
-use Rattle.bus_answers.proofs.OneAnswer.{home_within}
+use Rattle.bus_router.proofs.Served.{places_of}
+use Rattle.bus_router.proofs.OneAnswer.{home_within}
 use Rattle.bus_runs.specs.declared.entries.BusEntry.{BusEntry}
 use Rattle.bus_runs.specs.Entries.{IsHopOf, is_routed, is_sent, IsTargetHop, AreHops}
 use Rattle.bus_runs.specs.Own.{hop_at, entries_on, HasItsEntries}

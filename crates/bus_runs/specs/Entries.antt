@@ -6,7 +6,7 @@ use Rattle.bus_runs.specs.Hops.{entries_of}
 use Rattle.bus_router.specs.TrafficFile.declared.Bus.{Bus}
 use Rattle.bus_router.specs.TrafficFile.Traffic.{initiator_of}
 use Rattle.bus_router.specs.Times.{Table}
-use Rattle.bus_answers.specs.Answers.{IsServiceOrder}
+use Rattle.bus_router.specs.Answers.{IsServiceOrder}
 use Rattle.bus_runs.specs.declared.entries.BusEntry.{BusEntry}
 use Rattle.bus_runs.specs.declared.entries.BusEntry.TheVariants as entry
 

@@ -3,11 +3,11 @@ use Rattle.std.specs.Prelude.{◌≡◌, ℕ, List, Ok}
 use Rattle.bus_router.specs.TrafficFile.declared.Bus.{Bus}
 use Rattle.bus_router.specs.TrafficFile.BusText.{bus_of}
 use Rattle.bus_router.specs.Times.{Table, row_at, IsTableOf}
-use Rattle.bus_answers.specs.PayloadPool.Payloads.{Payloads}
-use Rattle.bus_answers.specs.PayloadPool.declared.payload.Payload.{Payload}
-use Rattle.bus_answers.specs.Answers.{AreAnswers}
+use Rattle.bus_router.specs.PayloadPool.Payloads.{Payloads}
+use Rattle.bus_router.specs.PayloadPool.declared.payload.Payload.{Payload}
+use Rattle.bus_router.specs.Answers.{AreAnswers}
 use Rattle.bus_router.specs.Leaving.{AreLeft}
-use Rattle.bus_answers.specs.Pools.{payload_with, IsPoolOf}
+use Rattle.bus_router.specs.Pools.{payload_with, IsPoolOf}
 use Rattle.bus_runs.specs.Entries.{AreHops}
 use Rattle.result_texts.specs.Lines.{IsTextOf}
 use Rattle.bus_runs.specs.declared.runs.BusRun.{BusRun}

@@ -2,7 +2,7 @@
 use Rattle.std.specs.Prelude.{◌≡◌, ℕ, count_by}
 use Rattle.bus_router.specs.DmiMap.declared.grants.Region.{Region}
 use Rattle.bus_router.specs.DmiMap.Regions.{same}
-use Rattle.bus_answers.specs.PayloadPool.Payloads.{payload_of}
+use Rattle.bus_router.specs.PayloadPool.Payloads.{payload_of}
 use Rattle.bus_runs.specs.declared.runs.BusRun.{BusRun}
 
 pub record AreSameRuns (one other : BusRun) : Type 0 where

@@ -3,7 +3,7 @@ ghost use Rattle.std.specs.Prelude.{◌≡◌, ◌∷◌, [], ◌++◌, OnOk, ma
 ghost use Rattle.bus_runs.specs.Hops.{entries_of};
 ghost use Rattle.bus_runs.specs.Entries.{entry_of};
 
-use bus_router::plain_lists_api::Items;
+use bus_router::logic_values_api::Items;
 use std::alloc::AllocError;
 use transport_phases::Path;
 

@@ -2,15 +2,14 @@
 ghost use Rattle.std.specs.Prelude.{◌≡◌, ℕ, ◌<◌, ◌≤◌, ◌+◌, ◌++◌, IfOk, OnOk, length, map, filter, slice_index};
 ghost use Rattle.bus_router.specs.TrafficFile.Traffic.{CanRun};
 ghost use Rattle.bus_router.specs.Times.{row_at};
-ghost use Rattle.bus_answers.specs.Answers.{served_rank, AreHomes};
+ghost use Rattle.bus_router.specs.Answers.{served_rank, AreHomes};
 ghost use Rattle.bus_runs.specs.Entries.{is_routed, is_sent, sent_by, IsHopOf, IsTargetHop, AreHops};
 ghost use Rattle.bus_runs.specs.Sofar.{HopsSofar};
 
 use crate::entries::{BusEntry, BusHop, BusHops, add_entries};
-use bus_answers::{homes_of, order_at, ranks_of};
 use bus_router::dmi_map_api::{Rank, TargetRange};
 use bus_router::traffic_file_api::Bus;
-use bus_router::{BusRow, line_at};
+use bus_router::{BusRow, homes_of, line_at, order_at, ranks_of};
 use std::alloc::{AllocError, Global};
 
 fn is_routed(rows: &[BusRow], k: usize) -> bool

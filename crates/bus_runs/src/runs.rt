@@ -5,11 +5,10 @@ ghost use Rattle.bus_router.specs.Times.{row_at};
 ghost use Rattle.bus_runs.specs.Runs.{AreAnswersIn, IsRunOf};
 
 use crate::{BusHops, hops_of};
-use bus_answers::payload_pool_api::Pool;
-use bus_answers::{answers_of, pool_of};
 use bus_router::dmi_map_api::Grants;
+use bus_router::payload_pool_api::Pool;
 use bus_router::traffic_file_api::Bus;
-use bus_router::{BusRow, BusRows, grants_of, times_of};
+use bus_router::{BusRow, BusRows, answers_of, grants_of, pool_of, times_of};
 use std::alloc::{AllocError, Global};
 
 /// A run of all accesses of a bus.

@@ -1,6 +1,6 @@
 //! The text of a run.
 ghost use Rattle.std.specs.Prelude.{◌≡◌, IfOk, IfErr, IsOkUnless};
-ghost use Rattle.bus_answers.specs.Pools.{payload_with};
+ghost use Rattle.bus_router.specs.Pools.{payload_with};
 ghost use Rattle.bus_router.specs.TrafficFile.BusText.{bus_of};
 ghost use Rattle.bus_router.specs.TrafficFile.Stops.{IfSyntax, IfRefused, IsRefusedSo};
 ghost use Rattle.bus_router.specs.TrafficFile.Traffic.{CanRun};

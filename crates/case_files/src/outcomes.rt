@@ -4,7 +4,7 @@ use super::cases::{Case, File, bytes_of};
 use super::facts::Fact;
 use super::outside::Outside;
 use sim_io::MemoryShelf;
-use sim_io::plain_lists_api::Items;
+use sim_io::logic_values_api::Items;
 use std::alloc::{AllocError, Global};
 
 /// What came of a run of the whole program.

@@ -1,11 +1,11 @@
 //! An outside in memory that is refused memory at chosen calls.
 ghost use Rattle.std.specs.Prelude.{◌≡◌, ◌<◌, ◌≤◌, ℕ, List, Option, Some, length, IfOk, IfSome, IsErrOf};
 ghost use Rattle.std.specs.Io.KnownBytes.{ReadConsumes};
-ghost use Rattle.sim_io.specs.Told.{AfterTold, Grew, Grows, Lacks, Unchanged, text_of};
+ghost use Rattle.sim_io.specs.Contents.{AfterTold, Grew, Grows, Lacks, Unchanged, text_of};
 ghost use Rattle.sim_io.specs.Cause.{HasCause, HasCauseOrLacks};
 ghost use Rattle.sim_io.specs.Keeps.{ReadKeeps, WriteKeeps};
 ghost use Rattle.sim_io.specs.Memory.{told, IsReading, left_of, IsCreated, StandsFor, reads_of, writes_of};
-ghost use Rattle.sim_io.specs.Taken.{Creates, taken};
+ghost use Rattle.sim_io.specs.Writes.{Creates, taken};
 
 use sim_io::{MemoryShelf, MemorySink, Shelf, Sink, Trouble};
 use std::marker::Model;

@@ -6,7 +6,7 @@ use Rattle.model_tree.specs.Tree as tree
 use Rattle.model_tree.specs.declared.faults.Kind.TheVariants as kind
 use Rattle.check_expressions.specs.ModelRules.Scopes.{Scope, meaning_of}
 use Rattle.check_expressions.specs.Findings.{told}
-use Rattle.check_expressions.specs.Judged.{is_wrong_member, member_fault}
+use Rattle.check_expressions.specs.ConstructFindings.{is_wrong_member, member_fault}
 use Rattle.check_expressions.specs.declared.heads.MemberUse.TheVariants as used
 use Rattle.check_expressions.specs.ModelRules.Names.{Used as NameUsed, first, unknown_member, wrong_member, unknown_use, wrong_use}
 use Rattle.check_expressions.specs.ModelRules.declared.needs.Need.TheVariants as need_of

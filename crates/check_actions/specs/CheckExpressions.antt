@@ -1,3 +1,3 @@
+pub use Rattle.check_expressions.specs.ConstructFindings as ConstructFindings
 pub use Rattle.check_expressions.specs.Findings as Findings
-pub use Rattle.check_expressions.specs.Judged as Judged
 pub use Rattle.check_expressions.specs.declared as declared

@@ -8,7 +8,7 @@ ghost use Rattle.check_expressions.specs.ModelRules.Sites as sites;
 ghost use Rattle.check_expressions.specs.ModelRules.Values as values;
 ghost use Rattle.check_expressions.specs.CheckNames.Places.{scope_of};
 ghost use Rattle.check_expressions.specs.Findings.{faults_of};
-ghost use Rattle.check_expressions.specs.Judged as judged;
+ghost use Rattle.check_expressions.specs.ConstructFindings as judged;
 ghost use Rattle.check_expressions.specs.declared.heads.MemberUse.TheVariants as used;
 ghost use Rattle.check_expressions.specs.ModelRules.Scopes.{meaning_of};
 ghost use Rattle.check_actions.specs.Uses as spec;

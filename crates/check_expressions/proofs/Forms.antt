@@ -22,7 +22,7 @@ use Rattle.check_names.specs.ModelRules.Values.{fails, refuse, refuses, is_beyon
 use Rattle.check_names.specs.ModelRules.Sites.{Site, channel_site, channel_sites, place_sites, sites_as, has_index}
 use Rattle.check_names.specs.ModelRules.Passes.{constructs, fault_at, fault_of}
 use Rattle.check_expressions.specs.Findings.{told, told_if}
-use Rattle.check_expressions.specs.Judged.{at_of, is_wrong_at, differs_at, wide_at, object_at, channel_fault, own_fault}
+use Rattle.check_expressions.specs.ConstructFindings.{at_of, is_wrong_at, differs_at, wide_at, object_at, channel_fault, own_fault}
 use Rattle.check_expressions.specs.declared.channels.At.TheVariants as at
 
 pub or_nothing : {A : Type 0} (o : Option A) → option_or o None ≡ o

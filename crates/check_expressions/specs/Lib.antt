@@ -1,4 +1,4 @@
 pub mod Findings
-pub mod Judged
+pub mod ConstructFindings
 pub mod ModelRules
 pub mod CheckNames

@@ -7,7 +7,7 @@ ghost use Rattle.check_names.specs.ModelRules.Passes.{constructs, fault_of};
 ghost use Rattle.check_names.specs.ModelRules.Sites.{channel_sites};
 ghost use Rattle.check_names.specs.Places.{scope_of};
 ghost use Rattle.check_expressions.specs.Findings.{faults_of};
-ghost use Rattle.check_expressions.specs.Judged as spec;
+ghost use Rattle.check_expressions.specs.ConstructFindings as spec;
 
 use super::channels::{At, channel_finding, object_at};
 use super::expressions::judge;

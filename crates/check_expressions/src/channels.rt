@@ -3,7 +3,7 @@ ghost use Rattle.check_names.specs.ModelRules.Names as names;
 ghost use Rattle.check_names.specs.ModelRules.Values as values;
 ghost use Rattle.check_names.specs.ModelRules.Operators.{is_integer as is_integer_in};
 ghost use Rattle.check_expressions.specs.Findings.{faults_of};
-ghost use Rattle.check_expressions.specs.Judged as spec;
+ghost use Rattle.check_expressions.specs.ConstructFindings as spec;
 
 use super::findings::{Finding, told_if};
 use crate::{is_below, is_integer, is_integer_type, is_port, is_unmet, places};

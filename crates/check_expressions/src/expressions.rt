@@ -10,16 +10,16 @@ ghost use Rattle.check_names.specs.ModelRules.Passes.{constructs, fault_of};
 ghost use Rattle.check_names.specs.ModelRules.Sites as sites;
 ghost use Rattle.check_names.specs.Places.{scope_of};
 ghost use Rattle.check_expressions.specs.Findings.{faults_of, told};
-ghost use Rattle.check_expressions.specs.Judged as spec;
+ghost use Rattle.check_expressions.specs.ConstructFindings as spec;
 ghost use Rattle.check_expressions.specs.declared.channels.At.TheVariants as at;
 
 use super::channels::{At, channel_finding, object_at};
-use super::findings::first_finding;
-use super::heads::{dot_finding, front_of};
-use super::judged::{
+use super::construct_findings::{
     Judged, binary, concat, convert, element, paren, slice, sound_value, time_literal, to_vector,
     unary,
 };
+use super::findings::first_finding;
+use super::heads::{dot_finding, front_of};
 use crate::{logic_type, member_seen, object_if, type_seen};
 use check_names::Place;
 use check_names::model_rules_api::{ExpressionType, Need};

@@ -7,7 +7,7 @@ ghost use Rattle.check_names.specs.ModelRules.declared.meanings.Row.TheVariants 
 ghost use Rattle.check_names.specs.ModelRules.Names as names;
 ghost use Rattle.check_names.specs.Places.{scope_of};
 ghost use Rattle.check_expressions.specs.Findings.{faults_of, told};
-ghost use Rattle.check_expressions.specs.Judged as spec;
+ghost use Rattle.check_expressions.specs.ConstructFindings as spec;
 
 use super::findings::{Finding, told_if};
 use check_names::model_rules_api::{Meaning, Row, Seen, ValueMember};

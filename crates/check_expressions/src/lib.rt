@@ -6,19 +6,19 @@
 
 mod channel_places;
 mod channels;
+mod construct_findings;
 mod expressions;
 mod findings;
 mod heads;
-mod judged;
 mod needs;
 mod operators;
 mod types;
 
 pub use channel_places::{JudgedChannel, judge_channel};
+pub use construct_findings::Judged;
 pub use expressions::judge;
 pub use findings::{Finding, first_finding, told_if};
 pub use heads::{MemberUse, member_finding};
-pub use judged::Judged;
 pub use needs::{is_unmet, meets};
 pub use operators::{
     becomes_vector, concat_type, conversion_type, digit_count, digit_type, given, is_bool,
@@ -46,12 +46,12 @@ pub mod model_rules_api {
     };
 }
 
-/// What is passed on of plain_lists.
-pub mod plain_lists_api {
-    pub use check_names::plain_lists_api::Items;
-}
-
 /// What is passed on of sim_time.
 pub mod sim_time_api {
     pub use check_names::sim_time_api::picoseconds_of;
+}
+
+/// What is passed on of logic_values.
+pub mod logic_values_api {
+    pub use check_names::logic_values_api::Items;
 }

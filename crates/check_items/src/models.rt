@@ -1,7 +1,7 @@
 ghost use Rattle.std.specs.Prelude.{◌≡◌, ◌<◌, ◌∷◌, [], IfOk, length, map, unwrap_or};
 ghost use Rattle.std.specs.Option.{option_copied, option_or};
 ghost use Rattle.model_tree.specs.Views.{item_of, modules_of};
-ghost use Rattle.model_tree.specs.Seen.{model_of};
+ghost use Rattle.model_tree.specs.WholeTree.{model_of};
 ghost use Rattle.check_statements.specs.ModelRules.Scopes.{item_scope};
 ghost use Rattle.check_statements.specs.ModelRules.Passes.{constructs, fault_of};
 ghost use Rattle.check_statements.specs.ModelRules.Sites as sites;

@@ -41,7 +41,7 @@ pub mod flat_design_api {
 
 /// What is passed on of logic_values.
 pub mod logic_values_api {
-    pub use model_rules::logic_values_api::{Digit, Lv, Sign, Text, Value, cut, digit, sub};
+    pub use model_rules::logic_values_api::{Digit, Items, Lv, Sign, Text, Value, cut, digit, sub};
 }
 
 /// What is passed on of model_rules.
@@ -59,11 +59,6 @@ pub mod model_tree_api {
         Interface, Item, Kind, Module, Name, Place, PlainKind, PortSize, ProcessItem, ProcessKind,
         SignalItem, SignalKind, SignalType, Span, TargetRole, Top, Tree, VarType, item_line,
     };
-}
-
-/// What is passed on of plain_lists.
-pub mod plain_lists_api {
-    pub use model_rules::plain_lists_api::Items;
 }
 
 /// What is passed on of sim_time.

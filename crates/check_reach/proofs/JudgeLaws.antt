@@ -12,7 +12,7 @@ use Rattle.check_expressions.specs.ModelRules.Sites.{site, of_statement}
 use Rattle.check_expressions.specs.ModelRules.Passes.{fault_at, reaches}
 use Rattle.check_expressions.specs.Findings.{told_if}
 use Rattle.check_reach.specs.Flat.{called, called_in}
-use Rattle.check_reach.specs.Judged.{statement_line, placed_scope, placed_fault, deed_of, standing_of, deed_fault, is_blocking_name}
+use Rattle.check_reach.specs.Findings.{statement_line, placed_scope, placed_fault, deed_of, standing_of, deed_fault, is_blocking_name}
 use Rattle.check_reach.proofs.Members.{same_test, same_bytes, equal_bytes, any_same}
 
 turned_bytes : (a b : List ℕ) → bytes_eq a b ≡ true → bytes_eq b a ≡ true

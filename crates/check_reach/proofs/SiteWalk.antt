@@ -23,7 +23,7 @@ use Rattle.check_expressions.specs.ModelRules.Reach.{Placed, body_of, bodies_in,
 use Rattle.check_expressions.proofs.ModelRules.Firsts.{first_append}
 use Rattle.check_reach.specs.Flat.{flat_of, flats_in}
 use Rattle.check_reach.proofs.JudgeLaws.{same_site}
-use Rattle.check_reach.specs.Judged.{placed_scope, placed_fault, flat_fault, module_fault}
+use Rattle.check_reach.specs.Findings.{placed_scope, placed_fault, flat_fault, module_fault}
 
 abbrev Quiet : List Site → Type 0
 Quiet xs = fault_of reaches xs ≡ None

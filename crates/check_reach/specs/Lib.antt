@@ -2,6 +2,6 @@ pub mod Edges
 pub mod Spreading
 pub mod Flat
 pub mod Sets
-pub mod Judged
+pub mod Findings
 pub mod CheckNames
 pub mod CheckExpressions

@@ -2,7 +2,7 @@ ghost use Rattle.std.specs.Prelude.{◌≡◌, ◌<◌, ℕ, IfOk, OnOk, length,
 ghost use Rattle.check_reach.specs.Edges.{targets};
 ghost use Rattle.check_reach.specs.Spreading.{row_of, with_edge};
 
-use check_expressions::plain_lists_api::Items;
+use check_expressions::logic_values_api::Items;
 use std::alloc::{AllocError, Global};
 
 /// An edge from one number to another.

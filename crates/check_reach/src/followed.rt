@@ -3,7 +3,7 @@ ghost use Rattle.check_reach.specs.Edges.{is_marked, IsSpread};
 ghost use Rattle.check_reach.specs.Spreading as spec;
 
 use super::edges::{Edge, rows_of};
-use check_expressions::plain_lists_api::Items;
+use check_expressions::logic_values_api::Items;
 use std::alloc::{AllocError, Global};
 
 fn is_marked(marks: &[bool], n: usize) -> bool

@@ -1,14 +1,14 @@
 ghost use Rattle.std.specs.Prelude.{◌≡◌, IfOk};
-ghost use Rattle.model_tree.specs.Seen.{model_of};
+ghost use Rattle.model_tree.specs.WholeTree.{model_of};
 ghost use Rattle.model_tree.specs.Views.{modules_of};
 ghost use Rattle.check_expressions.specs.ModelRules.Names.{first};
 ghost use Rattle.check_expressions.specs.ModelRules.Passes.{fault_of, reaches};
 ghost use Rattle.check_expressions.specs.ModelRules.Sites.{sites};
 ghost use Rattle.check_expressions.specs.CheckNames.ModuleNames.{items_of};
 ghost use Rattle.check_expressions.specs.Findings.{faults_of};
-ghost use Rattle.check_reach.specs.Judged as spec;
+ghost use Rattle.check_reach.specs.Findings as spec;
 
-use super::judged::bodies_finding;
+use super::findings::bodies_finding;
 use super::sets::{calls_of, sets_of};
 use check_expressions::Finding;
 use model_tree::{Item, Module, Tree};

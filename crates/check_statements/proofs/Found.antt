@@ -18,7 +18,7 @@ use Rattle.check_actions.specs.ModelRules.declared.needs.Need.TheVariants as nee
 use Rattle.check_actions.specs.ModelRules.Passes.{constructs, fault_at, fault_of}
 use Rattle.check_actions.proofs.ModelRules.Firsts.{first_append}
 use Rattle.check_actions.specs.CheckExpressions.Findings.{told, told_if}
-use Rattle.check_actions.specs.CheckExpressions.Judged.{is_wrong_member, member_fault}
+use Rattle.check_actions.specs.CheckExpressions.ConstructFindings.{is_wrong_member, member_fault}
 use Rattle.check_actions.specs.CheckExpressions.declared.heads.MemberUse.TheVariants as used
 use Rattle.check_actions.specs.Uses.{site_fault}
 use Rattle.check_statements.specs.Own.{assigned, assign_fault, condition_fault}

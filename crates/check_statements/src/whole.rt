@@ -1,5 +1,5 @@
 ghost use Rattle.std.specs.Prelude.{◌≡◌, [], IfOk, IfNone, OnOk};
-ghost use Rattle.model_tree.specs.Seen.{model_of};
+ghost use Rattle.model_tree.specs.WholeTree.{model_of};
 ghost use Rattle.model_tree.specs.Views.{module_of, modules_of};
 ghost use Rattle.check_actions.specs.ModelRules.Distinct.{HasDistinctNames};
 ghost use Rattle.check_actions.specs.ModelRules.Passes.{doubles, fault_of};

@@ -4,13 +4,13 @@ use Rattle.std.specs.Prelude.{Result, Ok, Err}
 use Rattle.std.proofs.lemmas.List.{map-append}
 use Rattle.std.proofs.lemmas.List.{take_more}
 use Rattle.model_lexer.specs.ModelTree.declared.faults.ParseStop.{ParseStop}
-use Rattle.model_lexer.specs.ModelGrammar.Tokens.{Token, Tokens}
+use Rattle.model_lexer.specs.Tokens.{Token, Tokens}
 use Rattle.model_lexer.specs.declared.token.TokenKind.{TokenKind}
-use Rattle.model_lexer.specs.Seen.{token_of}
+use Rattle.model_lexer.specs.Views.{token_of}
 use Rattle.clocked.specs.declared.expansion.Placed.{Placed}
 use Rattle.clocked.specs.Parts.{one_less}
 use Rattle.clocked.specs.Expanded.{put}
-use Rattle.clocked.specs.Seen.{placed_in, expansion_in, kinds_in, Adds}
+use Rattle.clocked.specs.Views.{placed_in, expansion_in, kinds_in, Adds}
 
 pub added : (old new : List Placed) (x : Placed) → new ≡ old ++ x ∷ [] → expansion_in new ≡ expansion_in old ++ expansion_in (x ∷ [])
 added old new x e = ap expansion_in e ∙ map-append placed_in old (x ∷ [])

@@ -7,7 +7,7 @@ use Rattle.std.proofs.lemmas.Bool.{cases_Bool}
 use Rattle.std.proofs.lemmas.Slice.Eq.{bytes_eq-Decides}
 use Rattle.model_lexer.specs.ModelTree.declared.vocabulary.Word.TheVariants as w
 use Rattle.model_lexer.specs.ModelTree.declared.vocabulary.Symbol.TheVariants as s
-use Rattle.model_lexer.specs.ModelGrammar.Tokens.{Token, Tokens, name, number, word, symbol}
+use Rattle.model_lexer.specs.Tokens.{Token, Tokens, name, number, word, symbol}
 use Rattle.clocked.specs.declared.words.NewWord.TheVariants as n
 use Rattle.clocked.specs.Words.{Sign, new, old_name, truth_value, right_brace, right_paren, sign_of, new_word, new_word_of, IsOldName, is_new_sign}
 use Rattle.clocked.specs.Parts.{WrittenReset, Place, first, numbered, computed, Piece, plain, tick, Clocked, Part, kept, clocked, truth, written_place, written_reset, written_piece, written_body, clock_of, written_head, written_part, written_parts, IfWritten, one_less, parens_behind, braces_behind, AreClosed, IsPlace, is_count, IsBody, is_edge, fits_reset, IsClocked, IsPart, AreParts}

@@ -1,7 +1,7 @@
 -- Where tokens lead, and what is written of them on the way.
 use Rattle.std.proofs.Common.{◌≡◌, ℕ, Bool, true, false, List, [], ◌∷◌, ◌++◌, Option, Some, None, ◌∙◌, refl, sym, ap, subst, append_assoc}
 use Rattle.std.specs.Prelude.{option_map}
-use Rattle.model_lexer.specs.ModelGrammar.Tokens.{Token, Tokens, name}
+use Rattle.model_lexer.specs.Tokens.{Token, Tokens, name}
 use Rattle.clocked.specs.declared.words.NewWord.{NewWord}
 use Rattle.clocked.specs.declared.words.NewWord.TheVariants as n
 use Rattle.clocked.specs.Words.{Sign, new, old_name, truth_value, new_word_text, new_word_of, new_word, IsOldName, sign_of_name, sign_of}

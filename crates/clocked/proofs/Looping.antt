@@ -5,10 +5,10 @@ use Rattle.std.proofs.lemmas.List.{map-append, append-nil, take_more}
 use Rattle.std.proofs.lemmas.Grind.{common_steps}
 use Rattle.model_lexer.specs.ModelTree.declared.faults.ParseStop.{ParseStop}
 use Rattle.model_lexer.specs.ModelTree.declared.faults.ParseStop.TheVariants as stop
-use Rattle.model_lexer.specs.ModelGrammar.Tokens as t
-use Rattle.model_lexer.specs.ModelGrammar.Tokens.{Tokens}
+use Rattle.model_lexer.specs.Tokens as t
+use Rattle.model_lexer.specs.Tokens.{Tokens}
 use Rattle.model_lexer.specs.declared.token.Token.{Token}
-use Rattle.model_lexer.specs.Seen.{token_of, lexeme_of, lexemes}
+use Rattle.model_lexer.specs.Views.{token_of, lexeme_of, lexemes}
 use Rattle.model_lexer.specs.Laws.{with_lines}
 use Rattle.clocked.specs.declared.expansion.Placed.{Placed}
 use Rattle.clocked.specs.declared.states.State.{State}
@@ -16,7 +16,7 @@ use Rattle.clocked.specs.Words.{sign_of}
 use Rattle.clocked.specs.Expanded.{Expands, line_behind, IsRefused}
 use Rattle.clocked.specs.Turns as turns
 use Rattle.clocked.specs.Turns.{Turn, turn, ended, run}
-use Rattle.clocked.specs.Seen.{tokens_in, expansion_in, state_in, Turned}
+use Rattle.clocked.specs.Views.{tokens_in, expansion_in, state_in, Turned}
 use Rattle.clocked.proofs.Leads.{Leads, leads_both, leads_one}
 use Rattle.clocked.proofs.Complete.{expands_run}
 use Rattle.clocked.proofs.Sound.{run_expands}

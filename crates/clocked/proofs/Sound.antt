@@ -8,8 +8,8 @@ use Rattle.model_lexer.specs.ModelTree.declared.vocabulary.Word.{Word}
 use Rattle.model_lexer.specs.ModelTree.declared.vocabulary.Word.TheVariants as w
 use Rattle.model_lexer.specs.ModelTree.declared.vocabulary.Symbol.{Symbol}
 use Rattle.model_lexer.specs.ModelTree.declared.vocabulary.Symbol.TheVariants as s
-use Rattle.model_lexer.specs.ModelGrammar.Tokens.{Token, Tokens, name, number, logic, quoted, word, symbol}
-use Rattle.model_lexer.proofs.ModelGrammar.Symbols.{find_passes}
+use Rattle.model_lexer.specs.Tokens.{Token, Tokens, name, number, logic, quoted, word, symbol}
+use Rattle.model_lexer.proofs.Symbols.{find_passes}
 use Rattle.clocked.specs.declared.words.NewWord.{NewWord}
 use Rattle.clocked.specs.declared.words.NewWord.TheVariants as n
 use Rattle.clocked.specs.declared.words.TheConstants.{NEW_WORDS}

@@ -4,7 +4,7 @@ use Rattle.std.specs.Prelude.{option_map, codes}
 use Rattle.std.proofs.lemmas.List.{append-nil}
 use Rattle.model_lexer.specs.ModelTree.declared.vocabulary.Word.TheVariants as w
 use Rattle.model_lexer.specs.ModelTree.declared.vocabulary.Symbol.TheVariants as s
-use Rattle.model_lexer.specs.ModelGrammar.Tokens.{Token, Tokens, name, number, word, symbol}
+use Rattle.model_lexer.specs.Tokens.{Token, Tokens, name, number, word, symbol}
 use Rattle.clocked.specs.Words.{new_word_of, sign_of}
 use Rattle.clocked.specs.Expanded.{Expands, IsFront, line_behind, StopsAt, EndsEarly}
 use Rattle.clocked.specs.Turns as turns

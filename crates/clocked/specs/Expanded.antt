@@ -7,7 +7,7 @@ use Rattle.model_lexer.specs.ModelTree.declared.vocabulary.Word.TheVariants as w
 use Rattle.model_lexer.specs.ModelTree.declared.vocabulary.Symbol.TheVariants as s
 use Rattle.model_lexer.specs.ModelTree.declared.faults.ParseStop.{ParseStop}
 use Rattle.model_lexer.specs.ModelTree.declared.faults.ParseStop.TheVariants as stop
-use Rattle.model_lexer.specs.ModelGrammar.Tokens.{Token, Tokens, name, number, word, symbol}
+use Rattle.model_lexer.specs.Tokens.{Token, Tokens, name, number, word, symbol}
 use Rattle.clocked.specs.declared.words.NewWord.TheVariants as n
 use Rattle.clocked.specs.Words.{new_word}
 use Rattle.clocked.specs.Parts.{Reset, WrittenReset, Piece, plain, tick, Clocked, Part, kept, clocked, Text, truth, clock_of, reset_name, AreParts, written}

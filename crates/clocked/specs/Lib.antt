@@ -2,4 +2,4 @@ pub mod Words
 pub mod Parts
 pub mod Expanded
 pub mod Turns
-pub mod Seen
+pub mod Views

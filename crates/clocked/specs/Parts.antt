@@ -7,7 +7,7 @@ use Rattle.std.specs.Prelude.{◌≡◌, ℕ, zero, suc, ◌+◌, ◌&&◌, ◌|
 use Rattle.std.specs.Str.{bytes_eq}
 use Rattle.model_lexer.specs.ModelTree.declared.vocabulary.Word.TheVariants as w
 use Rattle.model_lexer.specs.ModelTree.declared.vocabulary.Symbol.TheVariants as s
-use Rattle.model_lexer.specs.ModelGrammar.Tokens.{Token, Tokens, name, number, word, symbol}
+use Rattle.model_lexer.specs.Tokens.{Token, Tokens, name, number, word, symbol}
 use Rattle.clocked.specs.declared.words.NewWord.{NewWord}
 use Rattle.clocked.specs.declared.words.NewWord.TheVariants as n
 use Rattle.clocked.specs.Words.{Sign, new, old_name, a_number, truth_value, left_brace, right_brace, left_paren, right_paren, dot, at_sign, semicolon, other, sign_of, is_new, new_word, IsOldName}

@@ -2,7 +2,7 @@
 use Rattle.std.specs.Prelude.{ℕ, Bool, true, false, ◌&&◌, ◌==◌, List, [], ◌∷◌, ◌++◌, codes, Option, Some, None, option_map, is_some, not}
 use Rattle.std.specs.Str.{bytes_eq}
 use Rattle.model_lexer.specs.ModelTree.declared.vocabulary.Word.TheVariants as w
-use Rattle.model_lexer.specs.ModelGrammar.Tokens.{Token, Tokens, number, word}
+use Rattle.model_lexer.specs.Tokens.{Token, Tokens, number, word}
 use Rattle.clocked.specs.declared.words.NewWord.TheVariants as n
 use Rattle.clocked.specs.Words.{Sign, new, old_name, a_number, truth_value, left_brace, right_brace, left_paren, right_paren, dot, at_sign, semicolon, sign_of}
 use Rattle.clocked.specs.Parts.{Reset, one_less, parens_behind, braces_behind, is_count, is_edge, fits_reset}

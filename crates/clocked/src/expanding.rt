@@ -1,9 +1,9 @@
 //! The expansion of a token list.
 ghost use Rattle.std.specs.Prelude.{◌≡◌, IfOk, IfErr, MatchResult, is_some};
-ghost use Rattle.model_lexer.specs.ModelGrammar.Tokens as t;
+ghost use Rattle.model_lexer.specs.Tokens as t;
 ghost use Rattle.clocked.specs.Expanded.{Expands, IsRefused};
 ghost use Rattle.clocked.specs.Turns.{ended};
-ghost use Rattle.clocked.specs.Seen.{tokens_in, expansion_in, state_in};
+ghost use Rattle.clocked.specs.Views.{tokens_in, expansion_in, state_in};
 
 use super::expansion::Expansion;
 use super::signs::sign_of;
@@ -11,7 +11,7 @@ use super::states::State;
 use super::turns::turn;
 use model_lexer::Token;
 use model_tree::ParseStop;
-use model_tree::plain_lists_api::Items;
+use model_tree::logic_values_api::Items;
 use std::alloc::Global;
 
 /// Whether the tokens may end here.

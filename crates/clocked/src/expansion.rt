@@ -1,15 +1,15 @@
 //! The tokens of an expansion.
 ghost use Rattle.std.specs.Prelude.{◌≡◌, [], ◌∷◌, ◌++◌, map};
-ghost use Rattle.model_lexer.specs.Seen.{token_of};
-ghost use Rattle.model_lexer.specs.ModelGrammar.Tokens as t;
+ghost use Rattle.model_lexer.specs.Views.{token_of};
+ghost use Rattle.model_lexer.specs.Tokens as t;
 ghost use Rattle.clocked.specs.Words as words;
 ghost use Rattle.clocked.specs.Parts as parts;
 ghost use Rattle.clocked.specs.Expanded as spec;
-ghost use Rattle.clocked.specs.Seen.{expansion_in, kinds_in, Adds};
+ghost use Rattle.clocked.specs.Views.{expansion_in, kinds_in, Adds};
 
 use super::words::{NewWord, new_word_text};
 use model_lexer::TokenKind;
-use model_tree::plain_lists_api::Items;
+use model_tree::logic_values_api::Items;
 use model_tree::{ParseStop, Word};
 
 /// What a token of an expansion is: a token as the lexer has them, or the name of the method that resets a thread of this name.

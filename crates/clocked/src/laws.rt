@@ -1,5 +1,5 @@
 ghost use Rattle.std.specs.Prelude.{◌≡◌};
-ghost use Rattle.model_lexer.specs.ModelGrammar.Tokens.{Tokens};
+ghost use Rattle.model_lexer.specs.Tokens.{Tokens};
 ghost use Rattle.clocked.specs.Expanded.{Expands};
 
 /// A token list expands to one token list, at most.

@@ -1,8 +1,8 @@
 //! The tokens that are put in, on one line each time.
 ghost use Rattle.std.specs.Prelude.{◌≡◌, [], ◌∷◌, ◌++◌};
-ghost use Rattle.model_lexer.specs.ModelGrammar.Tokens as t;
+ghost use Rattle.model_lexer.specs.Tokens as t;
 ghost use Rattle.clocked.specs.Expanded as spec;
-ghost use Rattle.clocked.specs.Seen.{reset_in, reset_if, Adds};
+ghost use Rattle.clocked.specs.Views.{reset_in, reset_if, Adds};
 
 use super::expansion::{Expansion, add_reset_name, new_word, put, truth};
 use super::words::NewWord;

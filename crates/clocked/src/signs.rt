@@ -1,8 +1,8 @@
 //! Tokens, as clocked threads tell them apart.
 ghost use Rattle.std.specs.Prelude.{◌≡◌};
-ghost use Rattle.model_lexer.specs.Seen.{token_of};
+ghost use Rattle.model_lexer.specs.Views.{token_of};
 ghost use Rattle.clocked.specs.Words as spec;
-ghost use Rattle.clocked.specs.Seen.{sign_in};
+ghost use Rattle.clocked.specs.Views.{sign_in};
 
 use super::words::{NewWord, new_word_of};
 use model_lexer::TokenKind;

@@ -1,7 +1,7 @@
 //! Where a token stands.
 ghost use Rattle.std.specs.Prelude.{◌≡◌};
 ghost use Rattle.clocked.specs.Turns as spec;
-ghost use Rattle.clocked.specs.Seen.{head_in, reset_in};
+ghost use Rattle.clocked.specs.Views.{head_in, reset_in};
 
 use super::putting::Reset;
 

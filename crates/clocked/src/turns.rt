@@ -1,10 +1,10 @@
 //! What becomes of one token, where it stands.
 ghost use Rattle.std.specs.Prelude.{◌≡◌};
-ghost use Rattle.model_lexer.specs.Seen.{token_of};
+ghost use Rattle.model_lexer.specs.Views.{token_of};
 ghost use Rattle.clocked.specs.Parts as parts;
 ghost use Rattle.clocked.specs.Expanded as expanded;
 ghost use Rattle.clocked.specs.Turns as spec;
-ghost use Rattle.clocked.specs.Seen.{sign_in, head_in, state_in, Adds, Turned};
+ghost use Rattle.clocked.specs.Views.{sign_in, head_in, state_in, Adds, Turned};
 
 use super::expansion::{Expansion, add};
 use super::putting::{Reset, body_before, body_behind, reset_method, tick_before, tick_behind};

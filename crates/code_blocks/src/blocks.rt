@@ -12,7 +12,7 @@ use super::laid::{Laid, add, push_block};
 use super::leaves::{known_exception, known_term, lay_deed, lay_local};
 use check_statements::check_names_api::Place;
 use code_deeds::code_terms_api::assign_code;
-use code_deeds::plain_lists_api::Items;
+use code_deeds::logic_values_api::Items;
 use code_deeds::{Home, action_code, operate_code};
 use flat_design::{BlockId, Handler, Statement as Form, StmtId};
 use model_tree::{Expression, Name, Statement};

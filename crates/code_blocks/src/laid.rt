@@ -2,7 +2,7 @@ ghost use Rattle.std.specs.Prelude.{◌≡◌, ◌+◌, ◌++◌, ◌∷◌, [],
 ghost use Rattle.flat_design.specs.Code.{statement_at, statement_of};
 ghost use Rattle.code_blocks.specs.Laid.{FromNowOn, Grows, InnerBelow, IsNested, IsNext};
 
-use code_deeds::plain_lists_api::Items;
+use code_deeds::logic_values_api::Items;
 use flat_design::{BlockId, Statement, StmtId};
 use std::alloc::AllocError;
 

@@ -16,7 +16,7 @@ ghost use Rattle.code_blocks.specs.Laid.{Adds, Grows, IsNested, IsNext};
 use super::laid::{Laid, add};
 use check_statements::check_names_api::Place;
 use code_deeds::code_terms_api::{Deed, term_code, var_code};
-use code_deeds::plain_lists_api::Items;
+use code_deeds::logic_values_api::Items;
 use code_deeds::{Home, exception_number};
 use flat_design::{Expr, NameId, StmtId};
 use model_tree::{Expression, Name, VarType};

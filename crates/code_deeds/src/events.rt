@@ -8,7 +8,7 @@ ghost use Rattle.code_terms.specs.CheckNames.Places.{scope_of};
 ghost use Rattle.code_deeds.specs.Homes as spec;
 
 use code_terms::check_names_api::Place;
-use code_terms::plain_lists_api::Items;
+use code_terms::logic_values_api::Items;
 use code_terms::{event_code, option_code, static_code, term_code};
 use flat_design::{Await, EventUse, Expr, Statement, StaticUse};
 use model_tree::{Event, Expression, Notification, Waiting};

@@ -26,7 +26,7 @@ pub mod code_terms_api {
     };
 }
 
-/// What is passed on of plain_lists.
-pub mod plain_lists_api {
-    pub use code_terms::plain_lists_api::Items;
+/// What is passed on of logic_values.
+pub mod logic_values_api {
+    pub use code_terms::logic_values_api::Items;
 }

@@ -1,1 +1,9 @@
+pub mod Greatest
+pub mod Inside
+pub mod Tabled
+pub mod Still
+pub mod Needed
+pub mod Suffices
+pub mod Read
+pub mod Designs
 pub mod ModelRules

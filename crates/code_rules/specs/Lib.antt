@@ -2,6 +2,10 @@ pub mod Terms
 pub mod Deeds
 pub mod Numbered
 pub mod Bodies
+pub mod Rooms
+pub mod RoomFields
+pub mod Tables
+pub mod DesignFields
 pub mod SimTime
 pub mod LogicValues
 pub mod EventCore

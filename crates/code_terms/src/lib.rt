@@ -50,7 +50,7 @@ pub mod model_rules_api {
     pub use code_rules::model_rules_api::{Meaning, Need};
 }
 
-/// What is passed on of plain_lists.
-pub mod plain_lists_api {
-    pub use code_rules::plain_lists_api::Items;
+/// What is passed on of logic_values.
+pub mod logic_values_api {
+    pub use code_rules::logic_values_api::Items;
 }

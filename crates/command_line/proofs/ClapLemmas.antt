@@ -8,7 +8,7 @@ use Rattle.clap.specs.declared.error.kind.ErrorKind.TheVariants.{OutOfMemory}
 use Rattle.clap.specs.declared.parser.matches.ArgMatches.{ArgMatches}
 use Rattle.command_line.specs.Command.{line_command}
 use Rattle.command_line.specs.Given.{given_by, given_in, unless_fault}
-use Rattle.command_line.specs.Seen.{Matches}
+use Rattle.command_line.specs.Views.{Matches}
 
 -- the command is one of which clap says all
 line_is_simple : is_simple line_command ≡ true

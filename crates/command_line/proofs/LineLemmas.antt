@@ -6,7 +6,7 @@ use Rattle.command_line.specs.declared.modes.WordsStop.{WordsStop}
 use Rattle.command_line.specs.declared.modes.WordsStop.TheVariants.{Usage, NoMemory}
 use Rattle.command_line.specs.Given.{Given, given_by}
 use Rattle.command_line.specs.Line.{Mode, line_of, mode_in}
-use Rattle.command_line.specs.Seen.{Gives, Reads}
+use Rattle.command_line.specs.Views.{Gives, Reads}
 
 -- two readings with the same values are the same
 pub same_given : (a b : Given) → a.model ≡ b.model → a.script ≡ b.script → a.vcd ≡ b.vcd → a.budget ≡ b.budget → a.order ≡ b.order

@@ -2,7 +2,7 @@ ghost use Rattle.std.specs.Prelude.{◌≡◌, map, string_bytes};
 ghost use Rattle.clap.specs.Words.{app_of, found_of, rows_of};
 ghost use Rattle.command_line.specs.Command as spec;
 ghost use Rattle.command_line.specs.Given.{given_in};
-ghost use Rattle.command_line.specs.Seen.{Gives, Matches, given_of, stop_of};
+ghost use Rattle.command_line.specs.Views.{Gives, Matches, given_of, stop_of};
 
 use super::command::line_command;
 use super::modes::WordsStop;

@@ -2,7 +2,7 @@ ghost use Rattle.std.specs.Prelude.{◌≡◌};
 ghost use Rattle.std.specs.Char.{is_ascii_digit};
 ghost use Rattle.std.specs.List.{list_all};
 ghost use Rattle.command_line.specs.Numbers as spec;
-ghost use Rattle.command_line.specs.Seen.{text_of};
+ghost use Rattle.command_line.specs.Views.{text_of};
 
 /// The steps of a run where the words say nothing of them.
 pub const DEFAULT_BUDGET: u64 = 10_000_000;

@@ -1,6 +1,6 @@
 ghost use Rattle.std.specs.Prelude.{◌≡◌, option_map, bytes_eq, codes, is_none};
 ghost use Rattle.command_line.specs.Line as spec;
-ghost use Rattle.command_line.specs.Seen as seen;
+ghost use Rattle.command_line.specs.Views as seen;
 
 use super::given::{Given, given_by};
 use super::modes::{ChoiceRule, Generated, Mode, Order, PageKind, Simulation, WordsStop};

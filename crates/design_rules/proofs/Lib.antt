@@ -4,4 +4,4 @@ pub mod Reached
 pub mod Ranks
 pub mod Rounds
 pub mod Listed
-mod Seen
+mod WorkedDesign

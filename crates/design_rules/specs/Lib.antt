@@ -19,3 +19,4 @@ pub mod Written
 pub mod ModelTree
 pub mod FlatDesign
 pub mod CodeRules
+pub mod LogicValues

@@ -1,4 +1,4 @@
-use code_rules::plain_lists_api::Items;
+use code_rules::logic_values_api::Items;
 
 /// A port with its channels.
 #[derive(Drop)]

@@ -47,15 +47,10 @@ pub mod flat_design_api {
 
 /// What is passed on of logic_values.
 pub mod logic_values_api {
-    pub use code_rules::logic_values_api::Text;
+    pub use code_rules::logic_values_api::{Items, Text};
 }
 
 /// What is passed on of model_tree.
 pub mod model_tree_api {
     pub use code_rules::model_tree_api::{BoundRule, CheckStop, Fault, Kind};
-}
-
-/// What is passed on of plain_lists.
-pub mod plain_lists_api {
-    pub use code_rules::plain_lists_api::Items;
 }

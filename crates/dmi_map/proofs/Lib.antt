@@ -1,5 +1,5 @@
 pub mod Orders
-pub mod Kept
+pub mod OrderedPlaces
 pub mod OneOrder
 pub mod Behind
 pub mod RangeLemmas

@@ -6,7 +6,7 @@ use Rattle.std.proofs.lemmas.List.{get_or_default}
 use Rattle.dmi_map.specs.declared.order.Rank.{Rank}
 use Rattle.dmi_map.specs.Ranks.{is_before, ComesBefore, AreInOrder}
 use Rattle.dmi_map.proofs.Orders.{before_trans, never_itself}
-use Rattle.dmi_map.proofs.Kept.{split}
+use Rattle.dmi_map.proofs.OrderedPlaces.{split}
 
 first : (p : ℕ) (ps : List ℕ) → Contains (p ∷ ps) p
 first p ps = (0, omega arith, refl)

@@ -13,7 +13,7 @@ use Rattle.binding.specs.DesignRules.Listing.{objects_of}
 use Rattle.binding.specs.DesignRules.ObjectFaults.{cycle_fault, instances_fault, limit_fault}
 use Rattle.binding.specs.DesignRules.BindingFaults as binding
 use Rattle.binding.specs.DesignRules.Designs.{IsDesignOf}
-use Rattle.model_check.specs.CodeRooms.Rooms.{HasRooms, IsNested}
+use Rattle.model_check.specs.CodeRules.Rooms.{HasRooms, IsNested}
 use Rattle.laws_design.specs.LawsCode.Bodies.{StatementsStand}
 use Rattle.model_check.specs.Parts.{AllStand}
 use Rattle.model_check.specs.LawsCode.OwnBlocks.{HaveOwnBlocks}

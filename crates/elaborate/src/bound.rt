@@ -1,6 +1,6 @@
 //! The objects of a tree, and what their bindings give.
 ghost use Rattle.std.specs.Prelude.{◌≡◌, Some, None, IfOk, OnOk, IfErr};
-ghost use Rattle.model_tree.specs.Seen.{model_of};
+ghost use Rattle.model_tree.specs.WholeTree.{model_of};
 ghost use Rattle.model_tree.specs.Stops.{IfRefused};
 ghost use Rattle.model_check.specs.ModelRules.Passes.{first_fault};
 ghost use Rattle.binding.specs.DesignRules.Listing.{objects_of};

@@ -1,11 +1,10 @@
 //! The names of the exceptions of a tree.
 ghost use Rattle.std.specs.Prelude.{◌≡◌, IfOk, map};
-ghost use Rattle.model_tree.specs.Seen.{model_of};
+ghost use Rattle.model_tree.specs.WholeTree.{model_of};
 ghost use Rattle.model_check.specs.CodeRules.Bodies as bodies;
 
 use model_check::code_terms_api::exceptions_of;
-use model_check::logic_values_api::Text;
-use model_check::plain_lists_api::Items;
+use model_check::logic_values_api::{Items, Text};
 use model_tree::Tree;
 use std::alloc::{AllocError, Global};
 

@@ -1,11 +1,11 @@
 ghost use Rattle.std.specs.Prelude.{◌≡◌, IfErr, IfOk, None, OnOk, Some, true};
 ghost use Rattle.model_tree.specs.Limits.{is_sound};
-ghost use Rattle.model_tree.specs.Seen.{model_of};
+ghost use Rattle.model_tree.specs.WholeTree.{model_of};
 ghost use Rattle.model_tree.specs.Stops.{IfRefused};
 ghost use Rattle.flat_design.specs.Code.{arena_of};
 ghost use Rattle.flat_design.specs.Sound.{SoundDesign};
 ghost use Rattle.model_check.specs.CodeRules.Bodies.{IsCodeOf};
-ghost use Rattle.model_check.specs.CodeRooms.Rooms.{HasRooms};
+ghost use Rattle.model_check.specs.CodeRules.Rooms.{HasRooms};
 ghost use Rattle.model_check.specs.Parts.{AllStand};
 ghost use Rattle.model_check.specs.LawsCode.OwnBlocks.{HaveOwnBlocks};
 ghost use Rattle.model_check.specs.TickRules.Sources as sources;

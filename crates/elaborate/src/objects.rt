@@ -1,6 +1,6 @@
 //! The objects of a tree, with its bindings between them.
 ghost use Rattle.std.specs.Prelude.{◌≡◌, Some, None, IfOk, OnOk, IfErr};
-ghost use Rattle.model_tree.specs.Seen.{model_of};
+ghost use Rattle.model_tree.specs.WholeTree.{model_of};
 ghost use Rattle.model_tree.specs.Stops.{IfRefused};
 ghost use Rattle.binding.specs.DesignRules.Listing.{objects_of};
 ghost use Rattle.binding.specs.DesignRules.ObjectFaults.{instances_fault};

@@ -1,6 +1,6 @@
 ghost use Rattle.std.specs.Prelude.{◌≡◌, IfOk};
 ghost use Rattle.elaborate_objects.specs.ModelTree.Views.{modules_of};
-ghost use Rattle.elaborate_objects.specs.ModelTree.Seen.{model_of};
+ghost use Rattle.elaborate_objects.specs.ModelTree.WholeTree.{model_of};
 ghost use Rattle.elaborate_objects.specs.DesignRules.Listing.{objects_of};
 ghost use Rattle.elaborate_objects.specs.DesignRules.Bound.{bound};
 ghost use Rattle.elaborate_objects.specs.CodeRules.Bodies.{IsCodeOf, exceptions_of};
@@ -23,9 +23,8 @@ use elaborate_objects::flat_design_api::{
     Code, Design, FifoPart, Hop, InstancePart, MemoryPart, Object, Objects, PortPart, ProcessPart,
     ResolvedPart, SemaphorePart, SignalPart, VariablePart, Visible,
 };
-use elaborate_objects::logic_values_api::Text;
+use elaborate_objects::logic_values_api::{Items, Text};
 use elaborate_objects::model_tree_api::{Module, Tree};
-use elaborate_objects::plain_lists_api::Items;
 use flat_design::sim_time_api::Resolution;
 use std::alloc::{AllocError, Global};
 

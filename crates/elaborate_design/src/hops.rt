@@ -7,7 +7,7 @@ ghost use Rattle.elaborate_design.specs.Joins.{with_first_at, number_at, AreFirs
 
 use elaborate_objects::design_rules_api::Joined;
 use elaborate_objects::flat_design_api::{CodeId, Hop, ObjectForm, Objects};
-use elaborate_objects::plain_lists_api::Items;
+use elaborate_objects::logic_values_api::Items;
 use std::alloc::{AllocError, Global};
 
 /// For each object the number of the first hop that begins there, and that of the first hop that ends there.

@@ -8,9 +8,8 @@ use elaborate_objects::flat_design_api::{
     FifoPart, MemoryPart, Object, ObjectForm, ResolvedPart, SemaphorePart, SignalPart, ValueType,
     VariablePart, Visible, VisibleId,
 };
-use elaborate_objects::logic_values_api::Value;
+use elaborate_objects::logic_values_api::{Items, Value};
 use elaborate_objects::model_tree_api::SignalKind;
-use elaborate_objects::plain_lists_api::Items;
 use std::alloc::{AllocError, Global};
 
 /// Adds what an object of this form is among signals, buffers and clocks.

@@ -6,8 +6,8 @@ ghost use Rattle.elaborate_design.specs.Links as spec;
 ghost use Rattle.elaborate_design.specs.Links.{link_of, links_by};
 
 use elaborate_objects::ModulePlaces;
+use elaborate_objects::logic_values_api::Items;
 use elaborate_objects::model_tree_api::{End, Item};
-use elaborate_objects::plain_lists_api::Items;
 use std::alloc::{AllocError, Global};
 
 /// An instance or a binding of a module.

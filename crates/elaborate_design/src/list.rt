@@ -1,6 +1,6 @@
 ghost use Rattle.std.specs.Prelude.{◌≡◌, IfOk};
 ghost use Rattle.elaborate_objects.specs.ModelTree.Views.{modules_of};
-ghost use Rattle.elaborate_objects.specs.ModelTree.Seen.{model_of};
+ghost use Rattle.elaborate_objects.specs.ModelTree.WholeTree.{model_of};
 ghost use Rattle.elaborate_objects.specs.DesignRules.Forms.{module_place};
 ghost use Rattle.elaborate_objects.specs.DesignRules.Listing.{list_of, binds_of};
 ghost use Rattle.elaborate_objects.specs.Parents.{AreInside};
@@ -11,8 +11,8 @@ use super::turns::{Walk, walk_all};
 use crate::Children;
 use elaborate_objects::ModulePlaces;
 use elaborate_objects::flat_design_api::{Binding, Object};
+use elaborate_objects::logic_values_api::Items;
 use elaborate_objects::model_tree_api::{Module, Top, Tree};
-use elaborate_objects::plain_lists_api::Items;
 use std::alloc::{AllocError, Global};
 
 /// The place in the text of the module of the top instance.

@@ -12,8 +12,8 @@ use super::counting::{behind, nothing_before};
 use super::denoted::object_denoted;
 use elaborate_objects::check_names_api::{NameTable, item_name};
 use elaborate_objects::flat_design_api::{Denoted, InstancePart, Object, ObjectForm};
+use elaborate_objects::logic_values_api::Items;
 use elaborate_objects::model_tree_api::{Item, Module};
-use elaborate_objects::plain_lists_api::Items;
 use std::alloc::{AllocError, Global};
 
 /// So many tables without names.

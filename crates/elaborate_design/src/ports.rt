@@ -8,7 +8,7 @@ use super::counting::{behind, nothing_before};
 use super::denoted::object_denoted;
 use elaborate_objects::design_rules_api::BoundPort;
 use elaborate_objects::flat_design_api::{ChannelId, Denoted, ObjectForm, Objects, PortPart};
-use elaborate_objects::plain_lists_api::Items;
+use elaborate_objects::logic_values_api::Items;
 use std::alloc::{AllocError, Global};
 
 /// The channel that an object is.

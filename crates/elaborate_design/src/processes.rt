@@ -11,8 +11,8 @@ use elaborate_objects::flat_design_api::{
     ChannelId, CodeId, Denoted, EventMember, InstancePart, Object, ObjectForm, PortPart,
     ProcessPart, StaticUse,
 };
+use elaborate_objects::logic_values_api::Items;
 use elaborate_objects::model_tree_api::ProcessKind;
-use elaborate_objects::plain_lists_api::Items;
 use std::alloc::{AllocError, Global};
 
 /// The first event of a channel.

@@ -9,8 +9,8 @@ ghost use Rattle.elaborate_objects.specs.DesignRules.Statics.{lists_among, stati
 
 use elaborate_objects::check_names_api::{ModuleNames, event_member, row_of};
 use elaborate_objects::flat_design_api::{EventMember, StaticUse};
+use elaborate_objects::logic_values_api::Items;
 use elaborate_objects::model_tree_api::{Event, Item, Module, Name, Place};
-use elaborate_objects::plain_lists_api::Items;
 use std::alloc::{AllocError, Global};
 
 /// The place of a port's channel in a static sensitivity; none where the place is no number.

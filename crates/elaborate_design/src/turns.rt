@@ -10,7 +10,7 @@ use super::frames::{Frame, behind, enter};
 use super::links::LinkRow;
 use crate::Children;
 use elaborate_objects::flat_design_api::Binding;
-use elaborate_objects::plain_lists_api::Items;
+use elaborate_objects::logic_values_api::Items;
 use std::alloc::AllocError;
 
 /// A walk along the instances of a design: the bindings so far, and the instances that it stands in, the innermost last.

@@ -11,3 +11,4 @@ pub mod ModelRules
 pub mod CodeRules
 pub mod DesignRules
 pub mod CheckNames
+pub mod LogicValues

@@ -1,9 +1,14 @@
+pub use Rattle.check_names.specs.ModelRules.Calls as Calls
 pub use Rattle.check_names.specs.ModelRules.Distinct as Distinct
 pub use Rattle.check_names.specs.ModelRules.Items as Items
 pub use Rattle.check_names.specs.ModelRules.Meanings as Meanings
 pub use Rattle.check_names.specs.ModelRules.Members as Members
 pub use Rattle.check_names.specs.ModelRules.Names as Names
+pub use Rattle.check_names.specs.ModelRules.Operators as Operators
 pub use Rattle.check_names.specs.ModelRules.Passes as Passes
+pub use Rattle.check_names.specs.ModelRules.Reach as Reach
 pub use Rattle.check_names.specs.ModelRules.Scopes as Scopes
 pub use Rattle.check_names.specs.ModelRules.Sites as Sites
+pub use Rattle.check_names.specs.ModelRules.Targets as Targets
+pub use Rattle.check_names.specs.ModelRules.Values as Values
 pub use Rattle.check_names.specs.ModelRules.declared as declared

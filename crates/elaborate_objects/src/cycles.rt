@@ -1,6 +1,6 @@
 ghost use Rattle.std.specs.Prelude.{◌≡◌, Some, None, OnOk, IfErr};
 ghost use Rattle.check_names.specs.ModelTree.Views.{module_of, modules_of};
-ghost use Rattle.check_names.specs.ModelTree.Seen.{model_of};
+ghost use Rattle.check_names.specs.ModelTree.WholeTree.{model_of};
 ghost use Rattle.check_names.specs.ModelTree.Stops.{IfRefused};
 ghost use Rattle.design_rules.specs.ObjectFaults.{fault_at, cycle_from, cycle_fault};
 ghost use Rattle.elaborate_objects.specs.Marks.{made_of};
@@ -8,9 +8,8 @@ ghost use Rattle.elaborate_objects.specs.Marks.{made_of};
 use super::found::first_of_itself;
 use super::made::made_of;
 use super::settled::are_settled;
-use check_names::logic_values_api::Text;
+use check_names::logic_values_api::{Items, Text};
 use check_names::model_tree_api::{CheckStop, Fault, Kind, Module, Tree};
-use check_names::plain_lists_api::Items;
 use design_rules::Made;
 use std::alloc::Global;
 

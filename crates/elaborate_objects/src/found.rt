@@ -7,7 +7,7 @@ ghost use Rattle.design_rules.specs.ObjectFaults.{first_of_itself};
 ghost use Rattle.elaborate_objects.specs.Marks.{made_of, row_of, is_marked, meets, count_of, KeepsFound, IsClosedAt, IsClosed};
 
 use super::settled::{is_marked, row_of, unmarked};
-use check_names::plain_lists_api::Items;
+use check_names::logic_values_api::Items;
 use design_rules::Made;
 use std::alloc::{AllocError, Global};
 

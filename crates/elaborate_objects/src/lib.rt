@@ -55,7 +55,7 @@ pub mod flat_design_api {
 
 /// What is passed on of logic_values.
 pub mod logic_values_api {
-    pub use check_names::logic_values_api::{Text, Value};
+    pub use check_names::logic_values_api::{Items, Text, Value};
 }
 
 /// What is passed on of model_tree.
@@ -63,9 +63,4 @@ pub mod model_tree_api {
     pub use check_names::model_tree_api::{
         End, Event, Item, Module, Name, Place, ProcessKind, SignalKind, Top, Tree,
     };
-}
-
-/// What is passed on of plain_lists.
-pub mod plain_lists_api {
-    pub use check_names::plain_lists_api::Items;
 }

@@ -3,7 +3,7 @@ ghost use Rattle.std.specs.Bool.{MatchBool};
 ghost use Rattle.check_names.specs.FlatDesign.declared.objects.ObjectForm.TheVariants as form;
 ghost use Rattle.check_names.specs.ModelTree.declared.faults.Kind.TheVariants as kind;
 ghost use Rattle.check_names.specs.ModelTree.Views.{modules_of};
-ghost use Rattle.check_names.specs.ModelTree.Seen.{model_of};
+ghost use Rattle.check_names.specs.ModelTree.WholeTree.{model_of};
 ghost use Rattle.check_names.specs.ModelTree.Stops.{IfRefused};
 ghost use Rattle.design_rules.specs.Forms.{module_place};
 ghost use Rattle.design_rules.specs.Listing.{list_of};
@@ -17,9 +17,8 @@ use super::turns::walk_all;
 use super::walks::Walk;
 use crate::{ModulePlaces, rows_of};
 use check_names::flat_design_api::{Object, ObjectForm};
-use check_names::logic_values_api::Text;
+use check_names::logic_values_api::{Items, Text};
 use check_names::model_tree_api::{CheckStop, Fault, Kind, Module, Top, Tree};
-use check_names::plain_lists_api::Items;
 use std::alloc::{AllocError, Global};
 
 /// The object of the top instance, of the module at this place.

@@ -6,8 +6,8 @@ ghost use Rattle.design_rules.specs.ObjectFaults.{made_by};
 ghost use Rattle.elaborate_objects.specs.Marks.{made_of};
 
 use crate::ModulePlaces;
+use check_names::logic_values_api::Items;
 use check_names::model_tree_api::{Item, Module};
-use check_names::plain_lists_api::Items;
 use design_rules::Made;
 use std::alloc::{AllocError, Global};
 

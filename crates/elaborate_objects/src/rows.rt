@@ -12,8 +12,8 @@ use super::row_names::{Names, bodies_among};
 use crate::{ModulePlaces, NamePlaces};
 use check_names::flat_design_api::ObjectForm;
 use check_names::item_name;
+use check_names::logic_values_api::Items;
 use check_names::model_tree_api::{Item, Module, item_line};
-use check_names::plain_lists_api::Items;
 use std::alloc::{AllocError, Global};
 
 /// What an item of a module gives each instance of the module: an object but for the instance that it is in.

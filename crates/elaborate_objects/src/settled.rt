@@ -6,7 +6,7 @@ ghost use Rattle.check_names.specs.ModelTree.Tree as tree;
 ghost use Rattle.design_rules.specs.ObjectFaults.{cycle_from};
 ghost use Rattle.elaborate_objects.specs.Marks.{made_of, row_of, is_marked, count_of, KeepsSettled};
 
-use check_names::plain_lists_api::Items;
+use check_names::logic_values_api::Items;
 use design_rules::Made;
 use std::alloc::{AllocError, Global};
 

@@ -10,7 +10,7 @@ use super::frames::{Frame, enter_form};
 use super::limits::{bytes_in, fits};
 use super::walks::{Walk, object};
 use crate::ObjectRow;
-use check_names::plain_lists_api::Items;
+use check_names::logic_values_api::Items;
 use std::alloc::{AllocError, Global};
 
 /// The row of a module at a place of it.

@@ -6,8 +6,7 @@ ghost use Rattle.elaborate_objects.specs.Left.{object_of};
 use super::frames::Frame;
 use crate::ObjectRow;
 use check_names::flat_design_api::Object;
-use check_names::logic_values_api::Text;
-use check_names::plain_lists_api::Items;
+use check_names::logic_values_api::{Items, Text};
 use std::alloc::{AllocError, Global};
 
 /// A walk along the instances of a design: the objects so far, and the instances that it stands in, the innermost last.

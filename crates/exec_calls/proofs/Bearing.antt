@@ -1,6 +1,6 @@
 -- What a new instance leaves as it was.
 use Rattle.std.proofs.Common.{◌≡◌, ℕ, sym, ◌∙◌, subst}
-use Rattle.exec_data.specs.KernelProcesses.Seen.{body_at as kept_at}
+use Rattle.exec_data.specs.KernelProcesses.InstanceViews.{body_at as kept_at}
 use Rattle.exec_data.specs.KernelProcesses.Moved.{IsTop}
 use Rattle.exec_data.specs.ProcessBodies.Bodies as bodies
 use Rattle.exec_data.specs.KernelState.Moves.{HasStatement, IsOnTop}

@@ -15,7 +15,7 @@ use Rattle.exec_data.specs.SimModel.Calls.{given_back}
 use Rattle.exec_data.specs.SimModel.Statements.{settled_in, calling_statement}
 use Rattle.exec_data.specs.ProcessBodies.Bodies as bodies
 use Rattle.exec_data.specs.KernelProcesses.declared.parts.Process.{Process}
-use Rattle.exec_data.specs.KernelProcesses.Seen.{body_at as kept_at}
+use Rattle.exec_data.specs.KernelProcesses.InstanceViews.{body_at as kept_at}
 use Rattle.exec_data.proofs.KernelProcesses.Wakes.{change-here}
 use Rattle.exec_data.specs.KernelState.Kernel.{StandsFor}
 use Rattle.exec_data.specs.KernelState.Moves.{Lives}

@@ -8,8 +8,8 @@ use Rattle.exec_data.specs.SimModel.Residual.{within}
 use Rattle.exec_data.specs.SimModel.Configuration.{Config, Instance, instance_at}
 use Rattle.exec_data.specs.SimModel.Reading.{here, home_of_via}
 use Rattle.exec_data.specs.ProcessBodies.Bodies as bodies
-use Rattle.exec_data.specs.KernelProcesses.Seen.{seen, shown_at, as_instance}
-use Rattle.exec_data.specs.KernelProcesses.Seen.{body_at as kept_at}
+use Rattle.exec_data.specs.KernelProcesses.InstanceViews.{seen, shown_at, as_instance}
+use Rattle.exec_data.specs.KernelProcesses.InstanceViews.{body_at as kept_at}
 use Rattle.exec_data.specs.KernelProcesses.declared.parts.Process.{Process}
 use Rattle.exec_data.specs.KernelState.Processes.{beside, TellsBy, Tells}
 use Rattle.exec_data.specs.KernelState.Kernel.{Shows, StandsFor, whole_design}

@@ -10,7 +10,7 @@ use Rattle.std.specs.Cmp.{nat_cmp_total, eq_by_cmp_equiv}
 use Rattle.std.proofs.lemmas.List.{length-map}
 use Rattle.std.proofs.lemmas.Map.Made.{length-le_from_is_member}
 use Rattle.exec_data.specs.InstanceTable.declared.instances.Instance.{Instance as Entry}
-use Rattle.exec_data.specs.KernelProcesses.Seen.{seen}
+use Rattle.exec_data.specs.KernelProcesses.InstanceViews.{seen}
 use Rattle.exec_data.specs.KernelProcesses.Sound.{FitsAs}
 use Rattle.exec_data.specs.KernelProcesses.Sound as schedules
 use Rattle.exec_data.specs.KernelProcesses.declared.parts.Process.{Process}

@@ -18,7 +18,7 @@ use Rattle.exec_data.specs.ProcessBodies.Bodies as bodies
 use Rattle.exec_data.specs.ProcessBodies.declared.body.Body.{Body}
 use Rattle.exec_data.specs.ProcessState.declared.starting.EnterStop.{EnterStop}
 use Rattle.exec_data.specs.ProcessState.declared.starting.EnterStop.TheVariants as stop
-use Rattle.exec_data.specs.KernelProcesses.Seen.{body_at as kept_at}
+use Rattle.exec_data.specs.KernelProcesses.InstanceViews.{body_at as kept_at}
 use Rattle.exec_data.specs.KernelProcesses.declared.parts.Process.{Process}
 use Rattle.exec_data.specs.KernelProcesses.Moved.{PutsBody}
 use Rattle.exec_data.proofs.KernelProcesses.OtherBody.{puts_body}

@@ -21,7 +21,7 @@ use Rattle.exec_data.specs.SimModel.Reading.{Here, here}
 use Rattle.exec_data.specs.SimModel.Storing.{passes, set_name, set_denoted}
 use Rattle.exec_data.specs.SimModel.Calls.{body_name, home_path, locals_in, static_events, new_instance, added, runnable_unless, handle_stored, may_spawn, spawns, first_arguments, do_spawn}
 use Rattle.exec_data.proofs.KernelProcesses.Wakes.{change-here, change-length}
-use Rattle.exec_data.specs.KernelProcesses.Seen.{kind_of}
+use Rattle.exec_data.specs.KernelProcesses.InstanceViews.{kind_of}
 use Rattle.exec_data.specs.KernelState.Kernel.{StandsFor}
 use Rattle.exec_data.specs.KernelState.Moves.{Moves, Steps}
 use Rattle.exec_data.specs.KernelState.Stopping.{FollowsBut, DoesOrStops, NoFault}

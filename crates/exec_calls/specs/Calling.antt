@@ -16,7 +16,7 @@ use Rattle.exec_data.specs.KernelBodies.Room.{locals_with}
 use Rattle.exec_data.specs.ProcessBodies.Bodies.{left_in, settled_in, next_in, HasRoomFor}
 use Rattle.exec_data.specs.ProcessState.declared.starting.EnterStop.{EnterStop}
 use Rattle.exec_data.specs.ProcessState.declared.starting.EnterStop.TheVariants as stop
-use Rattle.exec_data.specs.KernelProcesses.Seen.{body_at as kept_at}
+use Rattle.exec_data.specs.KernelProcesses.InstanceViews.{body_at as kept_at}
 use Rattle.exec_data.specs.KernelState.Kernel.{StandsFor}
 use Rattle.exec_data.specs.KernelState.Moves.{KeptAt}
 use Rattle.exec_data.specs.KernelState.declared.kernel.Kept.{Kept}

@@ -10,8 +10,7 @@ use exec_data::expr_eval_api::cut_to;
 use exec_data::kernel_bodies_api::Program;
 use exec_data::kernel_state_api::Kernel;
 use exec_data::kernel_view_api::eval_at;
-use exec_data::logic_values_api::Value;
-use exec_data::plain_lists_api::Items;
+use exec_data::logic_values_api::{Items, Value};
 use flat_design::{CodeId, Expr, Local, RunFault};
 use std::alloc::{AllocError, Global};
 

@@ -74,12 +74,7 @@ pub mod kernel_view_api {
 
 /// What is passed on of logic_values.
 pub mod logic_values_api {
-    pub use exec_data::logic_values_api::Value;
-}
-
-/// What is passed on of plain_lists.
-pub mod plain_lists_api {
-    pub use exec_data::plain_lists_api::{Bytes, Items};
+    pub use exec_data::logic_values_api::{Bytes, Items, Value};
 }
 
 /// What is passed on of sim_model.

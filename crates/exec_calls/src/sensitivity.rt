@@ -7,7 +7,7 @@ ghost use Rattle.exec_calls.specs.Sensitive.{HasNumbers, NumbersThose, static_in
 
 use exec_data::event_core_api::Ev;
 use exec_data::kernel_view_api::denoted_in;
-use exec_data::plain_lists_api::Items;
+use exec_data::logic_values_api::Items;
 use exec_events::{event_offset, first_event};
 use flat_design::{ChannelId, Denoted, Design, EventMember, PortPart, StaticUse};
 use std::alloc::{AllocError, Global};

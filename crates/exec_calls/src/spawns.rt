@@ -5,7 +5,7 @@ ghost use Rattle.exec_data.specs.SimModel.Configuration.{Config};
 ghost use Rattle.exec_data.specs.SimModel.Calls.{do_spawn, handle_stored, may_spawn, spawns};
 ghost use Rattle.exec_data.specs.SimModel.Reading.{here};
 ghost use Rattle.exec_data.specs.SimModel.Storing.{passes};
-ghost use Rattle.exec_data.specs.KernelProcesses.Seen as seen;
+ghost use Rattle.exec_data.specs.KernelProcesses.InstanceViews as seen;
 ghost use Rattle.exec_events.specs.Numbers.{NumbersEvents};
 ghost use Rattle.exec_data.specs.KernelState.Kernel.{IsSound, StandsFor, whole_design};
 ghost use Rattle.exec_data.specs.KernelState.Moves.{Moves, Steps, HasStatement, IsOnTop};
@@ -19,9 +19,8 @@ use exec_data::kernel_state_api::{
     Kernel, Offspring, StatementStop, pass, spawn as bring_forth, top_lives,
 };
 use exec_data::kernel_view_api::home_at;
-use exec_data::logic_values_api::Value;
+use exec_data::logic_values_api::{Items, Value};
 use exec_data::model_tree_api::ProcessKind as Kind;
-use exec_data::plain_lists_api::Items;
 use exec_data::store;
 use flat_design::{NameUse, RunFault, SpawnForm, Store, ValueType};
 use std::alloc::{AllocError, Global};

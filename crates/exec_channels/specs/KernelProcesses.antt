@@ -1,2 +1,2 @@
-pub use Rattle.kernel_view.specs.KernelProcesses.Seen as Seen
+pub use Rattle.kernel_view.specs.KernelProcesses.InstanceViews as InstanceViews
 pub use Rattle.kernel_view.specs.KernelProcesses.declared as declared

@@ -12,8 +12,8 @@ use Rattle.exec_data.specs.SimModel.Configuration.{Config, Instance, change, cha
 use Rattle.exec_data.specs.SimModel.Waits.{leaves_stack}
 use Rattle.exec_data.specs.SimModel.Statements.{settled_in}
 use Rattle.exec_data.specs.SimModel.Control.{is_thread, next_wait, ended_instance, ends, idles, done_by}
-use Rattle.exec_data.specs.KernelProcesses.Seen.{seen, as_instance}
-use Rattle.exec_data.specs.KernelProcesses.Seen.{body_at as kept_at}
+use Rattle.exec_data.specs.KernelProcesses.InstanceViews.{seen, as_instance}
+use Rattle.exec_data.specs.KernelProcesses.InstanceViews.{body_at as kept_at}
 use Rattle.exec_data.specs.KernelProcesses.Sound as schedules
 use Rattle.exec_data.specs.KernelProcesses.declared.parts.Process.{Process}
 use Rattle.exec_data.specs.KernelProcesses.declared.parts.Schedule.{Schedule}

@@ -15,8 +15,8 @@ use Rattle.exec_data.specs.SimModel.Statements.{settled_in}
 use Rattle.exec_data.specs.ProcessBodies.Bodies as bodies
 use Rattle.exec_data.specs.ProcessBodies.Bodies.{left_in}
 use Rattle.exec_data.specs.ProcessBodies.declared.body.Body.{Body}
-use Rattle.exec_data.specs.KernelProcesses.Seen.{seen, shown_at, is_on, bare, as_instance}
-use Rattle.exec_data.specs.KernelProcesses.Seen.{body_at as kept_at}
+use Rattle.exec_data.specs.KernelProcesses.InstanceViews.{seen, shown_at, is_on, bare, as_instance}
+use Rattle.exec_data.specs.KernelProcesses.InstanceViews.{body_at as kept_at}
 use Rattle.exec_data.specs.KernelProcesses.Sound as schedules
 use Rattle.exec_data.specs.KernelProcesses.Moves.{MovesOne}
 use Rattle.exec_data.specs.KernelProcesses.declared.parts.Process.{Process}

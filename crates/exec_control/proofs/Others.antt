@@ -6,8 +6,8 @@ use Rattle.flat_design.specs.declared.faults.RunFault.{RunFault}
 use Rattle.flat_design.specs.declared.faults.RunFault.TheVariants as fault
 use Rattle.exec_data.specs.SimModel.Configuration.{Config, Instance, instance_at}
 use Rattle.exec_data.specs.SimModel.Control.{is_thread, throws_at, throw_call, unless_ended, injected}
-use Rattle.exec_data.specs.KernelProcesses.Seen.{is_on, shown_at}
-use Rattle.exec_data.specs.KernelProcesses.Seen.{body_at as kept_at}
+use Rattle.exec_data.specs.KernelProcesses.InstanceViews.{is_on, shown_at}
+use Rattle.exec_data.specs.KernelProcesses.InstanceViews.{body_at as kept_at}
 use Rattle.exec_data.specs.KernelProcesses.Moved.{IsTop}
 use Rattle.exec_data.specs.KernelState.Processes.{TellsBy, Tells}
 use Rattle.exec_data.specs.KernelState.Kernel.{Shows, StandsFor, IsSound, whole_design}

@@ -8,7 +8,7 @@ use Rattle.exec_data.specs.InstanceTable.declared.instances.Instance.{Instance a
 use Rattle.exec_data.specs.SimModel.Configuration.{Config, Instance, change, change_instance, instance_at}
 use Rattle.exec_data.specs.SimModel.Waits.{holds, without}
 use Rattle.exec_data.specs.SimModel.Control.{top_of, is_top, yields, suspends}
-use Rattle.exec_data.specs.KernelProcesses.Seen.{is_on, bare}
+use Rattle.exec_data.specs.KernelProcesses.InstanceViews.{is_on, bare}
 use Rattle.exec_data.specs.KernelProcesses.Sound as schedules
 use Rattle.exec_data.specs.KernelProcesses.Moves.{MovesOne}
 use Rattle.exec_data.specs.KernelProcesses.declared.parts.Process.{Process}

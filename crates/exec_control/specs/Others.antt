@@ -1,6 +1,6 @@
 -- What a move of one instance leaves alone.
 use Rattle.std.specs.Prelude.{◌≡◌, ◌≢◌, ℕ}
-use Rattle.exec_data.specs.KernelProcesses.Seen.{body_at as kept_at}
+use Rattle.exec_data.specs.KernelProcesses.InstanceViews.{body_at as kept_at}
 use Rattle.exec_data.specs.KernelState.declared.kernel.Kernel.{Kernel}
 
 -- what is kept of all others stays, and so does the code

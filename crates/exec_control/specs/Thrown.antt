@@ -9,7 +9,7 @@ use Rattle.exec_data.specs.SimModel.Calls.{with_left}
 use Rattle.exec_data.specs.SimModel.Control.{pushed}
 use Rattle.exec_data.specs.SimModel.Statements.{settled_in}
 use Rattle.exec_data.specs.SimModel.declared.plain.Goal.TheVariants as goal_of
-use Rattle.exec_data.specs.KernelProcesses.Seen.{is_on}
+use Rattle.exec_data.specs.KernelProcesses.InstanceViews.{is_on}
 use Rattle.exec_data.specs.KernelState.Ways.{moved_on}
 use Rattle.exec_data.specs.KernelState.declared.kernel.Kernel.{Kernel}
 use Rattle.exec_data.specs.KernelState.declared.ways.Way.{Way}

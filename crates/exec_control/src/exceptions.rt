@@ -5,7 +5,7 @@ ghost use Rattle.exec_data.specs.SimModel.Configuration.{Config, Instance, insta
 ghost use Rattle.exec_data.specs.SimModel.Reading.{here};
 ghost use Rattle.exec_data.specs.SimModel.Storing.{passes};
 ghost use Rattle.exec_data.specs.SimModel.Control.{throw_call, do_throw_it};
-ghost use Rattle.exec_data.specs.KernelProcesses.Seen.{is_on};
+ghost use Rattle.exec_data.specs.KernelProcesses.InstanceViews.{is_on};
 ghost use Rattle.exec_data.specs.KernelState.Kernel.{StandsFor, IsSound};
 ghost use Rattle.exec_data.specs.KernelState.Moves.{Steps, Follows, Does, Lives, HasStatement, IsOnTop};
 ghost use Rattle.exec_data.specs.KernelState.Stopping.{DoesOrStops};

@@ -6,7 +6,7 @@ ghost use Rattle.exec_data.specs.SimModel.Residual.{skip, begun};
 ghost use Rattle.exec_data.specs.SimModel.Configuration.{Config, Instance, instance_at, change_instance, with_residual, arena};
 ghost use Rattle.exec_data.specs.SimModel.Waits as waits;
 ghost use Rattle.exec_data.specs.SimModel.Control as control;
-ghost use Rattle.exec_data.specs.KernelProcesses.Seen.{kind_of};
+ghost use Rattle.exec_data.specs.KernelProcesses.InstanceViews.{kind_of};
 ghost use Rattle.exec_data.specs.KernelProcesses.Moved as moved;
 ghost use Rattle.exec_data.specs.KernelState.Kernel.{StandsFor, IsSound};
 ghost use Rattle.exec_data.specs.KernelState.Moves.{Moves, MovesAt, Steps, Lives, IsOnTop};

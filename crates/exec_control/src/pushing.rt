@@ -2,7 +2,7 @@
 ghost use Rattle.std.specs.Prelude.{◌≡◌, false, None};
 ghost use Rattle.exec_data.specs.SimModel.Configuration.{change_instance};
 ghost use Rattle.exec_data.specs.SimModel.Control.{pushed};
-ghost use Rattle.exec_data.specs.KernelProcesses.Seen.{is_on};
+ghost use Rattle.exec_data.specs.KernelProcesses.InstanceViews.{is_on};
 ghost use Rattle.exec_data.specs.KernelState.Kernel.{IsSound};
 ghost use Rattle.exec_data.specs.KernelState.Moves.{Moves, Lives};
 

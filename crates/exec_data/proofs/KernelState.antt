@@ -3,9 +3,9 @@ pub use Rattle.kernel_view.proofs.KernelState.Ending as Ending
 pub use Rattle.kernel_view.proofs.KernelState.Frames as Frames
 pub use Rattle.kernel_view.proofs.KernelState.Leaving as Leaving
 pub use Rattle.kernel_view.proofs.KernelState.Offsprings as Offsprings
+pub use Rattle.kernel_view.proofs.KernelState.OneLess as OneLess
 pub use Rattle.kernel_view.proofs.KernelState.ProcessFrames as ProcessFrames
 pub use Rattle.kernel_view.proofs.KernelState.Pushing as Pushing
 pub use Rattle.kernel_view.proofs.KernelState.Reached as Reached
 pub use Rattle.kernel_view.proofs.KernelState.Stacks as Stacks
-pub use Rattle.kernel_view.proofs.KernelState.Taken as Taken
 pub use Rattle.kernel_view.proofs.KernelState.Uses as Uses

@@ -1,4 +1,4 @@
-pub mod Told
+pub mod PrintAnswers
 pub mod Variables
 pub mod Entered
 pub mod Written

@@ -15,8 +15,7 @@ ghost use Rattle.kernel_view.specs.KernelState.Moves.{Moves, Does, Lives, HasSta
 use flat_design::{Denoted, Expr, RunFault};
 use kernel_view::expr_eval_api::bits;
 use kernel_view::kernel_state_api::{Kernel, pass};
-use kernel_view::logic_values_api::Value;
-use kernel_view::plain_lists_api::Bytes;
+use kernel_view::logic_values_api::{Bytes, Value};
 use kernel_view::{denoted_at, eval_at};
 
 /// The low 8 bits of a number.

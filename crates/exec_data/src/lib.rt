@@ -78,17 +78,12 @@ pub mod kernel_view_api {
 
 /// What is passed on of logic_values.
 pub mod logic_values_api {
-    pub use kernel_view::logic_values_api::Value;
+    pub use kernel_view::logic_values_api::{Bytes, Items, Value};
 }
 
 /// What is passed on of model_tree.
 pub mod model_tree_api {
     pub use kernel_view::model_tree_api::{Control, ProcessKind};
-}
-
-/// What is passed on of plain_lists.
-pub mod plain_lists_api {
-    pub use kernel_view::plain_lists_api::{Bytes, Items};
 }
 
 /// What is passed on of process_bodies.

@@ -4,7 +4,7 @@ ghost use Rattle.flat_design.specs.Code.{Term};
 ghost use Rattle.kernel_view.specs.KernelState.Kernel.{IsSound};
 ghost use Rattle.kernel_view.specs.KernelState.Moves.{HasStatement, IsOnTop};
 ghost use Rattle.kernel_view.specs.Standings.{GivesIf};
-ghost use Rattle.exec_data.specs.Told.{Prints};
+ghost use Rattle.exec_data.specs.PrintAnswers.{Prints};
 
 use flat_design::RunFault;
 use kernel_view::kernel_state_api::{Kernel, pass, top_lives};

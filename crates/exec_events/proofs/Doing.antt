@@ -7,7 +7,7 @@ use Rattle.kernel_view.specs.KernelState.Kernel.{StandsFor}
 use Rattle.kernel_view.specs.KernelState.Stopping.{FollowsBut, NoFault}
 use Rattle.kernel_view.specs.KernelState.declared.kernel.Kernel.{Kernel}
 use Rattle.kernel_view.specs.KernelState.declared.stops.StatementStop.TheVariants as stop
-use Rattle.exec_events.specs.Asked.{ends}
+use Rattle.exec_events.specs.Requests.{ends}
 
 module _ (k : Kernel) (c : Config) (f : Trigger → Config) where
   -- its events and its end are those of the definition

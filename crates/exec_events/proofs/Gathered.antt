@@ -10,7 +10,7 @@ use Rattle.kernel_view.specs.SimModel.Configuration.{Trigger, Wait, Deadline}
 use Rattle.kernel_view.specs.SimModel.Reading.{Here, val, val_if, place_in}
 use Rattle.kernel_view.specs.SimModel.Waiting.{event_of, places_in, events_at, time_if, deadline_if, awaits}
 use Rattle.exec_events.specs.Named.{with_event, fault_of, first_fault, events_named}
-use Rattle.exec_events.specs.Asked.{wait_for, waiting_for, ends}
+use Rattle.exec_events.specs.Requests.{wait_for, waiting_for, ends}
 use Rattle.exec_events.proofs.Onces.{added, waited}
 
 -- what follows of what was found

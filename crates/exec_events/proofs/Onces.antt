@@ -11,7 +11,7 @@ use Rattle.kernel_view.specs.EventCore.declared.event.Ev.TheVariants as ev
 use Rattle.kernel_view.specs.SimModel.Configuration.{waits_for_any, waits_for_all}
 use Rattle.kernel_view.specs.SimModel.Waits.{is_among, struck, once}
 use Rattle.exec_events.specs.Named.{with_event}
-use Rattle.exec_events.specs.Asked.{wait_for, waiting_for}
+use Rattle.exec_events.specs.Requests.{wait_for, waiting_for}
 
 -- ---- the same event
 

@@ -11,7 +11,7 @@ use Rattle.kernel_view.specs.KernelBodies.Strip.{strip}
 use Rattle.kernel_view.specs.ProcessBodies.Bodies as bodies
 use Rattle.kernel_view.specs.ProcessBodies.Bodies.{left_in}
 use Rattle.kernel_view.specs.ProcessBodies.declared.body.Body.{Body}
-use Rattle.kernel_view.specs.KernelProcesses.Seen.{body_at as kept_at}
+use Rattle.kernel_view.specs.KernelProcesses.InstanceViews.{body_at as kept_at}
 use Rattle.kernel_view.specs.KernelProcesses.declared.parts.Process.{Process}
 use Rattle.kernel_view.specs.KernelProcesses.declared.parts.Schedule.{Schedule}
 use Rattle.kernel_view.specs.KernelProcesses.declared.parts.Trigger.{Trigger}

@@ -1,4 +1,4 @@
 pub mod Stopping
 pub mod Numbers
 pub mod Named
-pub mod Asked
+pub mod Requests

@@ -9,7 +9,7 @@ ghost use Rattle.kernel_view.specs.SimModel.Waits.{is_among};
 ghost use Rattle.kernel_view.specs.KernelState.Kernel.{whole_design};
 ghost use Rattle.kernel_view.specs.KernelState.Moves.{Lives};
 ghost use Rattle.kernel_view.specs.Standings.{Everywhere};
-ghost use Rattle.exec_events.specs.Asked.{wait_for, waiting_for};
+ghost use Rattle.exec_events.specs.Requests.{wait_for, waiting_for};
 ghost use Rattle.exec_events.specs.Named.{with_event, events_named, fault_of, first_fault};
 ghost use Rattle.exec_events.specs.Numbers.{NumbersEvents};
 
@@ -18,7 +18,7 @@ use flat_design::{EventUse, RunFault};
 use kernel_view::eval_place_at;
 use kernel_view::event_core_api::{Ev, same_event};
 use kernel_view::kernel_state_api::Kernel;
-use kernel_view::plain_lists_api::Items;
+use kernel_view::logic_values_api::Items;
 use std::alloc::{AllocError, Global};
 
 /// The first of two faults, where there is one.

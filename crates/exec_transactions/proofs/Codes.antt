@@ -4,7 +4,7 @@ use Rattle.std.specs.Prelude.{if◌then◌else◌}
 use Rattle.std.proofs.lemmas.Bool.{cases_eq}
 use Rattle.exec_calls.specs.TransportPhases.declared.phases.Path.{Path}
 use Rattle.exec_calls.specs.TransportPhases.declared.phases.Rule.{Rule}
-use Rattle.exec_calls.specs.TransportPhases.declared.kept.Kept.{Kept}
+use Rattle.exec_calls.specs.TransportPhases.declared.transaction.Kept.{Kept}
 use Rattle.exec_calls.specs.TransportPhases.Phases.{phase_of, answer_of, fresh, called, returned, first_broken, call_rules, return_rules}
 use Rattle.exec_calls.specs.TransportPhases.Rows.{Rows, row_of}
 use Rattle.exec_calls.specs.TransportPhases.History.{Entry, Call, Return, transaction, after_entry, kept_from, kept_of, state_of, other_requests, other_responds, broken}

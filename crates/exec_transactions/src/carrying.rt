@@ -19,7 +19,7 @@ ghost use Rattle.exec_transactions.specs.Carried.{bytes_of, with_bytes};
 use exec_calls::kernel_state_api::{Kernel, pass};
 use exec_calls::kernel_transactions_api::{TransactionBoard, live_payloads_are_used};
 use exec_calls::kernel_view_api::{denoted_at, payload_at};
-use exec_calls::plain_lists_api::{Bytes, Items};
+use exec_calls::logic_values_api::{Bytes, Items};
 use flat_design::{Denoted, NameUse, RunFault};
 use std::alloc::Global;
 use std::mem;

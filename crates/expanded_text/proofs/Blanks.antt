@@ -9,11 +9,11 @@ use Rattle.model_lexer.specs.ModelTree.declared.vocabulary.Symbol.{Symbol}
 use Rattle.model_lexer.specs.ModelTree.declared.vocabulary.Symbol.TheVariants as s
 use Rattle.model_tree.specs.Vocabulary.{symbol_text}
 use Rattle.model_tree.specs.Leaves.{is_letter, is_word_byte, is_word}
-use Rattle.model_lexer.specs.ModelGrammar.Tokens.{symbol_of}
+use Rattle.model_lexer.specs.Tokens.{symbol_of}
 use Rattle.model_lexer.specs.declared.forms.Form.{Form}
 use Rattle.model_lexer.specs.Forms.{is_digit, is_hex_digit, is_logic_byte, is_blank, is_comment, is_decimal, is_hexadecimal, closes, is_logic, is_text, form_of}
 use Rattle.model_lexer.specs.Cut.{IsPiece}
-use Rattle.model_lexer.proofs.ModelGrammar.Symbols.{symbol_of_spells}
+use Rattle.model_lexer.proofs.Symbols.{symbol_of_spells}
 use Rattle.model_lexer.proofs.Longest.{nothing_formless}
 
 -- ---- a blank inside

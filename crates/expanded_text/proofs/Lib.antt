@@ -3,6 +3,6 @@ pub mod Blanks
 pub mod Spelled
 pub mod Reading
 pub mod Rising
-pub mod Kept
+pub mod TokenLimits
 pub mod Texts
 pub mod Putting

@@ -2,10 +2,10 @@
 use Rattle.std.proofs.Common.{◌≡◌, ℕ, ◌+◌, ◌<◌, List, [], ◌∷◌, ◌++◌, length, get_or, take, append_assoc, ◌∙◌, refl, sym, ap}
 use Rattle.std.proofs.lemmas.List.{map-append, take_more, append-nil}
 use Rattle.std.proofs.lemmas.List.{replicate_more}
-use Rattle.model_lexer.specs.ModelGrammar.Tokens.{Token, Tokens}
+use Rattle.model_lexer.specs.Tokens.{Token, Tokens}
 use Rattle.clocked.specs.declared.expansion.Placed.{Placed}
 use Rattle.clocked.specs.Expanded.{line_behind}
-use Rattle.clocked.specs.Seen.{placed_in, expansion_in, token_written}
+use Rattle.clocked.specs.Views.{placed_in, expansion_in, token_written}
 use Rattle.expanded_text.specs.Page.{spelled, line_ends, between, token_at, tokens_from}
 
 -- one more end of a line

@@ -3,7 +3,7 @@ use Rattle.std.proofs.Common.{◌≡◌, ℕ, ◌+◌, ◌-◌, ◌≤◌, List,
 use Rattle.std.specs.Prelude.{◌==◌}
 use Rattle.model_lexer.specs.ModelTree.declared.vocabulary.Word.TheVariants as w
 use Rattle.model_lexer.specs.ModelTree.declared.vocabulary.Symbol.TheVariants as s
-use Rattle.model_lexer.specs.ModelGrammar.Tokens.{Token, Tokens, name, number, word, symbol}
+use Rattle.model_lexer.specs.Tokens.{Token, Tokens, name, number, word, symbol}
 use Rattle.model_lexer.specs.Cut.{line_at, Lexeme, CutFrom}
 use Rattle.model_lexer.specs.Laws.{with_lines, AreInOrder}
 use Rattle.model_lexer.proofs.CutLaws.{cut_ordered}

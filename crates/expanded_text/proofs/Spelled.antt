@@ -20,8 +20,8 @@ use Rattle.model_lexer.specs.ModelTree.declared.vocabulary.Symbol.TheVariants as
 use Rattle.model_tree.specs.Vocabulary.{word_text, symbol_text, word_of}
 use Rattle.model_tree.specs.Leaves.{is_letter, is_word_byte, is_word, is_name, is_print_byte, is_print_text}
 use Rattle.model_tree.specs.Limits.{is_number}
-use Rattle.model_lexer.specs.ModelGrammar.Tokens.{Token, name, number, logic, quoted, word, symbol, symbol_of, is_limited, word_or_name}
-use Rattle.model_lexer.specs.ModelGrammar.Versions.{is_later_word, is_plain}
+use Rattle.model_lexer.specs.Tokens.{Token, name, number, logic, quoted, word, symbol, symbol_of, is_limited, word_or_name}
+use Rattle.model_lexer.specs.Versions.{is_later_word, is_plain}
 use Rattle.model_lexer.specs.declared.forms.Form.{Form}
 use Rattle.model_lexer.specs.declared.forms.Form.TheVariants as form
 use Rattle.model_lexer.specs.Forms.{is_digit, is_logic_byte, is_blank, is_comment, is_decimal, is_hexadecimal, closes, is_logic, is_text, form_of}

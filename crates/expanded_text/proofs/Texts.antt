@@ -8,24 +8,24 @@ use Rattle.model_lexer.specs.ModelTree.declared.items.Head.{Head}
 use Rattle.model_lexer.specs.ModelTree.declared.items.Head.TheVariants as head
 use Rattle.model_lexer.specs.ModelTree.declared.items.Top.{Top}
 use Rattle.model_lexer.specs.ModelTree.declared.vocabulary.Word.TheVariants as w
-use Rattle.model_lexer.specs.ModelGrammar.Tokens.{Token, Tokens, name, number, logic, quoted, word, symbol}
-use Rattle.model_lexer.specs.ModelGrammar.Languages.{in_language}
-use Rattle.model_lexer.specs.ModelGrammar.Items.{DerivesModel, DerivesHead, DerivesSource}
+use Rattle.model_lexer.specs.Tokens.{Token, Tokens, name, number, logic, quoted, word, symbol}
+use Rattle.model_lexer.specs.Languages.{in_language}
+use Rattle.model_lexer.specs.Items.{DerivesModel, DerivesHead, DerivesSource}
 use Rattle.model_lexer.specs.Cut.{Lexeme, Cut}
 use Rattle.model_lexer.specs.Laws.{with_lines}
 use Rattle.model_lexer.specs.Reads.{Reads}
-use Rattle.model_lexer.specs.Seen.{lexemes}
+use Rattle.model_lexer.specs.Views.{lexemes}
 use Rattle.model_lexer.specs.declared.token.Token.{Token as Found}
 use Rattle.model_lexer.proofs.Cuts.{one_cut_from}
 use Rattle.clocked.specs.Parts.{Text, written}
 use Rattle.clocked.specs.Expanded.{expanded, Expands}
-use Rattle.clocked.specs.Seen.{tokens_in}
+use Rattle.clocked.specs.Views.{tokens_in}
 use Rattle.clocked.proofs.Looping.{only_one}
 use Rattle.expanded_text.specs.Becomes.{Becomes, says_third}
 use Rattle.expanded_text.specs.Page.{page}
 use Rattle.expanded_text.proofs.Rising.{Rising, cut_rises, text_rises}
 use Rattle.expanded_text.proofs.Reading.{page_cut}
-use Rattle.expanded_text.proofs.Kept.{becomes_spelled}
+use Rattle.expanded_text.proofs.TokenLimits.{becomes_spelled}
 
 -- the page of what the tokens of a text become is what it becomes
 pub becomes : (text : List ℕ) (ls : List Lexeme) (out : Tokens) (last : ℕ) → Cut text ls → Expands (with_lines ls) out → Becomes text (page last out)

@@ -3,7 +3,7 @@ use Rattle.std.specs.Prelude.{ℕ, Bool, true, false, ◌&&◌, ◌==◌, List, 
 use Rattle.std.specs.Str.{bytes_eq}
 use Rattle.model_lexer.specs.ModelTree.declared.vocabulary.Symbol.{Symbol}
 use Rattle.model_lexer.specs.ModelTree.declared.vocabulary.Symbol.TheVariants as s
-use Rattle.model_lexer.specs.ModelGrammar.Tokens.{Token, Tokens, name, number, logic, quoted, word, symbol}
+use Rattle.model_lexer.specs.Tokens.{Token, Tokens, name, number, logic, quoted, word, symbol}
 use Rattle.model_lexer.specs.Cut.{Lexeme, Cut}
 use Rattle.model_lexer.specs.Laws.{with_lines}
 use Rattle.clocked.specs.Expanded.{Expands}

@@ -3,7 +3,7 @@ use Rattle.std.specs.Prelude.{ℕ, ◌-◌, List, [], ◌∷◌, ◌++◌, map, 
 use Rattle.std.specs.Fmt.{decimal}
 use Rattle.model_tree.specs.LogicValues.ValueText.{letter_of}
 use Rattle.model_tree.specs.Vocabulary.{word_text, symbol_text}
-use Rattle.model_lexer.specs.ModelGrammar.Tokens.{Token, Tokens, name, number, logic, quoted, word, symbol}
+use Rattle.model_lexer.specs.Tokens.{Token, Tokens, name, number, logic, quoted, word, symbol}
 use Rattle.clocked.specs.Expanded.{line_behind}
 
 -- bytes between two quotes

@@ -1,6 +1,6 @@
 ghost use Rattle.std.specs.Prelude.{◌≡◌, ◌+◌, ◌==◌, ◌^◌, ◌<◌, ℕ, List, IfOk, IfSome, IsSome, MatchResult, count_by, length};
-ghost use Rattle.model_lexer.specs.Seen.{token_of};
-ghost use Rattle.clocked.specs.Seen.{tokens_in};
+ghost use Rattle.model_lexer.specs.Views.{token_of};
+ghost use Rattle.clocked.specs.Views.{tokens_in};
 ghost use Rattle.expanded_text.specs.Becomes as spec;
 ghost use Rattle.expanded_text.specs.Becomes.{Becomes};
 

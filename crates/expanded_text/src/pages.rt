@@ -1,8 +1,8 @@
 //! Tokens on a page.
 ghost use Rattle.std.specs.Prelude.{◌≡◌, ◌++◌, IfOk, OnOk, map, reverse};
 ghost use Rattle.model_tree.specs.LogicValues.Digits.{digits};
-ghost use Rattle.model_lexer.specs.Seen.{token_of};
-ghost use Rattle.clocked.specs.Seen.{expansion_in, token_written};
+ghost use Rattle.model_lexer.specs.Views.{token_of};
+ghost use Rattle.clocked.specs.Views.{expansion_in, token_written};
 ghost use Rattle.expanded_text.specs.Page as spec;
 
 use clocked::{Placed, Written};

@@ -22,17 +22,12 @@ pub mod event_core_api {
 
 /// What is passed on of logic_values.
 pub mod logic_values_api {
-    pub use sim_model::logic_values_api::{Digit, Value, digit};
+    pub use sim_model::logic_values_api::{Bytes, Digit, Items, Value, digit};
 }
 
 /// What is passed on of model_tree.
 pub mod model_tree_api {
     pub use sim_model::model_tree_api::{Control, PrintText, ProcessKind};
-}
-
-/// What is passed on of plain_lists.
-pub mod plain_lists_api {
-    pub use sim_model::plain_lists_api::{Bytes, Items};
 }
 
 /// What is passed on of sim_model.

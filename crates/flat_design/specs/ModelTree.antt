@@ -2,9 +2,9 @@ pub use Rattle.model_tree.specs.Leaves as Leaves
 pub use Rattle.model_tree.specs.Limits as Limits
 pub use Rattle.model_tree.specs.Lines as Lines
 pub use Rattle.model_tree.specs.Parts as Parts
-pub use Rattle.model_tree.specs.Seen as Seen
 pub use Rattle.model_tree.specs.Stops as Stops
 pub use Rattle.model_tree.specs.Tree as Tree
 pub use Rattle.model_tree.specs.Views as Views
+pub use Rattle.model_tree.specs.WholeTree as WholeTree
 pub use Rattle.model_tree.specs.contracts as contracts
 pub use Rattle.model_tree.specs.declared as declared

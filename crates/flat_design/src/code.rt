@@ -1,8 +1,7 @@
 use super::names::{EventMember, NameId, NameUse, PayloadBytes, PayloadField};
 use super::terms::Expr;
 use super::value_types::ValueType;
-use model_tree::logic_values_api::Text;
-use model_tree::plain_lists_api::Items;
+use model_tree::logic_values_api::{Items, Text};
 use model_tree::{Control, PrintText, ProcessKind};
 
 /// The number of the body of a function, a process or a clock.

@@ -3,8 +3,7 @@ use super::objects::{LeadsTo, Objects};
 use super::value_types::ValueType;
 use event_core::Ev;
 use event_core::sim_time_api::Resolution;
-use model_tree::logic_values_api::{Text, Value};
-use model_tree::plain_lists_api::Items;
+use model_tree::logic_values_api::{Items, Text, Value};
 use model_tree::{ProcessKind, SignalKind};
 
 /// A channel, by its number among the channels of its kind in object order, and its first event.

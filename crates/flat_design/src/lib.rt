@@ -34,7 +34,7 @@ pub mod event_core_api {
 /// What is passed on of logic_values.
 pub mod logic_values_api {
     pub use model_tree::logic_values_api::{
-        Digit, Lv, Sign, Text, Value, cut, digit, sub, vector_of_digits,
+        Digit, Items, Lv, Sign, Text, Value, cut, digit, sub, vector_of_digits,
     };
 }
 
@@ -46,11 +46,6 @@ pub mod model_tree_api {
         PortSize, PrintText, ProcessItem, ProcessKind, SignalItem, SignalKind, SignalType, Span,
         TargetRole, Top, Tree, TypeForm, UnaryOp, VarType, item_line,
     };
-}
-
-/// What is passed on of plain_lists.
-pub mod plain_lists_api {
-    pub use model_tree::plain_lists_api::Items;
 }
 
 /// What is passed on of sim_time.

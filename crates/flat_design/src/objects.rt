@@ -1,8 +1,7 @@
 use super::code::CodeId;
 use super::value_types::ValueType;
 use event_core::sim_time_api::Time;
-use model_tree::logic_values_api::{Text, Value};
-use model_tree::plain_lists_api::Items;
+use model_tree::logic_values_api::{Items, Text, Value};
 use model_tree::{BoundRule, ProcessKind, SignalKind};
 
 /// What a port or an export leads to.

@@ -1,4 +1,4 @@
-use model_tree::plain_lists_api::Items;
+use model_tree::logic_values_api::Items;
 
 /// The serials of the processes that were taken, in order of taking.
 pub type Choices = Items<u32>;

@@ -41,12 +41,7 @@ pub mod flat_design_api {
 
 /// What is passed on of logic_values.
 pub mod logic_values_api {
-    pub use sim_model::logic_values_api::Value;
-}
-
-/// What is passed on of plain_lists.
-pub mod plain_lists_api {
-    pub use sim_model::plain_lists_api::Items;
+    pub use sim_model::logic_values_api::{Items, Value};
 }
 
 /// What is passed on of sim_model.

@@ -6,7 +6,7 @@ use Rattle.std.proofs.lemmas.List.{length-set}
 use Rattle.std.proofs.lemmas.List.Sums.{count_by-le-length}
 use Rattle.std.proofs.lemmas.Option.{slice_get_read}
 use Rattle.kernel_events.specs.SimModel.Configuration.{change, changed_at}
-use Rattle.kernel_channels.specs.Asked.{HasRoom}
+use Rattle.kernel_channels.specs.UpdateMarks.{HasRoom}
 
 module _ {A : Type 0} (xs : List A) (n : ℕ) (x : A) (h : n < length xs) (read : x ≡ get_or xs n x) where
   pub there : slice_get xs n ≡ Some x

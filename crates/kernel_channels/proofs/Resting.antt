@@ -9,7 +9,7 @@ use Rattle.kernel_events.specs.FifoSync.Fifos.{after_update, nothing_in}
 use Rattle.kernel_events.specs.FlatDesign.declared.design.SignalPart.{SignalPart}
 use Rattle.kernel_events.specs.FlatDesign.declared.design.FifoPart.{FifoPart}
 use Rattle.kernel_events.specs.SimModel.Configuration.{first_signal}
-use Rattle.kernel_channels.specs.Asked.{Rests, nothing}
+use Rattle.kernel_channels.specs.UpdateMarks.{Rests, nothing}
 use Rattle.kernel_channels.proofs.Walked.{each_if, changes_if}
 
 module _ {A : Type 0} (after : A → A) where

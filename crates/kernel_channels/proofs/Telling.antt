@@ -14,7 +14,7 @@ use Rattle.kernel_events.specs.FlatDesign.declared.design.FifoPart.{FifoPart}
 use Rattle.kernel_events.specs.SimModel.Configuration.{Config}
 use Rattle.kernel_events.specs.SimModel.Phases.{resolved_change, resettled_all, resolved_changes, was_some, notified_if, announced, announce_signals, announce_resolved, announce_fifos, update_phase, channels_updated}
 use Rattle.kernel_channels.specs.Announced.{delta_if, told, told_by_signals, told_by_resolved, told_by_fifos, told_by}
-use Rattle.kernel_channels.specs.Asked.{Rests, nothing, wire_change, fifo_change}
+use Rattle.kernel_channels.specs.UpdateMarks.{Rests, nothing, wire_change, fifo_change}
 use Rattle.kernel_channels.proofs.Walked.{each_if, changes_if, told_each, change_if}
 
 -- ---- what rests announces nothing

@@ -5,7 +5,7 @@ use Rattle.std.specs.Global.{Vec}
 use Rattle.std.specs.Vec.{with_items}
 use Rattle.std.proofs.lemmas.List.{length-map, length-replicate, with_items_is}
 use Rattle.kernel_events.specs.EventCore.declared.notifications.Pending.{Pending}
-use Rattle.kernel_events.specs.NumberMarks.Places.{marked_places}
+use Rattle.kernel_events.specs.NumberedSlots.Places.{marked_places}
 use Rattle.kernel_events.specs.SignalChannel.Signals.{settled, change_of}
 use Rattle.kernel_events.specs.SignalChannel.Drivers.{Driven, resettled}
 use Rattle.kernel_events.specs.SignalChannel.declared.signal.Signal.{Signal}
@@ -15,7 +15,7 @@ use Rattle.kernel_events.specs.FlatDesign.declared.design.ResolvedPart.{Resolved
 use Rattle.kernel_events.specs.FlatDesign.declared.design.FifoPart.{FifoPart}
 use Rattle.kernel_events.specs.SimModel.Phases.{resettled_all, resolved_changes}
 use Rattle.kernel_channels.specs.Announced.{told_by_signals, told_by_resolved, told_by_fifos}
-use Rattle.kernel_channels.specs.Asked.{Rests, HasRoom, IsSignals, IsWires, IsFifos, wire_change, fifo_change, items_after, marks_after, events_after}
+use Rattle.kernel_channels.specs.UpdateMarks.{Rests, HasRoom, IsSignals, IsWires, IsFifos, wire_change, fifo_change, items_after, marks_after, events_after}
 use Rattle.kernel_channels.proofs.Walked.{items_all, marks_all, events_all}
 use Rattle.kernel_channels.proofs.Resting.{as_many, rests_all, updated_all, changed_all, settled_again}
 use Rattle.kernel_channels.proofs.Telling.{signal_quiet, signals_told, fifos_told, wires_told, wires_updated, wires_changed}

@@ -2,11 +2,11 @@
 use Rattle.std.proofs.Common.{◌≡◌, ◌+◌, ℕ, zero, suc, Bool, true, false, List, [], ◌∷◌, ◌++◌, Option, Some, None, length, drop, replicate, slice_get, refl, sym, ap, ◌∙◌, arith, append_assoc}
 use Rattle.std.proofs.lemmas.List.{length-append, set_at}
 use Rattle.kernel_events.specs.EventCore.declared.notifications.Pending.{Pending}
-use Rattle.kernel_events.specs.NumberMarks.Places.{places_from}
+use Rattle.kernel_events.specs.NumberedSlots.Places.{places_from}
 use Rattle.kernel_events.specs.SignalChannel.declared.signal.Changed.{Changed}
 use Rattle.kernel_events.specs.SimModel.Configuration.{change, changed_at}
 use Rattle.kernel_channels.specs.Announced.{told}
-use Rattle.kernel_channels.specs.Asked.{nothing, change_at, items_after, marks_after, events_after, marked_if, told_at}
+use Rattle.kernel_channels.specs.UpdateMarks.{nothing, change_at, items_after, marks_after, events_after, marked_if, told_at}
 
 get_here : {A : Type 0} (front : List A) (x : A) (xs : List A) (n : ℕ) → length front ≡ n → slice_get (front ++ x ∷ xs) n ≡ Some x
 get_here [] x xs zero at = refl

@@ -1,5 +1,5 @@
 pub mod Announced
 pub mod Writers
 pub mod Codes
-pub mod Asked
+pub mod UpdateMarks
 pub mod KernelEvents

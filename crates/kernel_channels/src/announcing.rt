@@ -1,11 +1,11 @@
 // What an update announces.
 ghost use Rattle.std.specs.Prelude.{◌≡◌, ◌+◌, IfOk};
 ghost use Rattle.kernel_channels.specs.Announced.{delta, delta_if, told};
-ghost use Rattle.kernel_channels.specs.Asked.{marked_if, nothing, told_at};
+ghost use Rattle.kernel_channels.specs.UpdateMarks.{marked_if, nothing, told_at};
 
 use kernel_events::EventBoard;
 use kernel_events::event_core_api::When;
-use kernel_events::number_marks_api::Marks;
+use kernel_events::numbered_slots_api::Marks;
 use kernel_events::signal_channel_api::Changed;
 use std::alloc::AllocError;
 

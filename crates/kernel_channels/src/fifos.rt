@@ -5,14 +5,14 @@ ghost use Rattle.kernel_events.specs.FifoSync.Fifos as spec;
 ghost use Rattle.kernel_events.specs.SimModel.Configuration.{change};
 ghost use Rattle.kernel_events.specs.SimModel.Reading.{fifo_number};
 ghost use Rattle.kernel_channels.specs.Announced.{told_by_fifos};
-ghost use Rattle.kernel_channels.specs.Asked.{fifo_change, change_at, items_after, events_after};
+ghost use Rattle.kernel_channels.specs.UpdateMarks.{fifo_change, change_at, items_after, events_after};
 
 use crate::announcing::{announce_at, no_change, number_of};
 use kernel_events::EventBoard;
 use kernel_events::fifo_sync_api::Fifo;
 use kernel_events::flat_design_api::FifoPart;
 use kernel_events::logic_values_api::Value;
-use kernel_events::number_marks_api::Marks;
+use kernel_events::numbered_slots_api::Marks;
 use kernel_events::signal_channel_api::Changed;
 use std::alloc::{AllocError, Global};
 use std::marker::Model;
@@ -36,7 +36,7 @@ impl Model for FifoBank {
 
     ghost coded = { coded_list queued_code };
 
-    ghost use Rattle.kernel_channels.specs.Asked.{IsFifos};
+    ghost use Rattle.kernel_channels.specs.UpdateMarks.{IsFifos};
 
     ghost view = { λ b. b.fifos.items };
 

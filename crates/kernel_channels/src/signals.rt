@@ -7,7 +7,7 @@ ghost use Rattle.kernel_events.specs.SimModel.Configuration as configuration;
 ghost use Rattle.kernel_events.specs.SimModel.Configuration.{change, first_signal};
 ghost use Rattle.kernel_events.specs.SimModel.Reading.{signal_value};
 ghost use Rattle.kernel_channels.specs.Announced.{told_by_signals};
-ghost use Rattle.kernel_channels.specs.Asked.{change_at, items_after, marks_after, events_after};
+ghost use Rattle.kernel_channels.specs.UpdateMarks.{change_at, items_after, marks_after, events_after};
 ghost use Rattle.kernel_channels.specs.Writers.{conflict_at, written_unless};
 
 use crate::announcing::{announce_at, mark_if, no_change, number_of};
@@ -15,7 +15,7 @@ use kernel_events::EventBoard;
 use kernel_events::flat_design_api::SignalPart;
 use kernel_events::logic_values_api::Value;
 use kernel_events::model_tree_api::SignalKind;
-use kernel_events::number_marks_api::Marks;
+use kernel_events::numbered_slots_api::Marks;
 use kernel_events::signal_channel_api::{Changed, Policy, Signal, WriterConflict};
 use std::alloc::{AllocError, Global};
 use std::marker::Model;
@@ -39,7 +39,7 @@ impl Model for SignalBank {
 
     ghost coded = { values_code };
 
-    ghost use Rattle.kernel_channels.specs.Asked.{IsSignals};
+    ghost use Rattle.kernel_channels.specs.UpdateMarks.{IsSignals};
 
     ghost view = { λ b. record {
       signals = b.signals.items;

@@ -6,13 +6,13 @@ ghost use Rattle.kernel_events.specs.SimModel.Configuration.{change};
 ghost use Rattle.kernel_events.specs.SimModel.Phases.{resettled_all, resolved_changes};
 ghost use Rattle.kernel_events.specs.SimModel.Reading.{resolved_value};
 ghost use Rattle.kernel_channels.specs.Announced.{told_by_resolved};
-ghost use Rattle.kernel_channels.specs.Asked.{wire_change, change_at, items_after, marks_after, events_after};
+ghost use Rattle.kernel_channels.specs.UpdateMarks.{wire_change, change_at, items_after, marks_after, events_after};
 
 use crate::announcing::{announce_at, mark_if, no_change, number_of};
 use kernel_events::EventBoard;
 use kernel_events::flat_design_api::ResolvedPart;
 use kernel_events::logic_values_api::{Digit, Value};
-use kernel_events::number_marks_api::Marks;
+use kernel_events::numbered_slots_api::Marks;
 use kernel_events::signal_channel_api::{Changed, Resolved};
 use std::alloc::{AllocError, Global};
 use std::marker::Model;
@@ -36,7 +36,7 @@ impl Model for WireBank {
 
     ghost coded = { wires_code };
 
-    ghost use Rattle.kernel_channels.specs.Asked.{IsWires};
+    ghost use Rattle.kernel_channels.specs.UpdateMarks.{IsWires};
 
     ghost view = { λ b. record {
       resolved = b.resolved.items;

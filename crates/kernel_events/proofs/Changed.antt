@@ -6,8 +6,8 @@ use Rattle.std.proofs.lemmas.Bool.{cases_eq, eq-eqb, ne_eqb}
 use Rattle.std.proofs.lemmas.List.{map-set, length-set, get_or-set_same, get_or-set_other, length-replicate}
 use Rattle.std.proofs.lemmas.List.Sums.{sum_by-set, count_by-le-length}
 use Rattle.std.proofs.lemmas.Option.{slice_get-get_or, slice_get_past}
-use Rattle.sim_model.specs.Lemmas.Updated.{updated}
-use Rattle.sim_model.proofs.Lemmas.MapLemmas.{same_gets, get-updated_same, get-updated_other}
+use Rattle.sim_model.specs.NumberedSlots.Updated.{updated}
+use Rattle.sim_model.proofs.NumberedSlots.MapLemmas.{same_gets, get-updated_same, get-updated_other}
 use Rattle.timed_queue.proofs.MapLemmas.{get-removed}
 use Rattle.sim_model.specs.EventCore.declared.notifications.Pending.{Pending}
 use Rattle.sim_model.specs.EventCore.declared.notifications.Pending.TheVariants as pending
@@ -17,7 +17,7 @@ use Rattle.timed_queue.specs.SimTime.declared.moments.Time.{Time}
 use Rattle.timed_queue.specs.Timed.{Timed, without}
 use Rattle.sim_model.specs.Configuration.{change, changed_at}
 use Rattle.sim_model.specs.Phases.{is_delta}
-use Rattle.kernel_events.specs.Kept.{time_of, is_timed, IsTied, with_pending}
+use Rattle.kernel_events.specs.Layout.{time_of, is_timed, IsTied, with_pending}
 
 -- ---- a change at a number
 

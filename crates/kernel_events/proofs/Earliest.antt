@@ -10,7 +10,7 @@ use Rattle.sim_model.specs.EventCore.Notifications.{pending_at}
 use Rattle.timed_queue.specs.Timed.{Timed, IsEarliest}
 use Rattle.timed_queue.proofs.MapLemmas.{same_gets}
 use Rattle.sim_model.specs.Phases.{earliest_event}
-use Rattle.kernel_events.specs.Kept.{time_of, IsTied}
+use Rattle.kernel_events.specs.Layout.{time_of, IsTied}
 
 -- the earliest, where none is before this time
 from_least : (events : List Pending) (m : ℕ) → ((e : ℕ) (u : Time) → time_of (pending_at events e) ≡ Some u → m ≤ u.0) → earliest_event events (Some m) ≡ Some m

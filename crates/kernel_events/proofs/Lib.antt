@@ -1,3 +1,3 @@
 pub mod Changed
-pub mod Taken
+pub mod DueEvents
 pub mod Earliest

@@ -1,7 +1,7 @@
 pub mod Numbered
-pub mod Kept
+pub mod Layout
 pub mod LogicValues
-pub mod NumberMarks
+pub mod NumberedSlots
 pub mod EventCore
 pub mod SignalChannel
 pub mod FifoSync

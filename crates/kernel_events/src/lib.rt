@@ -4,15 +4,15 @@
 
 ghost use Rattle.std.specs.Prelude.{◌≡◌, ◌++◌, ◌+◌, ◌≤◌, ℕ, None, Some, IfNone, IfSome, IsNone, IfOk, count_by, length, map, option_map, replicate, vec_len, vec_capacity};
 
-mod kept;
+mod timing;
 
-use kept::{cancel_all, follow, has_time, left_by};
-use number_marks::{Marks, only_marked_places_rise};
 use sim_model::event_core_api::{Effect, Events, Pending, When};
+use sim_model::numbered_slots_api::{Marks, only_marked_places_rise};
 use std::alloc::{AllocError, Global};
 use std::marker::Model;
 use timed_queue::TimedQueue;
 use timed_queue::sim_time_api::Time;
+use timing::{cancel_all, follow, has_time, left_by};
 
 /// What is pending for each event of the design, by the event's number.
 ///
@@ -40,7 +40,7 @@ impl Model for EventBoard {
 
     ghost coded = { coded_list the_row.coded };
 
-    ghost use Rattle.kernel_events.specs.Kept.{IsTied};
+    ghost use Rattle.kernel_events.specs.Layout.{IsTied};
 
     ghost view = { λ b. b.events };
 
@@ -189,12 +189,12 @@ pub mod model_tree_api {
     pub use sim_model::model_tree_api::SignalKind;
 }
 
-/// What is passed on of number_marks.
-pub mod number_marks_api {
-    pub use number_marks::Marks;
-}
-
 /// What is passed on of signal_channel.
 pub mod signal_channel_api {
     pub use sim_model::signal_channel_api::{Changed, Policy, Resolved, Signal, WriterConflict};
+}
+
+/// What is passed on of numbered_slots.
+pub mod numbered_slots_api {
+    pub use sim_model::numbered_slots_api::Marks;
 }

@@ -4,7 +4,7 @@ use Rattle.std.specs.Prelude.{nat_lt, is_some, unwrap_or, if◌then◌else◌}
 use Rattle.std.proofs.lemmas.Bool.Decides.{nat_tests}
 use Rattle.kernel_state.specs.SimModel.Configuration.{Config, Instance, Deadline, no_deadline, next_delta, at_time}
 use Rattle.kernel_state.specs.SimModel.Phases.{earlier, earlier_deadline, earliest_deadline, earliest_event, earliest}
-use Rattle.kernel_state.specs.KernelProcesses.Seen.{bare, shown_at, body_at}
+use Rattle.kernel_state.specs.KernelProcesses.InstanceViews.{bare, shown_at, body_at}
 use Rattle.kernel_state.specs.KernelProcesses.Times.{HasNoTime, HasNoTimeBefore, IsEarliestTime}
 use Rattle.kernel_state.specs.Processes.{TellsBy, Tells}
 use Rattle.kernel_state.specs.Kernel.{Shows, StandsFor, whole_design}

@@ -9,7 +9,7 @@ use Rattle.kernel_state.specs.SimModel.Configuration.{Config, Instance, change, 
 use Rattle.kernel_state.specs.SimModel.Waits.{holds, freed}
 use Rattle.kernel_state.specs.SimModel.Phases.{initialize_each}
 use Rattle.kernel_state.specs.KernelProcesses.Woken.{if_there}
-use Rattle.kernel_state.specs.KernelProcesses.Seen.{seen, shown_at, as_instance}
+use Rattle.kernel_state.specs.KernelProcesses.InstanceViews.{seen, shown_at, as_instance}
 use Rattle.kernel_state.specs.KernelProcesses.Sound as schedules
 use Rattle.kernel_state.specs.KernelProcesses.Moves.{MovesOne}
 use Rattle.kernel_state.specs.KernelProcesses.declared.parts.Process.{Process}

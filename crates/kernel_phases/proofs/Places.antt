@@ -1,7 +1,7 @@
 -- The serial at a place is the element there, in a list that rises.
 use Rattle.std.proofs.Common.{◌≡◌, ℕ, zero, suc, ◌<◌, ◌≤◌, Bool, cond, List, [], ◌∷◌, length, filter, find, Some, slice_get, nat_lt, ◌==◌, refl, sym, ap, ◌∙◌, ⊎_elim, arith, lt-ltb, le-ltb, eq-eqb, ne_eqb}
 use Rattle.std.proofs.lemmas.Bool.{cases_eq}
-use Rattle.kernel_state.specs.ReadySet.Kept.{AllAbove, IsRising}
+use Rattle.kernel_state.specs.ReadySet.Layout.{AllAbove, IsRising}
 use Rattle.kernel_state.specs.SimModel.Runs.{less_than, at_place}
 
 -- none of those above a number is less than what is at most the number

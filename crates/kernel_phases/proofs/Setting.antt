@@ -9,8 +9,8 @@ use Rattle.kernel_state.specs.SimModel.Phases.{due_events, due_instances, withou
 use Rattle.kernel_state.specs.KernelProcesses.Woken as woken
 use Rattle.kernel_state.specs.KernelProcesses.Woken.{after_event, joins_by, after_wake, joins}
 use Rattle.kernel_state.proofs.KernelProcesses.Wakes.{fire_rouses}
-use Rattle.kernel_state.specs.KernelProcesses.Seen.{is_on}
-use Rattle.kernel_state.specs.KernelProcesses.Seen.{body_at as kept_at}
+use Rattle.kernel_state.specs.KernelProcesses.InstanceViews.{is_on}
+use Rattle.kernel_state.specs.KernelProcesses.InstanceViews.{body_at as kept_at}
 use Rattle.kernel_state.specs.KernelProcesses.Sound as schedules
 use Rattle.kernel_state.specs.KernelProcesses.Moves.{Rouses}
 use Rattle.kernel_state.specs.KernelProcesses.declared.parts.Schedule.{Schedule}

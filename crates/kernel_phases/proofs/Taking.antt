@@ -6,7 +6,7 @@ use Rattle.std.proofs.lemmas.List.{length-map}
 use Rattle.kernel_state.specs.SimModel.Configuration.{Instance, Processes, Deadline, no_deadline}
 use Rattle.kernel_state.specs.SimModel.Phases.{due_instances, without_deadline}
 use Rattle.kernel_state.specs.KernelProcesses.Woken.{if_there}
-use Rattle.kernel_state.specs.KernelProcesses.Seen.{bare, is_on, shown_at, body_at}
+use Rattle.kernel_state.specs.KernelProcesses.InstanceViews.{bare, is_on, shown_at, body_at}
 use Rattle.kernel_state.specs.KernelProcesses.declared.parts.Schedule.{Schedule}
 use Rattle.kernel_state.specs.KernelProcesses.Times.{TakesDue}
 use Rattle.kernel_state.specs.Processes.{Beside, beside, Rests, TellsBy, Tells, StandsForProcesses}

@@ -15,8 +15,8 @@ use Rattle.kernel_state.proofs.KernelProcesses.Wakes.{change-here}
 use Rattle.kernel_state.specs.ProcessBodies.Bodies as bodies
 use Rattle.kernel_state.specs.ProcessBodies.Bodies.{left_in}
 use Rattle.kernel_state.specs.ProcessBodies.declared.body.Body.{Body}
-use Rattle.kernel_state.specs.KernelProcesses.Seen.{seen, shown_at, as_instance}
-use Rattle.kernel_state.specs.KernelProcesses.Seen.{body_at as kept_at}
+use Rattle.kernel_state.specs.KernelProcesses.InstanceViews.{seen, shown_at, as_instance}
+use Rattle.kernel_state.specs.KernelProcesses.InstanceViews.{body_at as kept_at}
 use Rattle.kernel_state.specs.KernelProcesses.Sound as schedules
 use Rattle.kernel_state.specs.KernelProcesses.Moves.{MovesOne}
 use Rattle.kernel_state.specs.KernelProcesses.declared.parts.Process.{Process}

@@ -6,7 +6,7 @@ use Rattle.kernel_state.specs.SimModel.Configuration.{Config, Instance}
 use Rattle.kernel_state.specs.SimModel.Waits.{freed, holds, is_active, wake, wake_all}
 use Rattle.kernel_state.specs.KernelProcesses.Woken.{if_there, is_deaf, roused, after_wake, joins, at_only, joins_only, Rouses}
 use Rattle.kernel_state.proofs.KernelProcesses.Wakes.{wake_rouses}
-use Rattle.kernel_state.specs.KernelProcesses.Seen.{bare, is_on}
+use Rattle.kernel_state.specs.KernelProcesses.InstanceViews.{bare, is_on}
 use Rattle.kernel_state.specs.KernelProcesses.Times.{those_on, those_join}
 use Rattle.kernel_state.specs.Processes.{Beside, beside, Rests}
 use Rattle.kernel_state.proofs.ProcessFrames.{Rousing, rousing_wake}

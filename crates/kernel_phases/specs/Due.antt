@@ -5,7 +5,7 @@ use Rattle.kernel_state.specs.KernelEvents.Numbered.{fixed}
 use Rattle.kernel_state.specs.SimModel.Configuration.{Config}
 use Rattle.kernel_state.specs.SimModel.Waits.{fire_all, wake_all}
 use Rattle.kernel_state.specs.ProcessBodies.Bodies as bodies
-use Rattle.kernel_state.specs.KernelProcesses.Seen.{is_on, body_at}
+use Rattle.kernel_state.specs.KernelProcesses.InstanceViews.{is_on, body_at}
 use Rattle.kernel_state.specs.KernelProcesses.Sound as schedules
 use Rattle.kernel_state.specs.KernelTransactions.Board.{IsWithin}
 use Rattle.kernel_state.specs.Kernel.{StandsFor}

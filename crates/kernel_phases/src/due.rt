@@ -4,7 +4,7 @@ ghost use Rattle.kernel_state.specs.KernelEvents.Numbered.{fixed};
 ghost use Rattle.kernel_state.specs.SimModel.Configuration.{Config};
 ghost use Rattle.kernel_state.specs.SimModel.Phases as phases;
 ghost use Rattle.kernel_state.specs.SimModel.Waits.{fire_all, wake_all};
-ghost use Rattle.kernel_state.specs.KernelProcesses.Seen.{is_on};
+ghost use Rattle.kernel_state.specs.KernelProcesses.InstanceViews.{is_on};
 ghost use Rattle.kernel_state.specs.Kernel.{StandsFor, IsSound};
 ghost use Rattle.kernel_state.specs.Moves.{Moves, KeepsBodies};
 ghost use Rattle.kernel_phases.specs.Due.{IsBetween, HasRoom, SetsOff};

@@ -13,8 +13,8 @@ use Rattle.instance_table.specs.declared.instances.ProcessKind.{ProcessKind}
 use Rattle.instance_table.specs.Instances.{new_instance, with_spawned}
 use Rattle.wait_lists.specs.Waits as lists
 use Rattle.wait_lists.proofs.LawLemmas.{len-le}
-use Rattle.wait_lists.proofs.Lemmas.MapLemmas.{get-insert_same, get-insert_other, get-remove_same, get-remove_other, len-insert_new}
-use Rattle.kernel_processes.specs.Seen.{seen, is_on, shown_in}
+use Rattle.wait_lists.proofs.NumberedSlots.MapLemmas.{get-insert_same, get-insert_other, get-remove_same, get-remove_other, len-insert_new}
+use Rattle.kernel_processes.specs.InstanceViews.{seen, is_on, shown_in}
 use Rattle.kernel_processes.specs.Sound.{IsKept, IsNobody, IsBusy, Fits, FitsAs, IsSound}
 use Rattle.kernel_processes.specs.declared.parts.Process.{Process}
 use Rattle.kernel_processes.specs.declared.parts.Schedule.{Schedule}

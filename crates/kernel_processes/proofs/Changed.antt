@@ -8,13 +8,13 @@ use Rattle.std.specs.Ordering.{nat_cmp}
 use Rattle.std.specs.Cmp.{nat_cmp_total}
 use Rattle.std.specs.FinMap as map
 use Rattle.std.specs.FinSet as set
-use Rattle.wait_lists.proofs.Lemmas.MapLemmas.{ties_itself, ties_no_other, get-updated_same, get-updated_other, get-remove_same, get-remove_other, get-insert_same, get-insert_other, len-insert_there}
+use Rattle.wait_lists.proofs.NumberedSlots.MapLemmas.{ties_itself, ties_no_other, get-updated_same, get-updated_other, get-remove_same, get-remove_other, get-insert_same, get-insert_other, len-insert_there}
 use Rattle.timed_queue.specs.SimTime.declared.moments.Time.{Time}
 use Rattle.timed_queue.specs.Timed as timed
 use Rattle.timed_queue.specs.Timed.{Timed}
 use Rattle.ready_set.specs.Ready.{Ready, with_member, without_member}
 use Rattle.wait_lists.specs.Waits as lists
-use Rattle.kernel_processes.specs.Seen.{Seen, seen}
+use Rattle.kernel_processes.specs.InstanceViews.{Seen, seen}
 use Rattle.kernel_processes.specs.Moves.{with_entry, Changes}
 use Rattle.kernel_processes.specs.declared.parts.Schedule.{Schedule}
 

@@ -4,7 +4,7 @@ use Rattle.std.specs.Prelude.{is_some, option_map}
 use Rattle.std.specs.Ordering.{nat_cmp}
 use Rattle.std.specs.FinMap as map
 use Rattle.std.specs.FinSet as set
-use Rattle.kernel_processes.specs.Seen.{seen, is_on, as_instance, shown_at}
+use Rattle.kernel_processes.specs.InstanceViews.{seen, is_on, as_instance, shown_at}
 use Rattle.kernel_processes.specs.Sound.{IsNobody, FitsAs, IsSound, IsOnce}
 use Rattle.kernel_processes.specs.declared.parts.Schedule.{Schedule}
 

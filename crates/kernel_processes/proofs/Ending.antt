@@ -11,8 +11,8 @@ use Rattle.timed_queue.specs.Timed as timed
 use Rattle.timed_queue.specs.Timed.{Timed}
 use Rattle.ready_set.specs.Ready.{Ready, without_member}
 use Rattle.wait_lists.specs.Waits as lists
-use Rattle.wait_lists.proofs.Lemmas.MapLemmas.{get-remove_same, get-remove_other}
-use Rattle.kernel_processes.specs.Seen.{seen, is_on, shown_in}
+use Rattle.wait_lists.proofs.NumberedSlots.MapLemmas.{get-remove_same, get-remove_other}
+use Rattle.kernel_processes.specs.InstanceViews.{seen, is_on, shown_in}
 use Rattle.kernel_processes.specs.Sound.{IsNobody, IsBusy, Fits, FitsAs, IsSound}
 use Rattle.kernel_processes.specs.declared.parts.Process.{Process}
 use Rattle.kernel_processes.specs.declared.parts.Schedule.{Schedule}

@@ -4,7 +4,7 @@ use Rattle.std.specs.Prelude.{is_some}
 use Rattle.std.specs.Global.{Vec}
 use Rattle.instance_table.specs.declared.instances.Instance.{Instance as Entry}
 use Rattle.sim_model.specs.Configuration.{Instance}
-use Rattle.kernel_processes.specs.Seen.{Seen, seen, is_on}
+use Rattle.kernel_processes.specs.InstanceViews.{Seen, seen, is_on}
 use Rattle.kernel_processes.specs.Sound.{IsBusy, IsSound}
 use Rattle.kernel_processes.specs.Moves.{Changes, MovesOne}
 use Rattle.kernel_processes.specs.declared.parts.Process.{Process}

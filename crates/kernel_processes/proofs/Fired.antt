@@ -10,7 +10,7 @@ use Rattle.instance_table.specs.declared.TheConstants.{MAX_LIVE}
 use Rattle.instance_table.specs.declared.instances.Instance.{Instance as Entry}
 use Rattle.wait_lists.specs.Waits as lists
 use Rattle.kernel_processes.specs.Woken.{after_event, joins_by}
-use Rattle.kernel_processes.specs.Seen.{seen, is_on, shown_in}
+use Rattle.kernel_processes.specs.InstanceViews.{seen, is_on, shown_in}
 use Rattle.kernel_processes.specs.Sound.{IsBusy, Fits, FitsAs, IsSound, IsOnce}
 use Rattle.kernel_processes.specs.Moves.{met_if, struck_by, is_woken, fired, MeetsAll, Rouses}
 use Rattle.kernel_processes.specs.declared.parts.Process.{Process}

@@ -12,7 +12,7 @@ use Rattle.wait_lists.specs.Waits as lists
 use Rattle.sim_model.specs.Configuration.{Instance, waits_for_all}
 use Rattle.sim_model.specs.Waits.{is_among, struck}
 use Rattle.kernel_processes.specs.Woken.{after_wake, joins, after_last, after_named, after_event, is_empty, ends_wait, joins_by, if_there}
-use Rattle.kernel_processes.specs.Seen.{Seen, listed, wait_of, as_instance, shown_in}
+use Rattle.kernel_processes.specs.InstanceViews.{Seen, listed, wait_of, as_instance, shown_in}
 use Rattle.kernel_processes.specs.Sound.{Agrees, IsKept, Fits, FitsAs}
 use Rattle.kernel_processes.specs.Moves.{met_if, fired}
 use Rattle.kernel_processes.specs.declared.parts.Process.{Process}

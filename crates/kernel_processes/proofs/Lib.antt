@@ -17,5 +17,5 @@ mod Adding
 mod Overs
 mod Takings
 mod WakingMoves
-pub mod Lemmas
+pub mod NumberedSlots
 pub mod ReadySet

@@ -6,7 +6,7 @@ use Rattle.std.proofs.lemmas.List.Folds.{list_any-append}
 use Rattle.instance_table.specs.declared.instances.Instance.{Instance as Entry}
 use Rattle.instance_table.specs.declared.instances.Waiting.TheVariants as waiting
 use Rattle.instance_table.specs.declared.instances.Deadline.TheVariants as due
-use Rattle.kernel_processes.specs.Seen.{Seen, seen, is_on}
+use Rattle.kernel_processes.specs.InstanceViews.{Seen, seen, is_on}
 use Rattle.kernel_processes.specs.Moves.{heard, met_by, met, met_if, Changes, HasPlaces, MeetsAll, MeetsSome}
 use Rattle.kernel_processes.specs.declared.parts.Process.{Process}
 use Rattle.kernel_processes.specs.declared.parts.Schedule.{Schedule}

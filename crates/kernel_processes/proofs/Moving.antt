@@ -7,7 +7,7 @@ use Rattle.std.specs.FinSet as set
 use Rattle.instance_table.specs.declared.instances.Instance.{Instance as Entry}
 use Rattle.sim_model.specs.Configuration.{Instance, waits_statically}
 use Rattle.sim_model.specs.Waits.{freed}
-use Rattle.kernel_processes.specs.Seen.{Seen, seen, is_on}
+use Rattle.kernel_processes.specs.InstanceViews.{Seen, seen, is_on}
 use Rattle.kernel_processes.specs.Sound.{IsFree, IsKept, IsBusy, IsSound}
 use Rattle.kernel_processes.specs.Moves.{with_entry, listed_as, sensitive_of, is_kept, Changes, MovesOne}
 use Rattle.kernel_processes.specs.declared.parts.Process.{Process}

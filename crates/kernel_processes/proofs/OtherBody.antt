@@ -4,7 +4,7 @@ use Rattle.std.specs.Prelude.{List, is_some, length, ◌≤◌}
 use Rattle.std.specs.FinMap as map
 use Rattle.instance_table.specs.NumberedSlots.Numbered.{with_value}
 use Rattle.instance_table.specs.declared.instances.Instance.{Instance as Entry}
-use Rattle.kernel_processes.specs.Seen.{Seen, seen, shown_in, shown_at}
+use Rattle.kernel_processes.specs.InstanceViews.{Seen, seen, shown_in, shown_at}
 use Rattle.kernel_processes.specs.Sound.{Fits, IsSound}
 use Rattle.wait_lists.specs.Waits.{room_for}
 use Rattle.wait_lists.specs.EventCore.declared.event.Ev.{Ev}

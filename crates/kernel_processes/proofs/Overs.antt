@@ -11,7 +11,7 @@ use Rattle.timed_queue.specs.SimTime.declared.moments.Time.{Time}
 use Rattle.sim_model.specs.Configuration.{Deadline, no_deadline}
 use Rattle.sim_model.specs.Phases.{without_deadline, is_zero_timeout, is_due_at}
 use Rattle.kernel_processes.specs.Woken.{if_there}
-use Rattle.kernel_processes.specs.Seen.{Seen, seen, is_on, as_instance, shown_in, deadline_of}
+use Rattle.kernel_processes.specs.InstanceViews.{Seen, seen, is_on, as_instance, shown_in, deadline_of}
 use Rattle.kernel_processes.specs.Sound.{IsKept, IsBusy, Fits, FitsAs, IsSound, IsOnce, time_of, is_zero}
 use Rattle.kernel_processes.specs.Moves.{Changes}
 use Rattle.instance_table.specs.declared.TheConstants.{MAX_LIVE}

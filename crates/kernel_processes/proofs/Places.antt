@@ -7,9 +7,9 @@ use Rattle.std.specs.Ordering.{nat_cmp, eq_by_cmp}
 use Rattle.std.specs.Cmp.{nat_cmp_total}
 use Rattle.std.specs.FinMap as map
 use Rattle.std.specs.FinSet as set
-use Rattle.wait_lists.proofs.Lemmas.MapLemmas.{ties_itself, get-remove_other}
+use Rattle.wait_lists.proofs.NumberedSlots.MapLemmas.{ties_itself, get-remove_other}
 use Rattle.ready_set.specs.Ready.{Ready, with_member}
-use Rattle.kernel_processes.specs.Seen.{Seen, seen}
+use Rattle.kernel_processes.specs.InstanceViews.{Seen, seen}
 use Rattle.kernel_processes.specs.Moves.{Changes, HasPlaces}
 use Rattle.kernel_processes.specs.declared.parts.Schedule.{Schedule}
 use Rattle.kernel_processes.proofs.Changed.{member_here, member_other, gone_here, gone_other}

@@ -11,7 +11,7 @@ use Rattle.instance_table.specs.declared.instances.Deadline.TheVariants as due
 use Rattle.sim_model.specs.Configuration.{Instance, waits_for_nothing, no_deadline}
 use Rattle.sim_model.specs.Waits.{freed}
 use Rattle.kernel_processes.specs.Woken.{roused, after_wake, joins, if_there, at_only, joins_only}
-use Rattle.kernel_processes.specs.Seen.{Seen, seen, is_on, as_instance, shown_in, shown_at, body_at}
+use Rattle.kernel_processes.specs.InstanceViews.{Seen, seen, is_on, as_instance, shown_in, shown_at, body_at}
 use Rattle.kernel_processes.specs.Sound.{IsKept, IsBusy, Fits, FitsAs, IsSound, IsOnce}
 use Rattle.kernel_processes.specs.Moves.{heard, is_heard, met_by, met, Changes, HasPlaces, Rouses}
 use Rattle.kernel_processes.specs.declared.parts.Process.{Process}

@@ -7,7 +7,7 @@ use Rattle.instance_table.specs.declared.instances.Waiting.TheVariants as waitin
 use Rattle.instance_table.specs.declared.instances.Deadline.TheVariants as due
 use Rattle.sim_model.specs.Configuration.{Instance, waits_statically}
 use Rattle.sim_model.specs.Waits.{freed}
-use Rattle.kernel_processes.specs.Seen.{Seen, as_instance, shown_in, wait_of, deadline_of}
+use Rattle.kernel_processes.specs.InstanceViews.{Seen, as_instance, shown_in, wait_of, deadline_of}
 use Rattle.kernel_processes.specs.Sound.{time_of, is_zero, Agrees, IsFree, IsKept, IsBusy, Fits, FitsAs}
 use Rattle.kernel_processes.specs.Moves.{with_entry, listed_as, waiting_by, sensitive_of}
 use Rattle.kernel_processes.specs.declared.parts.Process.{Process}

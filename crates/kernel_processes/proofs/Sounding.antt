@@ -8,7 +8,7 @@ use Rattle.std.specs.FinMap as map
 use Rattle.instance_table.specs.declared.TheConstants.{MAX_LIVE}
 use Rattle.instance_table.specs.declared.instances.Instance.{Instance as Entry}
 use Rattle.sim_model.specs.Configuration.{Instance}
-use Rattle.kernel_processes.specs.Seen.{Seen, seen, is_on, shown_in, body_at}
+use Rattle.kernel_processes.specs.InstanceViews.{Seen, seen, is_on, shown_in, body_at}
 use Rattle.kernel_processes.specs.Sound.{IsBusy, Fits, IsSound, IsOnce}
 use Rattle.kernel_processes.specs.Moves.{Changes, MovesOne}
 use Rattle.kernel_processes.specs.declared.parts.Process.{Process}

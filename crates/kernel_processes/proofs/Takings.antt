@@ -12,7 +12,7 @@ use Rattle.timed_queue.specs.SimTime.declared.moments.Time.{Time}
 use Rattle.timed_queue.specs.Timed as timed
 use Rattle.timed_queue.specs.Timed.{Timed}
 use Rattle.timed_queue.proofs.MapLemmas.{same_gets}
-use Rattle.kernel_processes.specs.Seen.{Seen, seen, is_on, as_instance, shown_at, deadline_of}
+use Rattle.kernel_processes.specs.InstanceViews.{Seen, seen, is_on, as_instance, shown_at, deadline_of}
 use Rattle.kernel_processes.specs.Sound.{Fits, FitsAs, IsSound, IsOnce, time_of}
 use Rattle.kernel_processes.specs.Moves.{Changes}
 use Rattle.kernel_processes.specs.declared.parts.Process.{Process}

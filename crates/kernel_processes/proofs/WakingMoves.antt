@@ -6,7 +6,7 @@ use Rattle.std.specs.FinSet as set
 use Rattle.sim_model.specs.Configuration.{Instance}
 use Rattle.sim_model.specs.Waits.{freed}
 use Rattle.kernel_processes.specs.Woken.{if_there, is_deaf, roused, after_wake, joins, at_only, joins_only}
-use Rattle.kernel_processes.specs.Seen.{is_on, shown_at, body_at}
+use Rattle.kernel_processes.specs.InstanceViews.{is_on, shown_at, body_at}
 use Rattle.kernel_processes.specs.Moves.{Rouses}
 use Rattle.kernel_processes.specs.declared.parts.Schedule.{Schedule}
 use Rattle.kernel_processes.specs.Times.{those_on, those_join, WakesThose}

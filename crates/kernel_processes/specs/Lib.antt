@@ -1,5 +1,5 @@
 pub mod Woken
-pub mod Seen
+pub mod InstanceViews
 pub mod Sound
 pub mod Moves
 pub mod Moved

@@ -13,7 +13,7 @@ use Rattle.sim_model.specs.Residual.{skip}
 use Rattle.sim_model.specs.Configuration as model
 use Rattle.sim_model.specs.Configuration.{Instance}
 use Rattle.sim_model.specs.Waits.{freed}
-use Rattle.kernel_processes.specs.Seen.{Seen, seen, is_on, shown_at, body_at, deadline_of, kind_of}
+use Rattle.kernel_processes.specs.InstanceViews.{Seen, seen, is_on, shown_at, body_at, deadline_of, kind_of}
 use Rattle.kernel_processes.specs.Sound.{IsFree, time_of, is_zero}
 use Rattle.kernel_processes.specs.Moves.{listed_as, waiting_by, sensitive_of, is_kept}
 use Rattle.kernel_processes.specs.declared.parts.Process.{Process}

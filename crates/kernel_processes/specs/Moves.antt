@@ -10,7 +10,7 @@ use Rattle.instance_table.specs.declared.instances.Deadline.TheVariants as due
 use Rattle.wait_lists.specs.Waits as lists
 use Rattle.sim_model.specs.Configuration.{Instance}
 use Rattle.kernel_processes.specs.Woken.{if_there}
-use Rattle.kernel_processes.specs.Seen.{Seen, seen, is_on, shown_at, body_at}
+use Rattle.kernel_processes.specs.InstanceViews.{Seen, seen, is_on, shown_at, body_at}
 use Rattle.kernel_processes.specs.declared.parts.Process.{Process}
 use Rattle.kernel_processes.specs.declared.parts.Wait.{Wait}
 use Rattle.kernel_processes.specs.declared.parts.Wait.TheVariants as how

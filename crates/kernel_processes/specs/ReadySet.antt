@@ -1,2 +1,2 @@
-pub use Rattle.ready_set.specs.Kept as Kept
+pub use Rattle.ready_set.specs.Layout as Layout
 pub use Rattle.ready_set.specs.Ready as Ready

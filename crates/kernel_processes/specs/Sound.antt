@@ -11,7 +11,7 @@ use Rattle.instance_table.specs.declared.instances.Deadline.{Deadline as Kept}
 use Rattle.instance_table.specs.declared.instances.Deadline.TheVariants as due
 use Rattle.instance_table.specs.declared.TheConstants.{MAX_LIVE}
 use Rattle.wait_lists.specs.Waits as lists
-use Rattle.kernel_processes.specs.Seen.{Seen, seen, listed, is_on}
+use Rattle.kernel_processes.specs.InstanceViews.{Seen, seen, listed, is_on}
 use Rattle.kernel_processes.specs.declared.parts.Process.{Process}
 use Rattle.kernel_processes.specs.declared.parts.Schedule.{Schedule}
 

@@ -7,7 +7,7 @@ use Rattle.instance_table.specs.declared.instances.Deadline.TheVariants as due
 use Rattle.sim_model.specs.Configuration.{Instance, Deadline, at_time}
 use Rattle.sim_model.specs.Phases.{without_deadline}
 use Rattle.kernel_processes.specs.Woken.{if_there, after_wake, joins}
-use Rattle.kernel_processes.specs.Seen.{Seen, seen, is_on, shown_at, body_at}
+use Rattle.kernel_processes.specs.InstanceViews.{Seen, seen, is_on, shown_at, body_at}
 use Rattle.kernel_processes.specs.Sound.{IsOnce, IsSound}
 use Rattle.kernel_processes.specs.declared.parts.Process.{Process}
 use Rattle.kernel_processes.specs.declared.parts.Schedule.{Schedule}

@@ -5,7 +5,7 @@ ghost use Rattle.instance_table.specs.NumberedSlots.Numbered.{with_value};
 ghost use Rattle.instance_table.specs.declared.instances.Instance.{Instance as Entry};
 ghost use Rattle.kernel_processes.specs.declared.parts.Process.{Process as Kept};
 ghost use Rattle.kernel_processes.specs.declared.parts.Schedule.{Schedule as Parts};
-ghost use Rattle.kernel_processes.specs.Seen.{body_at};
+ghost use Rattle.kernel_processes.specs.InstanceViews.{body_at};
 ghost use Rattle.kernel_processes.specs.Sound.{IsSound};
 ghost use Rattle.kernel_processes.specs.Moved.{PutsBody};
 

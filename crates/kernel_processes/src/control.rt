@@ -2,7 +2,7 @@
 ghost use Rattle.std.specs.Prelude.{◌≡◌, ◌||◌, not, true, false};
 ghost use Rattle.std.specs.FinMap as map;
 ghost use Rattle.std.specs.FinSet as set;
-ghost use Rattle.kernel_processes.specs.Seen.{is_on};
+ghost use Rattle.kernel_processes.specs.InstanceViews.{is_on};
 ghost use Rattle.kernel_processes.specs.Sound.{IsSound};
 ghost use Rattle.kernel_processes.specs.Moves.{is_kept, MovesOne};
 ghost use Rattle.kernel_processes.specs.Moved.{IsTop, Ends, leaves_top, joins_top, same_stack, leaves_if, is_suspended, pushed_as, suspended_as, resumed_as, disabled_as, kept_as};

@@ -51,17 +51,12 @@ pub mod instance_table_api {
 
 /// What is passed on of logic_values.
 pub mod logic_values_api {
-    pub use sim_model::logic_values_api::{Value, value_text};
+    pub use sim_model::logic_values_api::{Bytes, Items, Value, value_text};
 }
 
 /// What is passed on of model_tree.
 pub mod model_tree_api {
     pub use sim_model::model_tree_api::ProcessKind;
-}
-
-/// What is passed on of plain_lists.
-pub mod plain_lists_api {
-    pub use sim_model::plain_lists_api::{Bytes, Items};
 }
 
 /// What is passed on of ready_set.

@@ -1,5 +1,5 @@
 ghost use Rattle.std.specs.Prelude.{◌≡◌, ℕ, [], None};
-ghost use Rattle.kernel_processes.specs.Seen.{shown_at};
+ghost use Rattle.kernel_processes.specs.InstanceViews.{shown_at};
 ghost use Rattle.kernel_processes.specs.Sound.{IsSound};
 
 use super::parts::Schedule;

@@ -1,7 +1,7 @@
 ghost use Rattle.std.specs.Prelude.{◌≡◌, ◌<◌, true, false, Some, None};
 ghost use Rattle.std.specs.FinMap as map;
 ghost use Rattle.std.specs.FinSet as set;
-ghost use Rattle.kernel_processes.specs.Seen.{seen};
+ghost use Rattle.kernel_processes.specs.InstanceViews.{seen};
 ghost use Rattle.kernel_processes.specs.Moves.{heard, heard_as, hears_at, heard_seen, met, Changes, HasPlaces};
 
 use super::parts::{Process, Schedule};

@@ -1,6 +1,6 @@
 use instance_table::{Deadline, Table};
 use ready_set::ReadySet;
-use sim_model::plain_lists_api::Items;
+use sim_model::logic_values_api::Items;
 use timed_queue::TimedQueue;
 use wait_lists::WaitLists;
 use wait_lists::event_core_api::Ev;

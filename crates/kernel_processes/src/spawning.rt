@@ -3,7 +3,7 @@ ghost use Rattle.std.specs.Prelude.{◌≡◌, ◌<◌, ◌≤◌, ◌-◌, ◌+
 ghost use Rattle.std.specs.FinMap as map;
 ghost use Rattle.std.specs.FinSet as set;
 ghost use Rattle.wait_lists.specs.Waits.{HasRoom};
-ghost use Rattle.kernel_processes.specs.Seen.{is_on, shown_at};
+ghost use Rattle.kernel_processes.specs.InstanceViews.{is_on, shown_at};
 ghost use Rattle.kernel_processes.specs.Sound.{IsSound};
 ghost use Rattle.kernel_processes.specs.Moves.{MovesOne};
 ghost use Rattle.kernel_processes.specs.Moved.{Stays, Spawns, Adds, HasPlaceMore, IsFresh, same_stack, spawned_as, settled_as};
@@ -12,7 +12,7 @@ use super::changes::{mark_wait, put_wait};
 use super::moves::join;
 use crate::{Process, Schedule, Trigger, Wait};
 use instance_table::{Deadline, MAX_LIVE, ProcessKind, SpawnStop};
-use sim_model::plain_lists_api::Items;
+use sim_model::logic_values_api::Items;
 use std::alloc::AllocError;
 use wait_lists::event_core_api::Ev;
 

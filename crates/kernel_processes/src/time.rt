@@ -3,7 +3,7 @@ ghost use Rattle.std.specs.Prelude.{◌≡◌, ◌+◌, ◌≤◌, ◌<◌, [], 
 ghost use Rattle.std.specs.FinMap as map;
 ghost use Rattle.std.specs.FinSet as set;
 ghost use Rattle.sim_model.specs.Phases.{is_zero_timeout, is_due_at};
-ghost use Rattle.kernel_processes.specs.Seen.{seen, is_on};
+ghost use Rattle.kernel_processes.specs.InstanceViews.{seen, is_on};
 ghost use Rattle.kernel_processes.specs.Sound.{IsSound};
 ghost use Rattle.kernel_processes.specs.Moves.{with_entry, Changes};
 ghost use Rattle.kernel_processes.specs.Times.{over_entry, over, PutsAllOver, TakesDue, HasNoTime, HasNoTimeBefore, IsEarliestTime, WakesThose};

@@ -3,7 +3,7 @@ ghost use Rattle.std.specs.Prelude.{◌≡◌, [], true, false, ◌-◌, IfNone,
 ghost use Rattle.std.specs.FinMap as map;
 ghost use Rattle.std.specs.FinSet as set;
 ghost use Rattle.sim_model.specs.Waits.{freed};
-ghost use Rattle.kernel_processes.specs.Seen.{is_on};
+ghost use Rattle.kernel_processes.specs.InstanceViews.{is_on};
 ghost use Rattle.kernel_processes.specs.Sound.{IsSound};
 ghost use Rattle.kernel_processes.specs.Moves.{Changes, MovesOne};
 ghost use Rattle.kernel_processes.specs.Moved.{IsTop, LeavesTop, joins_top, same_stack, started_as, is_suspended, untimed_free};

@@ -1,7 +1,7 @@
 ghost use Rattle.std.specs.Prelude.{◌≡◌};
 ghost use Rattle.std.specs.FinMap as map;
 ghost use Rattle.kernel_processes.specs.Woken.{at_only, joins_only, after_wake, joins, after_event, joins_by};
-ghost use Rattle.kernel_processes.specs.Seen.{is_on};
+ghost use Rattle.kernel_processes.specs.InstanceViews.{is_on};
 ghost use Rattle.kernel_processes.specs.Sound.{IsSound};
 ghost use Rattle.kernel_processes.specs.Moves.{Rouses, HasPlaces, MeetsAll, is_heard};
 

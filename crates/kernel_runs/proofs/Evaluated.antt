@@ -13,8 +13,8 @@ use Rattle.kernel_phases.specs.SimModel.Steps.{went, takes, as_outcome, evaluate
 use Rattle.kernel_phases.specs.ReadySet.Ready.{rising, in_order, IsLeast}
 use Rattle.std.specs.FinMap as map
 use Rattle.kernel_phases.specs.InstanceTable.declared.instances.Instance.{Instance as Entry}
-use Rattle.kernel_phases.specs.KernelProcesses.Seen.{Seen, seen, shown_at}
-use Rattle.kernel_phases.specs.KernelProcesses.Seen.{body_at as kept_at}
+use Rattle.kernel_phases.specs.KernelProcesses.InstanceViews.{Seen, seen, shown_at}
+use Rattle.kernel_phases.specs.KernelProcesses.InstanceViews.{body_at as kept_at}
 use Rattle.kernel_phases.specs.KernelProcesses.Sound.{IsNobody, FitsAs, Fits}
 use Rattle.kernel_phases.specs.KernelProcesses.declared.parts.Process.{Process}
 use Rattle.kernel_phases.proofs.Orders.{same_order}
@@ -24,11 +24,11 @@ use Rattle.kernel_phases.specs.KernelState.Moves.{Moves, IsOnTop, Lives}
 use Rattle.kernel_phases.specs.KernelState.declared.kernel.Kept.{Kept}
 use Rattle.kernel_phases.specs.KernelState.declared.kernel.Kernel.{Kernel}
 use Rattle.kernel_phases.proofs.KernelState.Frames.{shown_where_lives, lives_on_top}
-use Rattle.kernel_steps.specs.Told.{TellsAll, MakesStep}
+use Rattle.kernel_steps.specs.StepAnswers.{TellsAll, MakesStep}
 use Rattle.kernel_steps.specs.declared.answers.StepAnswer.{StepAnswer}
 use Rattle.kernel_steps.specs.declared.answers.StepAnswer.TheVariants as answer
 use Rattle.kernel_steps.proofs.Prints.{lives_still}
-use Rattle.kernel_runs.specs.Taken.{taking_of, FollowsTaking, Takes}
+use Rattle.kernel_runs.specs.Takings.{taking_of, FollowsTaking, Takes}
 use Rattle.kernel_runs.specs.Made.{MadeAs, Makes, TookIt, AskedAs, Asks, made_of, taken_as}
 use Rattle.kernel_runs.specs.declared.answers.Telling.TheVariants as telling
 use Rattle.kernel_runs.specs.declared.answers.Made.{Made}

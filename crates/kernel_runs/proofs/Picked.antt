@@ -6,7 +6,7 @@ use Rattle.kernel_phases.specs.SimModel.Steps.{taking, taken_if, instance_taken}
 use Rattle.kernel_phases.specs.KernelState.Kernel.{StandsFor}
 use Rattle.kernel_phases.specs.KernelState.Moves.{Moves}
 use Rattle.kernel_phases.specs.KernelState.declared.kernel.Kernel.{Kernel}
-use Rattle.kernel_runs.specs.Taken.{taking_of, FollowsTaking, Takes}
+use Rattle.kernel_runs.specs.Takings.{taking_of, FollowsTaking, Takes}
 
 module _ (old : Kernel) (o : Option ℕ) where
   as_picked : (c : Config) (new : Kernel) (answer p : Option ℕ) → o ≡ p → FollowsTaking old new answer p (taking_of c p) → FollowsTaking old new answer o (taking_of c o)

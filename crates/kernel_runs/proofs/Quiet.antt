@@ -12,7 +12,7 @@ use Rattle.kernel_phases.specs.SimModel.Steps.{went}
 use Rattle.kernel_phases.specs.SimModel.declared.plain.Phase.TheVariants as phase
 use Rattle.kernel_phases.specs.KernelState.Kernel.{StandsFor}
 use Rattle.kernel_phases.specs.KernelState.declared.kernel.Kernel.{Kernel}
-use Rattle.kernel_steps.specs.Kept.{Quiet}
+use Rattle.kernel_steps.specs.FrameConditions.{Quiet}
 use Rattle.kernel_steps.proofs.Silent.{either, fire_quiet, wake_quiet}
 use Rattle.kernel_runs.specs.Made.{GoesTo}
 use Rattle.kernel_runs.specs.declared.answers.Telling.TheVariants as telling

@@ -1,3 +1,3 @@
-pub mod Taken
+pub mod Takings
 pub mod Made
-pub mod Asked
+pub mod Premises

@@ -12,7 +12,7 @@ use Rattle.kernel_phases.specs.SimModel.declared.plain.Command.{Command}
 use Rattle.kernel_phases.specs.KernelState.Kernel.{StandsFor}
 use Rattle.kernel_phases.specs.KernelState.declared.kernel.Kernel.{Kernel}
 use Rattle.kernel_steps.specs.ExecTransactions.Calling.{IsOfProtocol}
-use Rattle.kernel_steps.specs.Told.{AddsLine}
+use Rattle.kernel_steps.specs.StepAnswers.{AddsLine}
 use Rattle.kernel_steps.specs.declared.answers.StepAnswer.{StepAnswer}
 use Rattle.kernel_steps.specs.declared.answers.StepAnswer.TheVariants as answer
 use Rattle.kernel_runs.specs.declared.answers.Telling.{Telling}

@@ -4,7 +4,7 @@ ghost use Rattle.flat_design.specs.declared.faults.RunFault.{RunFault};
 ghost use Rattle.kernel_phases.specs.SimModel.Steps.{evaluate};
 ghost use Rattle.kernel_phases.specs.KernelState.Kernel.{IsSound};
 ghost use Rattle.kernel_phases.specs.KernelState.Moves.{IsOnTop};
-ghost use Rattle.kernel_runs.specs.Asked.{MayStep};
+ghost use Rattle.kernel_runs.specs.Premises.{MayStep};
 ghost use Rattle.kernel_runs.specs.Made.{Makes, Asks};
 
 use crate::answers::{Made, Telling, of_instance};

@@ -7,7 +7,7 @@ ghost use Rattle.kernel_phases.specs.SimModel.declared.plain.Phase.TheVariants a
 ghost use Rattle.kernel_phases.specs.KernelState.Kernel.{IsSound};
 ghost use Rattle.kernel_phases.specs.Due.{HasRoom};
 ghost use Rattle.kernel_phases.specs.Fresh.{IsFresh};
-ghost use Rattle.kernel_runs.specs.Asked.{MayStep};
+ghost use Rattle.kernel_runs.specs.Premises.{MayStep};
 ghost use Rattle.kernel_runs.specs.Made.{Makes, StepsOn, Asks, whole_of};
 
 use crate::answers::{Brief, Made, Telling, brief_of, whole_of};

@@ -2,7 +2,7 @@
 ghost use Rattle.std.specs.Prelude.{◌≡◌, [], None};
 ghost use Rattle.kernel_phases.specs.ReadySet.Ready.{rising};
 ghost use Rattle.kernel_phases.specs.KernelState.Kernel.{IsSound};
-ghost use Rattle.kernel_runs.specs.Taken.{Takes};
+ghost use Rattle.kernel_runs.specs.Takings.{Takes};
 
 use kernel_phases::kernel_state_api::Kernel;
 use kernel_phases::{Chooser, turn};

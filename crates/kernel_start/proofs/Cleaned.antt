@@ -3,7 +3,7 @@ use Rattle.std.proofs.Common.{◌≡◌, ◌||◌, ℕ, Bool, true, false, Optio
 use Rattle.std.specs.Prelude.{is_some}
 use Rattle.std.specs.FinMap as map
 use Rattle.kernel_state.specs.InstanceTable.declared.instances.Instance.{Instance as Entry}
-use Rattle.kernel_state.specs.KernelProcesses.Seen.{Seen, seen, is_on}
+use Rattle.kernel_state.specs.KernelProcesses.InstanceViews.{Seen, seen, is_on}
 use Rattle.kernel_state.specs.KernelProcesses.Sound.{IsSound, IsKept, IsNobody, IsFree, FitsAs, Agrees, time_of, is_zero}
 use Rattle.kernel_state.specs.KernelProcesses.declared.parts.Process.{Process}
 use Rattle.kernel_state.specs.KernelProcesses.declared.parts.Schedule.{Schedule}

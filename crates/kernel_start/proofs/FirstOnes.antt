@@ -16,8 +16,8 @@ use Rattle.kernel_state.specs.KernelBodies.declared.program.Program.{Program}
 use Rattle.kernel_state.specs.ProcessBodies.Bodies as bodies
 use Rattle.kernel_state.specs.ProcessBodies.Bodies.{left_in}
 use Rattle.kernel_state.specs.ProcessBodies.declared.body.Body.{Body}
-use Rattle.kernel_state.specs.KernelProcesses.Seen.{seen, bare, as_instance, shown_at, kind_of}
-use Rattle.kernel_state.specs.KernelProcesses.Seen.{body_at as kept_at}
+use Rattle.kernel_state.specs.KernelProcesses.InstanceViews.{seen, bare, as_instance, shown_at, kind_of}
+use Rattle.kernel_state.specs.KernelProcesses.InstanceViews.{body_at as kept_at}
 use Rattle.kernel_state.specs.KernelProcesses.Sound as schedules
 use Rattle.kernel_state.specs.KernelProcesses.declared.parts.Process.{Process}
 use Rattle.kernel_state.specs.KernelProcesses.declared.parts.Schedule.{Schedule}

@@ -3,7 +3,7 @@
 use Rattle.std.specs.Prelude.{◌≡◌, ◌<◌, ◌||◌, ℕ, Bool, true, false, Some, is_some}
 use Rattle.std.specs.FinMap as map
 use Rattle.kernel_state.specs.InstanceTable.declared.instances.Instance.{Instance as Entry}
-use Rattle.kernel_state.specs.KernelProcesses.Seen.{Seen, seen, is_on}
+use Rattle.kernel_state.specs.KernelProcesses.InstanceViews.{Seen, seen, is_on}
 use Rattle.kernel_state.specs.KernelProcesses.Sound.{IsOnce}
 use Rattle.kernel_state.specs.KernelProcesses.declared.parts.Process.{Process}
 use Rattle.kernel_state.specs.KernelProcesses.declared.parts.Schedule.{Schedule}

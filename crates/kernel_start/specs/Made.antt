@@ -6,7 +6,7 @@ use Rattle.kernel_state.specs.SimModel.Configuration.{Cycle, Processes, first_in
 use Rattle.kernel_state.specs.SimModel.declared.plain.Phase.TheVariants as phase
 use Rattle.kernel_state.specs.KernelBodies.declared.program.Program.{Program}
 use Rattle.kernel_state.specs.ProcessBodies.Bodies as bodies
-use Rattle.kernel_state.specs.KernelProcesses.Seen.{body_at as kept_at}
+use Rattle.kernel_state.specs.KernelProcesses.InstanceViews.{body_at as kept_at}
 use Rattle.kernel_state.specs.KernelProcesses.Sound as schedules
 use Rattle.kernel_state.specs.KernelProcesses.declared.parts.Schedule.{Schedule}
 use Rattle.kernel_state.specs.Processes.{StandsForProcesses}

@@ -19,7 +19,7 @@ use Rattle.kernel_state.specs.KernelBodies.declared.program.Program.{Program}
 use Rattle.kernel_state.specs.ProcessBodies.Bodies as bodies
 use Rattle.kernel_state.specs.ProcessBodies.declared.body.Body.{Body}
 use Rattle.kernel_state.specs.ProcessBodies.declared.body.Owed.{Owed}
-use Rattle.kernel_state.specs.KernelProcesses.Seen.{Seen, seen}
+use Rattle.kernel_state.specs.KernelProcesses.InstanceViews.{Seen, seen}
 use Rattle.kernel_state.specs.KernelProcesses.Sound as schedules
 use Rattle.kernel_state.specs.KernelProcesses.declared.parts.Process.{Process}
 use Rattle.kernel_state.specs.KernelProcesses.declared.parts.Schedule.{Schedule}

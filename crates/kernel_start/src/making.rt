@@ -15,7 +15,7 @@ use crate::processes::first_processes;
 use kernel_state::flat_design_api::{Code, Design};
 use kernel_state::kernel_bodies_api::Program;
 use kernel_state::kernel_processes_api::Schedule;
-use kernel_state::plain_lists_api::Items;
+use kernel_state::logic_values_api::Items;
 use kernel_state::sim_model_api::Phase;
 use kernel_state::sim_time_api::Time;
 use kernel_state::{Cycle, Kept, Kernel};

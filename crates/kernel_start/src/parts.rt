@@ -12,8 +12,7 @@ use kernel_state::flat_design_api::{Design, MemoryPart, ProcessPart, VariablePar
 use kernel_state::kernel_channels_api::ChannelBoard;
 use kernel_state::kernel_events_api::EventBoard;
 use kernel_state::kernel_transactions_api::TransactionBoard;
-use kernel_state::logic_values_api::Value;
-use kernel_state::plain_lists_api::{Bytes, Items};
+use kernel_state::logic_values_api::{Bytes, Items, Value};
 use std::alloc::{AllocError, Global};
 
 /// What there is beside the processes before the first command.

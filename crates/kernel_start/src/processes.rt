@@ -1,15 +1,15 @@
 //! The processes of a design before the first command.
 ghost use Rattle.std.specs.Prelude.{◌≡◌, ◌≤◌, ◌<◌, ◌+◌, ◌-◌, ◌^◌, ℕ, IfOk, OnOk, length};
 ghost use Rattle.kernel_state.specs.InstanceTable.declared.TheConstants.{MAX_LIVE};
-ghost use Rattle.kernel_state.specs.KernelProcesses.Seen.{kind_of};
+ghost use Rattle.kernel_state.specs.KernelProcesses.InstanceViews.{kind_of};
 ghost use Rattle.kernel_start.specs.Made.{IsMade, Adds, AddsAll};
 
 use kernel_state::flat_design_api::ProcessPart;
 use kernel_state::instance_table_api::ProcessKind;
 use kernel_state::kernel_bodies_api::Program;
 use kernel_state::kernel_processes_api::{Schedule, empty, spawn};
+use kernel_state::logic_values_api::Items;
 use kernel_state::model_tree_api::ProcessKind as Kind;
-use kernel_state::plain_lists_api::Items;
 use kernel_state::process_bodies_api::Body;
 use kernel_state::{Kept, PathOf};
 use std::alloc::{AllocError, Global};

@@ -4,7 +4,7 @@ use Rattle.std.specs.Prelude.{filter, is_some, unwrap_or, nat_lt, if◌then◌el
 use Rattle.std.specs.Ordering.{nat_cmp}
 use Rattle.std.specs.FinMap as map
 use Rattle.std.proofs.lemmas.Bool.{cases_eq, cases_lt, lt-ltb, le-ltb}
-use Rattle.kernel_processes.proofs.Lemmas.MapLemmas.{same_gets, is_updated, len-updated, get-remove_same, get-remove_other}
+use Rattle.kernel_processes.proofs.NumberedSlots.MapLemmas.{same_gets, is_updated, len-updated, get-remove_same, get-remove_other}
 use Rattle.kernel_processes.specs.InstanceTable.declared.TheConstants.{MAX_LIVE}
 use Rattle.kernel_processes.specs.InstanceTable.declared.SpawnStop.{SpawnStop}
 use Rattle.kernel_processes.specs.InstanceTable.declared.SpawnStop.TheVariants as spawn_stop
@@ -15,8 +15,8 @@ use Rattle.kernel_processes.specs.SimModel.Residual.{Residual, settle}
 use Rattle.kernel_processes.specs.SimModel.Configuration.{Config, Instance, changed_at, arena}
 use Rattle.kernel_processes.specs.SimModel.Statements.{settled_in}
 use Rattle.kernel_processes.specs.SimModel.Calls.{is_alive, may_spawn}
-use Rattle.kernel_processes.specs.Seen.{seen, shown_at, as_instance}
-use Rattle.kernel_processes.specs.Seen.{body_at as kept_at}
+use Rattle.kernel_processes.specs.InstanceViews.{seen, shown_at, as_instance}
+use Rattle.kernel_processes.specs.InstanceViews.{body_at as kept_at}
 use Rattle.kernel_processes.specs.declared.parts.Process.{Process}
 use Rattle.kernel_processes.specs.declared.parts.Schedule.{Schedule}
 use Rattle.kernel_state.specs.Processes.{TellsBy, Tells}

@@ -12,8 +12,8 @@ use Rattle.kernel_processes.specs.SimModel.Calls.{with_left}
 use Rattle.kernel_processes.specs.SimModel.Control.{is_top, is_below_top, pushed, pushed_unless_top, unwinds, ends_or_restarts, unless_ended}
 use Rattle.kernel_processes.specs.SimModel.declared.plain.Goal.{Goal}
 use Rattle.kernel_processes.proofs.Wakes.{change-here, change-other}
-use Rattle.kernel_processes.specs.Seen.{shown_at}
-use Rattle.kernel_processes.specs.Seen.{body_at as kept_at}
+use Rattle.kernel_processes.specs.InstanceViews.{shown_at}
+use Rattle.kernel_processes.specs.InstanceViews.{body_at as kept_at}
 use Rattle.kernel_state.specs.Processes.{TellsBy, Tells}
 use Rattle.kernel_state.specs.Kernel.{Shows, StandsFor, whole_design}
 use Rattle.kernel_state.specs.Moves.{Follows, Lives}

@@ -28,8 +28,8 @@ use Rattle.kernel_processes.proofs.Wakes.{set-here, change-here, change-other, f
 use Rattle.process_bodies.specs.Bodies as bodies
 use Rattle.process_bodies.specs.Bodies.{left_in}
 use Rattle.process_bodies.specs.declared.body.Body.{Body}
-use Rattle.kernel_processes.specs.Seen.{seen, shown_at, is_on, as_instance, deadline_of}
-use Rattle.kernel_processes.specs.Seen.{body_at as kept_at}
+use Rattle.kernel_processes.specs.InstanceViews.{seen, shown_at, is_on, as_instance, deadline_of}
+use Rattle.kernel_processes.specs.InstanceViews.{body_at as kept_at}
 use Rattle.kernel_processes.specs.Sound as schedules
 use Rattle.kernel_processes.specs.Moves.{MovesOne, Rouses}
 use Rattle.kernel_processes.specs.declared.parts.Process.{Process}

@@ -7,7 +7,7 @@ pub mod Uses
 pub mod Bytes
 pub mod Leaving
 pub mod Stacks
-pub mod Taken
+pub mod OneLess
 pub mod Reached
 pub mod Pushing
 pub mod Ending

@@ -13,8 +13,8 @@ use Rattle.kernel_processes.specs.SimModel.Calls.{added, runnable_unless}
 use Rattle.process_bodies.specs.Bodies as bodies
 use Rattle.process_bodies.specs.Bodies.{left_in}
 use Rattle.process_bodies.specs.declared.body.Body.{Body}
-use Rattle.kernel_processes.specs.Seen.{seen, is_on, shown_at, as_instance}
-use Rattle.kernel_processes.specs.Seen.{body_at as kept_at}
+use Rattle.kernel_processes.specs.InstanceViews.{seen, is_on, shown_at, as_instance}
+use Rattle.kernel_processes.specs.InstanceViews.{body_at as kept_at}
 use Rattle.kernel_processes.specs.Sound as schedules
 use Rattle.kernel_processes.specs.declared.parts.Process.{Process}
 use Rattle.kernel_processes.specs.declared.parts.Schedule.{Schedule}

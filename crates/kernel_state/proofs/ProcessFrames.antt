@@ -13,7 +13,7 @@ use Rattle.kernel_processes.specs.SimModel.Waits.{holds, is_active, freed, is_am
 use Rattle.kernel_processes.specs.Woken as woken
 use Rattle.kernel_processes.specs.Woken.{if_there, is_deaf, roused, after_wake, joins, after_last, after_named, after_event, ends_wait, joins_by, at_only, joins_only}
 use Rattle.kernel_processes.proofs.Wakes.{change-here, change-other, change-length}
-use Rattle.kernel_processes.specs.Seen.{bare, shown_at, body_at, is_on}
+use Rattle.kernel_processes.specs.InstanceViews.{bare, shown_at, body_at, is_on}
 use Rattle.kernel_processes.specs.Moves.{MovesOne, Rouses}
 use Rattle.kernel_processes.specs.declared.parts.Schedule.{Schedule}
 use Rattle.kernel_processes.specs.Moved.{same_stack, leaves_top, joins_top, Stays, Ends, Spawns, PutsBody}

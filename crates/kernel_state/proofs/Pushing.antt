@@ -3,7 +3,7 @@ use Rattle.std.proofs.Common.{◌≡◌, ◌≢◌, ◌==◌, ◌||◌, not, con
 use Rattle.kernel_processes.specs.SimModel.Configuration.{Config, Instance, Processes, change, change_instance}
 use Rattle.kernel_processes.specs.SimModel.Waits.{holds, without, freed}
 use Rattle.kernel_processes.specs.SimModel.Control.{pushed}
-use Rattle.kernel_processes.specs.Seen.{is_on}
+use Rattle.kernel_processes.specs.InstanceViews.{is_on}
 use Rattle.kernel_processes.specs.Sound as schedules
 use Rattle.kernel_processes.specs.Moves.{MovesOne}
 use Rattle.kernel_processes.specs.declared.parts.Schedule.{Schedule}

@@ -13,8 +13,8 @@ use Rattle.kernel_processes.proofs.Wakes.{change-here, change-other}
 use Rattle.kernel_processes.specs.SimModel.Waits.{holds, without}
 use Rattle.kernel_processes.specs.SimModel.Calls.{is_alive}
 use Rattle.kernel_processes.specs.SimModel.Control.{is_live, last_if, with_descendants, targets}
-use Rattle.kernel_processes.specs.Seen.{shown_at}
-use Rattle.kernel_processes.specs.Seen.{body_at as kept_at}
+use Rattle.kernel_processes.specs.InstanceViews.{shown_at}
+use Rattle.kernel_processes.specs.InstanceViews.{body_at as kept_at}
 use Rattle.kernel_state.specs.Processes.{TellsBy, Tells}
 use Rattle.kernel_state.specs.Kernel.{Shows, StandsFor, whole_design}
 use Rattle.kernel_state.specs.Added.{added_if, all_added}

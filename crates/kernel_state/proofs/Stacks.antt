@@ -4,7 +4,7 @@ use Rattle.std.proofs.lemmas.List.{reverse-append}
 use Rattle.kernel_processes.specs.SimModel.Configuration.{Config}
 use Rattle.kernel_processes.specs.SimModel.Waits.{holds}
 use Rattle.kernel_processes.specs.SimModel.Control.{top_of, is_top, is_below_top}
-use Rattle.kernel_processes.specs.Seen.{is_on}
+use Rattle.kernel_processes.specs.InstanceViews.{is_on}
 use Rattle.kernel_processes.specs.Sound.{IsOnce}
 use Rattle.kernel_processes.proofs.Sounding.{on_last, once_below}
 use Rattle.kernel_processes.specs.Moved.{IsTop}

@@ -11,7 +11,7 @@ use Rattle.process_bodies.specs.KernelBodies.Strip.{strip}
 use Rattle.process_bodies.specs.KernelBodies.declared.program.Program.{Program}
 use Rattle.process_bodies.specs.Bodies.{left_in}
 use Rattle.process_bodies.specs.Bodies as bodies
-use Rattle.kernel_processes.specs.Seen.{body_at as kept_at, deadline_of}
+use Rattle.kernel_processes.specs.InstanceViews.{body_at as kept_at, deadline_of}
 use Rattle.kernel_processes.specs.Sound as schedules
 use Rattle.kernel_processes.specs.declared.parts.Trigger.{Trigger}
 use Rattle.kernel_processes.specs.Moved.{wait_as}

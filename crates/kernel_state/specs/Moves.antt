@@ -6,7 +6,7 @@ use Rattle.kernel_processes.specs.SimModel.Residual.{Residual, settle}
 use Rattle.kernel_processes.specs.SimModel.Configuration.{Config, Instance, instance_at, arena}
 use Rattle.kernel_processes.specs.SimModel.Statements.{settled_in}
 use Rattle.process_bodies.specs.Bodies as bodies
-use Rattle.kernel_processes.specs.Seen.{body_at as kept_at}
+use Rattle.kernel_processes.specs.InstanceViews.{body_at as kept_at}
 use Rattle.kernel_processes.specs.Moved.{IsTop}
 use Rattle.kernel_state.specs.Kernel.{StandsFor}
 use Rattle.kernel_state.specs.declared.kernel.Kept.{Kept}

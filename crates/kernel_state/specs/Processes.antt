@@ -5,7 +5,7 @@ use Rattle.kernel_processes.specs.LogicValues.declared.kinds.Value.{Value}
 use Rattle.kernel_processes.specs.SimModel.Residual.{Residual}
 use Rattle.kernel_processes.specs.SimModel.Configuration.{Trigger, Instance, Processes, waits_for_nothing, no_deadline}
 use Rattle.kernel_processes.specs.SimModel.Waits.{holds}
-use Rattle.kernel_processes.specs.Seen.{bare, shown_at, body_at}
+use Rattle.kernel_processes.specs.InstanceViews.{bare, shown_at, body_at}
 use Rattle.kernel_processes.specs.declared.parts.Schedule.{Schedule}
 
 -- what a schedule does not know of an instance: where it is, its path, its code and first arguments, what is left of its body, and

@@ -1,2 +1,2 @@
-pub use Rattle.kernel_processes.specs.ReadySet.Kept as Kept
+pub use Rattle.kernel_processes.specs.ReadySet.Layout as Layout
 pub use Rattle.kernel_processes.specs.ReadySet.Ready as Ready

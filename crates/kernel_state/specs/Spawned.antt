@@ -11,7 +11,7 @@ use Rattle.kernel_processes.specs.SimModel.Residual.{skip}
 use Rattle.kernel_processes.specs.SimModel.Configuration as model
 use Rattle.kernel_processes.specs.SimModel.Configuration.{Config, Instance, below}
 use Rattle.kernel_processes.specs.SimModel.Calls.{body_name, home_path, added, runnable_unless}
-use Rattle.kernel_processes.specs.Seen.{kind_of}
+use Rattle.kernel_processes.specs.InstanceViews.{kind_of}
 use Rattle.kernel_state.specs.declared.kernel.Offspring.{Offspring}
 
 -- before its body begins, it waits for its static sensitivity or for nothing

@@ -10,7 +10,7 @@ ghost use Rattle.kernel_processes.specs.SimModel.Configuration.{Config, Instance
 ghost use Rattle.kernel_processes.specs.SimModel.Calls.{with_left};
 ghost use Rattle.kernel_processes.specs.SimModel.Control as spec;
 ghost use Rattle.kernel_processes.specs.SimModel.Control.{is_top, pushed, unwinds, unless_ended, ends_or_restarts, control_call};
-ghost use Rattle.kernel_processes.specs.Seen.{is_on};
+ghost use Rattle.kernel_processes.specs.InstanceViews.{is_on};
 ghost use Rattle.kernel_processes.specs.Moved.{IsTop};
 ghost use Rattle.process_bodies.specs.Bodies.{left_of};
 ghost use Rattle.kernel_transactions.specs.Board as board;

@@ -76,17 +76,12 @@ pub mod kernel_transactions_api {
 
 /// What is passed on of logic_values.
 pub mod logic_values_api {
-    pub use kernel_processes::logic_values_api::{Value, value_text};
+    pub use kernel_processes::logic_values_api::{Bytes, Items, Value, value_text};
 }
 
 /// What is passed on of model_tree.
 pub mod model_tree_api {
     pub use kernel_processes::model_tree_api::ProcessKind;
-}
-
-/// What is passed on of plain_lists.
-pub mod plain_lists_api {
-    pub use kernel_processes::plain_lists_api::{Bytes, Items};
 }
 
 /// What is passed on of process_bodies.

@@ -3,7 +3,7 @@ ghost use Rattle.std.specs.Prelude.{◌≡◌, OnOk, OnErr};
 ghost use Rattle.kernel_processes.specs.SimModel.Configuration.{with_residual};
 ghost use Rattle.kernel_processes.specs.SimModel.Storing as storing;
 ghost use Rattle.kernel_processes.specs.SimModel.Waits as waiting;
-ghost use Rattle.kernel_processes.specs.Seen.{deadline_of};
+ghost use Rattle.kernel_processes.specs.InstanceViews.{deadline_of};
 ghost use Rattle.kernel_processes.specs.Moved.{wait_as};
 ghost use Rattle.kernel_state.specs.Kernel.{IsSound};
 ghost use Rattle.kernel_state.specs.Moves.{Moves, Steps, Lives, HasStatement, IsOnTop, KeepsBodies};

@@ -8,8 +8,8 @@ ghost use Rattle.kernel_state.specs.Added.{added_if, all_added};
 
 use crate::control::lives;
 use crate::kernel::Kernel;
-use kernel_parents::with_descendants;
 use kernel_processes::is_active;
+use process_bodies::with_descendants;
 use std::alloc::{AllocError, Global};
 
 /// One more at the end of a list, if it is one of those that are asked for.

@@ -2,7 +2,7 @@
 ghost use Rattle.std.specs.Prelude.{◌≤◌, ◌≡◌, ◌<◌, ◌+◌, ◌^◌, ℕ, IfOk, OnErr, length};
 ghost use Rattle.kernel_processes.specs.SimModel.Configuration.{Config};
 ghost use Rattle.kernel_processes.specs.SimModel.Calls.{may_spawn};
-ghost use Rattle.kernel_processes.specs.Seen.{body_at as kept_at};
+ghost use Rattle.kernel_processes.specs.InstanceViews.{body_at as kept_at};
 ghost use Rattle.kernel_state.specs.Kernel.{StandsFor, IsSound};
 ghost use Rattle.kernel_state.specs.Moves.{Moves, Lives};
 ghost use Rattle.kernel_state.specs.Spawned.{AnswersMay, with_offspring};

@@ -5,7 +5,7 @@ ghost use Rattle.kernel_processes.specs.SimModel.Channels as channels;
 ghost use Rattle.kernel_processes.specs.SimModel.Storing.{passes};
 ghost use Rattle.kernel_processes.specs.SimModel.Storing as storing;
 ghost use Rattle.kernel_processes.specs.SimModel.Waits.{waits};
-ghost use Rattle.kernel_processes.specs.Seen.{deadline_of};
+ghost use Rattle.kernel_processes.specs.InstanceViews.{deadline_of};
 ghost use Rattle.kernel_processes.specs.Moved.{wait_as};
 ghost use Rattle.kernel_state.specs.Kernel.{IsSound};
 ghost use Rattle.kernel_state.specs.Moves.{Moves, Steps, Lives, HasStatement, IsOnTop};
@@ -14,8 +14,7 @@ use crate::kernel::Kernel;
 use crate::moves::{pass, set_variable, settle, wait};
 use kernel_processes::event_core_api::Ev;
 use kernel_processes::instance_table_api::Deadline;
-use kernel_processes::logic_values_api::Value;
-use kernel_processes::plain_lists_api::Items;
+use kernel_processes::logic_values_api::{Items, Value};
 use kernel_processes::{Trigger, Wait};
 use std::alloc::{AllocError, Global};
 

@@ -18,8 +18,8 @@ use Rattle.exec_channels.specs.KernelState.declared.stops.StatementStop.{Stateme
 use Rattle.exec_channels.specs.KernelState.declared.stops.StatementStop.TheVariants as stop
 use Rattle.exec_channels.specs.KernelState.declared.kernel.Kernel.{Kernel}
 use Rattle.exec_transactions.specs.Calling.{IsOfProtocol}
-use Rattle.kernel_steps.specs.Kept.{QuietIfOk, is_print}
-use Rattle.kernel_steps.specs.Told.{Tells, TellsAll, Makes, Carries, CarriesAll, plain_answer, taking_answer}
+use Rattle.kernel_steps.specs.FrameConditions.{QuietIfOk, is_print}
+use Rattle.kernel_steps.specs.StepAnswers.{Tells, TellsAll, Makes, Carries, CarriesAll, plain_answer, taking_answer}
 use Rattle.kernel_steps.specs.declared.answers.StepAnswer.TheVariants as answer
 use Rattle.kernel_steps.proofs.Silent.{statement_quiet}
 use Rattle.kernel_steps.specs.declared.answers.StepAnswer.{StepAnswer}

@@ -12,15 +12,15 @@ use Rattle.exec_channels.specs.SimModel.Reading.{Here, val_if}
 use Rattle.exec_channels.specs.SimModel.Configuration.{Config, Instance, arena, line, instance_at, with_residual, with_told}
 use Rattle.exec_channels.specs.SimModel.Statements.{settled_in}
 use Rattle.exec_channels.specs.SimModel.Storing.{passes, print_line, do_print}
-use Rattle.exec_channels.specs.KernelProcesses.Seen.{shown_at}
-use Rattle.exec_channels.specs.KernelProcesses.Seen.{body_at as kept_at}
+use Rattle.exec_channels.specs.KernelProcesses.InstanceViews.{shown_at}
+use Rattle.exec_channels.specs.KernelProcesses.InstanceViews.{body_at as kept_at}
 use Rattle.exec_channels.specs.KernelState.Processes.{TellsBy, Tells}
 use Rattle.exec_channels.specs.KernelState.Kernel.{Shows, StandsFor, whole_design}
 use Rattle.exec_channels.specs.KernelState.Moves.{Lives}
 use Rattle.exec_channels.specs.KernelState.declared.kernel.Kernel.{Kernel}
 use Rattle.exec_channels.proofs.KernelState.Frames.{shown_where_lives}
-use Rattle.exec_control.specs.ExecData.Told.{FollowsPrint}
-use Rattle.kernel_steps.specs.Told.{TellsAll}
+use Rattle.exec_control.specs.ExecData.PrintAnswers.{FollowsPrint}
+use Rattle.kernel_steps.specs.StepAnswers.{TellsAll}
 use Rattle.kernel_steps.proofs.Silent.{KeepsIfOk}
 use Rattle.kernel_steps.specs.declared.answers.StepAnswer.TheVariants as answer
 

@@ -17,7 +17,7 @@ use Rattle.exec_channels.specs.SimModel.Calls.{final_value, given_back, answer_o
 use Rattle.exec_channels.specs.SimModel.Transport.{history, int_of, judged_by, for_freed, judged_return, complete_now, b_transport_ends, nb_transport_ends}
 use Rattle.exec_channels.specs.SimModel.Statements.{via_ends, hands_back, handed_back, calling_statement, leaves_call}
 use Rattle.exec_channels.specs.SimModel.declared.plain.Via.{Via}
-use Rattle.kernel_steps.specs.Kept.{Quiet, QuietIfOk}
+use Rattle.kernel_steps.specs.FrameConditions.{Quiet, QuietIfOk}
 use Rattle.kernel_steps.proofs.Silent.{name_quiet, stored_if_quiet}
 
 module _ (c : Config) where

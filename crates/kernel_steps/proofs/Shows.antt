@@ -9,7 +9,7 @@ use Rattle.exec_channels.specs.KernelBodies.declared.layers.Next.TheVariants as 
 use Rattle.exec_channels.proofs.KernelBodies.Strips.{strip-next}
 use Rattle.exec_channels.specs.ProcessBodies.Bodies as bodies
 use Rattle.exec_channels.specs.KernelProcesses.declared.parts.Process.{Process}
-use Rattle.exec_channels.specs.KernelProcesses.Seen.{body_at as kept_at}
+use Rattle.exec_channels.specs.KernelProcesses.InstanceViews.{body_at as kept_at}
 use Rattle.exec_channels.specs.SimModel.Residual as residual
 use Rattle.exec_channels.specs.SimModel.Residual.{Frame, Next, next_of, settle, taken_off}
 use Rattle.exec_channels.specs.SimModel.Configuration.{Config, Instance, instance_at, with_residual, arena}
@@ -22,7 +22,7 @@ use Rattle.exec_channels.proofs.KernelState.Frames.{settled_before}
 use Rattle.exec_control.specs.ExecData.Entered.{Shows}
 use Rattle.kernel_steps.specs.Owing.{Owes}
 use Rattle.kernel_steps.specs.Shown.{ComesNext}
-use Rattle.kernel_steps.specs.Told.{TellsAll, MakesAll, MakesStep}
+use Rattle.kernel_steps.specs.StepAnswers.{TellsAll, MakesAll, MakesStep}
 use Rattle.kernel_steps.specs.declared.answers.StepAnswer.{StepAnswer}
 
 pub has_statement : (k : Kernel) (p s : ℕ) → Shows k p s → HasStatement k p

@@ -51,7 +51,7 @@ use Rattle.exec_channels.specs.SimModel.Statements.{do_statement}
 use Rattle.exec_channels.specs.SimModel.declared.plain.Goal.{Goal}
 use Rattle.exec_channels.specs.SimModel.declared.plain.Goal.TheVariants as goal_of
 use Rattle.exec_channels.specs.SimModel.declared.plain.Via.{Via}
-use Rattle.kernel_steps.specs.Kept.{Quiet, QuietIfOk, Keeps, is_print}
+use Rattle.kernel_steps.specs.FrameConditions.{Quiet, QuietIfOk, Keeps, is_print}
 
 -- ---- parts
 

@@ -13,7 +13,7 @@ use Rattle.exec_channels.specs.KernelState.declared.stops.StatementStop.TheVaria
 use Rattle.exec_channels.specs.KernelState.declared.kernel.Kernel.{Kernel}
 use Rattle.kernel_steps.specs.Shown.{ComesNext}
 use Rattle.kernel_steps.specs.Taking.{takes_memory_if, next_takes, StepTakes, IsNoThread}
-use Rattle.kernel_steps.specs.Told.{plain_answer, taking_answer}
+use Rattle.kernel_steps.specs.StepAnswers.{plain_answer, taking_answer}
 use Rattle.kernel_steps.specs.declared.answers.StepAnswer.{StepAnswer}
 use Rattle.kernel_steps.specs.declared.answers.StepAnswer.TheVariants as answer
 

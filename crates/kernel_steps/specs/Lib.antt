@@ -1,6 +1,6 @@
 pub mod Ending
-pub mod Told
-pub mod Kept
+pub mod StepAnswers
+pub mod FrameConditions
 pub mod Shown
 pub mod Ready
 pub mod Owing

@@ -1,6 +1,6 @@
 //! What a step of an instance answers.
 ghost use Rattle.std.specs.Prelude.{◌≡◌};
-ghost use Rattle.kernel_steps.specs.Told.{plain_answer, taking_answer};
+ghost use Rattle.kernel_steps.specs.StepAnswers.{plain_answer, taking_answer};
 
 use exec_channels::kernel_state_api::StatementStop;
 use exec_channels::logic_values_api::Value;

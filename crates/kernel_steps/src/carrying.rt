@@ -10,7 +10,7 @@ ghost use Rattle.exec_transactions.specs.ExecEvents.Numbers.{NumbersEvents};
 ghost use Rattle.exec_control.specs.Thrown.{OthersHaveNoGoal};
 ghost use Rattle.exec_control.specs.Unwound.{ThrowsFree};
 ghost use Rattle.kernel_steps.specs.Taking.{takes_memory};
-ghost use Rattle.kernel_steps.specs.Told.{CarriesAll};
+ghost use Rattle.kernel_steps.specs.StepAnswers.{CarriesAll};
 
 use crate::answers::{StepAnswer, plain, taking};
 use crate::data::{if_step, print_step, var_step, while_step};

@@ -5,7 +5,7 @@ ghost use Rattle.flat_design.specs.Code.{arena_of, statement_at, term_of};
 ghost use Rattle.exec_channels.specs.KernelState.Kernel.{IsSound};
 ghost use Rattle.exec_channels.specs.KernelState.Moves.{HasStatement, IsOnTop};
 ghost use Rattle.exec_control.specs.ExecData.Entered.{Shows};
-ghost use Rattle.kernel_steps.specs.Told.{Carries, CarriesAll};
+ghost use Rattle.kernel_steps.specs.StepAnswers.{Carries, CarriesAll};
 
 use crate::answers::{StepAnswer, plain};
 use exec_channels::kernel_state_api::{Kernel, top_lives};

@@ -9,7 +9,7 @@ ghost use Rattle.exec_channels.specs.KernelState.Moves.{IsOnTop};
 ghost use Rattle.exec_channels.specs.KernelState.Ways.{HasOwed};
 ghost use Rattle.exec_control.specs.Thrown.{OthersHaveNoGoal};
 ghost use Rattle.kernel_steps.specs.Owing.{Owes, call_of};
-ghost use Rattle.kernel_steps.specs.Told.{MakesAll};
+ghost use Rattle.kernel_steps.specs.StepAnswers.{MakesAll};
 
 use crate::answers::{StepAnswer, plain};
 use exec_channels::kernel_state_api::{Kernel, Way, move_on, top_lives};

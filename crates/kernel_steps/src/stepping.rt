@@ -17,7 +17,7 @@ ghost use Rattle.kernel_steps.specs.Owing.{Owes};
 ghost use Rattle.kernel_steps.specs.Ready.{Ready};
 ghost use Rattle.kernel_steps.specs.Shown.{ComesNext};
 ghost use Rattle.kernel_steps.specs.Taking.{takes_memory_if, StepTakes, IsNoThread};
-ghost use Rattle.kernel_steps.specs.Told.{MakesAll, MakesStep};
+ghost use Rattle.kernel_steps.specs.StepAnswers.{MakesAll, MakesStep};
 
 use crate::answers::{StepAnswer, plain, straight};
 use crate::carrying::carry_out;

@@ -6,8 +6,8 @@ use Rattle.std.specs.Cmp.{nat_cmp_total}
 use Rattle.std.specs.FinMap as map
 use Rattle.std.proofs.lemmas.Bool.{cases_eq}
 use Rattle.std.proofs.lemmas.Option.{none-some, same_Some}
-use Rattle.sim_model.specs.Lemmas.Updated.{updated}
-use Rattle.sim_model.proofs.Lemmas.MapLemmas.{get-updated_same, get-updated_other, get-insert_same, get-insert_other, len-insert_new, len-insert_there}
+use Rattle.sim_model.specs.NumberedSlots.Updated.{updated}
+use Rattle.sim_model.proofs.NumberedSlots.MapLemmas.{get-updated_same, get-updated_other, get-insert_same, get-insert_other, len-insert_new, len-insert_there}
 use Rattle.sim_model.specs.PayloadPool.Payloads as pool
 use Rattle.sim_model.specs.PayloadPool.Payloads.{one_more, one_less, rewritten, new_payload}
 use Rattle.sim_model.specs.PayloadPool.declared.payload.Payload.{Payload}

@@ -10,7 +10,7 @@ use Rattle.sim_model.specs.TransportPhases.declared.phases.Answer.{Answer}
 use Rattle.sim_model.specs.TransportPhases.declared.phases.Phase.{Phase}
 use Rattle.sim_model.specs.TransportPhases.declared.phases.Rule.{Rule}
 use Rattle.sim_model.specs.TransportPhases.declared.phases.Rule.TheVariants.{P7}
-use Rattle.sim_model.specs.TransportPhases.declared.kept.State.TheVariants.{Idle}
+use Rattle.sim_model.specs.TransportPhases.declared.transaction.State.TheVariants.{Idle}
 use Rattle.sim_model.specs.TransportPhases.Phases.{verdict, first_broken, return_rules, answer_of, phase_of}
 use Rattle.sim_model.specs.TransportPhases.Rows.{Rows, IsRegistered}
 use Rattle.sim_model.specs.TransportPhases.History.{Entry, Return, Left, StandsFor, broken}

@@ -4,4 +4,4 @@ pub mod Counts
 pub mod Frames
 pub mod Making
 pub mod Histories
-pub mod Judged
+pub mod Judgements

@@ -6,8 +6,8 @@ use Rattle.std.specs.FinMap as map
 use Rattle.std.proofs.lemmas.Bool.{cases_eq, cases_lt}
 use Rattle.std.proofs.lemmas.Option.{none-some, same_Some}
 use Rattle.std.proofs.lemmas.List.{length-append}
-use Rattle.sim_model.specs.Lemmas.Updated.{updated}
-use Rattle.sim_model.proofs.Lemmas.MapLemmas.{same_gets, get-updated_same, get-updated_other, is_updated, is_insert, len-updated, get-insert_same, get-insert_other, get-remove_same, get-remove_other}
+use Rattle.sim_model.specs.NumberedSlots.Updated.{updated}
+use Rattle.sim_model.proofs.NumberedSlots.MapLemmas.{same_gets, get-updated_same, get-updated_other, is_updated, is_insert, len-updated, get-insert_same, get-insert_other, get-remove_same, get-remove_other}
 use Rattle.sim_model.specs.PayloadPool.Payloads as pool
 use Rattle.sim_model.specs.PayloadPool.Payloads.{one_more, one_less, rewritten, new_payload, payload_in}
 use Rattle.sim_model.specs.PayloadPool.declared.payload.Payload.{Payload}

@@ -4,9 +4,9 @@ pub use Rattle.kernel_state.proofs.Fifos as Fifos
 pub use Rattle.kernel_state.proofs.Frames as Frames
 pub use Rattle.kernel_state.proofs.Leaving as Leaving
 pub use Rattle.kernel_state.proofs.Offsprings as Offsprings
+pub use Rattle.kernel_state.proofs.OneLess as OneLess
 pub use Rattle.kernel_state.proofs.ProcessFrames as ProcessFrames
 pub use Rattle.kernel_state.proofs.Pushing as Pushing
 pub use Rattle.kernel_state.proofs.Reached as Reached
 pub use Rattle.kernel_state.proofs.Stacks as Stacks
-pub use Rattle.kernel_state.proofs.Taken as Taken
 pub use Rattle.kernel_state.proofs.Uses as Uses

@@ -11,8 +11,8 @@ use Rattle.expr_eval.specs.SimModel.Reading.{has_ended, home_of_via, locals_of}
 use Rattle.kernel_state.proofs.KernelBodies.Strips.{strip-innermost, strip-within}
 use Rattle.kernel_state.proofs.KernelProcesses.Wakes.{change-here, change-other}
 use Rattle.kernel_state.specs.ProcessBodies.Bodies as bodies
-use Rattle.kernel_state.specs.KernelProcesses.Seen.{seen, shown_at, as_instance}
-use Rattle.kernel_state.specs.KernelProcesses.Seen.{body_at as kept_at}
+use Rattle.kernel_state.specs.KernelProcesses.InstanceViews.{seen, shown_at, as_instance}
+use Rattle.kernel_state.specs.KernelProcesses.InstanceViews.{body_at as kept_at}
 use Rattle.kernel_state.specs.KernelProcesses.declared.parts.Process.{Process}
 use Rattle.kernel_state.specs.Processes.{beside, TellsBy, Tells}
 use Rattle.kernel_state.specs.Kernel.{Shows, StandsFor, whole_design}

@@ -64,17 +64,12 @@ pub mod kernel_transactions_api {
 
 /// What is passed on of logic_values.
 pub mod logic_values_api {
-    pub use expr_eval::logic_values_api::{Digit, Value, digit};
+    pub use expr_eval::logic_values_api::{Bytes, Digit, Items, Value, digit};
 }
 
 /// What is passed on of model_tree.
 pub mod model_tree_api {
     pub use expr_eval::model_tree_api::{Control, PrintText, ProcessKind};
-}
-
-/// What is passed on of plain_lists.
-pub mod plain_lists_api {
-    pub use expr_eval::plain_lists_api::{Bytes, Items};
 }
 
 /// What is passed on of process_bodies.

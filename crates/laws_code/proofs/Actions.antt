@@ -42,7 +42,7 @@ use Rattle.code_rules.specs.Numbered.{var_code, assign_code, operate_code}
 use Rattle.code_rules.specs.Bodies.{IsAnswer, thrown_in}
 use Rattle.laws_code.specs.Known.{TypesAreKnown}
 use Rattle.laws_code.specs.Met.{IsMet}
-use Rattle.laws_code.proofs.Kept.{Keeps, keeps}
+use Rattle.laws_code.proofs.FaultlessConstructs.{Keeps, keeps}
 use Rattle.laws_code.proofs.NamesMet.{site_met}
 use Rattle.laws_code.proofs.Typed.{neither, not_named, parts_none, head_none}
 use Rattle.laws_code.specs.HasCode.{AreNumbered}

@@ -37,7 +37,7 @@ use Rattle.laws_code.specs.Standing.{Standing, NamesStand}
 use Rattle.laws_code.proofs.Has.{Has, map_has}
 use Rattle.laws_code.proofs.Operands.{both_true, same_width, integer_type, takes_fit, time_type}
 use Rattle.laws_code.proofs.Places.{UseStands, use_stands, place_stands, signal_offers, fifo_offers, port_offers, port_is, resolved_offers}
-use Rattle.laws_code.proofs.Seen.{process_variable}
+use Rattle.laws_code.proofs.ReadTypes.{process_variable}
 use Rattle.laws_code.proofs.Terms.{Follows, term_typed}
 
 -- an expression within the limits is formed

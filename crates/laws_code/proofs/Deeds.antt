@@ -35,7 +35,7 @@ use Rattle.code_rules.specs.Bodies.{thrown_in}
 use Rattle.code_rules.proofs.ModelRules.Firsts.{or_none}
 use Rattle.laws_code.specs.Known.{is_type_known, TypesAreKnown}
 use Rattle.laws_code.specs.Met.{IsMet}
-use Rattle.laws_code.proofs.Kept.{keeps}
+use Rattle.laws_code.proofs.FaultlessConstructs.{keeps}
 use Rattle.laws_code.proofs.NamesMet.{site_met}
 use Rattle.laws_code.proofs.Coded.{some_none, two_some}
 use Rattle.laws_code.proofs.Typed.{typed, neither, not_named, parts_none, head_none, mapped_some, channel_kept, IsChannelKept, number_placed, computed_placed, and_true}

@@ -35,7 +35,7 @@ use Rattle.code_rules.specs.ModelRules.Passes.{constructs, fault_at, fault_of}
 use Rattle.code_rules.specs.Terms.{number, term_of}
 use Rattle.code_rules.specs.Deeds.{with_two, with_three, if_written, each, place_term, channel_term, event_of, event_term, static_place, static_use, await_term}
 use Rattle.laws_code.specs.Known.{TypesAreKnown}
-use Rattle.laws_code.proofs.Kept.{keeps}
+use Rattle.laws_code.proofs.FaultlessConstructs.{keeps}
 use Rattle.laws_code.proofs.Coded.{same_some}
 use Rattle.laws_code.proofs.Typed.{neither, same_false, not_named, parts_none, head_none, and_true, IsChannelKept, channel_kept}
 use Rattle.laws_code.proofs.Named.{no_variable}
@@ -44,7 +44,7 @@ use Rattle.laws_code.specs.Standing.{Standing, NamesStand}
 use Rattle.laws_code.proofs.Has.{Has, map_has, two_has}
 use Rattle.laws_code.proofs.Operands.{both_true}
 use Rattle.laws_code.proofs.Places.{UseStands, use_stands, place_stands, signal_offers, fifo_offers, port_offers, resolved_offers, in_offers, out_offers}
-use Rattle.laws_code.proofs.Seen.{process_variable, entry_has}
+use Rattle.laws_code.proofs.ReadTypes.{process_variable, entry_has}
 use Rattle.laws_code.proofs.Terms.{number_has}
 use Rattle.laws_code.proofs.Channels.{within_is, standing_port, use_variable, integer_there, time_there}
 

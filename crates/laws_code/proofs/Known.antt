@@ -19,7 +19,7 @@ use Rattle.code_rules.specs.ModelRules.Sites.{site, type_site, variable_type_sit
 use Rattle.code_rules.specs.ModelRules.Values.{is_wide}
 use Rattle.code_rules.specs.ModelRules.Passes.{constructs, fault_of}
 use Rattle.laws_code.specs.Known.{is_type_known, TypesAreKnown}
-use Rattle.laws_code.proofs.Kept.{keeps}
+use Rattle.laws_code.proofs.FaultlessConstructs.{keeps}
 use Rattle.laws_code.proofs.Coded.{same_some}
 use Rattle.laws_code.proofs.Typed.{not_named, head_none}
 

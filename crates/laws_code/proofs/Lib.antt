@@ -1,5 +1,5 @@
 pub mod NamesMet
-pub mod Kept
+pub mod FaultlessConstructs
 pub mod Typed
 pub mod Coded
 pub mod Passes
@@ -15,7 +15,7 @@ pub mod Everywhere
 pub mod Operands
 pub mod Has
 pub mod Places
-pub mod Seen
+pub mod ReadTypes
 pub mod Terms
 pub mod Channels
 pub mod Events
@@ -33,3 +33,4 @@ pub mod ReachedModels
 pub mod Rooted
 pub mod ReachRules
 pub mod Fields
+pub mod CodeRules

@@ -25,7 +25,7 @@ use Rattle.code_rules.specs.ModelRules.Passes.{constructs, fault_at, fault_of}
 use Rattle.code_rules.specs.Terms.{term_of}
 use Rattle.code_rules.specs.Deeds.{with_two, with_three, with_four, if_written, each, place_term, channel_term, event_of, event_term, static_place, static_use, await_term, inout_argument, argument, arguments, call_arguments, controlled_by}
 use Rattle.laws_code.specs.Known.{TypesAreKnown}
-use Rattle.laws_code.proofs.Kept.{keeps}
+use Rattle.laws_code.proofs.FaultlessConstructs.{keeps}
 use Rattle.laws_code.proofs.NamesMet.{site_met}
 use Rattle.laws_code.proofs.Coded.{coded, some_none, two_some}
 use Rattle.laws_code.proofs.Typed.{typed, neither, not_named, parts_none, head_none, mapped_some, channel_kept, and_true}

@@ -36,7 +36,7 @@ use Rattle.laws_code.specs.Standing.{NamesStand}
 use Rattle.laws_code.proofs.Has.{Has}
 use Rattle.laws_code.proofs.Operands.{both_true, integer_type, taken_has, operands_fit, unary_fit, conversion_fit, vector_fit, Joins, concat_fit, digit_fit, slice_fit}
 use Rattle.laws_code.proofs.Places.{UseStands, mapped_is, use_stands}
-use Rattle.laws_code.proofs.Seen.{ObjectStands, MemberFits, entry_has, use_reads, placed_reads, members_fit}
+use Rattle.laws_code.proofs.ReadTypes.{ObjectStands, MemberFits, entry_has, use_reads, placed_reads, members_fit}
 
 -- a term that has a type
 abbrev pub TermHas : Context → Option Term → ExpressionType → Type 0

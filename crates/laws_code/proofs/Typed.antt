@@ -26,7 +26,7 @@ use Rattle.code_rules.specs.ModelRules.Values.{fails, refuses, refuse, element_d
 use Rattle.code_rules.specs.ModelRules.Passes.{constructs, fault_at, fault_of}
 use Rattle.code_rules.proofs.ModelRules.Firsts.{or_none, first_append}
 use Rattle.laws_code.specs.Known.{is_type_known, TypesAreKnown}
-use Rattle.laws_code.proofs.Kept.{keeps}
+use Rattle.laws_code.proofs.FaultlessConstructs.{keeps}
 use Rattle.laws_code.proofs.NamesMet.{site_met}
 
 -- truth values

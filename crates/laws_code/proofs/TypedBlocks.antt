@@ -28,7 +28,7 @@ use Rattle.code_rules.specs.Deeds.{Home, if_written, store, action_code}
 use Rattle.code_rules.specs.Numbered.{AtBlock, AreFirst, IsCoded, IsStatement, IsBlock, IsElse, AreHandlers, var_code, assign_code, operate_code}
 use Rattle.code_rules.specs.Bodies.{LocalSource, variables_in, variables_in_block, variables_in_else, variables_in_handlers, exceptions_in, exceptions_in_block, exceptions_in_else, exceptions_in_handlers}
 use Rattle.laws_code.specs.Known.{TypesAreKnown}
-use Rattle.laws_code.proofs.Kept.{keeps}
+use Rattle.laws_code.proofs.FaultlessConstructs.{keeps}
 use Rattle.laws_code.proofs.Coded.{same_some}
 use Rattle.laws_code.proofs.Typed.{not_named, parts_none, head_none}
 use Rattle.laws_code.specs.HasCode.{AreNumbered}

@@ -12,7 +12,7 @@ use Rattle.elaborate_objects.specs.ModelRules.Sites as part
 use Rattle.elaborate_objects.specs.ModelRules.Sites.{site}
 use Rattle.elaborate_objects.specs.ModelRules.Items.{reached, last_name}
 use Rattle.elaborate_objects.specs.ModelRules.Passes.{first_fault}
-use Rattle.laws_code.proofs.Kept.{keeps}
+use Rattle.laws_code.proofs.FaultlessConstructs.{keeps}
 use Rattle.laws_code.proofs.Typed.{head_none}
 use Rattle.elaborate_objects.specs.DesignRules.Forms.{Name, around, items_at, module_place}
 use Rattle.elaborate_objects.specs.DesignRules.Listing.{InsideBinds, child, end_of, binds_of_item, binds_of_items, binds_within, objects_of, top_object, top_place}

@@ -28,7 +28,7 @@ use Rattle.elaborate_objects.specs.ModelRules.declared.ends.LeftEnd.TheVariants 
 use Rattle.elaborate_objects.specs.ModelRules.Passes.{first_fault}
 use Rattle.elaborate_objects.specs.ModelRules.Distinct.{names_of, HasDistinctNames}
 use Rattle.elaborate_objects.proofs.ModelRules.Firsts.{or_none}
-use Rattle.laws_code.proofs.Kept.{keeps}
+use Rattle.laws_code.proofs.FaultlessConstructs.{keeps}
 use Rattle.laws_code.proofs.Typed.{same_false, some_of, not_named}
 use Rattle.elaborate_objects.specs.DesignRules.Forms.{Name, Around, around, items_at, items_in, is_named, module_place, object_form}
 use Rattle.elaborate_objects.specs.DesignRules.Listing.{child, end_in, end_of, list_of, objects_of}
@@ -38,7 +38,7 @@ use Rattle.elaborate_objects.specs.Left.{object_of}
 use Rattle.elaborate_objects.specs.DesignRules.Objects.{object_at, parent_of, parent_at}
 use Rattle.elaborate_objects.specs.DesignRules.Formed.{IsOwn, IsOfChild, IsRightOfPort, IsRightOfExport, IsRightOfInitiator, IsRightOfTarget, AreEnds}
 use Rattle.laws_design.proofs.Children.{same_some}
-use Rattle.laws_design.proofs.Kept.{IsKept, ItemsKept, kept, names_differ, all_at}
+use Rattle.laws_design.proofs.FaultlessItems.{IsKept, ItemsKept, kept, names_differ, all_at}
 use Rattle.laws_design.proofs.NamedObjects.{row_found}
 use Rattle.laws_design.proofs.Models.{module_rows, child_of_model}
 use Rattle.laws_design.proofs.Parents.{are_inside}

@@ -1,14 +1,14 @@
 -- Each part has its events among those of the design.
 use Rattle.std.proofs.Common.{◌≡◌, ◌<◌, ◌≤◌, ℕ, zero, suc, ◌+◌, List, Some, refl, sym, ap, ◌∙◌, arith}
 use Rattle.std.specs.Prelude.{slice_get}
-use Rattle.code_rooms.specs.ModelTree.Tree as tree
-use Rattle.code_rooms.specs.FlatDesign.declared.objects.Object.{Object}
-use Rattle.code_rooms.specs.FlatDesign.declared.objects.ObjectForm.{ObjectForm}
-use Rattle.code_rooms.specs.FlatDesign.declared.objects.ObjectForm.TheVariants as form
-use Rattle.code_rooms.specs.FlatDesign.declared.design.SignalPart.{SignalPart}
-use Rattle.code_rooms.specs.FlatDesign.declared.design.ResolvedPart.{ResolvedPart}
-use Rattle.code_rooms.specs.FlatDesign.declared.design.FifoPart.{FifoPart}
-use Rattle.code_rooms.specs.FlatDesign.declared.design.Design.{Design}
+use Rattle.elaborate_objects.specs.ModelTree.Tree as tree
+use Rattle.elaborate_objects.specs.FlatDesign.declared.objects.Object.{Object}
+use Rattle.elaborate_objects.specs.FlatDesign.declared.objects.ObjectForm.{ObjectForm}
+use Rattle.elaborate_objects.specs.FlatDesign.declared.objects.ObjectForm.TheVariants as form
+use Rattle.elaborate_objects.specs.FlatDesign.declared.design.SignalPart.{SignalPart}
+use Rattle.elaborate_objects.specs.FlatDesign.declared.design.ResolvedPart.{ResolvedPart}
+use Rattle.elaborate_objects.specs.FlatDesign.declared.design.FifoPart.{FifoPart}
+use Rattle.elaborate_objects.specs.FlatDesign.declared.design.Design.{Design}
 use Rattle.elaborate_objects.specs.DesignRules.declared.counts.Counts.{Counts}
 use Rattle.elaborate_objects.specs.DesignRules.Counting.{behind, nothing_before}
 use Rattle.elaborate_objects.specs.DesignRules.Parts.{signal_by, resolved_by, fifo_by}

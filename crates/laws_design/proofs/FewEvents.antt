@@ -1,16 +1,16 @@
 -- Objects within the limits give few processes and few events.
 use Rattle.std.proofs.Common.{◌≡◌, ◌≤◌, ◌+◌, ◌*◌, ◌||◌, ℕ, Bool, true, false, cond, List, [], ◌∷◌, length, Some, None, nat_lt, refl, ap, arith, length-append}
 use Rattle.std.proofs.lemmas.Bool.Decides.{nat_tests}
-use Rattle.code_rooms.specs.ModelTree.Tree as tree
-use Rattle.code_rooms.specs.FlatDesign.declared.objects.Object.{Object}
-use Rattle.code_rooms.specs.FlatDesign.declared.objects.Objects.{Objects}
-use Rattle.code_rooms.specs.FlatDesign.declared.objects.ObjectForm.{ObjectForm}
-use Rattle.code_rooms.specs.FlatDesign.declared.objects.ObjectForm.TheVariants as form
-use Rattle.code_rooms.specs.FlatDesign.declared.code.StaticUse.{StaticUse}
-use Rattle.code_rooms.specs.FlatDesign.declared.design.PortPart.{PortPart}
-use Rattle.code_rooms.specs.FlatDesign.declared.design.InstancePart.{InstancePart}
-use Rattle.code_rooms.specs.FlatDesign.declared.design.ProcessPart.{ProcessPart}
-use Rattle.code_rooms.specs.FlatDesign.declared.design.Design.{Design}
+use Rattle.elaborate_objects.specs.ModelTree.Tree as tree
+use Rattle.elaborate_objects.specs.FlatDesign.declared.objects.Object.{Object}
+use Rattle.elaborate_objects.specs.FlatDesign.declared.objects.Objects.{Objects}
+use Rattle.elaborate_objects.specs.FlatDesign.declared.objects.ObjectForm.{ObjectForm}
+use Rattle.elaborate_objects.specs.FlatDesign.declared.objects.ObjectForm.TheVariants as form
+use Rattle.elaborate_objects.specs.FlatDesign.declared.code.StaticUse.{StaticUse}
+use Rattle.elaborate_objects.specs.FlatDesign.declared.design.PortPart.{PortPart}
+use Rattle.elaborate_objects.specs.FlatDesign.declared.design.InstancePart.{InstancePart}
+use Rattle.elaborate_objects.specs.FlatDesign.declared.design.ProcessPart.{ProcessPart}
+use Rattle.elaborate_objects.specs.FlatDesign.declared.design.Design.{Design}
 use Rattle.elaborate_objects.specs.DesignRules.Listing.{list_of}
 use Rattle.elaborate_objects.specs.DesignRules.ObjectFaults.{bytes_of, are_too_many, limit_fault}
 use Rattle.elaborate_objects.specs.DesignRules.declared.counts.Counts.{Counts}

@@ -5,18 +5,18 @@ use Rattle.std.specs.List.{position_or_len}
 use Rattle.std.proofs.lemmas.Bool.{ltb-true}
 use Rattle.std.proofs.lemmas.List.{length-map}
 use Rattle.std.proofs.lemmas.Option.{slice_get_within}
-use Rattle.code_rooms.specs.ModelTree.Tree as tree
-use Rattle.code_rooms.specs.FlatDesign.Denotes.{denoted_at}
-use Rattle.code_rooms.specs.FlatDesign.Sound.{DenotedFits}
-use Rattle.code_rooms.specs.FlatDesign.declared.objects.Object.{Object}
-use Rattle.code_rooms.specs.FlatDesign.declared.objects.ObjectForm.{ObjectForm}
-use Rattle.code_rooms.specs.FlatDesign.declared.objects.ObjectForm.TheVariants as form
-use Rattle.code_rooms.specs.FlatDesign.declared.design.Denoted.{Denoted}
-use Rattle.code_rooms.specs.FlatDesign.declared.design.Denoted.TheVariants as denoted
-use Rattle.code_rooms.specs.FlatDesign.declared.design.InstancePart.{InstancePart}
-use Rattle.code_rooms.specs.FlatDesign.declared.design.ProcessPart.{ProcessPart}
-use Rattle.code_rooms.specs.FlatDesign.declared.design.Design.{Design}
-use Rattle.code_rooms.specs.ModelRules.Meanings.{Declared, declarations}
+use Rattle.elaborate_objects.specs.ModelTree.Tree as tree
+use Rattle.elaborate_objects.specs.FlatDesign.Denotes.{denoted_at}
+use Rattle.elaborate_objects.specs.FlatDesign.Sound.{DenotedFits}
+use Rattle.elaborate_objects.specs.FlatDesign.declared.objects.Object.{Object}
+use Rattle.elaborate_objects.specs.FlatDesign.declared.objects.ObjectForm.{ObjectForm}
+use Rattle.elaborate_objects.specs.FlatDesign.declared.objects.ObjectForm.TheVariants as form
+use Rattle.elaborate_objects.specs.FlatDesign.declared.design.Denoted.{Denoted}
+use Rattle.elaborate_objects.specs.FlatDesign.declared.design.Denoted.TheVariants as denoted
+use Rattle.elaborate_objects.specs.FlatDesign.declared.design.InstancePart.{InstancePart}
+use Rattle.elaborate_objects.specs.FlatDesign.declared.design.ProcessPart.{ProcessPart}
+use Rattle.elaborate_objects.specs.FlatDesign.declared.design.Design.{Design}
+use Rattle.elaborate_objects.specs.ModelRules.Meanings.{Declared, declarations}
 use Rattle.elaborate_objects.specs.DesignRules.declared.bindings.Joined.{Joined}
 use Rattle.elaborate_objects.specs.DesignRules.Bound.{bound}
 use Rattle.elaborate_objects.specs.DesignRules.Forms.{items_at}

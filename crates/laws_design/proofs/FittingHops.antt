@@ -5,40 +5,40 @@ use Rattle.std.specs.List.{AllByRecursion, position_or_len}
 use Rattle.std.proofs.lemmas.List.Elements.{All-contains, All-from_recursion}
 use Rattle.std.proofs.lemmas.Option.{slice_get_within, slice_get-map, get_or_from_slice_get}
 use Rattle.std.proofs.lemmas.Slice.Eq.{bytes_eq-Decides}
-use Rattle.code_rooms.specs.ModelTree.Tree as tree
-use Rattle.code_rooms.specs.ModelTree.Lines.{item_line}
-use Rattle.code_rooms.specs.ModelTree.declared.types.VarType.{VarType}
-use Rattle.code_rooms.specs.ModelTree.declared.types.Parameter.{Parameter}
-use Rattle.code_rooms.specs.ModelTree.declared.items.PlainKind.TheVariants as plain
-use Rattle.code_rooms.specs.ModelTree.declared.items.InitiatorRole.TheVariants as initiator
-use Rattle.code_rooms.specs.ModelTree.declared.items.TargetRole.TheVariants as target
-use Rattle.code_rooms.specs.FlatDesign.Code.{arena_of, body_at}
-use Rattle.code_rooms.specs.FlatDesign.Typed.{parameters_of}
-use Rattle.code_rooms.specs.FlatDesign.Sound.{IsThere, HasParameters, IsHandler, HandlerFits, HopFits, blocking_parameters, nonblocking_parameters}
-use Rattle.code_rooms.specs.FlatDesign.declared.value_types.ValueType.{ValueType}
-use Rattle.code_rooms.specs.FlatDesign.declared.value_types.ValueType.TheVariants as type
-use Rattle.code_rooms.specs.FlatDesign.declared.code.CodeBody.{CodeBody}
-use Rattle.code_rooms.specs.FlatDesign.declared.code.Local.{Local}
-use Rattle.code_rooms.specs.FlatDesign.declared.objects.Object.{Object}
-use Rattle.code_rooms.specs.FlatDesign.declared.objects.Objects.{Objects}
-use Rattle.code_rooms.specs.FlatDesign.declared.design.Hop.{Hop}
-use Rattle.code_rooms.specs.FlatDesign.declared.design.Design.{Design}
-use Rattle.code_rooms.specs.ModelRules.Meanings.{variable_type}
-use Rattle.code_rooms.specs.ModelRules.Targets.{same_type, differ}
-use Rattle.code_rooms.specs.ModelRules.Scopes.{Scope, item_scope, function_named, functions_in}
-use Rattle.code_rooms.specs.ModelRules.declared.needs.Need.TheVariants as need_of
-use Rattle.code_rooms.specs.ModelRules.Sites as part
-use Rattle.code_rooms.specs.ModelRules.Sites.{site, around_item}
-use Rattle.code_rooms.specs.ModelRules.Names.{item_uses}
-use Rattle.code_rooms.specs.ModelRules.Calls.{same_bool, parameters_differ, answer_differs, is_bad_handler, blocking_handler, nonblocking_handler, handler_in_item}
-use Rattle.code_rooms.specs.ModelRules.Passes.{first_fault}
-use Rattle.code_rooms.proofs.ModelRules.Firsts.{or_none}
+use Rattle.elaborate_objects.specs.ModelTree.Tree as tree
+use Rattle.elaborate_objects.specs.ModelTree.Lines.{item_line}
+use Rattle.elaborate_objects.specs.ModelTree.declared.types.VarType.{VarType}
+use Rattle.elaborate_objects.specs.ModelTree.declared.types.Parameter.{Parameter}
+use Rattle.elaborate_objects.specs.ModelTree.declared.items.PlainKind.TheVariants as plain
+use Rattle.elaborate_objects.specs.ModelTree.declared.items.InitiatorRole.TheVariants as initiator
+use Rattle.elaborate_objects.specs.ModelTree.declared.items.TargetRole.TheVariants as target
+use Rattle.elaborate_objects.specs.FlatDesign.Code.{arena_of, body_at}
+use Rattle.elaborate_objects.specs.FlatDesign.Typed.{parameters_of}
+use Rattle.elaborate_objects.specs.FlatDesign.Sound.{IsThere, HasParameters, IsHandler, HandlerFits, HopFits, blocking_parameters, nonblocking_parameters}
+use Rattle.elaborate_objects.specs.FlatDesign.declared.value_types.ValueType.{ValueType}
+use Rattle.elaborate_objects.specs.FlatDesign.declared.value_types.ValueType.TheVariants as type
+use Rattle.elaborate_objects.specs.FlatDesign.declared.code.CodeBody.{CodeBody}
+use Rattle.elaborate_objects.specs.FlatDesign.declared.code.Local.{Local}
+use Rattle.elaborate_objects.specs.FlatDesign.declared.objects.Object.{Object}
+use Rattle.elaborate_objects.specs.FlatDesign.declared.objects.Objects.{Objects}
+use Rattle.elaborate_objects.specs.FlatDesign.declared.design.Hop.{Hop}
+use Rattle.elaborate_objects.specs.FlatDesign.declared.design.Design.{Design}
+use Rattle.elaborate_objects.specs.ModelRules.Meanings.{variable_type}
+use Rattle.elaborate_objects.specs.ModelRules.Targets.{same_type, differ}
+use Rattle.elaborate_objects.specs.ModelRules.Scopes.{Scope, item_scope, function_named, functions_in}
+use Rattle.elaborate_objects.specs.ModelRules.declared.needs.Need.TheVariants as need_of
+use Rattle.elaborate_objects.specs.ModelRules.Sites as part
+use Rattle.elaborate_objects.specs.ModelRules.Sites.{site, around_item}
+use Rattle.elaborate_objects.specs.ModelRules.Names.{item_uses}
+use Rattle.elaborate_objects.specs.ModelRules.Calls.{same_bool, parameters_differ, answer_differs, is_bad_handler, blocking_handler, nonblocking_handler, handler_in_item}
+use Rattle.elaborate_objects.specs.ModelRules.Passes.{first_fault}
+use Rattle.elaborate_objects.proofs.ModelRules.Firsts.{or_none}
 use Rattle.laws_code.specs.Met.{IsMet}
-use Rattle.laws_code.proofs.Kept.{keeps}
+use Rattle.laws_code.proofs.FaultlessConstructs.{keeps}
 use Rattle.laws_code.proofs.Typed.{neither, same_false, not_named}
-use Rattle.code_rooms.specs.CodeRules.Deeds.{has_body, body_number}
-use Rattle.code_rooms.specs.CodeRules.Bodies as source
-use Rattle.code_rooms.specs.CodeRules.Bodies.{IsAnswer, IsBody, variables_in_block}
+use Rattle.laws_code.specs.CodeRules.Deeds.{has_body, body_number}
+use Rattle.laws_code.specs.CodeRules.Bodies as source
+use Rattle.laws_code.specs.CodeRules.Bodies.{IsAnswer, IsBody, variables_in_block}
 use Rattle.elaborate_objects.specs.DesignRules.Forms.{Name, Around, around, items_at, items_in, bodies_in, handler, object_form}
 use Rattle.elaborate_objects.specs.DesignRules.Listing.{list_of, top_object}
 use Rattle.elaborate_objects.specs.DesignRules.ObjectFaults.{cycle_fault, limit_fault}

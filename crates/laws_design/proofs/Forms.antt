@@ -4,42 +4,42 @@ use Rattle.std.specs.Prelude.{⊤, nat_le, if◌then◌else◌, is_some, option_
 use Rattle.std.specs.List.{AllByRecursion}
 use Rattle.std.proofs.lemmas.Bool.{and_parts, leb-true, eqb-true}
 use Rattle.std.proofs.lemmas.List.Elements.{All-from_recursion, All-contains, Contains-append_cases}
-use Rattle.code_rooms.specs.ModelTree.Tree as tree
-use Rattle.code_rooms.specs.ModelTree.Lines.{item_line}
-use Rattle.code_rooms.specs.ModelTree.declared.types.Constant.{Constant}
-use Rattle.code_rooms.specs.ModelTree.declared.types.ConstantForm.{ConstantForm}
-use Rattle.code_rooms.specs.ModelTree.declared.types.ConstantForm.TheVariants as constant
-use Rattle.code_rooms.specs.ModelTree.declared.items.PlainKind.TheVariants as plain
-use Rattle.code_rooms.specs.ModelTree.declared.items.InitiatorRole.TheVariants as initiator
-use Rattle.code_rooms.specs.ModelTree.declared.items.TargetRole.TheVariants as target
-use Rattle.code_rooms.specs.FlatDesign.ValueTypes.{type_of_value, default_value}
-use Rattle.code_rooms.specs.FlatDesign.declared.value_types.ValueType.{ValueType}
-use Rattle.code_rooms.specs.FlatDesign.declared.value_types.ValueType.TheVariants as type
-use Rattle.code_rooms.specs.FlatDesign.declared.objects.Object.{Object}
-use Rattle.code_rooms.specs.FlatDesign.declared.objects.ObjectForm.{ObjectForm}
-use Rattle.code_rooms.specs.FlatDesign.declared.objects.ObjectForm.TheVariants as form
-use Rattle.code_rooms.specs.ModelRules.Meanings.{signal_type, variable_type, port_size}
-use Rattle.code_rooms.specs.ModelRules.Scopes.{Scope, item_scope}
-use Rattle.code_rooms.specs.ModelRules.Operators.{is_vector_of}
-use Rattle.code_rooms.specs.ModelRules.Targets.{misfits, digits_type, constant_type}
-use Rattle.code_rooms.specs.ModelRules.Sites as part
-use Rattle.code_rooms.specs.ModelRules.Sites.{Site, site, around_item, type_site, variable_type_sites, constant_sites}
-use Rattle.code_rooms.specs.ModelRules.Values.{initial_type, type_differs, item_differs}
-use Rattle.code_rooms.specs.ModelRules.Items.{is_fifo_size, is_port_size, fifo_size, port_range}
-use Rattle.code_rooms.specs.ModelRules.Passes.{constructs, fault_by, fault_at, first_fault}
-use Rattle.code_rooms.proofs.ModelRules.Firsts.{all_none}
-use Rattle.laws_code.proofs.Kept.{keeps}
+use Rattle.elaborate_objects.specs.ModelTree.Tree as tree
+use Rattle.elaborate_objects.specs.ModelTree.Lines.{item_line}
+use Rattle.elaborate_objects.specs.ModelTree.declared.types.Constant.{Constant}
+use Rattle.elaborate_objects.specs.ModelTree.declared.types.ConstantForm.{ConstantForm}
+use Rattle.elaborate_objects.specs.ModelTree.declared.types.ConstantForm.TheVariants as constant
+use Rattle.elaborate_objects.specs.ModelTree.declared.items.PlainKind.TheVariants as plain
+use Rattle.elaborate_objects.specs.ModelTree.declared.items.InitiatorRole.TheVariants as initiator
+use Rattle.elaborate_objects.specs.ModelTree.declared.items.TargetRole.TheVariants as target
+use Rattle.elaborate_objects.specs.FlatDesign.ValueTypes.{type_of_value, default_value}
+use Rattle.elaborate_objects.specs.FlatDesign.declared.value_types.ValueType.{ValueType}
+use Rattle.elaborate_objects.specs.FlatDesign.declared.value_types.ValueType.TheVariants as type
+use Rattle.elaborate_objects.specs.FlatDesign.declared.objects.Object.{Object}
+use Rattle.elaborate_objects.specs.FlatDesign.declared.objects.ObjectForm.{ObjectForm}
+use Rattle.elaborate_objects.specs.FlatDesign.declared.objects.ObjectForm.TheVariants as form
+use Rattle.elaborate_objects.specs.ModelRules.Meanings.{signal_type, variable_type, port_size}
+use Rattle.elaborate_objects.specs.ModelRules.Scopes.{Scope, item_scope}
+use Rattle.elaborate_objects.specs.ModelRules.Operators.{is_vector_of}
+use Rattle.elaborate_objects.specs.ModelRules.Targets.{misfits, digits_type, constant_type}
+use Rattle.elaborate_objects.specs.ModelRules.Sites as part
+use Rattle.elaborate_objects.specs.ModelRules.Sites.{Site, site, around_item, type_site, variable_type_sites, constant_sites}
+use Rattle.elaborate_objects.specs.ModelRules.Values.{initial_type, type_differs, item_differs}
+use Rattle.elaborate_objects.specs.ModelRules.Items.{is_fifo_size, is_port_size, fifo_size, port_range}
+use Rattle.elaborate_objects.specs.ModelRules.Passes.{constructs, fault_by, fault_at, first_fault}
+use Rattle.elaborate_objects.proofs.ModelRules.Firsts.{all_none}
+use Rattle.laws_code.proofs.FaultlessConstructs.{keeps}
 use Rattle.laws_code.proofs.Typed.{not_named, same_false, parts_none}
 use Rattle.elaborate_objects.specs.DesignRules.Values.{known_type, constant_value, first_value}
 use Rattle.elaborate_objects.specs.DesignRules.Forms.{Around, around, items_at, items_in, object_form}
 use Rattle.laws_design.proofs.Widths.{HasWidth, form_has, variable_has, default_type}
-use Rattle.laws_design.proofs.Kept.{IsKept, ItemsKept, kept, all_at}
+use Rattle.laws_design.proofs.FaultlessItems.{IsKept, ItemsKept, kept, all_at}
 use Rattle.laws_design.proofs.Children.{all_append}
 use Rattle.laws_design.proofs.Models.{module_rows, comes_from}
 use Rattle.elaborate_objects.specs.Rows.{Row, row_if, rows_in}
 use Rattle.elaborate_objects.specs.DesignRules.Listing.{list_of, top_object}
 use Rattle.laws_code.proofs.Known.{type_known, variable_known}
-use Rattle.code_rooms.specs.ModelRules.declared.meanings.ExpressionType.TheVariants as t
+use Rattle.elaborate_objects.specs.ModelRules.declared.meanings.ExpressionType.TheVariants as t
 
 same_some : {A : Type 0} (x y : A) → Some x ≡ Some y → x ≡ y
 same_some x y h = ap (λ o. unwrap_or o x) h

@@ -4,14 +4,14 @@ use Rattle.std.specs.Prelude.{slice_get, filter_map, option_map, unwrap_or, opti
 use Rattle.std.specs.List.{flat_map, cons_option}
 use Rattle.std.proofs.lemmas.List.{length-map}
 use Rattle.std.proofs.lemmas.Option.{slice_get-map, slice_get_within}
-use Rattle.code_rooms.specs.ModelTree.Tree as tree
-use Rattle.code_rooms.specs.FlatDesign.Code.{Arena, arena_of, body_at}
-use Rattle.code_rooms.specs.FlatDesign.declared.code.CodeBody.{CodeBody}
-use Rattle.code_rooms.specs.FlatDesign.declared.design.Design.{Design}
-use Rattle.code_rooms.specs.ModelRules.Scopes.{Scope, item_scope}
-use Rattle.code_rooms.specs.ModelRules.Passes.{first_fault}
-use Rattle.code_rooms.specs.CodeRules.Deeds.{Home, has_body, body_number}
-use Rattle.code_rooms.specs.CodeRules.Bodies.{Source, source_of, source_name, IsBody, IsBodyIf, AreBodies, around_item, body_count}
+use Rattle.elaborate_objects.specs.ModelTree.Tree as tree
+use Rattle.elaborate_objects.specs.FlatDesign.Code.{Arena, arena_of, body_at}
+use Rattle.elaborate_objects.specs.FlatDesign.declared.code.CodeBody.{CodeBody}
+use Rattle.elaborate_objects.specs.FlatDesign.declared.design.Design.{Design}
+use Rattle.elaborate_objects.specs.ModelRules.Scopes.{Scope, item_scope}
+use Rattle.elaborate_objects.specs.ModelRules.Passes.{first_fault}
+use Rattle.laws_code.specs.CodeRules.Deeds.{Home, has_body, body_number}
+use Rattle.laws_code.specs.CodeRules.Bodies.{Source, source_of, source_name, IsBody, IsBodyIf, AreBodies, around_item, body_count}
 use Rattle.elaborate_objects.specs.DesignRules.Forms.{around, items_in, bodies_in, body}
 use Rattle.elaborate_objects.specs.DesignRules.Designs.{IsDesignOf}
 use Rattle.elaborate_objects.specs.DesignRules.Statics.{source_list, lists_among, static_lists, static_list}

@@ -6,33 +6,33 @@ use Rattle.std.proofs.lemmas.Bool.{or_left, or_right}
 use Rattle.std.proofs.lemmas.List.Elements.{Contains-append_cases}
 use Rattle.std.proofs.lemmas.Option.{slice_get-map}
 use Rattle.std.proofs.lemmas.Slice.Eq.{bytes_eq-Decides}
-use Rattle.code_rooms.specs.ModelTree.Tree as tree
-use Rattle.code_rooms.specs.ModelTree.Lines.{item_line}
-use Rattle.code_rooms.specs.ModelTree.declared.items.PlainKind.TheVariants as plain
-use Rattle.code_rooms.specs.ModelTree.declared.items.InitiatorRole.TheVariants as initiator
-use Rattle.code_rooms.specs.ModelTree.declared.items.TargetRole.TheVariants as target
-use Rattle.code_rooms.specs.FlatDesign.Code.{Arena, arena_of, body_at}
-use Rattle.code_rooms.specs.FlatDesign.Sound.{IsNonblockingHandler, IsAnyHandler}
-use Rattle.code_rooms.specs.FlatDesign.declared.code.CodeBody.{CodeBody}
-use Rattle.code_rooms.specs.FlatDesign.declared.objects.Object.{Object}
-use Rattle.code_rooms.specs.FlatDesign.declared.objects.Objects.{Objects}
-use Rattle.code_rooms.specs.FlatDesign.declared.objects.ObjectForm.{ObjectForm}
-use Rattle.code_rooms.specs.FlatDesign.declared.design.Hop.{Hop}
-use Rattle.code_rooms.specs.FlatDesign.declared.design.Design.{Design}
-use Rattle.code_rooms.specs.ModelRules.Scopes.{Scope, item_scope, function_named, functions_in}
-use Rattle.code_rooms.specs.ModelRules.declared.needs.Need.TheVariants as need_of
-use Rattle.code_rooms.specs.ModelRules.Sites as part
-use Rattle.code_rooms.specs.ModelRules.Sites.{site, around_item}
-use Rattle.code_rooms.specs.ModelRules.Names.{item_uses}
-use Rattle.code_rooms.specs.ModelRules.Passes.{first_fault}
-use Rattle.code_rooms.specs.ModelRules.Distinct.{names_of}
-use Rattle.code_rooms.specs.ModelRules.Reach.{handles_nonblocking, handles_blocking, is_nonblocking_handler, is_handler}
+use Rattle.elaborate_objects.specs.ModelTree.Tree as tree
+use Rattle.elaborate_objects.specs.ModelTree.Lines.{item_line}
+use Rattle.elaborate_objects.specs.ModelTree.declared.items.PlainKind.TheVariants as plain
+use Rattle.elaborate_objects.specs.ModelTree.declared.items.InitiatorRole.TheVariants as initiator
+use Rattle.elaborate_objects.specs.ModelTree.declared.items.TargetRole.TheVariants as target
+use Rattle.elaborate_objects.specs.FlatDesign.Code.{Arena, arena_of, body_at}
+use Rattle.elaborate_objects.specs.FlatDesign.Sound.{IsNonblockingHandler, IsAnyHandler}
+use Rattle.elaborate_objects.specs.FlatDesign.declared.code.CodeBody.{CodeBody}
+use Rattle.elaborate_objects.specs.FlatDesign.declared.objects.Object.{Object}
+use Rattle.elaborate_objects.specs.FlatDesign.declared.objects.Objects.{Objects}
+use Rattle.elaborate_objects.specs.FlatDesign.declared.objects.ObjectForm.{ObjectForm}
+use Rattle.elaborate_objects.specs.FlatDesign.declared.design.Hop.{Hop}
+use Rattle.elaborate_objects.specs.FlatDesign.declared.design.Design.{Design}
+use Rattle.elaborate_objects.specs.ModelRules.Scopes.{Scope, item_scope, function_named, functions_in}
+use Rattle.elaborate_objects.specs.ModelRules.declared.needs.Need.TheVariants as need_of
+use Rattle.elaborate_objects.specs.ModelRules.Sites as part
+use Rattle.elaborate_objects.specs.ModelRules.Sites.{site, around_item}
+use Rattle.elaborate_objects.specs.ModelRules.Names.{item_uses}
+use Rattle.elaborate_objects.specs.ModelRules.Passes.{first_fault}
+use Rattle.elaborate_objects.specs.ModelRules.Distinct.{names_of}
+use Rattle.elaborate_objects.specs.ModelRules.Reach.{handles_nonblocking, handles_blocking, is_nonblocking_handler, is_handler}
 use Rattle.laws_code.specs.Met.{IsMet}
-use Rattle.laws_code.proofs.Kept.{keeps}
+use Rattle.laws_code.proofs.FaultlessConstructs.{keeps}
 use Rattle.laws_code.proofs.NamesMet.{site_met}
-use Rattle.code_rooms.specs.CodeRules.Deeds.{Home, has_body, body_number}
-use Rattle.code_rooms.specs.CodeRules.Bodies as source
-use Rattle.code_rooms.specs.CodeRules.Bodies.{IsBody, AreBodies, body_count, exceptions_of, AreModules}
+use Rattle.laws_code.specs.CodeRules.Deeds.{Home, has_body, body_number}
+use Rattle.laws_code.specs.CodeRules.Bodies as source
+use Rattle.laws_code.specs.CodeRules.Bodies.{IsBody, AreBodies, body_count, exceptions_of, AreModules}
 use Rattle.laws_code.proofs.Named.{is_function_named}
 use Rattle.elaborate_objects.specs.DesignRules.Forms.{Name, Around, around, items_at, items_in, bodies_in, handler, object_form}
 use Rattle.elaborate_objects.specs.DesignRules.Listing.{list_of, top_object}

@@ -2,13 +2,13 @@
 use Rattle.std.proofs.Common.{◌≡◌, ℕ, List, [], ◌∷◌, Some, refl, sym, ap, ◌∙◌, arith}
 use Rattle.std.specs.Prelude.{slice_get, unwrap_or}
 use Rattle.std.proofs.lemmas.Option.{slice_get_within}
-use Rattle.code_rooms.specs.ModelTree.Tree as tree
-use Rattle.code_rooms.specs.FlatDesign.Sound.{IsHomeOf}
-use Rattle.code_rooms.specs.FlatDesign.declared.code.CodeBody.{CodeBody}
-use Rattle.code_rooms.specs.FlatDesign.declared.objects.Object.{Object}
-use Rattle.code_rooms.specs.FlatDesign.declared.objects.ObjectForm.TheVariants as form
-use Rattle.code_rooms.specs.FlatDesign.declared.design.InstancePart.{InstancePart}
-use Rattle.code_rooms.specs.FlatDesign.declared.design.Design.{Design}
+use Rattle.elaborate_objects.specs.ModelTree.Tree as tree
+use Rattle.elaborate_objects.specs.FlatDesign.Sound.{IsHomeOf}
+use Rattle.elaborate_objects.specs.FlatDesign.declared.code.CodeBody.{CodeBody}
+use Rattle.elaborate_objects.specs.FlatDesign.declared.objects.Object.{Object}
+use Rattle.elaborate_objects.specs.FlatDesign.declared.objects.ObjectForm.TheVariants as form
+use Rattle.elaborate_objects.specs.FlatDesign.declared.design.InstancePart.{InstancePart}
+use Rattle.elaborate_objects.specs.FlatDesign.declared.design.Design.{Design}
 use Rattle.elaborate_objects.specs.DesignRules.Counting.{nothing_before}
 use Rattle.elaborate_objects.specs.DesignRules.Parts.{denotes, instance_by, home_of}
 use Rattle.elaborate_objects.specs.DesignRules.Designs.{IsDesignOf}

@@ -7,7 +7,7 @@ pub mod RowLemmas
 pub mod Parents
 pub mod Children
 pub mod Enough
-pub mod Kept
+pub mod FaultlessItems
 pub mod NamedObjects
 pub mod Models
 pub mod Roles

@@ -14,7 +14,7 @@ use Rattle.elaborate_objects.specs.Left.{object_of, rows_within}
 use Rattle.laws_design.proofs.RowLemmas.{same_within, rows_at_place}
 use Rattle.laws_design.proofs.Children.{in_instance, children_in, IsGiven, given_all}
 use Rattle.laws_design.proofs.Enough.{enough_at_top}
-use Rattle.laws_design.proofs.Kept.{all_at}
+use Rattle.laws_design.proofs.FaultlessItems.{all_at}
 use Rattle.laws_design.proofs.NamedObjects.{row_found, child_is}
 
 -- the rows of the module at a place

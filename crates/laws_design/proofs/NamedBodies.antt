@@ -6,12 +6,12 @@ use Rattle.std.proofs.lemmas.Bool.{lt-ltb}
 use Rattle.std.proofs.lemmas.List.{length-map}
 use Rattle.std.proofs.lemmas.Option.{slice_get_within}
 use Rattle.std.proofs.lemmas.Slice.Eq.{bytes_eq-Decides}
-use Rattle.code_rooms.specs.ModelTree.Tree as tree
-use Rattle.code_rooms.specs.ModelRules.Meanings.{Declared, declaration, declarations, declared_name}
-use Rattle.code_rooms.specs.ModelRules.Distinct.{names_of}
-use Rattle.code_rooms.specs.CodeRules.Deeds.{has_body}
-use Rattle.code_rooms.specs.CodeRules.Bodies as source
-use Rattle.code_rooms.specs.CodeRules.Bodies.{Source, source_of, source_name}
+use Rattle.elaborate_objects.specs.ModelTree.Tree as tree
+use Rattle.elaborate_objects.specs.ModelRules.Meanings.{Declared, declaration, declarations, declared_name}
+use Rattle.elaborate_objects.specs.ModelRules.Distinct.{names_of}
+use Rattle.laws_code.specs.CodeRules.Deeds.{has_body}
+use Rattle.laws_code.specs.CodeRules.Bodies as source
+use Rattle.laws_code.specs.CodeRules.Bodies.{Source, source_of, source_name}
 use Rattle.elaborate_objects.specs.DesignRules.Forms.{Name}
 use Rattle.elaborate_objects.proofs.DesignRules.Lists.{nothing_in}
 use Rattle.laws_code.proofs.Coded.{positioned}

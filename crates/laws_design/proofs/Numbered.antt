@@ -1,14 +1,14 @@
 -- The objects of each kind, by their numbers among those of the kind.
 use Rattle.std.proofs.Common.{◌≡◌, ◌≤◌, ℕ, zero, suc, ◌+◌, List, [], ◌∷◌, length, take, Some, refl, subst, arith}
 use Rattle.std.specs.Prelude.{slice_get}
-use Rattle.code_rooms.specs.ModelTree.Tree as tree
-use Rattle.code_rooms.specs.FlatDesign.declared.objects.Object.{Object}
-use Rattle.code_rooms.specs.FlatDesign.declared.objects.ObjectForm.{ObjectForm}
-use Rattle.code_rooms.specs.FlatDesign.declared.objects.ObjectForm.TheVariants as form
-use Rattle.code_rooms.specs.FlatDesign.declared.design.Denoted.{Denoted}
-use Rattle.code_rooms.specs.FlatDesign.declared.design.InstancePart.{InstancePart}
-use Rattle.code_rooms.specs.FlatDesign.declared.design.PortPart.{PortPart}
-use Rattle.code_rooms.specs.FlatDesign.declared.code.StaticUse.{StaticUse}
+use Rattle.elaborate_objects.specs.ModelTree.Tree as tree
+use Rattle.elaborate_objects.specs.FlatDesign.declared.objects.Object.{Object}
+use Rattle.elaborate_objects.specs.FlatDesign.declared.objects.ObjectForm.{ObjectForm}
+use Rattle.elaborate_objects.specs.FlatDesign.declared.objects.ObjectForm.TheVariants as form
+use Rattle.elaborate_objects.specs.FlatDesign.declared.design.Denoted.{Denoted}
+use Rattle.elaborate_objects.specs.FlatDesign.declared.design.InstancePart.{InstancePart}
+use Rattle.elaborate_objects.specs.FlatDesign.declared.design.PortPart.{PortPart}
+use Rattle.elaborate_objects.specs.FlatDesign.declared.code.StaticUse.{StaticUse}
 use Rattle.elaborate_objects.specs.DesignRules.declared.bindings.Joined.{Joined}
 use Rattle.elaborate_objects.specs.DesignRules.declared.counts.Counts.{Counts}
 use Rattle.elaborate_objects.specs.DesignRules.Counting.{behind, counted, nothing_before, totals}

@@ -1,17 +1,17 @@
 -- The parts of a design of a model that breaks no rule: first values have their types, and sizes are in range.
 use Rattle.std.proofs.Common.{◌≡◌, ◌<◌, ◌≤◌, ℕ, zero, suc, ◌+◌, List, [], ◌∷◌, Option, Some, None, refl, sym, ap, ◌∙◌, subst, arith}
 use Rattle.std.specs.Prelude.{slice_get, ◌⊎◌}
-use Rattle.code_rooms.specs.ModelTree.Tree as tree
-use Rattle.code_rooms.specs.FlatDesign.ValueTypes.{type_of_value}
-use Rattle.code_rooms.specs.FlatDesign.declared.objects.Object.{Object}
-use Rattle.code_rooms.specs.FlatDesign.declared.objects.Objects.{Objects}
-use Rattle.code_rooms.specs.FlatDesign.declared.objects.ObjectForm.{ObjectForm}
-use Rattle.code_rooms.specs.FlatDesign.declared.objects.ObjectForm.TheVariants as form
-use Rattle.code_rooms.specs.FlatDesign.declared.design.SignalPart.{SignalPart}
-use Rattle.code_rooms.specs.FlatDesign.declared.design.FifoPart.{FifoPart}
-use Rattle.code_rooms.specs.FlatDesign.declared.design.VariablePart.{VariablePart}
-use Rattle.code_rooms.specs.FlatDesign.declared.design.Design.{Design}
-use Rattle.code_rooms.specs.ModelRules.Passes.{first_fault}
+use Rattle.elaborate_objects.specs.ModelTree.Tree as tree
+use Rattle.elaborate_objects.specs.FlatDesign.ValueTypes.{type_of_value}
+use Rattle.elaborate_objects.specs.FlatDesign.declared.objects.Object.{Object}
+use Rattle.elaborate_objects.specs.FlatDesign.declared.objects.Objects.{Objects}
+use Rattle.elaborate_objects.specs.FlatDesign.declared.objects.ObjectForm.{ObjectForm}
+use Rattle.elaborate_objects.specs.FlatDesign.declared.objects.ObjectForm.TheVariants as form
+use Rattle.elaborate_objects.specs.FlatDesign.declared.design.SignalPart.{SignalPart}
+use Rattle.elaborate_objects.specs.FlatDesign.declared.design.FifoPart.{FifoPart}
+use Rattle.elaborate_objects.specs.FlatDesign.declared.design.VariablePart.{VariablePart}
+use Rattle.elaborate_objects.specs.FlatDesign.declared.design.Design.{Design}
+use Rattle.elaborate_objects.specs.ModelRules.Passes.{first_fault}
 use Rattle.elaborate_objects.specs.DesignRules.declared.counts.Counts.{Counts}
 use Rattle.elaborate_objects.specs.DesignRules.Counting.{nothing_before}
 use Rattle.elaborate_objects.specs.DesignRules.Parts.{signal_by, fifo_by, variable_by}

@@ -4,24 +4,24 @@ use Rattle.std.specs.Prelude.{⊤, ◌⊎◌, slice_get, option_map, unwrap_or, 
 use Rattle.std.specs.List.{AllByRecursion, flat_map, cons_option}
 use Rattle.std.proofs.lemmas.Bool.{eqb-true, false≢true}
 use Rattle.std.proofs.lemmas.Option.{slice_get_within}
-use Rattle.code_rooms.specs.ModelTree.Tree as tree
-use Rattle.code_rooms.specs.FlatDesign.Typed.{EachOf, ChannelOffers}
-use Rattle.code_rooms.specs.FlatDesign.Sound.{ChannelFits, DenotedFits, PortFits}
-use Rattle.code_rooms.specs.FlatDesign.declared.value_types.ValueType.{ValueType}
-use Rattle.code_rooms.specs.FlatDesign.declared.value_types.ValueType.TheVariants as type
-use Rattle.code_rooms.specs.FlatDesign.declared.objects.LeadsTo.{LeadsTo}
-use Rattle.code_rooms.specs.FlatDesign.declared.objects.LeadsTo.TheVariants as leads
-use Rattle.code_rooms.specs.FlatDesign.declared.objects.Object.{Object}
-use Rattle.code_rooms.specs.FlatDesign.declared.objects.Objects.{Objects}
-use Rattle.code_rooms.specs.FlatDesign.declared.objects.ObjectForm.{ObjectForm}
-use Rattle.code_rooms.specs.FlatDesign.declared.objects.ObjectForm.TheVariants as form
-use Rattle.code_rooms.specs.FlatDesign.declared.objects.Binding.{Binding}
-use Rattle.code_rooms.specs.FlatDesign.declared.design.ChannelId.{ChannelId}
-use Rattle.code_rooms.specs.FlatDesign.declared.design.Denoted.{Denoted}
-use Rattle.code_rooms.specs.FlatDesign.declared.design.Denoted.TheVariants as denoted
-use Rattle.code_rooms.specs.FlatDesign.declared.design.PortPart.{PortPart}
-use Rattle.code_rooms.specs.FlatDesign.declared.design.Design.{Design}
-use Rattle.code_rooms.proofs.ModelRules.Firsts.{or_none}
+use Rattle.elaborate_objects.specs.ModelTree.Tree as tree
+use Rattle.elaborate_objects.specs.FlatDesign.Typed.{EachOf, ChannelOffers}
+use Rattle.elaborate_objects.specs.FlatDesign.Sound.{ChannelFits, DenotedFits, PortFits}
+use Rattle.elaborate_objects.specs.FlatDesign.declared.value_types.ValueType.{ValueType}
+use Rattle.elaborate_objects.specs.FlatDesign.declared.value_types.ValueType.TheVariants as type
+use Rattle.elaborate_objects.specs.FlatDesign.declared.objects.LeadsTo.{LeadsTo}
+use Rattle.elaborate_objects.specs.FlatDesign.declared.objects.LeadsTo.TheVariants as leads
+use Rattle.elaborate_objects.specs.FlatDesign.declared.objects.Object.{Object}
+use Rattle.elaborate_objects.specs.FlatDesign.declared.objects.Objects.{Objects}
+use Rattle.elaborate_objects.specs.FlatDesign.declared.objects.ObjectForm.{ObjectForm}
+use Rattle.elaborate_objects.specs.FlatDesign.declared.objects.ObjectForm.TheVariants as form
+use Rattle.elaborate_objects.specs.FlatDesign.declared.objects.Binding.{Binding}
+use Rattle.elaborate_objects.specs.FlatDesign.declared.design.ChannelId.{ChannelId}
+use Rattle.elaborate_objects.specs.FlatDesign.declared.design.Denoted.{Denoted}
+use Rattle.elaborate_objects.specs.FlatDesign.declared.design.Denoted.TheVariants as denoted
+use Rattle.elaborate_objects.specs.FlatDesign.declared.design.PortPart.{PortPart}
+use Rattle.elaborate_objects.specs.FlatDesign.declared.design.Design.{Design}
+use Rattle.elaborate_objects.proofs.ModelRules.Firsts.{or_none}
 use Rattle.elaborate_objects.specs.DesignRules.Listing.{objects_of}
 use Rattle.elaborate_objects.specs.DesignRules.Objects.{form_at, bindings_of}
 use Rattle.elaborate_objects.specs.DesignRules.Fits.{is_same_type, leads_through, fits, fits_end, differs_at, kind_differs}

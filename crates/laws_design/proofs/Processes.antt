@@ -3,30 +3,30 @@ use Rattle.std.proofs.Common.{◌≡◌, ℕ, zero, suc, Bool, true, false, List
 use Rattle.std.specs.Prelude.{slice_get, filter_map, Contains}
 use Rattle.std.specs.List.{cons_option}
 use Rattle.std.proofs.lemmas.Bool.{false≢true}
-use Rattle.code_rooms.specs.ModelTree.Tree as tree
-use Rattle.code_rooms.specs.ModelTree.declared.items.PlainKind.TheVariants as plain
-use Rattle.code_rooms.specs.ModelTree.declared.items.ProcessKind.{ProcessKind}
-use Rattle.code_rooms.specs.ModelTree.declared.items.ProcessKind.TheVariants as process
-use Rattle.code_rooms.specs.ModelTree.declared.items.InitiatorRole.TheVariants as initiator
-use Rattle.code_rooms.specs.ModelTree.declared.items.TargetRole.TheVariants as target
-use Rattle.code_rooms.specs.FlatDesign.Code.{arena_of, body_at}
-use Rattle.code_rooms.specs.FlatDesign.Typed.{EachOf, IsStaticUse}
-use Rattle.code_rooms.specs.FlatDesign.Sound.{EventFits, IsHomeOf, RunsAs, ProcessFits}
-use Rattle.code_rooms.specs.FlatDesign.declared.objects.Object.{Object}
-use Rattle.code_rooms.specs.FlatDesign.declared.objects.Objects.{Objects}
-use Rattle.code_rooms.specs.FlatDesign.declared.objects.ObjectForm.{ObjectForm}
-use Rattle.code_rooms.specs.FlatDesign.declared.objects.ObjectForm.TheVariants as form
-use Rattle.code_rooms.specs.FlatDesign.declared.design.ProcessPart.{ProcessPart}
-use Rattle.code_rooms.specs.FlatDesign.declared.design.Design.{Design}
-use Rattle.code_rooms.specs.ModelRules.Scopes.{Scope, item_scope}
-use Rattle.code_rooms.specs.ModelRules.Sites.{block_sites, event_sites, events_sites}
-use Rattle.code_rooms.specs.ModelRules.Passes.{constructs, fault_of, first_fault}
+use Rattle.elaborate_objects.specs.ModelTree.Tree as tree
+use Rattle.elaborate_objects.specs.ModelTree.declared.items.PlainKind.TheVariants as plain
+use Rattle.elaborate_objects.specs.ModelTree.declared.items.ProcessKind.{ProcessKind}
+use Rattle.elaborate_objects.specs.ModelTree.declared.items.ProcessKind.TheVariants as process
+use Rattle.elaborate_objects.specs.ModelTree.declared.items.InitiatorRole.TheVariants as initiator
+use Rattle.elaborate_objects.specs.ModelTree.declared.items.TargetRole.TheVariants as target
+use Rattle.elaborate_objects.specs.FlatDesign.Code.{arena_of, body_at}
+use Rattle.elaborate_objects.specs.FlatDesign.Typed.{EachOf, IsStaticUse}
+use Rattle.elaborate_objects.specs.FlatDesign.Sound.{EventFits, IsHomeOf, RunsAs, ProcessFits}
+use Rattle.elaborate_objects.specs.FlatDesign.declared.objects.Object.{Object}
+use Rattle.elaborate_objects.specs.FlatDesign.declared.objects.Objects.{Objects}
+use Rattle.elaborate_objects.specs.FlatDesign.declared.objects.ObjectForm.{ObjectForm}
+use Rattle.elaborate_objects.specs.FlatDesign.declared.objects.ObjectForm.TheVariants as form
+use Rattle.elaborate_objects.specs.FlatDesign.declared.design.ProcessPart.{ProcessPart}
+use Rattle.elaborate_objects.specs.FlatDesign.declared.design.Design.{Design}
+use Rattle.elaborate_objects.specs.ModelRules.Scopes.{Scope, item_scope}
+use Rattle.elaborate_objects.specs.ModelRules.Sites.{block_sites, event_sites, events_sites}
+use Rattle.elaborate_objects.specs.ModelRules.Passes.{constructs, fault_of, first_fault}
 use Rattle.laws_code.specs.Known.{TypesAreKnown}
 use Rattle.laws_code.proofs.Typed.{parts_none}
 use Rattle.laws_code.proofs.Declared.{scope_known}
-use Rattle.code_rooms.specs.CodeRules.Deeds.{static_use}
-use Rattle.code_rooms.specs.CodeRules.Bodies as source
-use Rattle.code_rooms.specs.CodeRules.Bodies.{Source, source_of, source_name, source_kind, source_parameters, source_answer, process_kind, IsAnswer}
+use Rattle.laws_code.specs.CodeRules.Deeds.{static_use}
+use Rattle.laws_code.specs.CodeRules.Bodies as source
+use Rattle.laws_code.specs.CodeRules.Bodies.{Source, source_of, source_name, source_kind, source_parameters, source_answer, process_kind, IsAnswer}
 use Rattle.elaborate_objects.specs.DesignRules.Forms.{Around, around, items_at, items_in, body, object_form}
 use Rattle.elaborate_objects.specs.DesignRules.Listing.{list_of, top_object, objects_of}
 use Rattle.elaborate_objects.specs.DesignRules.ObjectFaults.{cycle_fault, limit_fault}
@@ -38,7 +38,7 @@ use Rattle.elaborate_objects.specs.DesignRules.Designs.{IsDesignOf}
 use Rattle.laws_design.proofs.Along.{before, from_place}
 use Rattle.laws_design.proofs.Numbered.{processes_step}
 use Rattle.laws_design.proofs.Children.{same_some}
-use Rattle.laws_design.proofs.Kept.{ItemsKnown, known, all_at}
+use Rattle.laws_design.proofs.FaultlessItems.{ItemsKnown, known, all_at}
 use Rattle.laws_design.proofs.Models.{comes_from}
 use Rattle.laws_design.proofs.BoundEnds.{kept_at}
 use Rattle.laws_code.specs.Standing.{NamesStand, DesignStands}

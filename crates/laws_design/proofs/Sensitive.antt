@@ -1,24 +1,24 @@
 -- The events that a static sensitivity names are there.
 use Rattle.std.proofs.Common.{◌≡◌, ◌≤◌, ℕ, zero, suc, List, [], ◌∷◌, ◌++◌, map, Option, Some, None, refl, sym, ◌∙◌, subst, inl, inr, arith}
 use Rattle.std.specs.Prelude.{⊤, ◌⊎◌, slice_get, unwrap_or, option_and_then, option_to_list}
-use Rattle.code_rooms.specs.ModelTree.Tree as tree
-use Rattle.code_rooms.specs.FlatDesign.Denotes.{Context, declared, denoted_at}
-use Rattle.code_rooms.specs.FlatDesign.Typed.{EachOf, ChannelOffers, PortOffers, Offers, HasEvent, IsStaticUse}
-use Rattle.code_rooms.specs.FlatDesign.Sound.{ChannelFits, DenotedFits, EventFits}
-use Rattle.code_rooms.specs.FlatDesign.declared.value_types.ValueType.{ValueType}
-use Rattle.code_rooms.specs.FlatDesign.declared.value_types.ValueType.TheVariants as type
-use Rattle.code_rooms.specs.FlatDesign.declared.names.EventMember.{EventMember}
-use Rattle.code_rooms.specs.FlatDesign.declared.names.EventMember.TheVariants as event
-use Rattle.code_rooms.specs.FlatDesign.declared.objects.LeadsTo.{LeadsTo}
-use Rattle.code_rooms.specs.FlatDesign.declared.objects.LeadsTo.TheVariants as leads
-use Rattle.code_rooms.specs.FlatDesign.declared.code.StaticUse.{StaticUse}
-use Rattle.code_rooms.specs.FlatDesign.declared.design.ChannelId.{ChannelId}
-use Rattle.code_rooms.specs.FlatDesign.declared.design.ChannelId.TheVariants as channel
-use Rattle.code_rooms.specs.FlatDesign.declared.design.Denoted.{Denoted}
-use Rattle.code_rooms.specs.FlatDesign.declared.design.Denoted.TheVariants as denoted
-use Rattle.code_rooms.specs.FlatDesign.declared.design.InstancePart.{InstancePart}
-use Rattle.code_rooms.specs.FlatDesign.declared.design.PortPart.{PortPart}
-use Rattle.code_rooms.specs.FlatDesign.declared.design.Design.{Design}
+use Rattle.elaborate_objects.specs.ModelTree.Tree as tree
+use Rattle.elaborate_objects.specs.FlatDesign.Denotes.{Context, declared, denoted_at}
+use Rattle.elaborate_objects.specs.FlatDesign.Typed.{EachOf, ChannelOffers, PortOffers, Offers, HasEvent, IsStaticUse}
+use Rattle.elaborate_objects.specs.FlatDesign.Sound.{ChannelFits, DenotedFits, EventFits}
+use Rattle.elaborate_objects.specs.FlatDesign.declared.value_types.ValueType.{ValueType}
+use Rattle.elaborate_objects.specs.FlatDesign.declared.value_types.ValueType.TheVariants as type
+use Rattle.elaborate_objects.specs.FlatDesign.declared.names.EventMember.{EventMember}
+use Rattle.elaborate_objects.specs.FlatDesign.declared.names.EventMember.TheVariants as event
+use Rattle.elaborate_objects.specs.FlatDesign.declared.objects.LeadsTo.{LeadsTo}
+use Rattle.elaborate_objects.specs.FlatDesign.declared.objects.LeadsTo.TheVariants as leads
+use Rattle.elaborate_objects.specs.FlatDesign.declared.code.StaticUse.{StaticUse}
+use Rattle.elaborate_objects.specs.FlatDesign.declared.design.ChannelId.{ChannelId}
+use Rattle.elaborate_objects.specs.FlatDesign.declared.design.ChannelId.TheVariants as channel
+use Rattle.elaborate_objects.specs.FlatDesign.declared.design.Denoted.{Denoted}
+use Rattle.elaborate_objects.specs.FlatDesign.declared.design.Denoted.TheVariants as denoted
+use Rattle.elaborate_objects.specs.FlatDesign.declared.design.InstancePart.{InstancePart}
+use Rattle.elaborate_objects.specs.FlatDesign.declared.design.PortPart.{PortPart}
+use Rattle.elaborate_objects.specs.FlatDesign.declared.design.Design.{Design}
 use Rattle.elaborate_objects.specs.DesignRules.Denoting.{object_denoted}
 use Rattle.elaborate_objects.specs.DesignRules.Designs.{IsDesignOf}
 use Rattle.elaborate_objects.specs.DesignRules.Statics.{event_place, channel_event, process_events, channels_of_port, at_place, events_of, names_of, names_at, static_events}

@@ -6,15 +6,15 @@ use Rattle.std.proofs.lemmas.Bool.{eqb-true, eq-eqb, false≢true, false_from_ne
 use Rattle.std.proofs.lemmas.List.{length-map}
 use Rattle.std.proofs.lemmas.List.Folds.{find_at}
 use Rattle.std.proofs.lemmas.Option.{slice_get-map, slice_get_within, slice_get-get_or}
-use Rattle.code_rooms.specs.FlatDesign.declared.objects.Object.{Object}
-use Rattle.code_rooms.specs.FlatDesign.declared.objects.Objects.{Objects}
-use Rattle.code_rooms.specs.FlatDesign.declared.objects.ObjectForm.{ObjectForm}
-use Rattle.code_rooms.specs.FlatDesign.declared.objects.ObjectForm.TheVariants as form
-use Rattle.code_rooms.specs.FlatDesign.declared.objects.Binding.{Binding}
-use Rattle.code_rooms.specs.FlatDesign.declared.design.Denoted.TheVariants as denoted
-use Rattle.code_rooms.specs.FlatDesign.declared.design.Hop.{Hop}
-use Rattle.code_rooms.specs.FlatDesign.declared.design.Design.{Design}
-use Rattle.code_rooms.specs.ModelTree.Tree as tree
+use Rattle.elaborate_objects.specs.FlatDesign.declared.objects.Object.{Object}
+use Rattle.elaborate_objects.specs.FlatDesign.declared.objects.Objects.{Objects}
+use Rattle.elaborate_objects.specs.FlatDesign.declared.objects.ObjectForm.{ObjectForm}
+use Rattle.elaborate_objects.specs.FlatDesign.declared.objects.ObjectForm.TheVariants as form
+use Rattle.elaborate_objects.specs.FlatDesign.declared.objects.Binding.{Binding}
+use Rattle.elaborate_objects.specs.FlatDesign.declared.design.Denoted.TheVariants as denoted
+use Rattle.elaborate_objects.specs.FlatDesign.declared.design.Hop.{Hop}
+use Rattle.elaborate_objects.specs.FlatDesign.declared.design.Design.{Design}
+use Rattle.elaborate_objects.specs.ModelTree.Tree as tree
 use Rattle.laws_code.proofs.Coded.{below, positioned}
 use Rattle.elaborate_objects.proofs.Closed.{nothing_in}
 use Rattle.elaborate_objects.specs.DesignRules.declared.bindings.Joined.{Joined}

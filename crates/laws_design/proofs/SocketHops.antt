@@ -1,8 +1,8 @@
 -- Each socket without `pass` of the design of an accepted model is an end of a hop.
 use Rattle.std.proofs.Common.{◌≡◌, None, sym, subst}
-use Rattle.code_rooms.specs.ModelTree.Tree as tree
-use Rattle.code_rooms.specs.FlatDesign.declared.design.Design.{Design}
-use Rattle.code_rooms.specs.ModelRules.Passes.{first_fault}
+use Rattle.elaborate_objects.specs.ModelTree.Tree as tree
+use Rattle.elaborate_objects.specs.FlatDesign.declared.design.Design.{Design}
+use Rattle.elaborate_objects.specs.ModelRules.Passes.{first_fault}
 use Rattle.elaborate_objects.specs.DesignRules.Listing.{objects_of}
 use Rattle.elaborate_objects.specs.DesignRules.ObjectFaults.{cycle_fault, limit_fault}
 use Rattle.elaborate_objects.specs.DesignRules.BindingFaults as binding

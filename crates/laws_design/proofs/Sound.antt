@@ -1,7 +1,7 @@
 -- The design of an accepted model is sound.
-use Rattle.code_rooms.specs.ModelTree.Tree as tree
-use Rattle.code_rooms.specs.FlatDesign.Sound.{SoundDesign}
-use Rattle.code_rooms.specs.FlatDesign.declared.design.Design.{Design}
+use Rattle.elaborate_objects.specs.ModelTree.Tree as tree
+use Rattle.elaborate_objects.specs.FlatDesign.Sound.{SoundDesign}
+use Rattle.elaborate_objects.specs.FlatDesign.declared.design.Design.{Design}
 use Rattle.elaborate_objects.specs.DesignRules.Designs.{IsDesignOf}
 use Rattle.laws_code.specs.Standing.{DesignStands}
 use Rattle.laws_design.proofs.Fits.{names_fit}
@@ -14,8 +14,8 @@ use Rattle.laws_code.proofs.Fields.{methods, handlers, unwinding, threads}
 use Rattle.laws_design.proofs.Standing.{design_stands}
 use Rattle.laws_design.proofs.Handlers.{handlers_stand}
 use Rattle.laws_design.proofs.SocketHops.{sockets_have_hops}
-use Rattle.code_rooms.specs.RoomFields.{HopsFit}
-use Rattle.code_rooms.proofs.Suffices.{waits, calls}
+use Rattle.laws_code.specs.CodeRules.RoomFields.{HopsFit}
+use Rattle.laws_code.proofs.CodeRules.Suffices.{waits, calls}
 use Rattle.laws_design.proofs.FittingHops.{hops_fit}
 use Rattle.laws_design.proofs.Ports.{ports_fit, no_binding_fault}
 use Rattle.laws_design.proofs.Processes.{processes_fit}

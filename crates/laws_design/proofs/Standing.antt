@@ -3,28 +3,28 @@ use Rattle.std.proofs.Common.{◌≡◌, ◌<◌, ◌≤◌, ℕ, zero, suc, ◌
 use Rattle.std.specs.Prelude.{⊤, slice_get, option_map, option_and_then, unwrap_or, is_some, position}
 use Rattle.std.specs.List.{AllByRecursion}
 use Rattle.std.proofs.lemmas.Option.{slice_get_within, slice_get-map}
-use Rattle.code_rooms.specs.ModelTree.Tree as tree
-use Rattle.code_rooms.specs.ModelTree.declared.types.Interface.TheVariants as interface
-use Rattle.code_rooms.specs.ModelTree.declared.items.PlainKind.TheVariants as plain
-use Rattle.code_rooms.specs.ModelTree.declared.items.InitiatorRole.TheVariants as initiator
-use Rattle.code_rooms.specs.ModelTree.declared.items.TargetRole.TheVariants as target
-use Rattle.code_rooms.specs.FlatDesign.Denotes.{denoted_at}
-use Rattle.code_rooms.specs.FlatDesign.declared.value_types.ValueType.{ValueType}
-use Rattle.code_rooms.specs.FlatDesign.declared.value_types.ValueType.TheVariants as type
-use Rattle.code_rooms.specs.FlatDesign.declared.objects.LeadsTo.{LeadsTo}
-use Rattle.code_rooms.specs.FlatDesign.declared.objects.LeadsTo.TheVariants as leads
-use Rattle.code_rooms.specs.FlatDesign.declared.objects.Object.{Object}
-use Rattle.code_rooms.specs.FlatDesign.declared.objects.ObjectForm.{ObjectForm}
-use Rattle.code_rooms.specs.FlatDesign.declared.objects.ObjectForm.TheVariants as form
-use Rattle.code_rooms.specs.FlatDesign.declared.design.Denoted.{Denoted}
-use Rattle.code_rooms.specs.FlatDesign.declared.design.Denoted.TheVariants as denoted
-use Rattle.code_rooms.specs.FlatDesign.declared.design.InstancePart.{InstancePart}
-use Rattle.code_rooms.specs.FlatDesign.declared.design.Design.{Design}
-use Rattle.code_rooms.specs.ModelRules.Meanings.{Declared, declaration, declarations, signal_type, variable_type, port_size}
-use Rattle.code_rooms.specs.ModelRules.declared.meanings.Meaning.{Meaning}
-use Rattle.code_rooms.specs.ModelRules.declared.meanings.Meaning.TheVariants as meaning
-use Rattle.code_rooms.specs.ModelRules.Passes.{first_fault}
-use Rattle.code_rooms.specs.ModelRules.Distinct.{names_of, HasDistinctNames}
+use Rattle.elaborate_objects.specs.ModelTree.Tree as tree
+use Rattle.elaborate_objects.specs.ModelTree.declared.types.Interface.TheVariants as interface
+use Rattle.elaborate_objects.specs.ModelTree.declared.items.PlainKind.TheVariants as plain
+use Rattle.elaborate_objects.specs.ModelTree.declared.items.InitiatorRole.TheVariants as initiator
+use Rattle.elaborate_objects.specs.ModelTree.declared.items.TargetRole.TheVariants as target
+use Rattle.elaborate_objects.specs.FlatDesign.Denotes.{denoted_at}
+use Rattle.elaborate_objects.specs.FlatDesign.declared.value_types.ValueType.{ValueType}
+use Rattle.elaborate_objects.specs.FlatDesign.declared.value_types.ValueType.TheVariants as type
+use Rattle.elaborate_objects.specs.FlatDesign.declared.objects.LeadsTo.{LeadsTo}
+use Rattle.elaborate_objects.specs.FlatDesign.declared.objects.LeadsTo.TheVariants as leads
+use Rattle.elaborate_objects.specs.FlatDesign.declared.objects.Object.{Object}
+use Rattle.elaborate_objects.specs.FlatDesign.declared.objects.ObjectForm.{ObjectForm}
+use Rattle.elaborate_objects.specs.FlatDesign.declared.objects.ObjectForm.TheVariants as form
+use Rattle.elaborate_objects.specs.FlatDesign.declared.design.Denoted.{Denoted}
+use Rattle.elaborate_objects.specs.FlatDesign.declared.design.Denoted.TheVariants as denoted
+use Rattle.elaborate_objects.specs.FlatDesign.declared.design.InstancePart.{InstancePart}
+use Rattle.elaborate_objects.specs.FlatDesign.declared.design.Design.{Design}
+use Rattle.elaborate_objects.specs.ModelRules.Meanings.{Declared, declaration, declarations, signal_type, variable_type, port_size}
+use Rattle.elaborate_objects.specs.ModelRules.declared.meanings.Meaning.{Meaning}
+use Rattle.elaborate_objects.specs.ModelRules.declared.meanings.Meaning.TheVariants as meaning
+use Rattle.elaborate_objects.specs.ModelRules.Passes.{first_fault}
+use Rattle.elaborate_objects.specs.ModelRules.Distinct.{names_of, HasDistinctNames}
 use Rattle.laws_code.specs.Known.{is_type_known}
 use Rattle.elaborate_objects.specs.DesignRules.Values.{known_type}
 use Rattle.elaborate_objects.specs.DesignRules.Forms.{Around, around, items_at, items_in, object_form}
@@ -42,7 +42,7 @@ use Rattle.elaborate_objects.specs.DesignRules.Designs.{IsDesignOf}
 use Rattle.laws_design.proofs.Along.{same_some, before}
 use Rattle.laws_design.proofs.Numbered.{number_of, denoted_there}
 use Rattle.laws_design.proofs.Fits.{hops, all, signal_there, fifo_there, memory_there, variable_there, port_there, form_fits, IsInstancePart, instance_part}
-use Rattle.laws_design.proofs.Kept.{ItemsKnown, known, names_differ, all_at}
+use Rattle.laws_design.proofs.FaultlessItems.{ItemsKnown, known, names_differ, all_at}
 use Rattle.laws_design.proofs.NamedObjects.{row_found, IsItemOf, item_of}
 use Rattle.laws_design.proofs.Models.{module_rows, child_of_model}
 use Rattle.laws_code.specs.Standing.{IsSignal, IsFifo, IsPortTo, IsPortOf, IsEnd, Standing, DesignStands}
@@ -105,7 +105,7 @@ module _ (m : tree.Model) (d : Design) (design : IsDesignOf m d) (sockets : Sock
         ap (λ j. socket_end false (position (ends_at j) (hops m d design))) number
         ∙ ap (socket_end false) (no_ending d.objects k (ap (λ (x : Option Object). is_end (option_map (λ (y : Object). y.form) x)) found ∙ ap ends_path e))
 
-    fits : (f : ObjectForm) → o.form ≡ f → Rattle.code_rooms.specs.FlatDesign.Sound.DenotedFits d (this f)
+    fits : (f : ObjectForm) → o.form ≡ f → Rattle.elaborate_objects.specs.FlatDesign.Sound.DenotedFits d (this f)
     fits f h = form_fits m d design k o found f h
 
     item_stands : (a : Around) (i : tree.Item) (f : ObjectForm) → object_form a i ≡ Some f → o.form ≡ f → KnownIf (declaration i) → StandsIf d (declaration i) (this f)
@@ -167,7 +167,7 @@ module _ (m : tree.Model) (d : Design) (design : IsDesignOf m d) (sockets : Sock
     in_module : (j place : ℕ) (o : Object) (x : tree.Module) (n : ℕ) (y : Declared) → slice_get d.objects.list j ≡ Some o → o.form ≡ form.Instance place → slice_get m.modules place ≡ Some x → slice_get (declarations x.items) n ≡ Some y
         → Standing d y.meaning (named_in (denotes d.objects) d.objects.list j y.name)
     in_module j place o x n y found is there at =
-        let lists = ap (λ (os : Rattle.code_rooms.specs.FlatDesign.declared.objects.Objects.Objects). os.list) design.objects in
+        let lists = ap (λ (os : Rattle.elaborate_objects.specs.FlatDesign.declared.objects.Objects.Objects). os.list) design.objects in
         let items = ap items_in there in
         let w = item_of (around m.modules place) x.items n y (all_at _ m.modules place x (HasDistinctNames.items (names_differ m none)) there) at in
         let k = all_at (λ (z : Declared). is_type_known z.meaning ≡ true) (declarations x.items) n y (all_at ItemsKnown m.modules place x (known m none) there) at in

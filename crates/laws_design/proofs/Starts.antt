@@ -4,31 +4,31 @@ use Rattle.std.specs.Prelude.{⊤, nat_le}
 use Rattle.std.specs.List.{AllByRecursion}
 use Rattle.std.proofs.lemmas.Bool.{leb-true, eqb-true}
 use Rattle.std.proofs.lemmas.List.Elements.{All-nil, All-cons, All-append, All-from_recursion, All-contains}
-use Rattle.code_rooms.specs.ModelTree.Tree as tree
-use Rattle.code_rooms.specs.ModelTree.Lines.{item_line}
-use Rattle.code_rooms.specs.ModelTree.declared.types.ConstantForm.{ConstantForm}
-use Rattle.code_rooms.specs.ModelTree.declared.types.ConstantForm.TheVariants as constant
-use Rattle.code_rooms.specs.ModelTree.declared.items.PlainKind.TheVariants as plain
-use Rattle.code_rooms.specs.ModelTree.declared.items.InitiatorRole.TheVariants as initiator
-use Rattle.code_rooms.specs.ModelTree.declared.items.TargetRole.TheVariants as target
-use Rattle.code_rooms.specs.FlatDesign.declared.objects.Object.{Object}
-use Rattle.code_rooms.specs.FlatDesign.declared.objects.Objects.{Objects}
-use Rattle.code_rooms.specs.FlatDesign.declared.objects.ObjectForm.{ObjectForm}
-use Rattle.code_rooms.specs.FlatDesign.declared.objects.ObjectForm.TheVariants as form
-use Rattle.code_rooms.specs.FlatDesign.declared.design.SemaphorePart.{SemaphorePart}
-use Rattle.code_rooms.specs.FlatDesign.declared.design.Design.{Design}
-use Rattle.code_rooms.specs.ModelRules.Scopes.{item_scope}
-use Rattle.code_rooms.specs.ModelRules.Sites as part
-use Rattle.code_rooms.specs.ModelRules.Sites.{Site, site, around_item}
-use Rattle.code_rooms.specs.ModelRules.Items.{is_start, semaphore_range}
-use Rattle.code_rooms.specs.ModelRules.Passes.{constructs, fault_by, first_fault}
-use Rattle.code_rooms.proofs.ModelRules.Firsts.{all_none}
+use Rattle.elaborate_objects.specs.ModelTree.Tree as tree
+use Rattle.elaborate_objects.specs.ModelTree.Lines.{item_line}
+use Rattle.elaborate_objects.specs.ModelTree.declared.types.ConstantForm.{ConstantForm}
+use Rattle.elaborate_objects.specs.ModelTree.declared.types.ConstantForm.TheVariants as constant
+use Rattle.elaborate_objects.specs.ModelTree.declared.items.PlainKind.TheVariants as plain
+use Rattle.elaborate_objects.specs.ModelTree.declared.items.InitiatorRole.TheVariants as initiator
+use Rattle.elaborate_objects.specs.ModelTree.declared.items.TargetRole.TheVariants as target
+use Rattle.elaborate_objects.specs.FlatDesign.declared.objects.Object.{Object}
+use Rattle.elaborate_objects.specs.FlatDesign.declared.objects.Objects.{Objects}
+use Rattle.elaborate_objects.specs.FlatDesign.declared.objects.ObjectForm.{ObjectForm}
+use Rattle.elaborate_objects.specs.FlatDesign.declared.objects.ObjectForm.TheVariants as form
+use Rattle.elaborate_objects.specs.FlatDesign.declared.design.SemaphorePart.{SemaphorePart}
+use Rattle.elaborate_objects.specs.FlatDesign.declared.design.Design.{Design}
+use Rattle.elaborate_objects.specs.ModelRules.Scopes.{item_scope}
+use Rattle.elaborate_objects.specs.ModelRules.Sites as part
+use Rattle.elaborate_objects.specs.ModelRules.Sites.{Site, site, around_item}
+use Rattle.elaborate_objects.specs.ModelRules.Items.{is_start, semaphore_range}
+use Rattle.elaborate_objects.specs.ModelRules.Passes.{constructs, fault_by, first_fault}
+use Rattle.elaborate_objects.proofs.ModelRules.Firsts.{all_none}
 use Rattle.laws_code.proofs.Typed.{not_named, same_false}
 use Rattle.elaborate_objects.specs.DesignRules.Values.{whole}
 use Rattle.elaborate_objects.specs.DesignRules.Forms.{Around, around, items_in, object_form}
 use Rattle.elaborate_objects.specs.DesignRules.Listing.{list_of, top_object}
 use Rattle.elaborate_objects.specs.Rows.{Row, row_if, rows_in}
-use Rattle.laws_design.proofs.Kept.{IsKept, ItemsKept, kept, all_at}
+use Rattle.laws_design.proofs.FaultlessItems.{IsKept, ItemsKept, kept, all_at}
 use Rattle.laws_design.proofs.Children.{all_append}
 use Rattle.laws_design.proofs.Models.{module_rows, comes_from}
 use Rattle.laws_design.proofs.Along.{same_some}

@@ -4,17 +4,17 @@ use Rattle.std.specs.Prelude.{⊤, nat_le, nat_lt, ◌&&◌, if◌then◌else◌
 use Rattle.std.proofs.lemmas.Bool.{and_parts, leb-true}
 use Rattle.std.proofs.lemmas.Bool.Decides.{nat_tests}
 use Rattle.std.proofs.lemmas.List.{length-take}
-use Rattle.code_rooms.specs.LogicValues.Planes.{clipped}
-use Rattle.code_rooms.specs.LogicValues.declared.kinds.Digit.{Digit}
-use Rattle.code_rooms.specs.LogicValues.declared.kinds.Digit.TheVariants as digit
-use Rattle.code_rooms.specs.ModelTree.declared.types.TypeForm.{TypeForm}
-use Rattle.code_rooms.specs.ModelTree.declared.types.TypeForm.TheVariants as form
-use Rattle.code_rooms.specs.ModelTree.declared.types.VarType.{VarType}
-use Rattle.code_rooms.specs.ModelTree.declared.types.VarType.TheVariants as var_type
-use Rattle.code_rooms.specs.FlatDesign.ValueTypes.{type_of_value, default_value}
-use Rattle.code_rooms.specs.FlatDesign.declared.value_types.ValueType.{ValueType}
-use Rattle.code_rooms.specs.FlatDesign.declared.value_types.ValueType.TheVariants as type
-use Rattle.code_rooms.specs.ModelRules.Meanings.{is_width, form_type, variable_type}
+use Rattle.elaborate_objects.specs.LogicValues.Planes.{clipped}
+use Rattle.elaborate_objects.specs.LogicValues.declared.kinds.Digit.{Digit}
+use Rattle.elaborate_objects.specs.LogicValues.declared.kinds.Digit.TheVariants as digit
+use Rattle.elaborate_objects.specs.ModelTree.declared.types.TypeForm.{TypeForm}
+use Rattle.elaborate_objects.specs.ModelTree.declared.types.TypeForm.TheVariants as form
+use Rattle.elaborate_objects.specs.ModelTree.declared.types.VarType.{VarType}
+use Rattle.elaborate_objects.specs.ModelTree.declared.types.VarType.TheVariants as var_type
+use Rattle.elaborate_objects.specs.FlatDesign.ValueTypes.{type_of_value, default_value}
+use Rattle.elaborate_objects.specs.FlatDesign.declared.value_types.ValueType.{ValueType}
+use Rattle.elaborate_objects.specs.FlatDesign.declared.value_types.ValueType.TheVariants as type
+use Rattle.elaborate_objects.specs.ModelRules.Meanings.{is_width, form_type, variable_type}
 
 -- a vector has from 1 to 64 digits
 abbrev pub HasWidth : ValueType → Type 0

@@ -1,14 +1,14 @@
 -- Models that are accepted, and what the making of a design gives its code.
 use Rattle.std.specs.Prelude.{◌≡◌, true, None}
-use Rattle.code_rooms.specs.ModelTree.Tree as tree
-use Rattle.code_rooms.specs.ModelTree.Limits.{is_sound}
-use Rattle.code_rooms.specs.FlatDesign.Code.{arena_of}
-use Rattle.code_rooms.specs.FlatDesign.declared.design.Design.{Design}
-use Rattle.code_rooms.specs.ModelRules.Passes.{first_fault}
+use Rattle.elaborate_objects.specs.ModelTree.Tree as tree
+use Rattle.elaborate_objects.specs.ModelTree.Limits.{is_sound}
+use Rattle.elaborate_objects.specs.FlatDesign.Code.{arena_of}
+use Rattle.elaborate_objects.specs.FlatDesign.declared.design.Design.{Design}
+use Rattle.elaborate_objects.specs.ModelRules.Passes.{first_fault}
 use Rattle.elaborate_objects.specs.DesignRules.Listing.{objects_of}
 use Rattle.elaborate_objects.specs.DesignRules.ObjectFaults.{cycle_fault, limit_fault}
 use Rattle.elaborate_objects.specs.DesignRules.BindingFaults as binding
-use Rattle.code_rooms.specs.Rooms.{HasRooms, IsNested}
+use Rattle.laws_code.specs.CodeRules.Rooms.{HasRooms, IsNested}
 use Rattle.laws_code.specs.Bodies.{StatementsStand}
 
 -- A model is accepted: it breaks no rule on single modules, no module has itself among its instances, its objects and the

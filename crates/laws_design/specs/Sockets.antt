@@ -1,8 +1,8 @@
 -- What the bindings of a design give its sockets.
 use Rattle.std.specs.Prelude.{◌≡◌, ℕ, false, Option, Some, Contains}
-use Rattle.code_rooms.specs.FlatDesign.declared.objects.Object.{Object}
-use Rattle.code_rooms.specs.FlatDesign.declared.objects.ObjectForm.TheVariants as form
-use Rattle.code_rooms.specs.FlatDesign.declared.objects.Objects.{Objects}
+use Rattle.elaborate_objects.specs.FlatDesign.declared.objects.Object.{Object}
+use Rattle.elaborate_objects.specs.FlatDesign.declared.objects.ObjectForm.TheVariants as form
+use Rattle.elaborate_objects.specs.FlatDesign.declared.objects.Objects.{Objects}
 use Rattle.elaborate_objects.specs.DesignRules.declared.bindings.Joined.{Joined}
 use Rattle.elaborate_objects.specs.DesignRules.Objects.{object_at}
 use Rattle.elaborate_objects.specs.DesignRules.Bound.{bound}

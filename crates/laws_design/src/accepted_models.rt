@@ -1,8 +1,8 @@
 //! Laws of the designs of models that break no rule.
 ghost use Rattle.std.specs.Prelude.{◌≡◌, None};
-ghost use Rattle.code_rooms.specs.ModelTree.Tree.{Model};
-ghost use Rattle.code_rooms.specs.FlatDesign.declared.design.Design.{Design};
-ghost use Rattle.code_rooms.specs.ModelRules.Passes.{first_fault};
+ghost use Rattle.elaborate_objects.specs.ModelTree.Tree.{Model};
+ghost use Rattle.elaborate_objects.specs.FlatDesign.declared.design.Design.{Design};
+ghost use Rattle.elaborate_objects.specs.ModelRules.Passes.{first_fault};
 ghost use Rattle.elaborate_objects.specs.DesignRules.Listing.{objects_of};
 ghost use Rattle.elaborate_objects.specs.DesignRules.ObjectFaults.{cycle_fault, limit_fault};
 ghost use Rattle.elaborate_objects.specs.DesignRules.BindingFaults as binding;

@@ -1,13 +1,13 @@
 //! Laws of the designs of models without a first fault.
 ghost use Rattle.std.specs.Prelude.{◌≡◌, ◌⊎◌, ◌<◌, ◌≤◌, ℕ, slice_get, Some, None};
-ghost use Rattle.code_rooms.specs.ModelTree.Tree.{Model};
-ghost use Rattle.code_rooms.specs.FlatDesign.ValueTypes.{type_of_value};
-ghost use Rattle.code_rooms.specs.FlatDesign.declared.objects.Object.{Object};
-ghost use Rattle.code_rooms.specs.FlatDesign.declared.design.SignalPart.{SignalPart};
-ghost use Rattle.code_rooms.specs.FlatDesign.declared.design.FifoPart.{FifoPart};
-ghost use Rattle.code_rooms.specs.FlatDesign.declared.design.VariablePart.{VariablePart};
-ghost use Rattle.code_rooms.specs.FlatDesign.declared.design.Design.{Design};
-ghost use Rattle.code_rooms.specs.ModelRules.Passes.{first_fault};
+ghost use Rattle.elaborate_objects.specs.ModelTree.Tree.{Model};
+ghost use Rattle.elaborate_objects.specs.FlatDesign.ValueTypes.{type_of_value};
+ghost use Rattle.elaborate_objects.specs.FlatDesign.declared.objects.Object.{Object};
+ghost use Rattle.elaborate_objects.specs.FlatDesign.declared.design.SignalPart.{SignalPart};
+ghost use Rattle.elaborate_objects.specs.FlatDesign.declared.design.FifoPart.{FifoPart};
+ghost use Rattle.elaborate_objects.specs.FlatDesign.declared.design.VariablePart.{VariablePart};
+ghost use Rattle.elaborate_objects.specs.FlatDesign.declared.design.Design.{Design};
+ghost use Rattle.elaborate_objects.specs.ModelRules.Passes.{first_fault};
 ghost use Rattle.elaborate_objects.specs.DesignRules.Designs.{IsDesignOf};
 
 /// Each object of a design is in an instance before it, but for the top instance, which is in itself.

@@ -1,14 +1,14 @@
 //! Laws of the ports, the processes and the hops of a design.
 ghost use Rattle.std.specs.Prelude.{◌≡◌, None};
-ghost use Rattle.code_rooms.specs.ModelTree.Tree.{Model};
-ghost use Rattle.code_rooms.specs.FlatDesign.declared.design.Design.{Design};
-ghost use Rattle.code_rooms.specs.ModelRules.Passes.{first_fault};
+ghost use Rattle.elaborate_objects.specs.ModelTree.Tree.{Model};
+ghost use Rattle.elaborate_objects.specs.FlatDesign.declared.design.Design.{Design};
+ghost use Rattle.elaborate_objects.specs.ModelRules.Passes.{first_fault};
 ghost use Rattle.elaborate_objects.specs.DesignRules.Listing.{objects_of};
 ghost use Rattle.elaborate_objects.specs.DesignRules.ObjectFaults.{cycle_fault, limit_fault};
 ghost use Rattle.elaborate_objects.specs.DesignRules.BindingFaults as binding;
 ghost use Rattle.elaborate_objects.specs.DesignRules.Designs.{IsDesignOf};
-ghost use Rattle.code_rooms.specs.RoomFields.{HopsFit};
-ghost use Rattle.code_rooms.specs.DesignFields.{ProcessesFit};
+ghost use Rattle.laws_code.specs.CodeRules.RoomFields.{HopsFit};
+ghost use Rattle.laws_code.specs.CodeRules.DesignFields.{ProcessesFit};
 ghost use Rattle.laws_design.specs.Fields.{PortsFit};
 
 /// Where a model breaks no rule on single modules, and no binding of its objects has a fault, each process of its design runs

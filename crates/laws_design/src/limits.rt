@@ -1,9 +1,9 @@
 //! Laws of the numbers of a design.
 ghost use Rattle.std.specs.Prelude.{◌≡◌, ◌≤◌, ◌<◌, ◌^◌, None, All, length};
-ghost use Rattle.code_rooms.specs.ModelTree.Tree.{Model};
-ghost use Rattle.code_rooms.specs.FlatDesign.declared.design.SemaphorePart.{SemaphorePart};
-ghost use Rattle.code_rooms.specs.FlatDesign.declared.design.Design.{Design};
-ghost use Rattle.code_rooms.specs.ModelRules.Passes.{first_fault};
+ghost use Rattle.elaborate_objects.specs.ModelTree.Tree.{Model};
+ghost use Rattle.elaborate_objects.specs.FlatDesign.declared.design.SemaphorePart.{SemaphorePart};
+ghost use Rattle.elaborate_objects.specs.FlatDesign.declared.design.Design.{Design};
+ghost use Rattle.elaborate_objects.specs.ModelRules.Passes.{first_fault};
 ghost use Rattle.elaborate_objects.specs.DesignRules.ObjectFaults.{limit_fault};
 ghost use Rattle.elaborate_objects.specs.DesignRules.Designs.{IsDesignOf};
 

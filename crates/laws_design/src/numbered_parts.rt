@@ -1,12 +1,12 @@
 //! Laws of the parts of a design that is a model's.
 ghost use Rattle.std.specs.Prelude.{◌≡◌, ◌+◌, ◌<◌, ℕ, slice_get, Some};
-ghost use Rattle.code_rooms.specs.ModelTree.Tree.{Model};
-ghost use Rattle.code_rooms.specs.FlatDesign.Denotes.{denoted_at};
-ghost use Rattle.code_rooms.specs.FlatDesign.Sound.{DenotedFits};
-ghost use Rattle.code_rooms.specs.FlatDesign.declared.design.SignalPart.{SignalPart};
-ghost use Rattle.code_rooms.specs.FlatDesign.declared.design.ResolvedPart.{ResolvedPart};
-ghost use Rattle.code_rooms.specs.FlatDesign.declared.design.FifoPart.{FifoPart};
-ghost use Rattle.code_rooms.specs.FlatDesign.declared.design.Design.{Design};
+ghost use Rattle.elaborate_objects.specs.ModelTree.Tree.{Model};
+ghost use Rattle.elaborate_objects.specs.FlatDesign.Denotes.{denoted_at};
+ghost use Rattle.elaborate_objects.specs.FlatDesign.Sound.{DenotedFits};
+ghost use Rattle.elaborate_objects.specs.FlatDesign.declared.design.SignalPart.{SignalPart};
+ghost use Rattle.elaborate_objects.specs.FlatDesign.declared.design.ResolvedPart.{ResolvedPart};
+ghost use Rattle.elaborate_objects.specs.FlatDesign.declared.design.FifoPart.{FifoPart};
+ghost use Rattle.elaborate_objects.specs.FlatDesign.declared.design.Design.{Design};
 ghost use Rattle.elaborate_objects.specs.DesignRules.Designs.{IsDesignOf};
 
 /// What a name stands for in an instance is there: the part of its number, with the events that the design counts for it.

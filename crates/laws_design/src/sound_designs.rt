@@ -1,7 +1,7 @@
 //! What accepted models give.
-ghost use Rattle.code_rooms.specs.ModelTree.Tree.{Model};
-ghost use Rattle.code_rooms.specs.FlatDesign.Sound.{SoundDesign};
-ghost use Rattle.code_rooms.specs.FlatDesign.declared.design.Design.{Design};
+ghost use Rattle.elaborate_objects.specs.ModelTree.Tree.{Model};
+ghost use Rattle.elaborate_objects.specs.FlatDesign.Sound.{SoundDesign};
+ghost use Rattle.elaborate_objects.specs.FlatDesign.declared.design.Design.{Design};
 ghost use Rattle.elaborate_objects.specs.DesignRules.Designs.{IsDesignOf};
 ghost use Rattle.laws_design.specs.Accepted.{IsAccepted, IsLaidOut};
 

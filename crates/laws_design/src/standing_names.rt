@@ -1,8 +1,8 @@
 //! Laws of what names stand for.
 ghost use Rattle.std.specs.Prelude.{◌≡◌, None};
-ghost use Rattle.code_rooms.specs.ModelTree.Tree.{Model};
-ghost use Rattle.code_rooms.specs.FlatDesign.declared.design.Design.{Design};
-ghost use Rattle.code_rooms.specs.ModelRules.Passes.{first_fault};
+ghost use Rattle.elaborate_objects.specs.ModelTree.Tree.{Model};
+ghost use Rattle.elaborate_objects.specs.FlatDesign.declared.design.Design.{Design};
+ghost use Rattle.elaborate_objects.specs.ModelRules.Passes.{first_fault};
 ghost use Rattle.elaborate_objects.specs.DesignRules.ObjectFaults.{cycle_fault};
 ghost use Rattle.elaborate_objects.specs.DesignRules.Designs.{IsDesignOf};
 ghost use Rattle.laws_code.specs.Standing.{DesignStands};

@@ -4,13 +4,13 @@ use Rattle.std.proofs.lemmas.List.Elements.{All-nil, All-cons, All-append}
 use Rattle.sim_model.specs.Residual.{Mark}
 use Rattle.sim_model.specs.Configuration.{Config, Instance, Told, instance_at, change_instance, with_marks, with_told}
 use Rattle.sim_model.specs.Waits.{leaves_stack}
-use Rattle.order_uses.specs.declared.uses.Use.{Use}
+use Rattle.order_free.specs.declared.uses.Use.{Use}
 use Rattle.laws_order.specs.Acts as act
 use Rattle.laws_order.specs.Acts.{Act, acted, acted_all, Allows}
 use Rattle.laws_order.specs.Sees.{unnumbered, Sees}
 use Rattle.laws_order.specs.Alongside.{rest, Did, Alongside}
 use Rattle.laws_order.proofs.Lists.{change-alike, change-apart}
-use Rattle.laws_order.proofs.Seen.{with-own, with-trace, acted-alike}
+use Rattle.laws_order.proofs.ProcessViews.{with-own, with-trace, acted-alike}
 
 -- of instances that are equal but for the numbers of their guards both make such again
 abbrev pub SameChange : (Instance → Instance) → (Instance → Instance) → Type 0

@@ -1,7 +1,7 @@
 -- Two who use nothing together that one alone may use.
 use Rattle.std.proofs.Common.{◌⊎◌, ℕ}
-use Rattle.order_uses.specs.declared.uses.Use.{Use}
-use Rattle.order_uses.specs.declared.uses.Use.TheVariants as used
+use Rattle.order_free.specs.declared.uses.Use.{Use}
+use Rattle.order_free.specs.declared.uses.Use.TheVariants as used
 
 -- neither has for a use what one alone may have and the other one has
 pub record AreApart (Has Others : Use → Type 0) : Type 0 where

@@ -15,7 +15,7 @@ use Rattle.sim_model.specs.Residual.{frame, frame_of, statements, settle, next_o
 use Rattle.sim_model.specs.Configuration.{first_instance, start}
 use Rattle.sim_model.specs.Waits.{is_among}
 use Rattle.sim_model.specs.declared.plain.Command.{Command}
-use Rattle.order_uses.specs.declared.uses.Use.TheVariants as used
+use Rattle.order_free.specs.declared.uses.Use.TheVariants as used
 use Rattle.order_free.specs.Free.{Uses, by_statement, by_sensitivity, Free}
 use Rattle.laws_order.specs.Alongside.{OwnAt, OwnNext, IsDeaf, IsUnheard, AreUnheard}
 use Rattle.laws_order.proofs.Reading.{contains-first}

@@ -16,8 +16,8 @@ use Rattle.sim_model.specs.Waits.{notify, waits}
 use Rattle.sim_model.specs.Channels.{set_signal, written_unless, write_signal, set_fifo}
 use Rattle.kernel_bodies.specs.Strip.{strip}
 use Rattle.kernel_bodies.proofs.Strips.{strip-put, strip-in_innermost}
-use Rattle.order_uses.specs.declared.uses.Use.{Use}
-use Rattle.order_uses.specs.declared.uses.Use.TheVariants as used
+use Rattle.order_free.specs.declared.uses.Use.{Use}
+use Rattle.order_free.specs.declared.uses.Use.TheVariants as used
 use Rattle.laws_order.specs.Acts as act
 use Rattle.laws_order.specs.Acts.{acted, IsLater}
 use Rattle.laws_order.specs.Sees.{unnumbered}

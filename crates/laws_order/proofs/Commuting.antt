@@ -9,8 +9,8 @@ use Rattle.sim_model.specs.SignalChannel.Drivers.{driven_by}
 use Rattle.sim_model.specs.FifoSync.Fifos.{Queued, after_read, after_write}
 use Rattle.sim_model.specs.Values.{one_digit, digit_list}
 use Rattle.sim_model.specs.Configuration.{Config, change}
-use Rattle.order_uses.specs.declared.uses.Use.{Use}
-use Rattle.order_uses.specs.declared.uses.Use.TheVariants as used
+use Rattle.order_free.specs.declared.uses.Use.{Use}
+use Rattle.order_free.specs.declared.uses.Use.TheVariants as used
 use Rattle.laws_order.specs.Acts as act
 use Rattle.laws_order.specs.Acts.{Act, acted, acted_all, Allows, DriveApart}
 use Rattle.laws_order.proofs.Apart.{AreApart}

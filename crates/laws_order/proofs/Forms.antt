@@ -45,11 +45,11 @@ use Rattle.sim_model.specs.declared.plain.Goal.TheVariants as goal_of
 use Rattle.sim_model.specs.declared.plain.Command.{Command}
 use Rattle.kernel_bodies.specs.Strip.{strip}
 use Rattle.kernel_bodies.proofs.Strips.{strip-put, strip-innermost, strip-open_frames, strip-catches, strip-raise, strip-left_by_raise, strip-returned}
-use Rattle.order_uses.specs.declared.uses.Deed.{Deed}
-use Rattle.order_uses.specs.declared.uses.Deed.TheVariants as deed
-use Rattle.order_uses.specs.declared.uses.Use.{Use}
-use Rattle.order_uses.specs.declared.uses.Use.TheVariants as used
-use Rattle.order_uses.specs.Uses.{deeds_of_name, deeds_of_term, deeds_of_written, deeds_of_store, deeds_of_read, deeds_of_write, deeds_of_destination, deeds_of_await, deeds_of_argument, deeds_of, uses_of_deed, kept_under, channels_under, channels_of_port, written_to, read_from, events_under}
+use Rattle.order_free.specs.declared.uses.Deed.{Deed}
+use Rattle.order_free.specs.declared.uses.Deed.TheVariants as deed
+use Rattle.order_free.specs.declared.uses.Use.{Use}
+use Rattle.order_free.specs.declared.uses.Use.TheVariants as used
+use Rattle.order_free.specs.Uses.{deeds_of_name, deeds_of_term, deeds_of_written, deeds_of_store, deeds_of_read, deeds_of_write, deeds_of_destination, deeds_of_await, deeds_of_argument, deeds_of, uses_of_deed, kept_under, channels_under, channels_of_port, written_to, read_from, events_under}
 use Rattle.laws_order.specs.Acts as act
 use Rattle.laws_order.specs.Acts.{IsLater}
 use Rattle.laws_order.specs.Sees.{in_reach, Sees}

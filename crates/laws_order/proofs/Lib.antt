@@ -1,7 +1,7 @@
 mod Lists
 mod Ends
 mod Apart
-mod Seen
+mod ProcessViews
 mod TurnOrders
 mod Commuting
 mod Wires

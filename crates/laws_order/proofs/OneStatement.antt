@@ -11,9 +11,9 @@ use Rattle.sim_model.specs.Statements.{do_statement}
 use Rattle.sim_model.specs.declared.plain.Via.{Via}
 use Rattle.kernel_bodies.specs.Strip.{strip}
 use Rattle.kernel_bodies.proofs.Strips.{strip-innermost, strip-within}
-use Rattle.order_uses.specs.Uses.{uses_of}
-use Rattle.order_uses.specs.declared.uses.Use.{Use}
-use Rattle.order_uses.specs.declared.uses.Use.TheVariants as used
+use Rattle.order_free.specs.Uses.{uses_of}
+use Rattle.order_free.specs.declared.uses.Use.{Use}
+use Rattle.order_free.specs.declared.uses.Use.TheVariants as used
 use Rattle.laws_order.specs.Sees.{Sees}
 use Rattle.laws_order.specs.Alongside.{Alongside, Both, HasNoHops}
 use Rattle.laws_order.proofs.Along.{Along, begun, alongside}

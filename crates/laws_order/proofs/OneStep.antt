@@ -19,8 +19,8 @@ use Rattle.sim_model.specs.declared.plain.Goal.{Goal}
 use Rattle.sim_model.specs.declared.plain.Goal.TheVariants as goal_of
 use Rattle.kernel_bodies.specs.Strip.{strip}
 use Rattle.kernel_bodies.proofs.Strips.{strip-settle, strip-next, strip-put, strip-within, strip-innermost, strip-entered}
-use Rattle.order_uses.specs.declared.uses.Use.{Use}
-use Rattle.order_uses.specs.declared.uses.Use.TheVariants as used
+use Rattle.order_free.specs.declared.uses.Use.{Use}
+use Rattle.order_free.specs.declared.uses.Use.TheVariants as used
 use Rattle.laws_order.specs.Sees.{unnumbered, Sees}
 use Rattle.laws_order.specs.Alongside.{Alongside, Both, HasNoHops, OwnUses, OwnAt, OwnNext, IsDeaf, IsUnheard, AreUnheard}
 use Rattle.laws_order.proofs.Along.{Along, begun as nothing_yet, own, leaving, marking, along-sees, alongside}

@@ -14,15 +14,15 @@ use Rattle.sim_model.specs.Configuration.{Config, Instance, arena, instance_at}
 use Rattle.sim_model.specs.Statements.{statement_step}
 use Rattle.kernel_bodies.specs.Strip.{strip}
 use Rattle.kernel_bodies.proofs.Strips.{strip-settle, strip-next}
-use Rattle.order_uses.specs.declared.uses.Use.{Use}
-use Rattle.order_uses.specs.declared.uses.Use.TheVariants as used
+use Rattle.order_free.specs.declared.uses.Use.{Use}
+use Rattle.order_free.specs.declared.uses.Use.TheVariants as used
 use Rattle.laws_order.specs.Acts as act
 use Rattle.laws_order.specs.Acts.{Act, acted, acted_all, Allows}
 use Rattle.laws_order.specs.Sees.{unnumbered, Sees}
 use Rattle.laws_order.specs.Alongside.{rest, Did, Alongside, Both, HasNoHops, OwnNext, IsDeaf, IsUnheard, AreUnheard}
 use Rattle.laws_order.specs.Turns.{IsOnItsOwn, Turn, over, goes_on, EachIsOwn}
 use Rattle.laws_order.proofs.Apart.{AreApart}
-use Rattle.laws_order.proofs.Seen.{sees-refl}
+use Rattle.laws_order.proofs.ProcessViews.{sees-refl}
 use Rattle.laws_order.proofs.OneStep.{step-alongside}
 use Rattle.laws_order.proofs.Others.{did-unseen}
 

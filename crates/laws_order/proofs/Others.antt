@@ -7,13 +7,13 @@ use Rattle.sim_model.specs.FlatDesign.declared.faults.RunFault.{RunFault}
 use Rattle.sim_model.specs.Residual.{settle, next_of}
 use Rattle.sim_model.specs.Configuration.{Config, Instance, arena, instance_at}
 use Rattle.sim_model.specs.Statements.{statement_step}
-use Rattle.order_uses.specs.declared.uses.Use.{Use}
-use Rattle.order_uses.specs.declared.uses.Use.TheVariants as used
+use Rattle.order_free.specs.declared.uses.Use.{Use}
+use Rattle.order_free.specs.declared.uses.Use.TheVariants as used
 use Rattle.laws_order.specs.Acts.{Act, Allows}
 use Rattle.laws_order.specs.Sees.{unnumbered, in_reach, value_of, Sees}
 use Rattle.laws_order.specs.Alongside.{Did, Alongside, Both, HasNoHops, OwnNext, AreUnheard}
 use Rattle.laws_order.proofs.Apart.{AreApart}
-use Rattle.laws_order.proofs.Seen.{sees-refl, all-unseen}
+use Rattle.laws_order.proofs.ProcessViews.{sees-refl, all-unseen}
 use Rattle.laws_order.proofs.OneStep.{step-alongside}
 
 module _ (Has Others : Use → Type 0) (apart : AreApart Has Others) (p q : ℕ) (differ : p ≢ q) (c e : Config) where

@@ -13,11 +13,11 @@ use Rattle.sim_model.specs.FlatDesign.declared.names.EventMember.{EventMember}
 use Rattle.sim_model.specs.FlatDesign.declared.names.EventMember.TheVariants as event
 use Rattle.sim_model.specs.FlatDesign.declared.design.ProcessPart.{ProcessPart}
 use Rattle.sim_model.specs.FlatDesign.declared.design.Design.{Design}
-use Rattle.order_uses.specs.declared.uses.Deed.{Deed}
-use Rattle.order_uses.specs.declared.uses.Deed.TheVariants as deed
-use Rattle.order_uses.specs.declared.uses.Use.{Use}
-use Rattle.order_uses.specs.declared.uses.Use.TheVariants as used
-use Rattle.order_uses.specs.Uses.{deeds_of_name, deeds_of_written, deeds_of_event_member, deeds_of_event, deeds_of, uses_of_deed}
+use Rattle.order_free.specs.declared.uses.Deed.{Deed}
+use Rattle.order_free.specs.declared.uses.Deed.TheVariants as deed
+use Rattle.order_free.specs.declared.uses.Use.{Use}
+use Rattle.order_free.specs.declared.uses.Use.TheVariants as used
+use Rattle.order_free.specs.Uses.{deeds_of_name, deeds_of_written, deeds_of_event_member, deeds_of_event, deeds_of, uses_of_deed}
 use Rattle.order_free.specs.Free.{by_statement, by_sensitivity, Free}
 use Rattle.laws_order.specs.Fits.{IsFixed}
 use Rattle.laws_order.proofs.Blocks.{each-from}

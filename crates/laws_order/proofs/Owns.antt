@@ -10,7 +10,7 @@ use Rattle.sim_model.specs.FlatDesign.declared.design.Design.{Design}
 use Rattle.sim_model.specs.Residual.{Residual, Next, skip, one, batch, seq, owing, guard, try_, frame, shell, run, goal, statement, owes, leaves, done, reaches, nothing, settle, next_of}
 use Rattle.sim_model.specs.Configuration.{Config, Instance, Wait, waits_for_nothing, waits_statically, waits_for_any, waits_for_all, instance_at}
 use Rattle.sim_model.specs.Waits.{is_among}
-use Rattle.order_uses.specs.Uses.{uses_of}
+use Rattle.order_free.specs.Uses.{uses_of}
 use Rattle.order_free.specs.Free.{Uses, by_statement, Free}
 use Rattle.laws_order.specs.Alongside.{HasNoHops, OwnAt, OwnNext, heard, IsDeaf, IsUnheard, AreUnheard}
 use Rattle.laws_order.specs.Turns.{IsOnItsOwn}

@@ -25,11 +25,11 @@ use Rattle.sim_model.specs.Values.{on_ok, truth, bits, payload_handle, widened, 
 use Rattle.sim_model.specs.Configuration.{Config, Processes, Channels, Store, Quantum, Trace}
 use Rattle.sim_model.specs.Reading.{Here, channel_of, signal_value, resolved_value, channel_value, channel_changed, variable_value, read_denoted, read_name, handle_in, not_empty, live_payload, field_value, channel_member, member_of_channel, keeper_number, keeper_at, keeper_here, keeper_member, is_live, member_value, byte_in, memory_number, memory_at, payload_bytes, read_wide, val, val_if, place_in}
 use Rattle.sim_model.specs.declared.plain.Command.{Command}
-use Rattle.order_uses.specs.declared.uses.Deed.{Deed}
-use Rattle.order_uses.specs.declared.uses.Deed.TheVariants as deed
-use Rattle.order_uses.specs.declared.uses.Use.{Use}
-use Rattle.order_uses.specs.declared.uses.Use.TheVariants as used
-use Rattle.order_uses.specs.Uses.{deeds_of_name, deeds_of_member, deeds_of_term, deeds_of_written, uses_of_deed, kept_under}
+use Rattle.order_free.specs.declared.uses.Deed.{Deed}
+use Rattle.order_free.specs.declared.uses.Deed.TheVariants as deed
+use Rattle.order_free.specs.declared.uses.Use.{Use}
+use Rattle.order_free.specs.declared.uses.Use.TheVariants as used
+use Rattle.order_free.specs.Uses.{deeds_of_name, deeds_of_member, deeds_of_term, deeds_of_written, uses_of_deed, kept_under}
 use Rattle.laws_order.specs.Sees.{value_of, Sees}
 
 -- ---- answers

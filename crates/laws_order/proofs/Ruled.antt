@@ -1,7 +1,7 @@
 -- In a design that keeps the rule on the order of processes what two of them use is apart.
 use Rattle.std.proofs.Common.{◌≢◌, inr, ℕ, sym}
 use Rattle.sim_model.specs.FlatDesign.declared.design.Design.{Design}
-use Rattle.order_uses.specs.declared.uses.Use.TheVariants as used
+use Rattle.order_free.specs.declared.uses.Use.TheVariants as used
 use Rattle.order_free.specs.Free.{Uses, Free}
 use Rattle.laws_order.proofs.Apart.{AreApart}
 

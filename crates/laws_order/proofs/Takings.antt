@@ -13,8 +13,8 @@ use Rattle.sim_model.specs.Waits.{holds, without}
 use Rattle.sim_model.specs.Control.{begins}
 use Rattle.sim_model.specs.Steps.{turn_line, instance_taken, taken_if, taking}
 use Rattle.kernel_bodies.specs.Strip.{strip}
-use Rattle.order_uses.specs.declared.uses.Use.{Use}
-use Rattle.order_uses.specs.declared.uses.Use.TheVariants as used
+use Rattle.order_free.specs.declared.uses.Use.{Use}
+use Rattle.order_free.specs.declared.uses.Use.TheVariants as used
 use Rattle.laws_order.specs.Acts as act
 use Rattle.laws_order.specs.Acts.{Act, acted, acted_all}
 use Rattle.laws_order.specs.Sees.{unnumbered, in_reach, value_of, AlikeAt, Sees}
@@ -23,7 +23,7 @@ use Rattle.laws_order.specs.LeftAlike.{shared_in, AreLeftAlike}
 use Rattle.laws_order.specs.Turns.{Turn, over, goes_on, TakesTurn, TurnsOfOthers, no_turn, turn_of}
 use Rattle.laws_order.proofs.Lists.{change-apart, change-alike}
 use Rattle.laws_order.proofs.Apart.{AreApart}
-use Rattle.laws_order.proofs.Seen.{sees-refl, sees-sym, sees-trans, with-own, with-trace}
+use Rattle.laws_order.proofs.ProcessViews.{sees-refl, sees-sym, sees-trans, with-own, with-trace}
 use Rattle.laws_order.proofs.Along.{SameChange}
 use Rattle.laws_order.proofs.Changes.{same-change}
 use Rattle.laws_order.proofs.Unheard.{change-each}

@@ -3,7 +3,7 @@ use Rattle.std.proofs.Common.{◌≡◌, ℕ, zero, suc, true, List, [], ◌∷�
 use Rattle.std.proofs.lemmas.List.Elements.{All-head, All-tail}
 use Rattle.std.proofs.lemmas.Option.{none-some}
 use Rattle.sim_model.specs.Configuration.{Config}
-use Rattle.order_uses.specs.declared.uses.Use.{Use}
+use Rattle.order_free.specs.declared.uses.Use.{Use}
 use Rattle.laws_order.specs.Acts as act
 use Rattle.laws_order.specs.Acts.{Act, acted, acted_all, Allows}
 use Rattle.laws_order.specs.Undriven.{without_drivers}

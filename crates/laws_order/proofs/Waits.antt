@@ -16,10 +16,10 @@ use Rattle.sim_model.specs.Reading.{Here, place_in, val}
 use Rattle.sim_model.specs.Waiting.{event_of, places_in, events_at, time_if, awaits, awaited}
 use Rattle.sim_model.specs.Calls.{argument_value, argument_values}
 use Rattle.sim_model.specs.declared.plain.Command.{Command}
-use Rattle.order_uses.specs.declared.uses.Deed.{Deed}
-use Rattle.order_uses.specs.declared.uses.Use.{Use}
-use Rattle.order_uses.specs.declared.uses.Use.TheVariants as used
-use Rattle.order_uses.specs.Uses.{deeds_of_name, deeds_of_term, deeds_of_written, deeds_of_event_member, deeds_of_event, deeds_of_await, deeds_of_argument, uses_of_deed}
+use Rattle.order_free.specs.declared.uses.Deed.{Deed}
+use Rattle.order_free.specs.declared.uses.Use.{Use}
+use Rattle.order_free.specs.declared.uses.Use.TheVariants as used
+use Rattle.order_free.specs.Uses.{deeds_of_name, deeds_of_term, deeds_of_written, deeds_of_event_member, deeds_of_event, deeds_of_await, deeds_of_argument, uses_of_deed}
 use Rattle.laws_order.specs.Sees.{Sees}
 use Rattle.laws_order.proofs.Reading as reading
 use Rattle.laws_order.proofs.Reading.{on_ok-alike}

@@ -12,8 +12,8 @@ use Rattle.sim_model.specs.Storing.{set_variable, set_memory}
 use Rattle.sim_model.specs.Waiting.{cancelled}
 use Rattle.sim_model.specs.Channels.{with_channels, drive}
 use Rattle.sim_model.specs.Transport.{with_keeper, with_global}
-use Rattle.order_uses.specs.declared.uses.Use.{Use}
-use Rattle.order_uses.specs.declared.uses.Use.TheVariants as used
+use Rattle.order_free.specs.declared.uses.Use.{Use}
+use Rattle.order_free.specs.declared.uses.Use.TheVariants as used
 
 -- A variable or a memory gets a value; a signal is written, and the driver of a resolved one set; the oldest value of a fifo is read,
 -- and a value written behind the others; an event is notified for later, and what is pending for it cancelled; a keeper and the global

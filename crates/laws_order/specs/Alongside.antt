@@ -8,8 +8,8 @@ use Rattle.sim_model.specs.FlatDesign.declared.faults.RunFault.{RunFault}
 use Rattle.sim_model.specs.Residual.{Residual, skip, one, batch, seq, owing, guard, try_, frame, shell, run, goal, Next, statement, owes, leaves, done, reaches, nothing}
 use Rattle.sim_model.specs.Configuration.{Config, Instance, Wait, waits_for_nothing, waits_statically, waits_for_any, waits_for_all, instance_at}
 use Rattle.sim_model.specs.Waits.{is_among}
-use Rattle.order_uses.specs.Uses.{uses_of}
-use Rattle.order_uses.specs.declared.uses.Use.{Use}
+use Rattle.order_free.specs.Uses.{uses_of}
+use Rattle.order_free.specs.declared.uses.Use.{Use}
 use Rattle.laws_order.specs.Acts.{Act, acted_all, Allows}
 use Rattle.laws_order.specs.Sees.{Sees}
 

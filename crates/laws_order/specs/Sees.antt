@@ -6,8 +6,8 @@ use Rattle.sim_model.specs.SignalChannel.declared.signal.Signal.{Signal}
 use Rattle.sim_model.specs.FifoSync.Fifos.{Queued, available, free}
 use Rattle.sim_model.specs.Configuration.{Config, Instance}
 use Rattle.kernel_bodies.specs.Strip.{strip}
-use Rattle.order_uses.specs.declared.uses.Use.{Use}
-use Rattle.order_uses.specs.declared.uses.Use.TheVariants as used
+use Rattle.order_free.specs.declared.uses.Use.{Use}
+use Rattle.order_free.specs.declared.uses.Use.TheVariants as used
 
 -- an instance but for the numbers of its guards
 abbrev pub unnumbered : Instance → Instance

@@ -4,7 +4,7 @@ use Rattle.sim_model.specs.Residual.{settle, next_of}
 use Rattle.sim_model.specs.Configuration.{Config, Instance, arena, instance_at}
 use Rattle.sim_model.specs.Statements.{statement_step}
 use Rattle.sim_model.specs.Steps.{taking}
-use Rattle.order_uses.specs.declared.uses.Use.{Use}
+use Rattle.order_free.specs.declared.uses.Use.{Use}
 use Rattle.laws_order.specs.Alongside.{HasNoHops, OwnNext, AreUnheard}
 
 -- the process of this serial, which has these uses, makes a step of its own: what comes next of it is its own, no transport call is open

@@ -9,7 +9,7 @@ use Rattle.laws_runs.specs.SimModel.Configuration.{Config, Processes, instance_a
 use Rattle.laws_runs.specs.SimModel.declared.plain.Phase.TheVariants as phase
 use Rattle.laws_runs.proofs.RunStart.{first_processes}
 use Rattle.laws_runs.proofs.StepsFit.{FitsPhase, Good}
-use Rattle.kernel_phases.specs.KernelProcesses.Seen.{shown_at, seen, bare, as_instance}
+use Rattle.kernel_phases.specs.KernelProcesses.InstanceViews.{shown_at, seen, bare, as_instance}
 use Rattle.kernel_phases.specs.KernelProcesses.declared.parts.Process.{Process}
 use Rattle.kernel_phases.specs.KernelProcesses.Moved.{is_suspended}
 use Rattle.kernel_phases.specs.KernelState.Kernel.{StandsFor}

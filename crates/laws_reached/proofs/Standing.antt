@@ -6,8 +6,8 @@ use Rattle.laws_runs.specs.SimModel.Configuration.{Config, Instance, instance_at
 use Rattle.laws_runs.specs.SimModel.Waits.{holds}
 use Rattle.laws_runs.specs.SimModel.Clean.{times, CleanProcesses}
 use Rattle.laws_runs.proofs.Times.{times-here, times-lacks}
-use Rattle.kernel_phases.specs.KernelProcesses.Seen.{shown_at, is_on}
-use Rattle.kernel_phases.specs.KernelProcesses.Seen.{body_at as kept_at}
+use Rattle.kernel_phases.specs.KernelProcesses.InstanceViews.{shown_at, is_on}
+use Rattle.kernel_phases.specs.KernelProcesses.InstanceViews.{body_at as kept_at}
 use Rattle.kernel_phases.specs.KernelState.Processes.{beside, IsLive, TellsBy, Tells}
 use Rattle.kernel_phases.specs.KernelState.Kernel.{Shows, StandsFor, whole_design}
 use Rattle.kernel_phases.specs.KernelState.Moves.{IsOnTop, Lives}

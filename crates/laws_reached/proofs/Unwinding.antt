@@ -9,7 +9,7 @@ use Rattle.laws_runs.specs.SimModel.Residual.{Residual, settle, next_of, has_goa
 use Rattle.laws_runs.specs.SimModel.Configuration.{Config}
 use Rattle.kernel_phases.proofs.KernelBodies.Strips.{strip-settle, strip-next, strip-has_goal}
 use Rattle.kernel_phases.specs.ProcessBodies.Bodies.{left_in, settled_in}
-use Rattle.kernel_phases.specs.KernelProcesses.Seen.{body_at as kept_at}
+use Rattle.kernel_phases.specs.KernelProcesses.InstanceViews.{body_at as kept_at}
 use Rattle.laws_runs.specs.Standing.{code_of, OfUnwindBlock, IsStanding, place_of}
 use Rattle.laws_runs.proofs.BodiesKept.{settle-standing}
 use Rattle.laws_runs.proofs.Places.{next-standing}

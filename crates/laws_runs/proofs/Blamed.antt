@@ -30,7 +30,7 @@ use Rattle.sim_model.specs.declared.plain.Command.TheVariants as command
 use Rattle.sim_model.specs.declared.plain.Via.{Via}
 use Rattle.laws_runs.specs.Added.{IsNext, left_of, place_of, WouldAdd, b_call, nb_call, b_return, nb_return, WouldAddFreed, b_freed, nb_freed, NamesFreed, b_named, nb_named, BreaksRule}
 use Rattle.laws_runs.proofs.Faults as faults
-use Rattle.laws_runs.proofs.Judged.{phase-is, on-is}
+use Rattle.laws_runs.proofs.EntryJudgements.{phase-is, on-is}
 
 module _ (c : Config) where
   abbrev B : ℕ → ℕ → ℕ → Type 0

@@ -1,9 +1,9 @@
 -- Hops that grow by entries that may come, while the calls that are open are those of a list for each instance.
 use Rattle.std.proofs.Common.{◌≡◌, ◌≢◌, ◌==◌, ℕ, Bool, true, false, cond, ◌⊎◌, List, [], ◌∷◌, ◌++◌, slice_get, unwrap_or, Some, None, refl, sym, ap, ◌∙◌, subst, inl, inr, ⊎_elim, eq-eqb, ne_eqb}
 use Rattle.std.proofs.lemmas.Bool.{cases_eq}
-use Rattle.sim_model.specs.TransportPhases.declared.kept.Open.{Open}
-use Rattle.sim_model.specs.TransportPhases.declared.kept.Open.TheVariants.{Nothing}
-use Rattle.sim_model.specs.TransportPhases.declared.kept.Kept.{Kept}
+use Rattle.sim_model.specs.TransportPhases.declared.transaction.Open.{Open}
+use Rattle.sim_model.specs.TransportPhases.declared.transaction.Open.TheVariants.{Nothing}
+use Rattle.sim_model.specs.TransportPhases.declared.transaction.Kept.{Kept}
 use Rattle.sim_model.specs.TransportPhases.Phases.{fresh}
 use Rattle.sim_model.specs.TransportPhases.History.{Entry, transaction, after_entry, kept_from, kept_of, is_open, broken}
 use Rattle.sim_model.specs.TransportPhases.Lawful.{Lawful}

@@ -1,7 +1,7 @@
 -- In every run of a sound design each history is lawful.
 use Rattle.std.proofs.Common.{◌≡◌, ◌<◌, ◌⊎◌, ℕ, zero, suc, List, [], ◌∷◌, slice_get, get_or, map, replicate, length, unwrap_or, Contains, Option, Some, None, option_map, refl, sym, ap, ◌∙◌, subst, inl, inr, arith}
 use Rattle.std.proofs.lemmas.Option.{none-some, same_Some, slice_get-map}
-use Rattle.sim_model.specs.TransportPhases.declared.kept.Open.TheVariants.{Nothing}
+use Rattle.sim_model.specs.TransportPhases.declared.transaction.Open.TheVariants.{Nothing}
 use Rattle.sim_model.specs.TransportPhases.History.{Entry, is_open}
 use Rattle.sim_model.specs.TransportPhases.Lawful.{Lawful}
 use Rattle.sim_model.proofs.TransportPhases.LawfulLemmas.{lawful_empty}

@@ -72,7 +72,7 @@ pub mod OpenedCalls
 pub mod Vias
 pub mod ProtocolKept
 pub mod LawfulRuns
-pub mod Judged
+pub mod EntryJudgements
 pub mod Faults
 pub mod Blamed
 pub mod TypedLists

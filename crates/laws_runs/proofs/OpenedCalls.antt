@@ -5,8 +5,8 @@ use Rattle.sim_model.specs.TransportPhases.declared.phases.Path.{Path}
 use Rattle.sim_model.specs.TransportPhases.declared.phases.Path.TheVariants.{Forward, Backward}
 use Rattle.sim_model.specs.TransportPhases.declared.phases.Phase.{Phase}
 use Rattle.sim_model.specs.TransportPhases.declared.phases.Phase.TheVariants.{BeginReq, EndReq, BeginResp, EndResp}
-use Rattle.sim_model.specs.TransportPhases.declared.kept.Open.TheVariants.{Nothing, NonBlocking, Blocking}
-use Rattle.sim_model.specs.TransportPhases.declared.kept.Kept.{Kept}
+use Rattle.sim_model.specs.TransportPhases.declared.transaction.Open.TheVariants.{Nothing, NonBlocking, Blocking}
+use Rattle.sim_model.specs.TransportPhases.declared.transaction.Kept.{Kept}
 use Rattle.sim_model.specs.TransportPhases.Phases.{phase_of}
 use Rattle.sim_model.specs.TransportPhases.History.{Entry, Call, BCall, is_open, broken}
 use Rattle.sim_model.specs.TransportPhases.Words.{Calls, Blocks, letter_called}

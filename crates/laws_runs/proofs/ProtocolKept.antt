@@ -2,11 +2,11 @@
 use Rattle.std.proofs.Common.{Bool, List, None, Option, Some, [], ap, append-nil, cond, drop, eq-eqb, false, inl, length, map, ne_eqb, option_map, refl, slice_get, subst, sym, true, true≢false, ℕ, ⊎_elim, ◌++◌, ◌+◌, ◌==◌, ◌∙◌, ◌∷◌, ◌≡◌, ◌≢◌}
 use Rattle.std.proofs.lemmas.Bool.{cases_eq}
 use Rattle.std.proofs.lemmas.Option.{same_Some, slice_get-map}
-use Rattle.sim_model.specs.TransportPhases.declared.kept.Open.TheVariants.{Nothing}
+use Rattle.sim_model.specs.TransportPhases.declared.transaction.Open.TheVariants.{Nothing}
 use Rattle.sim_model.specs.TransportPhases.History.{BReturn, Entry, Left, Return, broken, is_open, transaction}
 use Rattle.sim_model.specs.TransportPhases.Lawful.{Lawful}
 use Rattle.sim_model.specs.TransportPhases.Order.{MayCome}
-use Rattle.sim_model.specs.TransportPhases.declared.kept.Kept.{Kept}
+use Rattle.sim_model.specs.TransportPhases.declared.transaction.Kept.{Kept}
 use Rattle.sim_model.specs.LogicValues.declared.kinds.Value.{Value}
 use Rattle.sim_model.specs.Clean.{times}
 use Rattle.sim_model.specs.declared.plain.Goal.{Goal}

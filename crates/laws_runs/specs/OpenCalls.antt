@@ -1,7 +1,7 @@
 -- Whose calls are open on a hop.
 use Rattle.std.specs.Prelude.{◌≡◌, ℕ, Bool, true, false, Contains, Some}
-use Rattle.sim_model.specs.TransportPhases.declared.kept.Open.{Open}
-use Rattle.sim_model.specs.TransportPhases.declared.kept.Open.TheVariants.{NonBlocking, Blocking}
+use Rattle.sim_model.specs.TransportPhases.declared.transaction.Open.{Open}
+use Rattle.sim_model.specs.TransportPhases.declared.transaction.Open.TheVariants.{NonBlocking, Blocking}
 use Rattle.sim_model.specs.Unwinding.{left_by_unw}
 use Rattle.sim_model.specs.Configuration.{Config, Instance, instance_at}
 use Rattle.sim_model.specs.declared.plain.Via.{Via}

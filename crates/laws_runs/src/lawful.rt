@@ -1,6 +1,6 @@
 //! The histories of hops, in every run of a sound design.
 ghost use Rattle.std.specs.Prelude.{◌≡◌, ◌⊎◌, ℕ, Bool, List, Contains, Some};
-ghost use Rattle.sim_model.specs.TransportPhases.declared.kept.Open.TheVariants.{Nothing};
+ghost use Rattle.sim_model.specs.TransportPhases.declared.transaction.Open.TheVariants.{Nothing};
 ghost use Rattle.sim_model.specs.TransportPhases.History.{is_open};
 ghost use Rattle.sim_model.specs.TransportPhases.Lawful.{Lawful};
 ghost use Rattle.sim_model.specs.FlatDesign.Sound.{SoundDesign};

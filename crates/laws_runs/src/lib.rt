@@ -67,12 +67,7 @@ pub use typing::{operators_meet_their_types, runs_are_typed, start_is_typed};
 
 /// What is passed on of logic_values.
 pub mod logic_values_api {
-    pub use sim_model::logic_values_api::{Digit, Lv, Text, Value, digit, is_same};
-}
-
-/// What is passed on of plain_lists.
-pub mod plain_lists_api {
-    pub use sim_model::plain_lists_api::Items;
+    pub use sim_model::logic_values_api::{Digit, Items, Lv, Text, Value, digit, is_same};
 }
 
 /// What is passed on of sim_model.

@@ -9,9 +9,9 @@ use Rattle.model_print.specs.ModelTree.declared.statements.Who.TheVariants as wh
 use Rattle.model_print.specs.ModelTree.Leaves.{is_name, is_print_text}
 use Rattle.model_print.specs.ModelTree.Limits.{fits, fits_option, fits_all, within, fits_channel, option_name, fits_events, fits_notification, fits_operation, fits_spawn, fits_who, fits_action}
 use Rattle.model_print.specs.ModelTree.Tree as tree
-use Rattle.model_lexer.specs.ModelGrammar.Tokens.{name, quoted, word, symbol}
-use Rattle.model_lexer.specs.ModelGrammar.Rules.{Rule, ◌⨾◌, At, Takes, Maybe}
-use Rattle.model_lexer.specs.ModelGrammar.Statements.{NextExpression, DerivesOperation, DerivesHandle, DerivesSpawn, DerivesWho, DerivesAction}
+use Rattle.model_lexer.specs.Tokens.{name, quoted, word, symbol}
+use Rattle.model_lexer.specs.Rules.{Rule, ◌⨾◌, At, Takes, Maybe}
+use Rattle.model_lexer.specs.Statements.{NextExpression, DerivesOperation, DerivesHandle, DerivesSpawn, DerivesWho, DerivesAction}
 use Rattle.model_print.specs.ModelTree.Spelling.{control_word}
 use Rattle.model_print.specs.Layout.{Piece}
 use Rattle.model_print.specs.Pieces as piece

@@ -2,10 +2,10 @@
 use Rattle.std.proofs.Common.{◌≡◌, ℕ, ◌≤◌, Bool, true, false, List, [], ◌∷◌, ◌++◌, Option, Some, None, subst, arith}
 use Rattle.model_rules.specs.Scopes.{Scope}
 use Rattle.model_rules.specs.Sites.{Part, Site, site}
-use Rattle.model_lexer.specs.ModelGrammar.Tokens.{Token, Tokens}
-use Rattle.model_lexer.specs.ModelGrammar.Rules.{Rule, ◌⨾◌, At, Takes, Nothing, Maybe, Written, Binds, OnLine}
-use Rattle.model_lexer.specs.ModelGrammar.Expressions.{Short, Parenthesized}
-use Rattle.model_lexer.specs.ModelGrammar.Statements.{Braced}
+use Rattle.model_lexer.specs.Tokens.{Token, Tokens}
+use Rattle.model_lexer.specs.Rules.{Rule, ◌⨾◌, At, Takes, Nothing, Maybe, Written, Binds, OnLine}
+use Rattle.model_lexer.specs.Expressions.{Short, Parenthesized}
+use Rattle.model_lexer.specs.Statements.{Braced}
 
 -- tokens whose lines never fall, the first on this line or behind it
 abbrev pub Rising : ℕ → Tokens → Type 0

@@ -6,9 +6,9 @@ use Rattle.model_print.specs.ModelTree.declared.vocabulary.Symbol.TheVariants as
 use Rattle.model_print.specs.ModelTree.Leaves.{is_name}
 use Rattle.model_print.specs.ModelTree.Limits.{fits, fits_option, within, option_name, fits_target, fits_operation, fits_var_type, fits_statement, fits_block, fits_else, fits_handlers, has_handler}
 use Rattle.model_print.specs.ModelTree.Tree as tree
-use Rattle.model_lexer.specs.ModelGrammar.Tokens.{Tokens, name, word, symbol}
-use Rattle.model_lexer.specs.ModelGrammar.Rules.{Rule, ◌⨾◌, Takes, Maybe}
-use Rattle.model_lexer.specs.ModelGrammar.Statements.{DerivesInitial, Braced, HasHandler, DerivesStatement, DerivesStatements, DerivesElse, DerivesHandlers}
+use Rattle.model_lexer.specs.Tokens.{Tokens, name, word, symbol}
+use Rattle.model_lexer.specs.Rules.{Rule, ◌⨾◌, Takes, Maybe}
+use Rattle.model_lexer.specs.Statements.{DerivesInitial, Braced, HasHandler, DerivesStatement, DerivesStatements, DerivesElse, DerivesHandlers}
 use Rattle.model_print.specs.Layout.{Piece}
 use Rattle.model_print.specs.Pieces as piece
 use Rattle.model_print.specs.Printed as printed

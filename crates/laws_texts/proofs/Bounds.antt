@@ -4,9 +4,9 @@ use Rattle.std.specs.Prelude.{if◌then◌else◌}
 use Rattle.std.proofs.Math.Nat.{mul-le-mul_left, mul-le-mul_right}
 use Rattle.std.proofs.lemmas.List.{length-map}
 use Rattle.model_print.specs.ModelTree.Tree as tree
-use Rattle.model_lexer.specs.ModelGrammar.Tokens.{Tokens}
-use Rattle.model_lexer.specs.ModelGrammar.Languages.{Front, behind, behind_other, in_second, says_second, in_language}
-use Rattle.model_lexer.specs.ModelGrammar.Brackets.{brackets}
+use Rattle.model_lexer.specs.Tokens.{Tokens}
+use Rattle.model_lexer.specs.Languages.{Front, behind, behind_other, in_second, says_second, in_language}
+use Rattle.model_lexer.specs.Brackets.{brackets}
 use Rattle.model_lexer.specs.Cut.{Lexeme}
 use Rattle.model_lexer.specs.Laws.{with_lines, AreInOrder}
 use Rattle.model_lexer.specs.Reads.{Reads}

@@ -9,7 +9,7 @@ use Rattle.model_print.specs.ModelTree.Tree as tree
 use Rattle.model_tree.specs.Parts as part
 use Rattle.model_tree.specs.Parts.{Part, changed_part, parts_of}
 use Rattle.model_tree.proofs.Parts.{linked, changed_linked}
-use Rattle.model_lexer.specs.ModelGrammar.Brackets.{in_option, in_all, in_place, in_channel, in_events, in_waiting, in_notification, in_index, in_operation, in_part, in_action, in_statement, in_block, in_else, in_handlers, in_size, in_item, in_items, in_modules, brackets}
+use Rattle.model_lexer.specs.Brackets.{in_option, in_all, in_place, in_channel, in_events, in_waiting, in_notification, in_index, in_operation, in_part, in_action, in_statement, in_block, in_else, in_handlers, in_size, in_item, in_items, in_modules, brackets}
 use Rattle.laws_texts.specs.Unlined as unlined
 
 -- without line numbers

@@ -7,8 +7,8 @@ use Rattle.model_rules.specs.declared.needs.Need.{Need}
 use Rattle.model_rules.specs.declared.needs.Need.TheVariants as need_of
 use Rattle.model_rules.specs.Scopes.{Scope}
 use Rattle.model_rules.specs.Sites.{sites_as, expression_sites, option_sites}
-use Rattle.model_lexer.specs.ModelGrammar.Expressions.{DerivesAt, DerivesExpression}
-use Rattle.model_lexer.specs.ModelGrammar.Rules.{Maybe}
+use Rattle.model_lexer.specs.Expressions.{DerivesAt, DerivesExpression}
+use Rattle.model_lexer.specs.Rules.{Maybe}
 use Rattle.laws_texts.proofs.Along.{Along, nothing, last, past, trail, headed, alone, both, LeadsAt, leads_on, again, bind, short, parenthesized}
 
 -- the first construct of an expression is on the line of its first token

@@ -20,8 +20,8 @@ use Rattle.model_print.specs.ModelTree.declared.vocabulary.Symbol.TheVariants as
 use Rattle.model_print.specs.ModelTree.Vocabulary.{word_text, symbol_text, word_of}
 use Rattle.model_print.specs.ModelTree.Leaves.{is_letter, is_word_byte, is_word, is_name, is_print_byte, is_print_text}
 use Rattle.model_print.specs.ModelTree.Limits.{is_number}
-use Rattle.model_lexer.specs.ModelGrammar.Tokens.{Token, name, number, logic, quoted, word, symbol, symbol_of, word_or_name}
-use Rattle.model_lexer.proofs.ModelGrammar.Symbols.{symbol_of_spells}
+use Rattle.model_lexer.specs.Tokens.{Token, name, number, logic, quoted, word, symbol, symbol_of, word_or_name}
+use Rattle.model_lexer.proofs.Symbols.{symbol_of_spells}
 use Rattle.model_lexer.specs.declared.forms.Form.{Form}
 use Rattle.model_lexer.specs.declared.forms.Form.TheVariants as form
 use Rattle.model_lexer.specs.Forms.{is_digit, is_hex_digit, is_logic_byte, is_decimal, is_blank_byte}

@@ -24,9 +24,9 @@ use Rattle.model_rules.specs.ModelTree.Tree as tree
 use Rattle.model_rules.specs.ModelTree.Lines.{item_line}
 use Rattle.model_rules.specs.Scopes.{Scope, item_scope, with_local}
 use Rattle.model_rules.specs.Sites.{Part, site, of_parameter, of_end, of_constant, variable_type_sites, interface_sites, constant_sites, block_sites, parameter_sites, answer_sites, function_scope, item_parts, around_item, items_sites, modules_sites, top_site, sites}
-use Rattle.model_lexer.specs.ModelGrammar.Tokens.{word, symbol}
-use Rattle.model_lexer.specs.ModelGrammar.Rules.{◌⨾◌, At, Takes, Each, Maybe}
-use Rattle.model_lexer.specs.ModelGrammar.Items.{DerivesConstantForm, DerivesConstant, DerivesFirstValue, DerivesTime, DerivesStart, DerivesFifoSize, DerivesInterface, DerivesBound, DerivesPortSize, DerivesHandler, DerivesInitiatorRole, DerivesTargetRole, DerivesEnd, DerivesMode, DerivesParameter, DerivesParameters, DerivesAnswer, DerivesItem, DerivesModule, DerivesTop, DerivesModel}
+use Rattle.model_lexer.specs.Tokens.{word, symbol}
+use Rattle.model_lexer.specs.Rules.{◌⨾◌, At, Takes, Each, Maybe}
+use Rattle.model_lexer.specs.Items.{DerivesConstantForm, DerivesConstant, DerivesFirstValue, DerivesTime, DerivesStart, DerivesFifoSize, DerivesInterface, DerivesBound, DerivesPortSize, DerivesHandler, DerivesInitiatorRole, DerivesTargetRole, DerivesEnd, DerivesMode, DerivesParameter, DerivesParameters, DerivesAnswer, DerivesItem, DerivesModule, DerivesTop, DerivesModel}
 use Rattle.laws_texts.proofs.Along.{Along, nothing, last, past, trail, headed, alone, both, moved, braced, written, maybe}
 use Rattle.laws_texts.proofs.StatementLines.{typed_as, typed_behind, typed, member, sensitive, statements}
 

@@ -4,7 +4,7 @@ use Rattle.std.specs.Prelude.{not, ◌==◌, map}
 use Rattle.std.specs.List.{list_all}
 use Rattle.std.proofs.lemmas.Bool.{and_parts, cases_Bool, eqb-true}
 use Rattle.model_print.specs.ModelTree.Leaves.{is_word_byte}
-use Rattle.model_lexer.specs.ModelGrammar.Tokens.{Token}
+use Rattle.model_lexer.specs.Tokens.{Token}
 use Rattle.model_lexer.specs.Cut.{Lexeme, Cut}
 use Rattle.model_print.specs.declared.shapes.Shape.{Shape}
 use Rattle.model_print.specs.declared.shapes.Shape.TheVariants as shape

@@ -34,12 +34,12 @@ use Rattle.model_print.specs.ModelTree.Spelling.{unary_symbol, binary_symbol, tr
 use Rattle.model_print.specs.ModelTree.Tree as tree
 use Rattle.model_tree.specs.Parts as made
 use Rattle.model_tree.specs.Parts.{Part, word_of_action, parts_of}
-use Rattle.model_lexer.specs.ModelGrammar.Tokens.{Token, name, word, symbol}
-use Rattle.model_lexer.specs.ModelGrammar.Rules.{Rule, ◌⨾◌, At, Takes, Each, Maybe, Binds}
-use Rattle.model_lexer.specs.ModelGrammar.Expressions.{Short, Parenthesized, DerivesAt, DerivesExpression}
-use Rattle.model_lexer.specs.ModelGrammar.Statements.{DerivesForm, DerivesVarTypeAt, DerivesVarType, DerivesPlace, DerivesChannel, DerivesMember, DerivesEvent, DerivesSensitive, DerivesArguments, DerivesIndex, DerivesTarget, NextName, NextExpression, DerivesOperation, DerivesResult, DerivesSpan, DerivesWaiting, DerivesNotification, DerivesHandle, DerivesSpawn, DerivesWho, DerivesPart, DerivesParts, DerivesAction, DerivesInitial, HasHandler, DerivesStatement, DerivesStatements, DerivesElse, DerivesHandlers}
-use Rattle.model_lexer.specs.ModelGrammar.Items.{DerivesConstantForm, DerivesFirstValue, DerivesTime, DerivesStart, DerivesFifoSize, DerivesInterface, DerivesBound, DerivesPortSize, DerivesHandler, DerivesInitiatorRole, DerivesTargetRole, DerivesEnd, DerivesMode, DerivesParameter, DerivesParameters, DerivesAnswer, DerivesItem, DerivesModule, DerivesTop, DerivesModel, DerivesResolution, DerivesHead, DerivesSource}
-use Rattle.model_lexer.specs.ModelGrammar.Brackets.{in_events, in_statement, in_block, in_else, in_handlers, in_item, in_items, in_modules, brackets}
+use Rattle.model_lexer.specs.Tokens.{Token, name, word, symbol}
+use Rattle.model_lexer.specs.Rules.{Rule, ◌⨾◌, At, Takes, Each, Maybe, Binds}
+use Rattle.model_lexer.specs.Expressions.{Short, Parenthesized, DerivesAt, DerivesExpression}
+use Rattle.model_lexer.specs.Statements.{DerivesForm, DerivesVarTypeAt, DerivesVarType, DerivesPlace, DerivesChannel, DerivesMember, DerivesEvent, DerivesSensitive, DerivesArguments, DerivesIndex, DerivesTarget, NextName, NextExpression, DerivesOperation, DerivesResult, DerivesSpan, DerivesWaiting, DerivesNotification, DerivesHandle, DerivesSpawn, DerivesWho, DerivesPart, DerivesParts, DerivesAction, DerivesInitial, HasHandler, DerivesStatement, DerivesStatements, DerivesElse, DerivesHandlers}
+use Rattle.model_lexer.specs.Items.{DerivesConstantForm, DerivesFirstValue, DerivesTime, DerivesStart, DerivesFifoSize, DerivesInterface, DerivesBound, DerivesPortSize, DerivesHandler, DerivesInitiatorRole, DerivesTargetRole, DerivesEnd, DerivesMode, DerivesParameter, DerivesParameters, DerivesAnswer, DerivesItem, DerivesModule, DerivesTop, DerivesModel, DerivesResolution, DerivesHead, DerivesSource}
+use Rattle.model_lexer.specs.Brackets.{in_events, in_statement, in_block, in_else, in_handlers, in_item, in_items, in_modules, brackets}
 use Rattle.model_print.specs.declared.shapes.Shape.TheVariants as shape
 use Rattle.model_print.specs.Layout.{Piece}
 use Rattle.model_print.specs.Pieces as piece

@@ -4,8 +4,8 @@ use Rattle.std.specs.Prelude.{map, option_map}
 use Rattle.model_print.specs.ModelTree.declared.vocabulary.Word.{Word}
 use Rattle.model_print.specs.ModelTree.declared.vocabulary.Symbol.TheVariants as s
 use Rattle.model_print.specs.ModelTree.Leaves.{is_name}
-use Rattle.model_lexer.specs.ModelGrammar.Tokens.{name, word, symbol}
-use Rattle.model_lexer.specs.ModelGrammar.Rules.{Rule, ◌⨾◌, Takes, Each, Separated, Maybe, Written}
+use Rattle.model_lexer.specs.Tokens.{name, word, symbol}
+use Rattle.model_lexer.specs.Rules.{Rule, ◌⨾◌, Takes, Each, Separated, Maybe, Written}
 use Rattle.model_print.specs.Layout.{Piece}
 use Rattle.model_print.specs.Pieces as piece
 use Rattle.laws_texts.proofs.Pieces.{name_piece, word_piece, comma_piece}

@@ -18,7 +18,7 @@ use Rattle.model_print.specs.ModelTree.declared.expressions.UnaryOp.TheVariants 
 use Rattle.model_print.specs.ModelTree.Vocabulary.{word_text, symbol_text}
 use Rattle.model_print.specs.ModelTree.Leaves.{is_letter, is_word_byte, is_word, is_name, is_print_text}
 use Rattle.model_print.specs.ModelTree.Limits.{is_number}
-use Rattle.model_lexer.specs.ModelGrammar.Tokens.{Token, name, number, logic, quoted, word, symbol, unit_token}
+use Rattle.model_lexer.specs.Tokens.{Token, name, number, logic, quoted, word, symbol, unit_token}
 use Rattle.model_print.specs.ModelTree.Spelling.{unary_symbol, unit_name}
 use Rattle.model_lexer.specs.Forms.{is_digit, is_decimal}
 use Rattle.model_print.specs.declared.shapes.Shape.{Shape}

@@ -9,9 +9,9 @@ use Rattle.model_print.specs.ModelTree.declared.vocabulary.Symbol.TheVariants as
 use Rattle.model_print.specs.ModelTree.Leaves.{is_name}
 use Rattle.model_print.specs.ModelTree.Limits.{level, operand_level, primary_level, chain_level, is_number, is_formed, token_count, token_limit, depth, fits}
 use Rattle.model_print.specs.ModelTree.Tree as tree
-use Rattle.model_lexer.specs.ModelGrammar.Tokens.{name, number, logic, word, symbol, unit_token}
-use Rattle.model_lexer.specs.ModelGrammar.Rules.{Rule, Takes}
-use Rattle.model_lexer.specs.ModelGrammar.Expressions.{Parenthesized, DerivesAt, DerivesExpression}
+use Rattle.model_lexer.specs.Tokens.{name, number, logic, word, symbol, unit_token}
+use Rattle.model_lexer.specs.Rules.{Rule, Takes}
+use Rattle.model_lexer.specs.Expressions.{Parenthesized, DerivesAt, DerivesExpression}
 use Rattle.model_print.specs.ModelTree.Spelling.{unit_name, unary_symbol, binary_symbol, truth_word, conversion_word, constant_word}
 use Rattle.model_print.specs.Layout.{Piece}
 use Rattle.model_print.specs.Pieces as piece

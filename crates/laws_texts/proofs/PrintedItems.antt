@@ -32,10 +32,10 @@ use Rattle.model_print.specs.ModelTree.declared.items.Top.{Top}
 use Rattle.model_print.specs.ModelTree.Leaves.{is_name}
 use Rattle.model_print.specs.ModelTree.Limits.{is_number, within, option_name, fits_events, fits_type, fits_var_type, fits_interface, fits_constant_form, fits_constant, fits_span, fits_number, fits_size, fits_initiator, fits_socket, fits_end, fits_parameters, fits_answer, fits_block, fits_item, fits_items, fits_modules, is_sound, bracket_limit, fits_resolution, fits_head}
 use Rattle.model_print.specs.ModelTree.Tree as tree
-use Rattle.model_lexer.specs.ModelGrammar.Tokens.{Tokens, name, number, logic, word, symbol}
-use Rattle.model_lexer.specs.ModelGrammar.Rules.{At, Takes, Maybe}
+use Rattle.model_lexer.specs.Tokens.{Tokens, name, number, logic, word, symbol}
+use Rattle.model_lexer.specs.Rules.{At, Takes, Maybe}
 use Rattle.model_print.specs.ModelTree.Spelling.{truth_word}
-use Rattle.model_lexer.specs.ModelGrammar.Items.{DerivesConstantForm, DerivesConstant, DerivesFirstValue, DerivesTime, DerivesStart, DerivesFifoSize, DerivesInterface, DerivesBound, DerivesPortSize, DerivesHandler, DerivesInitiatorRole, DerivesTargetRole, DerivesEnd, DerivesMode, DerivesParameter, DerivesParameters, DerivesAnswer, DerivesItem, DerivesModule, DerivesTop, DerivesModel, DerivesResolution, DerivesHead, DerivesSource}
+use Rattle.model_lexer.specs.Items.{DerivesConstantForm, DerivesConstant, DerivesFirstValue, DerivesTime, DerivesStart, DerivesFifoSize, DerivesInterface, DerivesBound, DerivesPortSize, DerivesHandler, DerivesInitiatorRole, DerivesTargetRole, DerivesEnd, DerivesMode, DerivesParameter, DerivesParameters, DerivesAnswer, DerivesItem, DerivesModule, DerivesTop, DerivesModel, DerivesResolution, DerivesHead, DerivesSource}
 use Rattle.model_print.specs.ModelTree.Spelling.{signal_word, plain_word, process_word}
 use Rattle.model_print.specs.Pieces as piece
 use Rattle.model_print.specs.Leaves as leaf

@@ -12,10 +12,10 @@ use Rattle.model_print.specs.ModelTree.declared.types.VarType.TheVariants as var
 use Rattle.model_print.specs.ModelTree.Leaves.{is_name}
 use Rattle.model_print.specs.ModelTree.Limits.{token_count, token_limit, fits, fits_option, fits_all, within, fits_place, fits_channel, option_name, fits_event, fits_events, fits_waiting, fits_notification, fits_index, fits_target, fits_form, fits_type, fits_var_type}
 use Rattle.model_print.specs.ModelTree.Tree as tree
-use Rattle.model_lexer.specs.ModelGrammar.Tokens.{name, number, word, symbol}
-use Rattle.model_lexer.specs.ModelGrammar.Rules.{Rule, Maybe}
-use Rattle.model_lexer.specs.ModelGrammar.Expressions.{Parenthesized, DerivesAt, DerivesExpression}
-use Rattle.model_lexer.specs.ModelGrammar.Statements.{DerivesForm, DerivesType, DerivesVarTypeAt, DerivesVarType, DerivesPlace, DerivesChannel, DerivesMember, DerivesEvent, DerivesSensitive, DerivesArguments, DerivesIndex, DerivesTarget, NextName, NextExpression, DerivesSpan, DerivesWaiting, DerivesNotification}
+use Rattle.model_lexer.specs.Tokens.{name, number, word, symbol}
+use Rattle.model_lexer.specs.Rules.{Rule, Maybe}
+use Rattle.model_lexer.specs.Expressions.{Parenthesized, DerivesAt, DerivesExpression}
+use Rattle.model_lexer.specs.Statements.{DerivesForm, DerivesType, DerivesVarTypeAt, DerivesVarType, DerivesPlace, DerivesChannel, DerivesMember, DerivesEvent, DerivesSensitive, DerivesArguments, DerivesIndex, DerivesTarget, NextName, NextExpression, DerivesSpan, DerivesWaiting, DerivesNotification}
 use Rattle.model_print.specs.Layout.{Piece}
 use Rattle.model_print.specs.Pieces as piece
 use Rattle.model_print.specs.Leaves as leaf

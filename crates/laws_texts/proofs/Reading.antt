@@ -4,8 +4,8 @@ use Rattle.std.specs.Prelude.{map, if◌then◌else◌}
 use Rattle.std.proofs.Math.Seq.{take-append_seam, drop-append_seam}
 use Rattle.std.proofs.lemmas.List.{drop-drop}
 use Rattle.model_print.specs.ModelTree.Vocabulary.{word_text}
-use Rattle.model_lexer.specs.ModelGrammar.Tokens.{Token, name, number, logic, quoted, word, symbol}
-use Rattle.model_lexer.specs.ModelGrammar.Versions.{is_later_word}
+use Rattle.model_lexer.specs.Tokens.{Token, name, number, logic, quoted, word, symbol}
+use Rattle.model_lexer.specs.Versions.{is_later_word}
 use Rattle.model_lexer.specs.declared.forms.Form.{Form}
 use Rattle.model_lexer.specs.declared.forms.Form.TheVariants as form
 use Rattle.model_lexer.specs.Meanings.{meaning}

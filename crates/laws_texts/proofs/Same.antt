@@ -8,7 +8,7 @@ use Rattle.model_tree.specs.Tree as tree
 use Rattle.model_tree.specs.declared.items.Head.TheVariants as head
 use Rattle.model_tree.specs.declared.types.Span.{Span}
 use Rattle.tick_trees.specs.Laws.{retimed_timed, seen}
-use Rattle.laws_texts.specs.Seen.{seen_at}
+use Rattle.laws_texts.specs.RuleTimes.{seen_at}
 use Rattle.tick_trees.specs.Ticks.{ticks, ticks_span}
 use Rattle.tick_trees.specs.Times.{Timed, times_of}
 use Rattle.laws_texts.proofs.First.{passes, units_pass}

@@ -6,9 +6,9 @@ use Rattle.std.proofs.lemmas.List.{length-append, length-map}
 use Rattle.model_print.specs.ModelTree.declared.vocabulary.Word.{Word}
 use Rattle.model_print.specs.ModelTree.declared.vocabulary.Symbol.TheVariants as s
 use Rattle.model_print.specs.ModelTree.Limits.{token_limit, is_number}
-use Rattle.model_lexer.specs.ModelGrammar.Tokens.{Token, Tokens, number, word, symbol}
-use Rattle.model_lexer.specs.ModelGrammar.Rules.{Rule, ◌⨾◌, At, Takes, Nothing}
-use Rattle.model_lexer.specs.ModelGrammar.Expressions.{Short}
+use Rattle.model_lexer.specs.Tokens.{Token, Tokens, number, word, symbol}
+use Rattle.model_lexer.specs.Rules.{Rule, ◌⨾◌, At, Takes, Nothing}
+use Rattle.model_lexer.specs.Expressions.{Short}
 use Rattle.model_print.specs.Layout.{Piece}
 use Rattle.model_print.specs.Pieces.{wide}
 use Rattle.laws_texts.proofs.Pieces.{is_operator, is_tight, Reads, wide_piece}

@@ -17,10 +17,10 @@ use Rattle.model_rules.specs.declared.needs.Need.TheVariants as need_of
 use Rattle.model_rules.specs.Scopes as scoped
 use Rattle.model_rules.specs.Scopes.{Scope, locals_in_block, behind, in_unwind}
 use Rattle.model_rules.specs.Sites.{Part, Site, site, of_type, of_operation, type_site, variable_type_sites, expression_sites, option_sites, argument_sites, place_sites, channel_sites, event_need, event_sites, events_sites, waiting_sites, notification_sites, who_sites, operation_parts, access_need, part_sites, action_parts, statement_sites, block_sites, else_sites, handler_sites}
-use Rattle.model_lexer.specs.ModelGrammar.Tokens.{Tokens, word, symbol}
-use Rattle.model_lexer.specs.ModelGrammar.Rules.{Rule, ◌⨾◌, At, Takes, Each, Separated, Maybe}
-use Rattle.model_lexer.specs.ModelGrammar.Expressions.{DerivesExpression}
-use Rattle.model_lexer.specs.ModelGrammar.Statements.{DerivesForm, DerivesType, DerivesVarTypeAt, DerivesVarType, DerivesPlace, DerivesChannel, DerivesMember, DerivesEvent, DerivesSensitive, DerivesArguments, DerivesIndex, NextName, NextExpression, DerivesOperation, DerivesSpan, DerivesWaiting, DerivesNotification, DerivesHandle, DerivesSpawn, DerivesWho, DerivesPart, DerivesParts, DerivesAction, DerivesInitial, HasHandler, DerivesStatement, DerivesStatements, DerivesElse, DerivesHandlers}
+use Rattle.model_lexer.specs.Tokens.{Tokens, word, symbol}
+use Rattle.model_lexer.specs.Rules.{Rule, ◌⨾◌, At, Takes, Each, Separated, Maybe}
+use Rattle.model_lexer.specs.Expressions.{DerivesExpression}
+use Rattle.model_lexer.specs.Statements.{DerivesForm, DerivesType, DerivesVarTypeAt, DerivesVarType, DerivesPlace, DerivesChannel, DerivesMember, DerivesEvent, DerivesSensitive, DerivesArguments, DerivesIndex, NextName, NextExpression, DerivesOperation, DerivesSpan, DerivesWaiting, DerivesNotification, DerivesHandle, DerivesSpawn, DerivesWho, DerivesPart, DerivesParts, DerivesAction, DerivesInitial, HasHandler, DerivesStatement, DerivesStatements, DerivesElse, DerivesHandlers}
 use Rattle.laws_texts.proofs.Along.{Along, nothing, last, last_at, past, trail, headed, alone, both, again, as_one, moved, on_line, any_line, parenthesized, braced, written, maybe}
 use Rattle.laws_texts.proofs.ExpressionLines.{at_expression, expression, optional}
 

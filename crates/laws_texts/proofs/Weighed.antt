@@ -19,9 +19,9 @@ use Rattle.model_print.specs.ModelTree.Vocabulary.{word_of, word_text, symbol_te
 use Rattle.model_print.specs.ModelTree.Spelling.{unit_name}
 use Rattle.model_print.specs.ModelTree.Leaves.{is_word, is_name, is_print_byte, is_print_text}
 use Rattle.model_print.specs.ModelTree.Limits.{is_number}
-use Rattle.model_lexer.specs.ModelGrammar.Tokens.{Token, Tokens, name, number, logic, quoted, word, symbol, unit_token, is_limited, are_limited}
-use Rattle.model_lexer.specs.ModelGrammar.Rules.{Rule, ◌⨾◌, At, Takes, Nothing, Each, Separated, Maybe, Written}
-use Rattle.model_lexer.specs.ModelGrammar.Statements.{Width, Braced}
+use Rattle.model_lexer.specs.Tokens.{Token, Tokens, name, number, logic, quoted, word, symbol, unit_token, is_limited, are_limited}
+use Rattle.model_lexer.specs.Rules.{Rule, ◌⨾◌, At, Takes, Nothing, Each, Separated, Maybe, Written}
+use Rattle.model_lexer.specs.Statements.{Width, Braced}
 use Rattle.model_print.specs.declared.shapes.Shape.{Shape}
 use Rattle.model_print.specs.declared.shapes.Shape.TheVariants as shape
 use Rattle.model_print.specs.Layout.{Page, Piece, ends_line, is_spaced, margin_after, margin_before, gap, line_end, put, put_all, blank, layout}

@@ -5,9 +5,9 @@ use Rattle.model_rules.specs.ModelTree.Tree as tree
 use Rattle.model_rules.specs.ModelTree.declared.items.Head.{Head}
 use Rattle.model_rules.specs.ModelTree.declared.items.Head.TheVariants as head
 use Rattle.model_rules.specs.Sites.{Site, sites}
-use Rattle.model_lexer.specs.ModelGrammar.Tokens.{Tokens}
-use Rattle.model_lexer.specs.ModelGrammar.Languages.{Front, behind, behind_other, in_second, says_second, in_language}
-use Rattle.model_lexer.specs.ModelGrammar.Items.{DerivesResolution, DerivesHead, DerivesSource}
+use Rattle.model_lexer.specs.Tokens.{Tokens}
+use Rattle.model_lexer.specs.Languages.{Front, behind, behind_other, in_second, says_second, in_language}
+use Rattle.model_lexer.specs.Items.{DerivesResolution, DerivesHead, DerivesSource}
 use Rattle.model_lexer.specs.Cut.{line_at, Lexeme, CutUpTo}
 use Rattle.model_lexer.specs.Laws.{with_lines, AreInOrder}
 use Rattle.model_lexer.specs.Reads.{Reads}

@@ -7,10 +7,10 @@ use Rattle.model_print.specs.ModelTree.Languages.{Leaf, Leaves, named, in_unit, 
 use Rattle.model_print.specs.ModelTree.declared.items.Head.{Head}
 use Rattle.model_print.specs.ModelTree.declared.items.Head.TheVariants as head
 use Rattle.model_print.specs.ModelTree.Tree as tree
-use Rattle.model_lexer.specs.ModelGrammar.Tokens.{Token, Tokens}
-use Rattle.model_lexer.specs.ModelGrammar.Items.{DerivesSource}
-use Rattle.model_lexer.specs.ModelGrammar.Languages.{in_language}
-use Rattle.model_lexer.specs.ModelGrammar.Brackets.{brackets}
+use Rattle.model_lexer.specs.Tokens.{Token, Tokens}
+use Rattle.model_lexer.specs.Items.{DerivesSource}
+use Rattle.model_lexer.specs.Languages.{in_language}
+use Rattle.model_lexer.specs.Brackets.{brackets}
 use Rattle.model_lexer.specs.Cut.{Lexeme}
 use Rattle.model_lexer.specs.Laws.{with_lines}
 use Rattle.model_print.specs.Printed.{printed, printed_text}

@@ -1,7 +1,7 @@
 -- How long a printed text may be.
 use Rattle.std.specs.Prelude.{ℕ, ◌+◌, ◌*◌}
 use Rattle.model_print.specs.ModelTree.Tree as tree
-use Rattle.model_lexer.specs.ModelGrammar.Brackets.{brackets}
+use Rattle.model_lexer.specs.Brackets.{brackets}
 
 -- the most bytes that the text of a model may have
 abbrev pub model_limit : ℕ

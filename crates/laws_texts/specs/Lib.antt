@@ -4,4 +4,4 @@ pub mod PrintsAgain
 pub mod Bounds
 pub mod Order
 pub mod Productions
-pub mod Seen
+pub mod RuleTimes

@@ -1,7 +1,7 @@
 ghost use Rattle.std.specs.Prelude.{◌≡◌, ℕ, ◌*◌, ◌^◌, ◌<◌, ◌≤◌, true, List, length};
 ghost use Rattle.model_print.specs.ModelTree.Languages.{keeps_language};
 ghost use Rattle.model_print.specs.ModelTree.Limits.{fits_head, is_sound};
-ghost use Rattle.model_print.specs.ModelTree.Seen.{source_of};
+ghost use Rattle.model_print.specs.ModelTree.WholeTree.{source_of};
 ghost use Rattle.model_print.specs.ModelTree.Tree as tree;
 ghost use Rattle.model_print.specs.ModelTree.declared.whole.Tree.{Tree};
 ghost use Rattle.model_print.specs.Printed.{printed_text};

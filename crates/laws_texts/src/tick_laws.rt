@@ -10,7 +10,7 @@ ghost use Rattle.tick_trees.specs.Times.{times_of};
 ghost use Rattle.tick_trees.specs.Unfit.{first_unfit};
 ghost use Rattle.tick_trees.specs.declared.found.Unfit.{Unfit};
 ghost use Rattle.model_rules.specs.Passes.{first_fault};
-ghost use Rattle.laws_texts.specs.Seen.{seen_at};
+ghost use Rattle.laws_texts.specs.RuleTimes.{seen_at};
 
 use tick_trees::unfit_times_are_past;
 

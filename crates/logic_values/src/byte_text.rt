@@ -1,2 +1,2 @@
 /// The bytes of a text in order.
-pub type Text = plain_lists::Items<u8>;
+pub type Text = crate::Items<u8>;

@@ -7,9 +7,9 @@ use Rattle.model_tree.specs.declared.items.Item.{Item}
 use Rattle.model_tree.specs.declared.items.Module.{Module}
 use Rattle.flat_design.specs.Code.{Arena}
 use Rattle.flat_design.specs.declared.code.CodeBody.{CodeBody}
-use Rattle.code_rooms.specs.ModelRules.Scopes.{Scope, item_scope}
-use Rattle.code_rooms.specs.CodeRules.Deeds.{Home}
-use Rattle.code_rooms.specs.CodeRules.Bodies.{Source, source_of, around_item, body_count, IsBodyIf, AreBodies, AreModules}
+use Rattle.code_rules.specs.ModelRules.Scopes.{Scope, item_scope}
+use Rattle.code_rules.specs.Deeds.{Home}
+use Rattle.code_rules.specs.Bodies.{Source, source_of, around_item, body_count, IsBodyIf, AreBodies, AreModules}
 use Rattle.code_blocks.specs.LawsCode.HasCode.{BodyIfHasCode, ItemsHaveCode, ModulesHaveCode}
 use Rattle.check_reach.specs.CheckNames.ModelNames.{module_items}
 use Rattle.code_blocks.specs.declared.laid.Laid.{Laid}

@@ -4,7 +4,7 @@ use Rattle.std.proofs.lemmas.List.{append-nil}
 use Rattle.flat_design.specs.Code as code
 use Rattle.flat_design.specs.Code.{Arena, arena_of, statement_of, statement_at}
 use Rattle.flat_design.specs.declared.code.Code.{Code}
-use Rattle.code_rooms.specs.CodeRules.Numbered.{AreFirst}
+use Rattle.code_rules.specs.Numbered.{AreFirst}
 use Rattle.code_blocks.specs.declared.laid.Laid.{Laid}
 use Rattle.code_blocks.specs.Laid.{BeginsWith}
 

@@ -5,4 +5,4 @@ pub mod Apart
 pub mod Standing
 mod Raised
 pub mod Ticked
-pub mod Told
+pub mod TickJudgements

@@ -4,9 +4,9 @@ use Rattle.std.proofs.lemmas.List.{at_drop_more}
 use Rattle.model_tree.specs.declared.types.Parameter.{Parameter}
 use Rattle.flat_design.specs.declared.value_types.ValueType.{ValueType}
 use Rattle.flat_design.specs.declared.code.Local.{Local}
-use Rattle.code_rooms.specs.ModelRules.Meanings.{variable_type}
-use Rattle.code_rooms.specs.ModelRules.Scopes.{Scope, with_local, with_parameters}
-use Rattle.code_rooms.specs.CodeRules.Bodies.{LocalSource, AreLocals}
+use Rattle.code_rules.specs.ModelRules.Meanings.{variable_type}
+use Rattle.code_rules.specs.ModelRules.Scopes.{Scope, with_local, with_parameters}
+use Rattle.code_rules.specs.Bodies.{LocalSource, AreLocals}
 use Rattle.code_blocks.specs.LawsCode.HasCode.{IsThere, LocalsHaveTypes}
 
 -- the elements of a list from one on, each seen by f

@@ -7,7 +7,7 @@ use Rattle.model_tree.specs.SimTime.declared.moments.Resolution.{Resolution}
 use Rattle.model_tree.specs.declared.faults.CheckStop.{CheckStop}
 use Rattle.model_tree.specs.declared.faults.CheckStop.TheVariants as stop
 use Rattle.model_tree.specs.declared.faults.Fault.{Fault}
-use Rattle.code_rooms.specs.ModelRules.Passes.{first_fault}
+use Rattle.code_rules.specs.ModelRules.Passes.{first_fault}
 use Rattle.tick_rules.specs.Sources.{modules_fault, resolution_fault, resolution_of, source_fault, ticked, told_fault}
 use Rattle.tick_rules.proofs.Same.{same_ticks, same_fault}
 

@@ -1,1 +1,2 @@
-pub use Rattle.code_rooms.specs.CodeRules.Bodies as Bodies
+pub use Rattle.code_rules.specs.Bodies as Bodies
+pub use Rattle.code_rules.specs.Rooms as Rooms

@@ -1,6 +1,5 @@
 pub mod Parts
 pub mod ModelRules
 pub mod CodeRules
-pub mod CodeRooms
 pub mod TickRules
 pub mod LawsCode

@@ -1,1 +1,1 @@
-pub use Rattle.code_rooms.specs.ModelRules.Passes as Passes
+pub use Rattle.code_rules.specs.ModelRules.Passes as Passes

@@ -6,9 +6,9 @@ use Rattle.flat_design.specs.Code.{Arena, arena_of, body_at}
 use Rattle.flat_design.specs.Reach.{InBody, Inside, IsIn, inner_blocks}
 use Rattle.flat_design.specs.declared.code.CodeBody.{CodeBody}
 use Rattle.flat_design.specs.declared.code.Code.{Code}
-use Rattle.code_rooms.specs.ModelRules.Scopes.{Scope}
-use Rattle.code_rooms.specs.CodeRules.Deeds.{Home}
-use Rattle.code_rooms.specs.CodeRules.Bodies.{wait_for, write_truth}
+use Rattle.code_rules.specs.ModelRules.Scopes.{Scope}
+use Rattle.code_rules.specs.Deeds.{Home}
+use Rattle.code_rules.specs.Bodies.{wait_for, write_truth}
 use Rattle.code_blocks.specs.declared.laid.Laid.{Laid}
 use Rattle.code_blocks.specs.Laid.{FromNowOn, OnlyFrom, StandsInside}
 

@@ -1,18 +1,18 @@
 ghost use Rattle.std.specs.Prelude.{◌≡◌, IfErr, IfOk, None, OnOk, Some};
-ghost use Rattle.model_tree.specs.Seen.{model_of, source_of};
+ghost use Rattle.model_tree.specs.WholeTree.{model_of, source_of};
 ghost use Rattle.model_tree.specs.Stops.{IfRefused};
-ghost use Rattle.code_rooms.specs.ModelRules.Passes.{first_fault};
-ghost use Rattle.code_rooms.specs.CodeRules.Bodies.{IsCodeOf};
+ghost use Rattle.code_rules.specs.ModelRules.Passes.{first_fault};
+ghost use Rattle.code_rules.specs.Bodies.{IsCodeOf};
 ghost use Rattle.flat_design.specs.Code.{arena_of};
 ghost use Rattle.code_blocks.specs.LawsCode.HasCode.{ModelHasCode};
-ghost use Rattle.code_rooms.specs.Rooms.{HasRooms};
+ghost use Rattle.code_rules.specs.Rooms.{HasRooms};
 ghost use Rattle.tick_rules.specs.Sources.{source_fault, ticked};
 ghost use Rattle.model_check.specs.Parts.{AllStand, IsNestedCode};
 ghost use Rattle.code_blocks.specs.LawsCode.OwnBlocks.{HaveOwnBlocks};
 
 use crate::{code_of, judge_source};
 use code_blocks::laws_code_api::sound_models_have_code;
-use code_rooms::{blocks_stay, bodies_stay, code_stays, raise_rooms};
+use code_rules::{blocks_stay, bodies_stay, code_stays, raise_rooms};
 use flat_design::Code;
 use model_tree::{CheckStop, Tree};
 use std::alloc::{AllocError, Global};

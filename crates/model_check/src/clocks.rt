@@ -1,16 +1,15 @@
 ghost use Rattle.std.specs.Prelude.{◌≡◌, Some, IfOk, OnOk, [], length};
 ghost use Rattle.flat_design.specs.Code.{statement_of};
 ghost use Rattle.flat_design.specs.Reach.{Inside};
-ghost use Rattle.code_rooms.specs.CodeRules.Bodies as bodies;
-ghost use Rattle.code_rooms.specs.CodeRules.Bodies.{IsClockBlock};
-ghost use Rattle.code_rooms.specs.CodeRules.Numbered.{AreFirst, AtBlock};
+ghost use Rattle.code_rules.specs.Bodies as bodies;
+ghost use Rattle.code_rules.specs.Bodies.{IsClockBlock};
+ghost use Rattle.code_rules.specs.Numbered.{AreFirst, AtBlock};
 ghost use Rattle.code_blocks.specs.Laid.{Adds, EachFrom, FromNowOn, Grows, IsNested, IsNext, OnlyFrom};
 ghost use Rattle.model_check.specs.Parts.{high_and_low};
 
 use code_blocks::{Laid, add, push_block};
-use code_rooms::logic_values_api::Value;
-use code_rooms::plain_lists_api::Items;
-use code_rooms::sim_time_api::picoseconds_of;
+use code_rules::logic_values_api::{Items, Value};
+use code_rules::sim_time_api::picoseconds_of;
 use flat_design::{Await, BlockId, ChannelUse, Expr, Statement, StmtId, ValueType};
 use model_tree::{ClockItem, Span};
 use std::alloc::{AllocError, Global};

@@ -10,13 +10,13 @@ mod bodies;
 mod checked;
 mod clocks;
 mod items;
-mod judged;
+mod judgement;
 mod locals;
 mod sources;
 mod whole;
 
 pub use checked::{Checked, check};
-pub use judged::judge_rules;
+pub use judgement::judge_rules;
 pub use sources::judge_source;
 pub use whole::code_of;
 
@@ -27,12 +27,7 @@ pub mod code_terms_api {
 
 /// What is passed on of logic_values.
 pub mod logic_values_api {
-    pub use code_rooms::logic_values_api::Text;
-}
-
-/// What is passed on of plain_lists.
-pub mod plain_lists_api {
-    pub use code_rooms::plain_lists_api::Items;
+    pub use code_rules::logic_values_api::{Items, Text};
 }
 
 /// What is passed on of tick_rules.

@@ -1,13 +1,12 @@
 ghost use Rattle.std.specs.Prelude.{◌≡◌, Some, IfOk};
-ghost use Rattle.code_rooms.specs.ModelRules.Meanings.{variable_type as type_in};
+ghost use Rattle.code_rules.specs.ModelRules.Meanings.{variable_type as type_in};
 ghost use Rattle.code_blocks.specs.CodeTerms.Sources.{sources_of};
-ghost use Rattle.code_rooms.specs.CodeRules.Bodies.{AreLocals, IsAnswer};
+ghost use Rattle.code_rules.specs.Bodies.{AreLocals, IsAnswer};
 ghost use Rattle.code_blocks.specs.LawsCode.HasCode.{AnswerHasType, IsThere, LocalsHaveTypes};
 
 use check_reach::check_names_api::variable_type;
 use code_blocks::code_terms_api::Source;
-use code_rooms::logic_values_api::Text;
-use code_rooms::plain_lists_api::Items;
+use code_rules::logic_values_api::{Items, Text};
 use flat_design::{Local, ValueType};
 use model_tree::VarType;
 use std::alloc::{AllocError, Global};

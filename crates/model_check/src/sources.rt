@@ -1,7 +1,7 @@
 ghost use Rattle.std.specs.Prelude.{◌≡◌, IfErr, IfOk, None, OnOk, Some};
-ghost use Rattle.model_tree.specs.Seen.{model_of, source_of};
+ghost use Rattle.model_tree.specs.WholeTree.{model_of, source_of};
 ghost use Rattle.model_tree.specs.Stops.{IfRefused};
-ghost use Rattle.code_rooms.specs.ModelRules.Passes.{first_fault};
+ghost use Rattle.code_rules.specs.ModelRules.Passes.{first_fault};
 ghost use Rattle.tick_rules.specs.TickTrees.Ticks.{ticks};
 ghost use Rattle.tick_rules.specs.Sources.{modules_fault, source_fault, ticked};
 

@@ -1,7 +1,7 @@
 ghost use Rattle.std.specs.Prelude.{◌≡◌, ◌<◌, [], IfOk, OnOk, get_or, length};
-ghost use Rattle.model_tree.specs.Seen.{model_of};
+ghost use Rattle.model_tree.specs.WholeTree.{model_of};
 ghost use Rattle.model_tree.specs.Views.{module_of, modules_of};
-ghost use Rattle.code_rooms.specs.CodeRules.Bodies.{AreBodies, AreModules, IsCodeOf};
+ghost use Rattle.code_rules.specs.Bodies.{AreBodies, AreModules, IsCodeOf};
 ghost use Rattle.code_blocks.specs.LawsCode.HasCode.{ItemsHaveCode, ModelHasCode, ModulesHaveCode};
 ghost use Rattle.check_reach.specs.CheckNames.ModelNames.{module_items};
 ghost use Rattle.code_blocks.specs.Laid.{EachFrom, FromNowOn, Grows, IsNested, StandsInside};
@@ -14,7 +14,7 @@ use check_reach::check_names_api::ModelNames;
 use code_blocks::Laid;
 use code_blocks::code_deeds_api::Home;
 use code_blocks::code_terms_api::{NameList, body_names, exceptions_of};
-use code_rooms::plain_lists_api::Items;
+use code_rules::logic_values_api::Items;
 use flat_design::{Code, CodeBody};
 use model_tree::{Module, Tree};
 use std::alloc::{AllocError, Global};

@@ -5,19 +5,19 @@ use Rattle.std.specs.List.{list_all}
 use Rattle.std.specs.Str.{bytes_eq}
 use Rattle.std.proofs.lemmas.Bool.{and_from, and_parts, cases_lt}
 use Rattle.std.proofs.lemmas.List.{length-reverse, length-map}
-use Rattle.model_grammar.specs.LogicValues.declared.kinds.Digit.{Digit}
-use Rattle.model_grammar.specs.ModelTree.declared.vocabulary.Word.{Word}
-use Rattle.model_grammar.specs.ModelTree.declared.vocabulary.Symbol.{Symbol}
-use Rattle.model_grammar.specs.ModelTree.declared.vocabulary.TheConstants.{WORDS}
-use Rattle.model_grammar.specs.ModelTree.Vocabulary.{word_of, word_text}
-use Rattle.model_grammar.specs.ModelTree.Languages.{keeps_language}
-use Rattle.model_grammar.specs.ModelTree.Tree as tree
-use Rattle.model_grammar.specs.ModelTree.Leaves.{is_name, is_print_text}
-use Rattle.model_grammar.specs.ModelTree.Limits.{is_number, is_sound, fits_head}
-use Rattle.model_grammar.specs.Tokens.{Token, name, number, logic, quoted, symbol, symbol_of, is_limited, are_limited, each_is, word_or_name}
-use Rattle.model_grammar.specs.Languages.{in_language}
-use Rattle.model_grammar.specs.Versions.{is_later_word, is_plain}
-use Rattle.model_grammar.proofs.Tokens.{keeps_to, source_sound, source_fits, language_limited}
+use Rattle.model_tree.specs.LogicValues.declared.kinds.Digit.{Digit}
+use Rattle.model_tree.specs.declared.vocabulary.Word.{Word}
+use Rattle.model_tree.specs.declared.vocabulary.Symbol.{Symbol}
+use Rattle.model_tree.specs.declared.vocabulary.TheConstants.{WORDS}
+use Rattle.model_tree.specs.Vocabulary.{word_of, word_text}
+use Rattle.model_tree.specs.Languages.{keeps_language}
+use Rattle.model_tree.specs.Tree as tree
+use Rattle.model_tree.specs.Leaves.{is_name, is_print_text}
+use Rattle.model_tree.specs.Limits.{is_number, is_sound, fits_head}
+use Rattle.model_lexer.specs.Tokens.{Token, name, number, logic, quoted, symbol, symbol_of, is_limited, are_limited, each_is, word_or_name}
+use Rattle.model_lexer.specs.Languages.{in_language}
+use Rattle.model_lexer.specs.Versions.{is_later_word, is_plain}
+use Rattle.model_lexer.proofs.GrammarTokens.{keeps_to, source_sound, source_fits, language_limited}
 use Rattle.std.specs.Str.Parse.{digits_value}
 use Rattle.model_lexer.specs.declared.forms.Form.{Form}
 use Rattle.model_lexer.specs.declared.forms.Form.TheVariants as form

@@ -1,7 +1,7 @@
 -- That a text has one cut, and how a cut goes on from a piece.
 use Rattle.std.proofs.Common.{◌≡◌, ℕ, zero, suc, ◌+◌, ◌-◌, ◌<◌, ◌≤◌, true, false, List, [], ◌∷◌, ◌++◌, length, length-drop, take, drop, Some, None, ◌∙◌, refl, sym, ap, subst, ⊎_elim, arith}
 use Rattle.std.proofs.lemmas.Bool.{cases_order}
-use Rattle.model_grammar.specs.Tokens.{Token}
+use Rattle.model_lexer.specs.Tokens.{Token}
 use Rattle.model_lexer.specs.declared.forms.Form.{Form}
 use Rattle.model_lexer.specs.declared.forms.Form.TheVariants as form
 use Rattle.model_lexer.specs.Forms.{form_of, is_passed}

@@ -1,12 +1,12 @@
 -- The tokens of a text of language 2, one by one.
 use Rattle.std.proofs.Common.{◌≡◌, ℕ, ◌+◌, ◌<◌, List, [], ◌∷◌, ◌++◌, length, get_or, drop, drop-cons, add-one, append_assoc, refl, sym, ap, ◌∙◌}
 use Rattle.std.proofs.lemmas.List.{map-append}
-use Rattle.model_grammar.specs.Tokens as grammar
-use Rattle.model_grammar.specs.Languages.{Front, behind, later_token, in_second}
+use Rattle.model_lexer.specs.Tokens as grammar
+use Rattle.model_lexer.specs.Languages.{Front, behind, later_token, in_second}
 use Rattle.model_lexer.specs.declared.token.Token.{Token}
 use Rattle.model_lexer.specs.Cut.{Lexeme}
 use Rattle.model_lexer.specs.Laws.{with_lines}
-use Rattle.model_lexer.specs.Seen.{token_of, lexeme_of, lexemes}
+use Rattle.model_lexer.specs.Views.{token_of, lexeme_of, lexemes}
 
 -- the tokens found, and behind them those that are left, as language 2 has them
 abbrev pub told : Front → List Token → List Token → grammar.Tokens

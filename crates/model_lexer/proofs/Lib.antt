@@ -1,3 +1,11 @@
+pub mod Symbols
+pub mod Keeps
+pub mod Shrinks
+pub mod SoundExpressions
+pub mod SoundStatements
+pub mod SoundItems
+mod Versions
+pub mod GrammarTokens
 pub mod Runs
 pub mod Longest
 pub mod Cuts
@@ -8,4 +16,3 @@ pub mod Numbers
 pub mod LogicDigits
 pub mod OneForm
 pub mod LogicValues
-pub mod ModelGrammar

@@ -1,1 +1,1 @@
-pub use Rattle.model_grammar.proofs.LogicValues.VectorLaws as VectorLaws
+pub use Rattle.model_tree.proofs.LogicValues.VectorLaws as VectorLaws

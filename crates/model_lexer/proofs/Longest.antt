@@ -7,12 +7,12 @@ use Rattle.std.proofs.Math.ListN.{length-take}
 use Rattle.std.proofs.lemmas.Bool.{cond_both, cond-true, eqb-true, eq-eqb, leb-true, and_parts, and_left, false_from_ne_true}
 use Rattle.std.proofs.lemmas.Bool.Decides.{nat_tests}
 use Rattle.std.proofs.lemmas.List.Sums.{prefix_len-le-length}
-use Rattle.model_grammar.specs.ModelTree.declared.vocabulary.Symbol.{Symbol}
-use Rattle.model_grammar.specs.ModelTree.declared.vocabulary.Symbol.TheVariants as symbol
-use Rattle.model_grammar.specs.ModelTree.Vocabulary.{symbol_text}
-use Rattle.model_grammar.specs.ModelTree.Leaves.{is_letter, is_word_byte, is_word, is_print_byte}
-use Rattle.model_grammar.specs.Tokens.{symbol_of}
-use Rattle.model_grammar.proofs.Symbols.{symbol_of_spells}
+use Rattle.model_tree.specs.declared.vocabulary.Symbol.{Symbol}
+use Rattle.model_tree.specs.declared.vocabulary.Symbol.TheVariants as symbol
+use Rattle.model_tree.specs.Vocabulary.{symbol_text}
+use Rattle.model_tree.specs.Leaves.{is_letter, is_word_byte, is_word, is_print_byte}
+use Rattle.model_lexer.specs.Tokens.{symbol_of}
+use Rattle.model_lexer.proofs.Symbols.{symbol_of_spells}
 use Rattle.model_lexer.specs.declared.forms.Form.{Form}
 use Rattle.model_lexer.specs.declared.forms.Form.TheVariants as form
 use Rattle.model_lexer.specs.declared.forms.Piece.{Piece}

@@ -4,8 +4,8 @@ use Rattle.std.specs.Prelude.{is_some, ◌==◌, count_by}
 use Rattle.std.specs.List.{list_all}
 use Rattle.std.proofs.lemmas.Bool.{cases_Bool, eqb-true, and_parts}
 use Rattle.std.proofs.lemmas.Bool.Decides.{nat_tests}
-use Rattle.model_grammar.specs.ModelTree.Leaves.{is_letter, is_word}
-use Rattle.model_grammar.specs.Tokens.{symbol_of}
+use Rattle.model_tree.specs.Leaves.{is_letter, is_word}
+use Rattle.model_lexer.specs.Tokens.{symbol_of}
 use Rattle.model_lexer.specs.Forms.{is_blank_byte, is_comment_byte, is_digit, is_hex_digit, is_blank, is_comment, is_decimal, is_hexadecimal, is_logic, is_text, tests}
 use Rattle.model_lexer.specs.Fronts.{opens_comment}
 use Rattle.model_lexer.proofs.Longest.{no_blank, no_comment, no_hexadecimal, no_symbol_from, no_symbol_comment, letter_excludes, digit_excludes, blank_excludes}

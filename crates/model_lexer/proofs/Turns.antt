@@ -4,13 +4,13 @@ use Rattle.std.specs.Prelude.{◌==◌, count_by}
 use Rattle.std.proofs.Math.Seq.{take-add}
 use Rattle.std.proofs.lemmas.List.{append-nil, map-append}
 use Rattle.std.proofs.lemmas.List.Sums.{sum_by-append}
-use Rattle.model_grammar.specs.Tokens as grammar
+use Rattle.model_lexer.specs.Tokens as grammar
 use Rattle.model_lexer.specs.declared.forms.Form.{Form}
 use Rattle.model_lexer.specs.Forms.{is_passed}
 use Rattle.model_lexer.specs.Meanings.{meaning}
 use Rattle.model_lexer.specs.Cut.{IsPiece, line_at, Lexeme, IsGap, CutUpTo, CutFrom, IsStuck}
 use Rattle.model_lexer.specs.declared.token.Token.{Token}
-use Rattle.model_lexer.specs.Seen.{lexeme_of, lexemes}
+use Rattle.model_lexer.specs.Views.{lexeme_of, lexemes}
 use Rattle.model_lexer.specs.declared.forms.Piece.{Piece}
 use Rattle.model_lexer.specs.Fronts.{piece_at}
 use Rattle.model_lexer.proofs.Longest.{HasNoPiece, Finds, found}

@@ -1,8 +1,8 @@
 -- That a text is cut into tokens.
 use Rattle.std.specs.Prelude.{◌≡◌, ℕ, ◌+◌, ◌<◌, ◌≤◌, ◌==◌, true, false, List, [], ◌∷◌, length, take, drop, count_by, Some, None}
-use Rattle.model_grammar.specs.ModelTree.declared.faults.ParseStop.{ParseStop}
-use Rattle.model_grammar.specs.ModelTree.declared.faults.ParseStop.TheVariants as stop
-use Rattle.model_grammar.specs.Tokens.{Token}
+use Rattle.model_tree.specs.declared.faults.ParseStop.{ParseStop}
+use Rattle.model_tree.specs.declared.faults.ParseStop.TheVariants as stop
+use Rattle.model_lexer.specs.Tokens.{Token}
 use Rattle.model_lexer.specs.declared.forms.Form.{Form}
 use Rattle.model_lexer.specs.Forms.{form_of, is_passed}
 use Rattle.model_lexer.specs.Meanings.{meaning}

@@ -1,8 +1,8 @@
 -- The forms of the pieces of a text, whatever their limits on length and range.
 use Rattle.std.specs.Prelude.{ℕ, Bool, true, false, ◌&&◌, ◌||◌, ◌==◌, if◌then◌else◌, nat_le, is_some, List, [], ◌∷◌, Option, Some, None}
 use Rattle.std.specs.List.{list_all}
-use Rattle.model_grammar.specs.ModelTree.Leaves.{is_word, is_print_byte}
-use Rattle.model_grammar.specs.Tokens.{symbol_of}
+use Rattle.model_tree.specs.Leaves.{is_word, is_print_byte}
+use Rattle.model_lexer.specs.Tokens.{symbol_of}
 use Rattle.model_lexer.specs.declared.forms.Form.{Form}
 use Rattle.model_lexer.specs.declared.forms.Form.TheVariants as form
 

@@ -1,10 +1,10 @@
 -- How the front of bytes is found: a help to the proofs, which no public clause speaks of.
 use Rattle.std.specs.Prelude.{ℕ, ◌+◌, Bool, false, ◌&&◌, ◌==◌, if◌then◌else◌, List, [], ◌∷◌, length, slice_get, take, drop, Option, Some, None}
 use Rattle.std.specs.List.{prefix_len}
-use Rattle.model_grammar.specs.ModelTree.declared.vocabulary.Symbol.{Symbol}
-use Rattle.model_grammar.specs.ModelTree.Vocabulary.{symbol_text}
-use Rattle.model_grammar.specs.ModelTree.Leaves.{is_letter, is_word_byte, is_print_byte}
-use Rattle.model_grammar.specs.Tokens.{symbol_of}
+use Rattle.model_tree.specs.declared.vocabulary.Symbol.{Symbol}
+use Rattle.model_tree.specs.Vocabulary.{symbol_text}
+use Rattle.model_tree.specs.Leaves.{is_letter, is_word_byte, is_print_byte}
+use Rattle.model_lexer.specs.Tokens.{symbol_of}
 use Rattle.model_lexer.specs.declared.forms.Form.{Form}
 use Rattle.model_lexer.specs.declared.forms.Form.TheVariants as form
 use Rattle.model_lexer.specs.declared.forms.Piece.{Piece}

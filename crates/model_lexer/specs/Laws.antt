@@ -1,6 +1,6 @@
 -- What holds of every cut of a text.
 use Rattle.std.specs.Prelude.{◌≡◌, ℕ, ◌<◌, ◌≤◌, false, List, [], ◌∷◌, take, map, None}
-use Rattle.model_grammar.specs.Tokens.{Tokens}
+use Rattle.model_lexer.specs.Tokens.{Tokens}
 use Rattle.model_lexer.specs.declared.forms.Form.{Form}
 use Rattle.model_lexer.specs.Forms.{is_passed}
 use Rattle.model_lexer.specs.Meanings.{meaning}

@@ -1,3 +1,3 @@
-pub use Rattle.model_grammar.specs.LogicValues.Digits as Digits
-pub use Rattle.model_grammar.specs.LogicValues.Planes as Planes
-pub use Rattle.model_grammar.specs.LogicValues.declared as declared
+pub use Rattle.model_tree.specs.LogicValues.Digits as Digits
+pub use Rattle.model_tree.specs.LogicValues.Planes as Planes
+pub use Rattle.model_tree.specs.LogicValues.declared as declared

@@ -1,12 +1,12 @@
 -- What bytes of a form mean, if they keep the form's limits on length and range.
 use Rattle.std.specs.Prelude.{ℕ, ◌-◌, ◌==◌, ◌&&◌, if◌then◌else◌, nat_le, nat_lt, List, length, take, drop, map, reverse, Option, Some, None, option_map}
 use Rattle.std.specs.Str.Parse.{digits_value}
-use Rattle.model_grammar.specs.LogicValues.declared.kinds.Digit.{Digit}
-use Rattle.model_grammar.specs.LogicValues.declared.kinds.Digit.TheVariants as digit
-use Rattle.model_grammar.specs.ModelTree.Vocabulary.{word_of}
-use Rattle.model_grammar.specs.ModelTree.Leaves.{is_print_text}
-use Rattle.model_grammar.specs.ModelTree.Limits.{is_number}
-use Rattle.model_grammar.specs.Tokens.{Token, number, logic, quoted, symbol, symbol_of, word_or_name}
+use Rattle.model_tree.specs.LogicValues.declared.kinds.Digit.{Digit}
+use Rattle.model_tree.specs.LogicValues.declared.kinds.Digit.TheVariants as digit
+use Rattle.model_tree.specs.Vocabulary.{word_of}
+use Rattle.model_tree.specs.Leaves.{is_print_text}
+use Rattle.model_tree.specs.Limits.{is_number}
+use Rattle.model_lexer.specs.Tokens.{Token, number, logic, quoted, symbol, symbol_of, word_or_name}
 use Rattle.model_lexer.specs.declared.forms.Form.{Form}
 use Rattle.model_lexer.specs.declared.forms.Form.TheVariants as form
 

@@ -1,5 +1,5 @@
-pub use Rattle.model_grammar.specs.ModelTree.Stops as Stops
-pub use Rattle.model_grammar.specs.ModelTree.Tree as Tree
-pub use Rattle.model_grammar.specs.ModelTree.Views as Views
-pub use Rattle.model_grammar.specs.ModelTree.Vocabulary as Vocabulary
-pub use Rattle.model_grammar.specs.ModelTree.declared as declared
+pub use Rattle.model_tree.specs.Stops as Stops
+pub use Rattle.model_tree.specs.Tree as Tree
+pub use Rattle.model_tree.specs.Views as Views
+pub use Rattle.model_tree.specs.Vocabulary as Vocabulary
+pub use Rattle.model_tree.specs.declared as declared

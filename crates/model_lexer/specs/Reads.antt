@@ -1,10 +1,10 @@
 -- That a text reads as a tree.
 use Rattle.std.specs.Prelude.{ℕ, ◌≤◌, List, []}
-use Rattle.model_grammar.specs.ModelTree.Tree as tree
-use Rattle.model_grammar.specs.ModelTree.Limits.{bracket_limit}
-use Rattle.model_grammar.specs.Languages.{in_language}
-use Rattle.model_grammar.specs.Items.{DerivesSource}
-use Rattle.model_grammar.specs.Brackets.{brackets}
+use Rattle.model_tree.specs.Tree as tree
+use Rattle.model_tree.specs.Limits.{bracket_limit}
+use Rattle.model_lexer.specs.Languages.{in_language}
+use Rattle.model_lexer.specs.Items.{DerivesSource}
+use Rattle.model_lexer.specs.Brackets.{brackets}
 use Rattle.model_lexer.specs.Cut.{Lexeme, Cut}
 use Rattle.model_lexer.specs.Laws.{with_lines}
 

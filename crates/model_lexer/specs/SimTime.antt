@@ -1,1 +1,1 @@
-pub use Rattle.model_grammar.specs.SimTime.declared as declared
+pub use Rattle.model_tree.specs.SimTime.declared as declared

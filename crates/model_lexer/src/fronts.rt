@@ -1,18 +1,16 @@
 ghost use Rattle.std.specs.Prelude.{◌≡◌, ℕ, ◌≤◌, length, slice_get, take, drop, Option};
 ghost use Rattle.std.specs.List.{find, prefix_len};
 ghost use Rattle.std.specs.Str.{bytes_eq};
-ghost use Rattle.model_grammar.specs.ModelTree.Vocabulary.{symbol_text};
-ghost use Rattle.model_grammar.specs.ModelTree.Leaves as leaf;
-ghost use Rattle.model_grammar.specs.Tokens.{symbol_of};
+ghost use Rattle.model_tree.specs.Vocabulary.{symbol_text};
+ghost use Rattle.model_tree.specs.Leaves as leaf;
+ghost use Rattle.model_lexer.specs.Tokens.{symbol_of};
 ghost use Rattle.model_lexer.specs.Forms as kind;
 ghost use Rattle.model_lexer.specs.Fronts as spec;
 
 use super::forms::{
     Form, Piece, is_blank_byte, is_comment_byte, is_digit, is_hex_digit, is_logic_byte,
 };
-use model_grammar::model_tree_api::{
-    SYMBOLS, Symbol, is_letter, is_print_byte, is_word_byte, symbol_text,
-};
+use model_tree::{SYMBOLS, Symbol, is_letter, is_print_byte, is_word_byte, symbol_text};
 
 /// The first so many bytes, or all where there are no more.
 pub fn front(bytes: &[u8], count: usize) -> &[u8]
@@ -49,7 +47,7 @@ fn spelled(symbols: &[Symbol], bytes: &[u8]) -> Option<Symbol>
 }
 
 /// The symbol that the bytes spell, if they spell one.
-#[tactic(auto, unfolding(model_grammar::specs::Tokens::symbol_of))]
+#[tactic(auto, unfolding(crate::specs::Tokens::symbol_of))]
 pub fn symbol_of(bytes: &[u8]) -> Option<Symbol>
     ensures { result ≡ symbol_of bytes.now }
 {

@@ -1,13 +1,13 @@
 ghost use Rattle.std.specs.Prelude.{◌≡◌, ◌^◌, ◌<◌, List, length, IfOk, IfErr, MatchResult};
-ghost use Rattle.model_grammar.specs.Languages as spec;
+ghost use Rattle.model_lexer.specs.Languages as spec;
 ghost use Rattle.model_lexer.specs.Cut.{Lexeme, Cut, IsRefused};
 ghost use Rattle.model_lexer.specs.Laws.{with_lines};
-ghost use Rattle.model_lexer.specs.Seen.{front_of, token_of, lexemes};
+ghost use Rattle.model_lexer.specs.Views.{front_of, token_of, lexemes};
 
 use super::lexing::{push, tokens};
 use super::token::{Token, TokenKind, Tokens};
-use model_grammar::model_tree_api::{ParseStop, Symbol, Word, later_word_of};
-use model_grammar::plain_lists_api::Items;
+use model_tree::logic_values_api::Items;
+use model_tree::{ParseStop, Symbol, Word, later_word_of};
 use std::alloc::Global;
 
 /// What stands in front of a token.

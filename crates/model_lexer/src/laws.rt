@@ -1,8 +1,8 @@
 ghost use Rattle.std.specs.Prelude.{◌≡◌, ℕ, ◌≤◌, List, length, count_by, take, drop, Some, true};
-ghost use Rattle.model_grammar.specs.ModelTree.Languages.{keeps_language};
-ghost use Rattle.model_grammar.specs.ModelTree.Tree as tree;
-ghost use Rattle.model_grammar.specs.Tokens.{are_limited, each_is};
-ghost use Rattle.model_grammar.specs.Versions.{is_plain};
+ghost use Rattle.model_tree.specs.Languages.{keeps_language};
+ghost use Rattle.model_tree.specs.Tree as tree;
+ghost use Rattle.model_lexer.specs.Tokens.{are_limited, each_is};
+ghost use Rattle.model_lexer.specs.Versions.{is_plain};
 ghost use Rattle.model_lexer.specs.declared.forms.Form.{Form};
 ghost use Rattle.model_lexer.specs.Forms.{form_of, tests};
 ghost use Rattle.model_lexer.specs.Cut.{IsPiece, Lexeme, Cut, CutFrom};

@@ -1,13 +1,13 @@
 ghost use Rattle.std.specs.Prelude.{◌≡◌, ℕ, ◌+◌, ◌==◌, ◌^◌, ◌<◌, ◌≤◌, length, count_by, List, [], ◌∷◌, ◌++◌, OnOk, IfOk, IfErr, MatchResult};
 ghost use Rattle.model_lexer.specs.Cut.{Lexeme, Cut, IsRefused};
-ghost use Rattle.model_lexer.specs.Seen.{lexemes, IsNext};
+ghost use Rattle.model_lexer.specs.Views.{lexemes, IsNext};
 
 use super::forms::is_passed;
 use super::fronts::{front, past, piece_at};
 use super::meanings::meaning;
 use super::token::{Token, TokenKind, Tokens};
-use model_grammar::model_tree_api::ParseStop;
-use model_grammar::plain_lists_api::Items;
+use model_tree::ParseStop;
+use model_tree::logic_values_api::Items;
 use std::alloc::Global;
 
 /// What stands at the front of bytes.

@@ -1,14 +1,18 @@
+//! The grammar of the model language: which tokens derive which tree, and how many brackets are open in it.
+//!
 //! The tokens of a model's text.
 #![tactic(auto)]
 
 mod forms;
 mod fronts;
+mod grammar;
 mod languages;
 mod laws;
 mod lexing;
 mod meanings;
 mod token;
 
+pub use grammar::{keeps_to_language, sound_tree};
 pub use languages::tokens_in_language;
 pub use laws::{
     limited_tokens, longest_piece, one_cut, one_form, one_piece, ordered_tokens,
@@ -19,15 +23,15 @@ pub use token::{Token, TokenKind, Tokens};
 
 /// What is passed on of logic_values.
 pub mod logic_values_api {
-    pub use model_grammar::logic_values_api::Lv;
+    pub use model_tree::logic_values_api::Lv;
 }
 
 /// What is passed on of model_tree.
 pub mod model_tree_api {
-    pub use model_grammar::model_tree_api::{CheckStop, Fault, Kind, ParseStop};
+    pub use model_tree::{CheckStop, Fault, Kind, ParseStop};
 }
 
 /// What is passed on of sim_time.
 pub mod sim_time_api {
-    pub use model_grammar::sim_time_api::Unit;
+    pub use model_tree::sim_time_api::Unit;
 }

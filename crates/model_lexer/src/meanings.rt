@@ -1,16 +1,16 @@
 ghost use Rattle.std.specs.Prelude.{◌≡◌, ℕ, ◌<◌, option_map};
 ghost use Rattle.std.specs.Char.{digit_value};
 ghost use Rattle.std.specs.Str.Parse.{digits_value};
-ghost use Rattle.model_grammar.specs.LogicValues.Digits.{digits};
-ghost use Rattle.model_grammar.specs.Tokens as grammar;
+ghost use Rattle.model_tree.specs.LogicValues.Digits.{digits};
+ghost use Rattle.model_lexer.specs.Tokens as grammar;
 ghost use Rattle.model_lexer.specs.Meanings as spec;
-ghost use Rattle.model_lexer.specs.Seen.{token_of};
+ghost use Rattle.model_lexer.specs.Views.{token_of};
 
 use super::forms::Form;
 use super::fronts::{past, symbol_of};
 use super::token::TokenKind;
-use model_grammar::logic_values_api::{Digit, Lv, concat};
-use model_grammar::model_tree_api::{Word, is_name, is_print_text, word_of};
+use model_tree::logic_values_api::{Digit, Lv, concat};
+use model_tree::{Word, is_name, is_print_text, word_of};
 
 /// The value of a digit in the bases up to 36, and 36 for any other byte.
 fn digit_value(byte: u8) -> u64

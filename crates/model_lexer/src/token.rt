@@ -1,6 +1,5 @@
-use model_grammar::logic_values_api::Lv;
-use model_grammar::model_tree_api::{Symbol, Word};
-use model_grammar::plain_lists_api::Items;
+use model_tree::logic_values_api::{Items, Lv};
+use model_tree::{Symbol, Word};
 
 /// Which token it is, with what it means. A name is the bytes of the text that spell it, and a text is those between its quotes.
 #[derive(Clone, Copy)]

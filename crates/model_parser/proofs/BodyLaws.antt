@@ -7,18 +7,18 @@ use Rattle.model_tree.specs.declared.types.VarType.TheVariants as var_type
 use Rattle.model_tree.specs.declared.types.Parameter.{Parameter}
 use Rattle.model_tree.specs.declared.items.ProcessKind.{ProcessKind}
 use Rattle.model_tree.specs.Tree as tree
-use Rattle.parse_statements.specs.ModelGrammar.Tokens as t
-use Rattle.parse_statements.specs.ModelGrammar.Tokens.{Tokens}
-use Rattle.parse_statements.specs.ModelGrammar.Rules.{Rule, ◌⨾◌, Takes, Maybe, Written}
-use Rattle.parse_statements.specs.ModelGrammar.Expressions.{is_the_symbol, sees}
-use Rattle.parse_statements.specs.ModelGrammar.Statements.{DerivesVarTypeAt}
-use Rattle.parse_statements.specs.ModelGrammar.Items.{DerivesMode, DerivesParameter, DerivesParameters, DerivesAnswer, DerivesItem}
+use Rattle.parse_statements.specs.ModelLexer.Tokens as t
+use Rattle.parse_statements.specs.ModelLexer.Tokens.{Tokens}
+use Rattle.parse_statements.specs.ModelLexer.Rules.{Rule, ◌⨾◌, Takes, Maybe, Written}
+use Rattle.parse_statements.specs.ModelLexer.Expressions.{is_the_symbol, sees}
+use Rattle.parse_statements.specs.ModelLexer.Statements.{DerivesVarTypeAt}
+use Rattle.parse_statements.specs.ModelLexer.Items.{DerivesMode, DerivesParameter, DerivesParameters, DerivesAnswer, DerivesItem}
 use Rattle.model_tree.specs.Spelling.{process_word}
-use Rattle.parse_statements.specs.ModelGrammar.Brackets.{in_block, in_events}
+use Rattle.parse_statements.specs.ModelLexer.Brackets.{in_block, in_events}
 use Rattle.parse_statements.specs.ParseExpressions.Parse.{pure, word, is_the_word, flag, symbol, name, opened}
 use Rattle.parse_statements.proofs.ParseExpressions.Parsers.{and_then_ok, choose_cases, choose_first, choose_other, made}
 use Rattle.parse_statements.proofs.ParseExpressions.OneToken.{symbol_ok, symbol_reads, symbol_sees, opened_ok, opened_reads, name_ok, name_reads, this_word_at, word_reads, word_sees, flag_ok, flag_reads}
-use Rattle.parse_statements.proofs.ModelGrammar.Shrinks.{first, takes_shortens, parameter_shrinks}
+use Rattle.parse_statements.proofs.ModelLexer.Shrinks.{first, takes_shortens, parameter_shrinks}
 use Rattle.parse_statements.proofs.ParseExpressions.Many.{Every, many_ok, many_reads}
 use Rattle.parse_statements.specs.ParseActions.ChannelParse.{variable_type, sensitive, at_no_comma, at_right_paren}
 use Rattle.parse_statements.proofs.ParseActions.TypeLaws.{variable_type_ok, variable_type_reads, form_begins_not}

@@ -11,13 +11,13 @@ use Rattle.model_tree.specs.declared.items.PlainKind.TheVariants as plain
 use Rattle.model_tree.specs.declared.items.ProcessKind.{ProcessKind}
 use Rattle.model_tree.specs.declared.items.ProcessKind.TheVariants as process
 use Rattle.model_tree.specs.Tree as tree
-use Rattle.parse_statements.specs.ModelGrammar.Tokens as t
-use Rattle.parse_statements.specs.ModelGrammar.Tokens.{Tokens}
-use Rattle.parse_statements.specs.ModelGrammar.Rules.{At, Each}
-use Rattle.parse_statements.specs.ModelGrammar.Items.{DerivesInterface, DerivesItem}
+use Rattle.parse_statements.specs.ModelLexer.Tokens as t
+use Rattle.parse_statements.specs.ModelLexer.Tokens.{Tokens}
+use Rattle.parse_statements.specs.ModelLexer.Rules.{At, Each}
+use Rattle.parse_statements.specs.ModelLexer.Items.{DerivesInterface, DerivesItem}
 use Rattle.model_tree.specs.Spelling.{signal_word, plain_word, process_word}
-use Rattle.parse_statements.specs.ModelGrammar.Brackets.{in_item, in_items}
-use Rattle.parse_statements.proofs.ModelGrammar.Shrinks.{item_shortens}
+use Rattle.parse_statements.specs.ModelLexer.Brackets.{in_item, in_items}
+use Rattle.parse_statements.proofs.ModelLexer.Shrinks.{item_shortens}
 use Rattle.parse_statements.proofs.ParseExpressions.Many.{Every, many_ok, many_reads}
 use Rattle.parse_statements.specs.Parse.{at_right_brace}
 use Rattle.model_parser.specs.declared.starts.ItemStart.{ItemStart}

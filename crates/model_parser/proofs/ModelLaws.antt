@@ -9,14 +9,14 @@ use Rattle.model_tree.specs.declared.items.Head.{Head}
 use Rattle.model_tree.specs.declared.items.Head.TheVariants as head
 use Rattle.model_tree.specs.declared.items.Top.{Top}
 use Rattle.model_tree.specs.Tree as tree
-use Rattle.parse_statements.specs.ModelGrammar.Languages.{in_language}
-use Rattle.parse_statements.specs.ModelGrammar.Expressions.{sees}
-use Rattle.parse_statements.specs.ModelGrammar.Tokens as t
-use Rattle.parse_statements.specs.ModelGrammar.Tokens.{Tokens}
-use Rattle.parse_statements.specs.ModelGrammar.Rules.{Each, Maybe}
-use Rattle.parse_statements.specs.ModelGrammar.Items.{DerivesModule, DerivesTop, DerivesModel, DerivesResolution, DerivesHead, DerivesSource}
-use Rattle.parse_statements.specs.ModelGrammar.Brackets.{in_items, in_modules}
-use Rattle.parse_statements.proofs.ModelGrammar.Shrinks.{module_shortens}
+use Rattle.parse_statements.specs.ModelLexer.Languages.{in_language}
+use Rattle.parse_statements.specs.ModelLexer.Expressions.{sees}
+use Rattle.parse_statements.specs.ModelLexer.Tokens as t
+use Rattle.parse_statements.specs.ModelLexer.Tokens.{Tokens}
+use Rattle.parse_statements.specs.ModelLexer.Rules.{Each, Maybe}
+use Rattle.parse_statements.specs.ModelLexer.Items.{DerivesModule, DerivesTop, DerivesModel, DerivesResolution, DerivesHead, DerivesSource}
+use Rattle.parse_statements.specs.ModelLexer.Brackets.{in_items, in_modules}
+use Rattle.parse_statements.proofs.ModelLexer.Shrinks.{module_shortens}
 use Rattle.parse_statements.specs.ModelLexer.Laws.{with_lines}
 use Rattle.parse_statements.proofs.ModelLexer.Cuts.{one_cut_from}
 use Rattle.parse_statements.specs.ParseExpressions.Parse.{pure, word, is_the_word, symbol, name, this_number}

@@ -12,13 +12,13 @@ use Rattle.model_tree.specs.declared.items.ClockItem.{ClockItem}
 use Rattle.model_tree.specs.declared.items.SignalKind.{SignalKind}
 use Rattle.model_tree.specs.declared.items.PlainKind.{PlainKind}
 use Rattle.model_tree.specs.Tree as tree
-use Rattle.parse_statements.specs.ModelGrammar.Tokens as t
-use Rattle.parse_statements.specs.ModelGrammar.Tokens.{Tokens}
-use Rattle.parse_statements.specs.ModelGrammar.Rules.{Takes, Maybe}
-use Rattle.parse_statements.specs.ModelGrammar.Expressions.{is_the_symbol, sees, unit_in}
-use Rattle.parse_statements.specs.ModelGrammar.Items.{DerivesStart, DerivesFifoSize, DerivesItem}
+use Rattle.parse_statements.specs.ModelLexer.Tokens as t
+use Rattle.parse_statements.specs.ModelLexer.Tokens.{Tokens}
+use Rattle.parse_statements.specs.ModelLexer.Rules.{Takes, Maybe}
+use Rattle.parse_statements.specs.ModelLexer.Expressions.{is_the_symbol, sees, unit_in}
+use Rattle.parse_statements.specs.ModelLexer.Items.{DerivesStart, DerivesFifoSize, DerivesItem}
 use Rattle.model_tree.specs.Spelling.{signal_word, plain_word}
-use Rattle.parse_statements.specs.ModelGrammar.Brackets.{in_item}
+use Rattle.parse_statements.specs.ModelLexer.Brackets.{in_item}
 use Rattle.parse_statements.specs.ParseExpressions.Parse.{pure, word, is_the_word, flag, symbol, name, number, opened}
 use Rattle.parse_statements.proofs.ParseExpressions.Parsers.{and_then_ok, choose_cases, choose_first, choose_other, made}
 use Rattle.parse_statements.proofs.ParseExpressions.OneToken.{symbol_ok, symbol_reads, opened_ok, opened_reads, name_ok, name_reads, number_ok, number_reads, this_word_at, word_ok, word_reads, word_sees, flag_ok, flag_reads}

@@ -9,12 +9,12 @@ use Rattle.model_tree.specs.declared.types.BoundRule.{BoundRule}
 use Rattle.model_tree.specs.declared.types.BoundRule.TheVariants as bound
 use Rattle.model_tree.specs.declared.types.PortSize.{PortSize}
 use Rattle.model_tree.specs.Tree as tree
-use Rattle.parse_statements.specs.ModelGrammar.Tokens as t
-use Rattle.parse_statements.specs.ModelGrammar.Tokens.{Tokens}
-use Rattle.parse_statements.specs.ModelGrammar.Rules.{At, Takes, Maybe}
-use Rattle.parse_statements.specs.ModelGrammar.Expressions.{is_the_symbol, sees}
-use Rattle.parse_statements.specs.ModelGrammar.Items.{DerivesInterface, DerivesBound, DerivesPortSize, DerivesItem}
-use Rattle.parse_statements.specs.ModelGrammar.Brackets.{in_size}
+use Rattle.parse_statements.specs.ModelLexer.Tokens as t
+use Rattle.parse_statements.specs.ModelLexer.Tokens.{Tokens}
+use Rattle.parse_statements.specs.ModelLexer.Rules.{At, Takes, Maybe}
+use Rattle.parse_statements.specs.ModelLexer.Expressions.{is_the_symbol, sees}
+use Rattle.parse_statements.specs.ModelLexer.Items.{DerivesInterface, DerivesBound, DerivesPortSize, DerivesItem}
+use Rattle.parse_statements.specs.ModelLexer.Brackets.{in_size}
 use Rattle.parse_statements.specs.ParseExpressions.Parse.{pure, word, is_the_word, symbol, name, number, opened}
 use Rattle.parse_statements.proofs.ParseExpressions.Parsers.{and_then_ok, choose_cases, choose_first, choose_other, made}
 use Rattle.parse_statements.proofs.ParseExpressions.OneToken.{symbol_ok, symbol_reads, symbol_sees, opened_ok, opened_reads, name_ok, name_reads, number_ok, number_reads, this_word_at, word_ok, word_reads}

@@ -9,11 +9,11 @@ use Rattle.model_tree.specs.declared.items.InitiatorRole.TheVariants as initiato
 use Rattle.model_tree.specs.declared.items.TargetRole.{TargetRole}
 use Rattle.model_tree.specs.declared.items.TargetRole.TheVariants as target
 use Rattle.model_tree.specs.Tree as tree
-use Rattle.parse_statements.specs.ModelGrammar.Tokens as t
-use Rattle.parse_statements.specs.ModelGrammar.Tokens.{Tokens}
-use Rattle.parse_statements.specs.ModelGrammar.Rules.{Takes, Maybe}
-use Rattle.parse_statements.specs.ModelGrammar.Expressions.{is_the_symbol, sees}
-use Rattle.parse_statements.specs.ModelGrammar.Items.{DerivesHandler, DerivesInitiatorRole, DerivesTargetRole, DerivesEnd, DerivesItem}
+use Rattle.parse_statements.specs.ModelLexer.Tokens as t
+use Rattle.parse_statements.specs.ModelLexer.Tokens.{Tokens}
+use Rattle.parse_statements.specs.ModelLexer.Rules.{Takes, Maybe}
+use Rattle.parse_statements.specs.ModelLexer.Expressions.{is_the_symbol, sees}
+use Rattle.parse_statements.specs.ModelLexer.Items.{DerivesHandler, DerivesInitiatorRole, DerivesTargetRole, DerivesEnd, DerivesItem}
 use Rattle.parse_statements.specs.ParseExpressions.Parse.{pure, word, is_the_word, symbol, named, name}
 use Rattle.parse_statements.proofs.ParseExpressions.Parsers.{and_then_ok, choose_cases, choose_first, choose_other, made}
 use Rattle.parse_statements.proofs.ParseExpressions.OneToken.{symbol_ok, symbol_reads, named_ok, named_reads, name_ok, name_reads, this_word_at, word_ok, word_reads, word_sees}

@@ -4,8 +4,8 @@ use Rattle.std.specs.Prelude.{◌≢◌}
 use Rattle.model_tree.specs.declared.faults.ParseStop.{ParseStop}
 use Rattle.model_tree.specs.declared.faults.ParseStop.TheVariants as stop
 use Rattle.model_tree.specs.Tree as tree
-use Rattle.parse_statements.specs.ModelGrammar.Languages.{in_language}
-use Rattle.parse_statements.specs.ModelGrammar.Tokens.{Tokens}
+use Rattle.parse_statements.specs.ModelLexer.Languages.{in_language}
+use Rattle.parse_statements.specs.ModelLexer.Tokens.{Tokens}
 use Rattle.parse_statements.specs.ModelLexer.Cut.{Lexeme, Cut}
 use Rattle.parse_statements.specs.ModelLexer.Laws.{with_lines}
 use Rattle.parse_statements.specs.ModelLexer.Reads.{Reads}

@@ -14,12 +14,12 @@ use Rattle.model_tree.specs.declared.types.Constant.{Constant}
 use Rattle.model_tree.specs.declared.types.ConstantForm.{ConstantForm}
 use Rattle.model_tree.specs.declared.types.ConstantForm.TheVariants as constant_form
 use Rattle.model_tree.specs.declared.types.Span.{Span}
-use Rattle.parse_statements.specs.ModelGrammar.Tokens as t
-use Rattle.parse_statements.specs.ModelGrammar.Tokens.{Tokens}
-use Rattle.parse_statements.specs.ModelGrammar.Rules.{At, Takes, Maybe}
-use Rattle.parse_statements.specs.ModelGrammar.Expressions.{is_the_symbol, sees, unit_in}
+use Rattle.parse_statements.specs.ModelLexer.Tokens as t
+use Rattle.parse_statements.specs.ModelLexer.Tokens.{Tokens}
+use Rattle.parse_statements.specs.ModelLexer.Rules.{At, Takes, Maybe}
+use Rattle.parse_statements.specs.ModelLexer.Expressions.{is_the_symbol, sees, unit_in}
 use Rattle.model_tree.specs.Spelling.{truth_word}
-use Rattle.parse_statements.specs.ModelGrammar.Items.{DerivesConstantForm, DerivesConstant, DerivesFirstValue, DerivesTime}
+use Rattle.parse_statements.specs.ModelLexer.Items.{DerivesConstantForm, DerivesConstant, DerivesFirstValue, DerivesTime}
 use Rattle.parse_statements.specs.ParseExpressions.Parse.{pure, refuse, word, is_the_word, skip, symbol, number, numbered, logical, sees_number, unit_ahead}
 use Rattle.parse_statements.proofs.ParseExpressions.Parsers.{and_then_ok, choose_cases, choose_first, choose_other, where_cases, made}
 use Rattle.parse_statements.proofs.ParseExpressions.OneToken.{symbol_at, symbol_ok, symbol_reads, symbol_sees, number_ok, number_reads, numbered_ok, numbered_reads, logical_ok, logical_reads, this_word_at, word_reads, skip_reads}

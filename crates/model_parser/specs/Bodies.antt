@@ -7,7 +7,7 @@ use Rattle.model_tree.specs.declared.types.VarType.{VarType}
 use Rattle.model_tree.specs.declared.types.Parameter.{Parameter}
 use Rattle.model_tree.specs.declared.items.ProcessKind.{ProcessKind}
 use Rattle.model_tree.specs.Tree as tree
-use Rattle.parse_statements.specs.ModelGrammar.Expressions.{is_the_symbol, sees}
+use Rattle.parse_statements.specs.ModelLexer.Expressions.{is_the_symbol, sees}
 use Rattle.model_tree.specs.Spelling.{process_word}
 use Rattle.parse_statements.specs.ParseExpressions.Parse.{Parser, ◌>>=◌, pure, refuse, choose, many, word, is_the_word, flag, symbol, name, opened}
 use Rattle.parse_statements.specs.ParseActions.ChannelParse.{variable_type, sensitive, at_no_comma, at_right_paren}

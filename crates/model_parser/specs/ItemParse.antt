@@ -23,7 +23,7 @@ use Rattle.model_tree.specs.declared.items.InitiatorRole.TheVariants as initiato
 use Rattle.model_tree.specs.declared.items.TargetRole.{TargetRole}
 use Rattle.model_tree.specs.declared.items.TargetRole.TheVariants as target
 use Rattle.model_tree.specs.Tree as tree
-use Rattle.parse_statements.specs.ModelGrammar.Expressions.{is_the_symbol, sees}
+use Rattle.parse_statements.specs.ModelLexer.Expressions.{is_the_symbol, sees}
 use Rattle.model_tree.specs.Spelling.{signal_word, plain_word}
 use Rattle.parse_statements.specs.ParseExpressions.Parse.{Parser, ◌>>=◌, pure, refuse, choose, where_some, skip, word, is_the_word, flag, symbol, named, name, numbered, number, logical, sees_number, unit_ahead, opened}
 use Rattle.parse_statements.specs.ParseActions.ChannelParse.{signal_type, variable_type, optional_member}

@@ -13,9 +13,9 @@ use Rattle.model_tree.specs.declared.faults.ParseStop.{ParseStop}
 use Rattle.model_tree.specs.declared.faults.ParseStop.TheVariants as stop
 use Rattle.model_tree.specs.Tree as tree
 use Rattle.model_tree.specs.Views.{modules_of}
-use Rattle.parse_statements.specs.ModelGrammar.Languages.{in_language}
-use Rattle.parse_statements.specs.ModelGrammar.Tokens as t
-use Rattle.parse_statements.specs.ModelGrammar.Expressions.{sees}
+use Rattle.parse_statements.specs.ModelLexer.Languages.{in_language}
+use Rattle.parse_statements.specs.ModelLexer.Tokens as t
+use Rattle.parse_statements.specs.ModelLexer.Expressions.{sees}
 use Rattle.parse_statements.specs.ModelLexer.Cut.{Lexeme, Cut}
 use Rattle.parse_statements.specs.ModelLexer.Laws.{with_lines}
 use Rattle.parse_statements.specs.ParseExpressions.Parse.{Parser, ◌>>=◌, pure, choose, many, word, is_the_word, symbol, name, this_number}

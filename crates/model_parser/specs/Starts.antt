@@ -7,7 +7,7 @@ use Rattle.model_tree.specs.declared.types.Interface.TheVariants as interface
 use Rattle.model_tree.specs.declared.items.SignalKind.TheVariants as kind
 use Rattle.model_tree.specs.declared.items.PlainKind.TheVariants as plain
 use Rattle.model_tree.specs.declared.items.ProcessKind.TheVariants as process
-use Rattle.parse_statements.specs.ModelGrammar.Tokens as t
+use Rattle.parse_statements.specs.ModelLexer.Tokens as t
 use Rattle.std.specs.Prelude.{Option, Some, None}
 use Rattle.parse_statements.specs.ParseExpressions.Parse.{word_ahead}
 use Rattle.model_parser.specs.declared.starts.Direction.{Direction}

@@ -1,6 +1,6 @@
 ghost use Rattle.std.specs.Prelude.{◌≡◌, ℕ, ◌^◌, ◌<◌, List, length, IfOk, IfErr, MatchResult};
 ghost use Rattle.model_tree.specs.Tree as tree;
-ghost use Rattle.model_tree.specs.Seen.{source_of};
+ghost use Rattle.model_tree.specs.WholeTree.{source_of};
 ghost use Rattle.parse_statements.specs.ModelLexer.Reads.{Reads};
 ghost use Rattle.model_parser.specs.Parse as spec;
 

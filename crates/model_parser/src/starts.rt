@@ -1,5 +1,5 @@
 ghost use Rattle.std.specs.Prelude.{◌≡◌};
-ghost use Rattle.parse_statements.specs.ModelGrammar.Items as grammar;
+ghost use Rattle.parse_statements.specs.ModelLexer.Items as grammar;
 ghost use Rattle.model_parser.specs.Starts as spec;
 
 use model_tree::{Interface, PlainKind, ProcessKind, SignalKind, SignalType, Word};

@@ -1,6 +1,6 @@
 ghost use Rattle.std.specs.Prelude.{◌≡◌, Some};
 ghost use Rattle.parse_statements.specs.LogicValues.Digits.{digits};
-ghost use Rattle.parse_statements.specs.ModelGrammar.Tokens.{Tokens};
+ghost use Rattle.parse_statements.specs.ModelLexer.Tokens.{Tokens};
 ghost use Rattle.parse_statements.specs.ParseExpressions.Parse.{Parses};
 ghost use Rattle.model_parser.specs.ItemParse as spec;
 

@@ -1,5 +1,5 @@
 ghost use Rattle.std.specs.Prelude.{◌≡◌, IfOk};
-ghost use Rattle.model_tree.specs.Seen.{source_of};
+ghost use Rattle.model_tree.specs.WholeTree.{source_of};
 ghost use Rattle.model_tree.specs.Views.{modules_of};
 ghost use Rattle.model_print.specs.Printed.{printed_text};
 

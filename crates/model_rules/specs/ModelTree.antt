@@ -2,9 +2,9 @@ pub use Rattle.flat_design.specs.ModelTree.Leaves as Leaves
 pub use Rattle.flat_design.specs.ModelTree.Limits as Limits
 pub use Rattle.flat_design.specs.ModelTree.Lines as Lines
 pub use Rattle.flat_design.specs.ModelTree.Parts as Parts
-pub use Rattle.flat_design.specs.ModelTree.Seen as Seen
 pub use Rattle.flat_design.specs.ModelTree.Stops as Stops
 pub use Rattle.flat_design.specs.ModelTree.Tree as Tree
 pub use Rattle.flat_design.specs.ModelTree.Views as Views
+pub use Rattle.flat_design.specs.ModelTree.WholeTree as WholeTree
 pub use Rattle.flat_design.specs.ModelTree.contracts as contracts
 pub use Rattle.flat_design.specs.ModelTree.declared as declared

@@ -35,7 +35,7 @@ pub mod flat_design_api {
 /// What is passed on of logic_values.
 pub mod logic_values_api {
     pub use flat_design::logic_values_api::{
-        Digit, Lv, Sign, Text, Value, cut, digit, sub, vector_of_digits,
+        Digit, Items, Lv, Sign, Text, Value, cut, digit, sub, vector_of_digits,
     };
 }
 
@@ -47,11 +47,6 @@ pub mod model_tree_api {
         ProcessItem, ProcessKind, SignalItem, SignalKind, SignalType, Span, TargetRole, Top, Tree,
         TypeForm, VarType, item_line,
     };
-}
-
-/// What is passed on of plain_lists.
-pub mod plain_lists_api {
-    pub use flat_design::plain_lists_api::Items;
 }
 
 /// What is passed on of sim_time.

@@ -6,7 +6,7 @@ pub mod Parts
 pub mod Views
 pub mod Limits
 pub mod Languages
-pub mod Seen
+pub mod WholeTree
 pub mod Lines
 pub mod Stops
 pub mod SimTime

@@ -43,13 +43,8 @@ pub use whole::Tree;
 /// What is passed on of logic_values.
 pub mod logic_values_api {
     pub use logic_values::{
-        Digit, Lv, Sign, Text, Value, concat, cut, digit, sub, value_text, vector_of_digits,
+        Digit, Items, Lv, Sign, Text, Value, concat, cut, digit, sub, value_text, vector_of_digits,
     };
-}
-
-/// What is passed on of plain_lists.
-pub mod plain_lists_api {
-    pub use logic_values::plain_lists_api::Items;
 }
 
 /// What is passed on of sim_time.

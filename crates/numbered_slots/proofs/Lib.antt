@@ -1,3 +1,7 @@
+pub mod MapLemmas
 pub mod SlotLemmas
-pub mod Lemmas
 pub mod HomeLemmas
+pub mod Places
+pub mod Rising
+pub mod Listed
+pub mod Sound

@@ -10,7 +10,7 @@ use Rattle.std.specs.BTreeMap as tree
 use Rattle.std.specs.FinMap as map
 use Rattle.slab.specs.Slab as slab
 use Rattle.slab.specs.Slab.{Slab}
-use Rattle.lemmas.proofs.MapLemmas.{ties_no_other, get-updated, is_insert, is_remove, len-insert_new, len-insert_there, len-remove_there}
+use Rattle.numbered_slots.proofs.MapLemmas.{ties_no_other, get-updated, is_insert, is_remove, len-insert_new, len-insert_there, len-remove_there}
 use Rattle.numbered_slots.specs.Numbered.{Numbered, with_inserted, HasFreshNext}
 use Rattle.numbered_slots.specs.Layout.{live_of, shown, IsSound}
 

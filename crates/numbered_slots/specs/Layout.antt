@@ -4,7 +4,7 @@ use Rattle.std.specs.Ordering.{nat_cmp}
 use Rattle.std.specs.BTreeMap as tree
 use Rattle.std.specs.FinMap as map
 use Rattle.slab.specs.Slab.{Slab, slab_len}
-use Rattle.lemmas.specs.Updated.{updated}
+use Rattle.numbered_slots.specs.Updated.{updated}
 use Rattle.numbered_slots.specs.Numbered.{Numbered}
 
 module _ {T : Type 0} where

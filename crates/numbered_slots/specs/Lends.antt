@@ -2,7 +2,7 @@
 use Rattle.std.specs.Prelude.{ℕ, Option}
 use Rattle.std.specs.Borrow.{LendsIf, Fml, RattleType, MutBor}
 use Rattle.numbered_slots.specs.Numbered.{Numbered, with_value}
-use Rattle.numbered_slots.specs.contracts.Slots as slots
+use Rattle.numbered_slots.specs.contracts.slots.Slots as slots
 
 -- the number has the last value written through the borrow, and at `None` all stays as it is
 abbrev pub lends_value : (T : RattleType) → MutBor (Numbered T.Denot) → ℕ → Option (MutBor T.Denot) → Fml

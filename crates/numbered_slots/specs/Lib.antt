@@ -1,4 +1,6 @@
+pub mod Updated
 pub mod Numbered
 pub mod Layout
 pub mod Lends
-pub mod Lemmas
+pub mod Places
+pub mod MarkLayout

@@ -4,10 +4,10 @@ use Rattle.std.specs.Prelude.{slice_get, slice_set, option_map, Contains}
 use Rattle.std.proofs.lemmas.List.{length-set, length-replicate}
 use Rattle.std.proofs.lemmas.List.Elements.{Contains-append_left, Contains-push, Contains-push_cases}
 use Rattle.std.proofs.lemmas.Bool.{eqb-true, eqb-false, cases_lt}
-use Rattle.order_uses.specs.FlatDesign.Code.{arena_of, body_at}
-use Rattle.order_uses.specs.FlatDesign.declared.code.CodeBody.{CodeBody}
-use Rattle.order_uses.specs.FlatDesign.declared.design.ProcessPart.{ProcessPart}
-use Rattle.order_uses.specs.FlatDesign.declared.design.Design.{Design}
+use Rattle.flat_design.specs.Code.{arena_of, body_at}
+use Rattle.flat_design.specs.declared.code.CodeBody.{CodeBody}
+use Rattle.flat_design.specs.declared.design.ProcessPart.{ProcessPart}
+use Rattle.flat_design.specs.declared.design.Design.{Design}
 use Rattle.order_free.specs.Spreading.{root}
 use Rattle.order_free.specs.Roots.{home_of, IsRoot, roots_at, AreRoots, AreRootsOf}
 use Rattle.order_free.specs.declared.roots.Root.{Root}

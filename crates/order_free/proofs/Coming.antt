@@ -5,14 +5,14 @@ use Rattle.std.specs.List.{flat_map}
 use Rattle.std.proofs.lemmas.Bool.{cases_lt}
 use Rattle.std.proofs.lemmas.Option.{slice_get_past}
 use Rattle.std.proofs.lemmas.List.Elements.{Contains-append_left, Contains-append_right, Contains-append_cases}
-use Rattle.order_uses.specs.FlatDesign.Code as code
-use Rattle.order_uses.specs.FlatDesign.Code.{Arena, Statement, block_at, statement_at, body_at}
-use Rattle.order_uses.specs.FlatDesign.Reach as reach
-use Rattle.order_uses.specs.FlatDesign.Reach.{inner_blocks, IsIn, Inside, Holds, Reached}
-use Rattle.order_uses.specs.FlatDesign.declared.code.CodeBody.{CodeBody}
-use Rattle.order_uses.specs.Blocks as blocks
-use Rattle.order_uses.specs.Blocks.{where_found, called_blocks, targets_of, ArePartsOf}
-use Rattle.order_uses.specs.declared.blocks.BlockPart.{BlockPart}
+use Rattle.flat_design.specs.Code as code
+use Rattle.flat_design.specs.Code.{Arena, Statement, block_at, statement_at, body_at}
+use Rattle.flat_design.specs.Reach as reach
+use Rattle.flat_design.specs.Reach.{inner_blocks, IsIn, Inside, Holds, Reached}
+use Rattle.flat_design.specs.declared.code.CodeBody.{CodeBody}
+use Rattle.order_free.specs.Blocks as blocks
+use Rattle.order_free.specs.Blocks.{where_found, called_blocks, targets_of, ArePartsOf}
+use Rattle.order_free.specs.declared.blocks.BlockPart.{BlockPart}
 use Rattle.order_free.specs.Spreading as spreading
 use Rattle.order_free.specs.Spreading.{targets_in, targets_at, root, ComesTo}
 use Rattle.order_free.specs.declared.roots.Root.{Root}

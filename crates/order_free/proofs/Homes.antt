@@ -4,21 +4,21 @@ use Rattle.std.specs.Prelude.{slice_get, unwrap_or, option_and_then, Contains}
 use Rattle.std.specs.List.{flat_map}
 use Rattle.std.proofs.lemmas.Bool.{cases_lt}
 use Rattle.std.proofs.lemmas.Option.{slice_get_past, slice_get_within}
-use Rattle.order_uses.specs.FlatDesign.Code.{Arena, Statement, arena_of}
-use Rattle.order_uses.specs.FlatDesign.Reach as reach
-use Rattle.order_uses.specs.FlatDesign.Reach.{IsIn, Reached}
-use Rattle.order_uses.specs.FlatDesign.Denotes.{denoted_at}
-use Rattle.order_uses.specs.FlatDesign.declared.design.Denoted.TheVariants as denoted
-use Rattle.order_uses.specs.FlatDesign.declared.design.InstancePart.{InstancePart}
-use Rattle.order_uses.specs.FlatDesign.declared.design.ProcessPart.{ProcessPart}
-use Rattle.order_uses.specs.FlatDesign.declared.design.Design.{Design}
-use Rattle.order_uses.specs.Uses.{deeds_of, uses_of_deed, uses_of, uses_of_event, kept_under, written_to, read_from, channels_under, events_under}
-use Rattle.order_uses.specs.Blocks.{ArePartsOf}
-use Rattle.order_uses.specs.declared.uses.Deed.{Deed}
-use Rattle.order_uses.specs.declared.uses.Deed.TheVariants as deed
-use Rattle.order_uses.specs.declared.uses.Use.{Use}
-use Rattle.order_uses.specs.declared.uses.Use.TheVariants as used
-use Rattle.order_uses.specs.declared.blocks.BlockPart.{BlockPart}
+use Rattle.flat_design.specs.Code.{Arena, Statement, arena_of}
+use Rattle.flat_design.specs.Reach as reach
+use Rattle.flat_design.specs.Reach.{IsIn, Reached}
+use Rattle.flat_design.specs.Denotes.{denoted_at}
+use Rattle.flat_design.specs.declared.design.Denoted.TheVariants as denoted
+use Rattle.flat_design.specs.declared.design.InstancePart.{InstancePart}
+use Rattle.flat_design.specs.declared.design.ProcessPart.{ProcessPart}
+use Rattle.flat_design.specs.declared.design.Design.{Design}
+use Rattle.order_free.specs.Uses.{deeds_of, uses_of_deed, uses_of, uses_of_event, kept_under, written_to, read_from, channels_under, events_under}
+use Rattle.order_free.specs.Blocks.{ArePartsOf}
+use Rattle.order_free.specs.declared.uses.Deed.{Deed}
+use Rattle.order_free.specs.declared.uses.Deed.TheVariants as deed
+use Rattle.order_free.specs.declared.uses.Use.{Use}
+use Rattle.order_free.specs.declared.uses.Use.TheVariants as used
+use Rattle.order_free.specs.declared.blocks.BlockPart.{BlockPart}
 use Rattle.order_free.specs.Free as free
 use Rattle.order_free.specs.Free.{Uses}
 use Rattle.order_free.specs.Users.{is_within, Shows}

@@ -5,7 +5,7 @@ use Rattle.std.proofs.lemmas.List.{length-set, length-replicate}
 use Rattle.std.proofs.lemmas.Bool.{cases_lt}
 use Rattle.std.proofs.lemmas.Option.{slice_get_past}
 use Rattle.std.proofs.lemmas.List.{get_or_default}
-use Rattle.order_uses.specs.declared.blocks.BlockPart.{BlockPart}
+use Rattle.order_free.specs.declared.blocks.BlockPart.{BlockPart}
 use Rattle.order_free.specs.Users.{is_within, Shows}
 use Rattle.order_free.specs.Spreading as spreading
 use Rattle.order_free.specs.Spreading.{label_at, targets_in, targets_at, Spreading, raise_all, raise_roots, root, ComesTo, StandsFrom, IsUnderWay, AreLabels, AreEmpty, cleared}

@@ -1,3 +1,4 @@
+mod Found
 mod Elements
 mod Within
 mod Taking
@@ -5,7 +6,7 @@ mod Raised
 mod Labels
 mod Coming
 mod Homes
-mod Judged
+mod DesignVerdicts
 mod Noting
 mod Begun
 mod Lower

@@ -4,7 +4,7 @@ use Rattle.std.specs.Prelude.{Contains}
 use Rattle.std.specs.List.{flat_map}
 use Rattle.std.proofs.lemmas.Grind.{flat_map-append}
 use Rattle.std.proofs.lemmas.List.{append-nil, map-append, take_more}
-use Rattle.order_uses.specs.declared.uses.Use.{Use}
+use Rattle.order_free.specs.declared.uses.Use.{Use}
 use Rattle.order_free.specs.Users.{is_within, Shows}
 use Rattle.order_free.specs.Tables as tables
 use Rattle.order_free.specs.Tables.{users_at, Noted, Claim, claim, claims, Took}

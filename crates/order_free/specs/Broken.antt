@@ -1,7 +1,7 @@
 -- Which parts of the rule are broken by what is noted.
 use Rattle.std.specs.Prelude.{◌≡◌, ◌<◌, ℕ, true}
-use Rattle.order_uses.specs.declared.uses.Use.{Use}
-use Rattle.order_uses.specs.declared.uses.Use.TheVariants as used
+use Rattle.order_free.specs.declared.uses.Use.{Use}
+use Rattle.order_free.specs.declared.uses.Use.TheVariants as used
 use Rattle.order_free.specs.Free.{IsStored, IsEnd}
 use Rattle.order_free.specs.Users.{is_somebody, is_many, is_clash}
 use Rattle.order_free.specs.Tables.{users_at}

@@ -1,14 +1,14 @@
 -- The rule on what the processes of a design share, and what a verdict says of it.
 use Rattle.std.specs.Prelude.{◌≡◌, ◌≢◌, ◌⊎◌, ◌<◌, ⊤, ℕ, slice_get, Some, Contains}
-use Rattle.order_uses.specs.EventCore.declared.event.Ev.{Ev}
-use Rattle.order_uses.specs.FlatDesign.Code.{Statement, arena_of, body_at}
-use Rattle.order_uses.specs.FlatDesign.Reach.{Reached}
-use Rattle.order_uses.specs.FlatDesign.declared.code.CodeBody.{CodeBody}
-use Rattle.order_uses.specs.FlatDesign.declared.design.ProcessPart.{ProcessPart}
-use Rattle.order_uses.specs.FlatDesign.declared.design.Design.{Design}
-use Rattle.order_uses.specs.Uses.{uses_of, uses_of_event}
-use Rattle.order_uses.specs.declared.uses.Use.{Use}
-use Rattle.order_uses.specs.declared.uses.Use.TheVariants as used
+use Rattle.flat_design.specs.EventCore.declared.event.Ev.{Ev}
+use Rattle.flat_design.specs.Code.{Statement, arena_of, body_at}
+use Rattle.flat_design.specs.Reach.{Reached}
+use Rattle.flat_design.specs.declared.code.CodeBody.{CodeBody}
+use Rattle.flat_design.specs.declared.design.ProcessPart.{ProcessPart}
+use Rattle.flat_design.specs.declared.design.Design.{Design}
+use Rattle.order_free.specs.Uses.{uses_of, uses_of_event}
+use Rattle.order_free.specs.declared.uses.Use.{Use}
+use Rattle.order_free.specs.declared.uses.Use.TheVariants as used
 use Rattle.order_free.specs.declared.verdicts.Verdict.{Verdict}
 use Rattle.order_free.specs.declared.verdicts.Verdict.TheVariants as verdict
 

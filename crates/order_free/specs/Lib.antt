@@ -1,3 +1,5 @@
+pub mod Uses
+pub mod Blocks
 pub mod Free
 pub mod Users
 pub mod Tables

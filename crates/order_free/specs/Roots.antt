@@ -1,12 +1,12 @@
 -- Where the processes of each instance begin, and what is known of the uses of the first instances.
 use Rattle.std.specs.Prelude.{◌≡◌, ◌<◌, ◌+◌, ℕ, true, List, [], length, min, slice_get, unwrap_or, Some, Contains}
-use Rattle.order_uses.specs.FlatDesign.Code.{Statement, arena_of, body_at}
-use Rattle.order_uses.specs.FlatDesign.Reach.{Reached}
-use Rattle.order_uses.specs.FlatDesign.declared.code.CodeBody.{CodeBody}
-use Rattle.order_uses.specs.FlatDesign.declared.design.ProcessPart.{ProcessPart}
-use Rattle.order_uses.specs.FlatDesign.declared.design.Design.{Design}
-use Rattle.order_uses.specs.Uses.{uses_of}
-use Rattle.order_uses.specs.declared.uses.Use.{Use}
+use Rattle.flat_design.specs.Code.{Statement, arena_of, body_at}
+use Rattle.flat_design.specs.Reach.{Reached}
+use Rattle.flat_design.specs.declared.code.CodeBody.{CodeBody}
+use Rattle.flat_design.specs.declared.design.ProcessPart.{ProcessPart}
+use Rattle.flat_design.specs.declared.design.Design.{Design}
+use Rattle.order_free.specs.Uses.{uses_of}
+use Rattle.order_free.specs.declared.uses.Use.{Use}
 use Rattle.order_free.specs.Free.{Uses}
 use Rattle.order_free.specs.Users.{is_within, Shows}
 use Rattle.order_free.specs.Tables.{users_at, uses_of_events}

@@ -1,6 +1,6 @@
 -- Labels that spread along blocks: who comes to each block, and the blocks whose labels rose, in order.
 use Rattle.std.specs.Prelude.{◌≡◌, ◌⊎◌, ◌<◌, ◌≤◌, ◌+◌, ℕ, Bool, true, false, List, [], ◌∷◌, ◌++◌, length, get_or, slice_get, slice_set, unwrap_or, Option, Some, None, Contains}
-use Rattle.order_uses.specs.declared.blocks.BlockPart.{BlockPart}
+use Rattle.order_free.specs.declared.blocks.BlockPart.{BlockPart}
 use Rattle.order_free.specs.Users.{is_within, joined, Shows}
 use Rattle.order_free.specs.declared.users.Users.{Users}
 use Rattle.order_free.specs.declared.users.Users.TheVariants as users

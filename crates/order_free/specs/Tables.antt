@@ -1,13 +1,13 @@
 -- Who uses what, as it is noted use by use.
 use Rattle.std.specs.Prelude.{◌≡◌, ◌⊎◌, ℕ, List, [], ◌∷◌, map, slice_get, Option, Some, None}
 use Rattle.std.specs.List.{flat_map}
-use Rattle.order_uses.specs.EventCore.declared.event.Ev.{Ev}
-use Rattle.order_uses.specs.FlatDesign.declared.design.Design.{Design}
-use Rattle.order_uses.specs.Uses.{uses_of_deed, uses_of_event}
-use Rattle.order_uses.specs.declared.uses.Deed.{Deed}
-use Rattle.order_uses.specs.declared.uses.Use.{Use}
-use Rattle.order_uses.specs.declared.uses.Use.TheVariants as used
-use Rattle.order_uses.specs.declared.blocks.BlockPart.{BlockPart}
+use Rattle.flat_design.specs.EventCore.declared.event.Ev.{Ev}
+use Rattle.flat_design.specs.declared.design.Design.{Design}
+use Rattle.order_free.specs.Uses.{uses_of_deed, uses_of_event}
+use Rattle.order_free.specs.declared.uses.Deed.{Deed}
+use Rattle.order_free.specs.declared.uses.Use.{Use}
+use Rattle.order_free.specs.declared.uses.Use.TheVariants as used
+use Rattle.order_free.specs.declared.blocks.BlockPart.{BlockPart}
 use Rattle.order_free.specs.Users.{joined, users_in}
 use Rattle.order_free.specs.Spreading.{label_at}
 use Rattle.order_free.specs.declared.users.Users.{Users}

@@ -1,8 +1,8 @@
 //! Instance by instance.
 ghost use Rattle.std.specs.Prelude.{◌≡◌, ◌+◌, ℕ, OnOk, IfOk, length, Contains};
-ghost use Rattle.order_uses.specs.FlatDesign.Code.{arena_of};
-ghost use Rattle.order_uses.specs.Blocks.{ArePartsOf};
-ghost use Rattle.order_uses.specs.declared.uses.Use.{Use as Used};
+ghost use Rattle.flat_design.specs.Code.{arena_of};
+ghost use Rattle.order_free.specs.Blocks.{ArePartsOf};
+ghost use Rattle.order_free.specs.declared.uses.Use.{Use as Used};
 ghost use Rattle.order_free.specs.Free.{Says};
 ghost use Rattle.order_free.specs.Roots as roots;
 ghost use Rattle.order_free.specs.Roots.{TellsSensitivity, TellsHomes, Tells};
@@ -16,9 +16,9 @@ use super::spreading::{clear, no_labels, spread};
 use super::tables::{Tables, no_users};
 use super::users::Users;
 use super::verdicts::{Verdict, verdict_of};
-use order_uses::flat_design_api::Design;
-use order_uses::plain_lists_api::Items;
-use order_uses::{BlockPart, block_parts};
+use crate::{BlockPart, block_parts};
+use flat_design::Design;
+use flat_design::logic_values_api::Items;
 use std::alloc::{AllocError, Global};
 
 /// Notes what the static sensitivities of all processes use.

@@ -1,18 +1,18 @@
 //! What deeds and static sensitivities use, noted.
 ghost use Rattle.std.specs.Prelude.{◌≡◌, ℕ, OnOk, slice_get, option_to_list};
 ghost use Rattle.std.specs.List.{flat_map};
-ghost use Rattle.order_uses.specs.Uses as uses;
-ghost use Rattle.order_uses.specs.FlatDesign.Denotes as denotes;
-ghost use Rattle.order_uses.specs.declared.uses.Use.TheVariants as used;
+ghost use Rattle.order_free.specs.Uses as uses;
+ghost use Rattle.flat_design.specs.Denotes as denotes;
+ghost use Rattle.order_free.specs.declared.uses.Use.TheVariants as used;
 ghost use Rattle.order_free.specs.Tables.{Took, claims, claims_in, deeds_in, uses_of_events};
 ghost use Rattle.order_free.specs.Spreading.{label_at};
 
 use super::spreading::label_at;
 use super::tables::{Tables, note};
 use super::users::Users;
-use order_uses::event_core_api::Ev;
-use order_uses::flat_design_api::{ChannelId, Denoted, Design};
-use order_uses::{BlockPart, Deed, Use};
+use crate::{BlockPart, Deed, Use};
+use flat_design::event_core_api::Ev;
+use flat_design::{ChannelId, Denoted, Design};
 use std::alloc::AllocError;
 
 /// What the name at this place of its module stands for in the instance of this number.

@@ -1,11 +1,11 @@
 //! Where the processes of each instance begin.
 ghost use Rattle.std.specs.Prelude.{◌≡◌, ◌<◌, ◌++◌, ◌∷◌, [], OnOk, IfOk, length, replicate, slice_set, slice_get, option_map, ◌+◌, Some};
-ghost use Rattle.order_uses.specs.FlatDesign.Code.{arena_of, body_at};
-ghost use Rattle.order_uses.specs.FlatDesign.declared.code.CodeBody.{CodeBody};
+ghost use Rattle.flat_design.specs.Code.{arena_of, body_at};
+ghost use Rattle.flat_design.specs.declared.code.CodeBody.{CodeBody};
 ghost use Rattle.order_free.specs.Roots as spec;
 
-use order_uses::flat_design_api::{Design, ProcessPart};
-use order_uses::plain_lists_api::Items;
+use flat_design::logic_values_api::Items;
+use flat_design::{Design, ProcessPart};
 use std::alloc::{AllocError, Global};
 
 /// Where a process begins.

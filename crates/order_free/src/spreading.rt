@@ -7,7 +7,7 @@ ghost use Rattle.order_free.specs.declared.roots.Root.{Root as Begun};
 
 use super::roots::Root;
 use super::users::{Users, is_within, joined};
-use order_uses::BlockPart;
+use crate::BlockPart;
 use std::alloc::{AllocError, Global};
 
 pub(crate) fn label_at(labels: &[Users], n: u32) -> Users

@@ -3,11 +3,11 @@ ghost use Rattle.std.specs.Prelude.{◌≡◌, ◌≢◌, ◌≤◌, ℕ, OnOk, 
 ghost use Rattle.order_free.specs.Users as spec;
 ghost use Rattle.order_free.specs.Users.{users_in};
 ghost use Rattle.order_free.specs.Tables.{users_at, Noted};
-ghost use Rattle.order_uses.specs.declared.uses.Use.{Use as Used};
+ghost use Rattle.order_free.specs.declared.uses.Use.{Use as Used};
 ghost use Rattle.order_free.specs.declared.users.Users.TheVariants as users;
 
 use super::users::{Users, joined};
-use order_uses::Use;
+use crate::Use;
 use std::alloc::{AllocError, Global};
 
 /// Who uses what. A table has the users of the objects of one kind by their numbers: nobody where it has ended.

@@ -9,12 +9,12 @@ use Rattle.model_tree.specs.declared.vocabulary.Word.TheVariants as w
 use Rattle.model_tree.specs.declared.vocabulary.Symbol.TheVariants as s
 use Rattle.model_tree.specs.Tree as tree
 use Rattle.model_tree.specs.Limits.{depth}
-use Rattle.parse_expressions.specs.ModelGrammar.Tokens as t
-use Rattle.parse_expressions.specs.ModelGrammar.Tokens.{Tokens}
-use Rattle.parse_expressions.specs.ModelGrammar.Rules.{At, Takes, Maybe, Written}
-use Rattle.parse_expressions.specs.ModelGrammar.Expressions.{DerivesExpression, is_the_symbol, sees}
-use Rattle.parse_expressions.specs.ModelGrammar.Statements.{DerivesChannel, NextName, NextExpression, DerivesWaiting, DerivesNotification, DerivesSpawn, DerivesWho, DerivesAction}
-use Rattle.parse_expressions.specs.ModelGrammar.Brackets.{in_option, in_channel, in_notification, in_waiting, in_action}
+use Rattle.parse_expressions.specs.ModelLexer.Tokens as t
+use Rattle.parse_expressions.specs.ModelLexer.Tokens.{Tokens}
+use Rattle.parse_expressions.specs.ModelLexer.Rules.{At, Takes, Maybe, Written}
+use Rattle.parse_expressions.specs.ModelLexer.Expressions.{DerivesExpression, is_the_symbol, sees}
+use Rattle.parse_expressions.specs.ModelLexer.Statements.{DerivesChannel, NextName, NextExpression, DerivesWaiting, DerivesNotification, DerivesSpawn, DerivesWho, DerivesAction}
+use Rattle.parse_expressions.specs.ModelLexer.Brackets.{in_option, in_channel, in_notification, in_waiting, in_action}
 use Rattle.parse_expressions.specs.Parse.{pure, text, name, flag, expression}
 use Rattle.parse_expressions.proofs.Parsers.{choose_cases, choose_first, choose_other, and_then_ok, made}
 use Rattle.parse_expressions.proofs.OneToken.{name_ok, name_reads, text_ok, text_reads, flag_ok, flag_reads}

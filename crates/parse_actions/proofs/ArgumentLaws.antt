@@ -3,18 +3,18 @@ use Rattle.std.proofs.Common.{◌≡◌, ℕ, suc, ◌<◌, ◌≤◌, true, fal
 use Rattle.model_tree.specs.declared.vocabulary.Symbol.TheVariants as s
 use Rattle.model_tree.specs.Limits.{depth}
 use Rattle.model_tree.specs.Tree as tree
-use Rattle.parse_expressions.specs.ModelGrammar.Tokens as t
-use Rattle.parse_expressions.specs.ModelGrammar.Tokens.{Tokens}
-use Rattle.parse_expressions.specs.ModelGrammar.Rules.{Rule, Takes, Each, Separated, Maybe}
-use Rattle.parse_expressions.specs.ModelGrammar.Expressions.{DerivesExpression, IsOver, is_the_symbol, sees}
-use Rattle.parse_expressions.specs.ModelGrammar.Statements.{DerivesArguments, DerivesIndex, NextExpression}
-use Rattle.parse_expressions.specs.ModelGrammar.Brackets.{in_all, in_index, in_option}
+use Rattle.parse_expressions.specs.ModelLexer.Tokens as t
+use Rattle.parse_expressions.specs.ModelLexer.Tokens.{Tokens}
+use Rattle.parse_expressions.specs.ModelLexer.Rules.{Rule, Takes, Each, Separated, Maybe}
+use Rattle.parse_expressions.specs.ModelLexer.Expressions.{DerivesExpression, IsOver, is_the_symbol, sees}
+use Rattle.parse_expressions.specs.ModelLexer.Statements.{DerivesArguments, DerivesIndex, NextExpression}
+use Rattle.parse_expressions.specs.ModelLexer.Brackets.{in_all, in_index, in_option}
 use Rattle.parse_expressions.specs.Parse.{pure, symbol, opened, inside, expression}
 use Rattle.parse_expressions.proofs.Parsers.{choose_cases, choose_first, and_then_ok, made}
 use Rattle.parse_expressions.proofs.OneToken.{symbol_ok, opened_ok, symbol_reads, opened_reads, symbol_sees, at_front, is_symbol_same}
 use Rattle.parse_expressions.proofs.Many.{Every, many_ok, many_reads}
 use Rattle.parse_expressions.proofs.Sound.{inside_ok, expression_ok}
-use Rattle.parse_expressions.proofs.ModelGrammar.SoundExpressions.{takes_one, counted}
+use Rattle.parse_expressions.proofs.ModelLexer.SoundExpressions.{takes_one, counted}
 use Rattle.parse_expressions.proofs.Complete.{inside_reads, expression_reads, over_at, right_paren_begins_none, semicolon_begins_none}
 use Rattle.parse_actions.specs.ChannelParse.{next_inside, at_no_comma, more_inside, some_inside, at_right_paren, listed, arguments, some_index, optional_index, at_semicolon, some_expression, optional_expression}
 

@@ -3,18 +3,18 @@ use Rattle.std.proofs.Common.{◌≡◌, ℕ, ◌<◌, ◌≤◌, max, false, Li
 use Rattle.model_tree.specs.declared.vocabulary.Word.TheVariants as w
 use Rattle.model_tree.specs.declared.vocabulary.Symbol.TheVariants as s
 use Rattle.model_tree.specs.Tree as tree
-use Rattle.parse_expressions.specs.ModelGrammar.Tokens as t
-use Rattle.parse_expressions.specs.ModelGrammar.Tokens.{Tokens}
-use Rattle.parse_expressions.specs.ModelGrammar.Rules.{Rule, ◌⨾◌, Takes, Each, Separated, Maybe}
-use Rattle.parse_expressions.specs.ModelGrammar.Expressions.{is_the_symbol, sees}
-use Rattle.parse_expressions.specs.ModelGrammar.Statements.{DerivesPlace, DerivesChannel, DerivesMember, DerivesEvent, DerivesSensitive}
-use Rattle.parse_expressions.specs.ModelGrammar.Brackets.{in_place, in_channel, in_events}
+use Rattle.parse_expressions.specs.ModelLexer.Tokens as t
+use Rattle.parse_expressions.specs.ModelLexer.Tokens.{Tokens}
+use Rattle.parse_expressions.specs.ModelLexer.Rules.{Rule, ◌⨾◌, Takes, Each, Separated, Maybe}
+use Rattle.parse_expressions.specs.ModelLexer.Expressions.{is_the_symbol, sees}
+use Rattle.parse_expressions.specs.ModelLexer.Statements.{DerivesPlace, DerivesChannel, DerivesMember, DerivesEvent, DerivesSensitive}
+use Rattle.parse_expressions.specs.ModelLexer.Brackets.{in_place, in_channel, in_events}
 use Rattle.parse_expressions.specs.Parse.{pure, symbol, word, is_the_word, named, name, number, sees_number, inside, group}
 use Rattle.parse_expressions.proofs.Parsers.{choose_cases, choose_first, choose_other, and_then_ok, made}
 use Rattle.parse_expressions.proofs.OneToken.{symbol_ok, named_ok, name_ok, number_ok, symbol_reads, named_reads, name_reads, number_reads, symbol_sees, word_ok, word_reads, word_sees}
 use Rattle.parse_expressions.proofs.Many.{Every, many_ok, many_reads}
 use Rattle.parse_expressions.proofs.Sound.{inside_ok, parens_ok}
-use Rattle.parse_expressions.proofs.ModelGrammar.SoundExpressions.{at_takes, takes_one, counted}
+use Rattle.parse_expressions.proofs.ModelLexer.SoundExpressions.{at_takes, takes_one, counted}
 use Rattle.parse_expressions.proofs.Complete.{inside_reads, parens_read}
 use Rattle.parse_actions.specs.ChannelParse.{numbered_place, computed_place, some_place, place, channel, some_member, optional_member, event, next_event, at_no_comma, more_events, events, some_sensitivity, sensitive}
 

@@ -13,13 +13,13 @@ use Rattle.model_tree.specs.declared.vocabulary.Symbol.TheVariants as s
 use Rattle.model_tree.specs.Tree as tree
 use Rattle.model_tree.specs.Limits.{depth}
 use Rattle.model_tree.specs.Parts.{word_of_action}
-use Rattle.parse_expressions.specs.ModelGrammar.Tokens as t
-use Rattle.parse_expressions.specs.ModelGrammar.Tokens.{Tokens}
-use Rattle.parse_expressions.specs.ModelGrammar.Rules.{At, Takes}
-use Rattle.parse_expressions.specs.ModelGrammar.Expressions.{is_the_symbol, sees}
-use Rattle.parse_expressions.specs.ModelGrammar.Statements.{DerivesOperation, DerivesAction}
+use Rattle.parse_expressions.specs.ModelLexer.Tokens as t
+use Rattle.parse_expressions.specs.ModelLexer.Tokens.{Tokens}
+use Rattle.parse_expressions.specs.ModelLexer.Rules.{At, Takes}
+use Rattle.parse_expressions.specs.ModelLexer.Expressions.{is_the_symbol, sees}
+use Rattle.parse_expressions.specs.ModelLexer.Statements.{DerivesOperation, DerivesAction}
 use Rattle.model_tree.specs.Spelling.{control_word}
-use Rattle.parse_expressions.specs.ModelGrammar.Brackets.{in_operation, in_action, in_option, in_notification}
+use Rattle.parse_expressions.specs.ModelLexer.Brackets.{in_operation, in_action, in_option, in_notification}
 use Rattle.parse_expressions.specs.Parse.{refuse, skip, is_the_word, word_ahead}
 use Rattle.parse_expressions.proofs.Parsers.{where_cases, and_then_ok, made}
 use Rattle.parse_expressions.proofs.OneToken.{skip_reads}

@@ -7,6 +7,5 @@ pub mod WaitLaws
 pub mod ActionLaws
 pub mod Laws
 pub mod LogicValues
-pub mod ModelGrammar
 pub mod ModelLexer
 pub mod ParseExpressions

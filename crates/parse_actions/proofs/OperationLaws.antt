@@ -6,11 +6,11 @@ use Rattle.model_tree.specs.declared.vocabulary.Word.TheVariants as w
 use Rattle.model_tree.specs.declared.vocabulary.Symbol.TheVariants as s
 use Rattle.model_tree.specs.Tree as tree
 use Rattle.model_tree.specs.Limits.{depth}
-use Rattle.parse_expressions.specs.ModelGrammar.Tokens as t
-use Rattle.parse_expressions.specs.ModelGrammar.Tokens.{Tokens}
-use Rattle.parse_expressions.specs.ModelGrammar.Rules.{At, Takes}
-use Rattle.parse_expressions.specs.ModelGrammar.Statements.{DerivesChannel, NextName, NextExpression, DerivesArguments, DerivesOperation}
-use Rattle.parse_expressions.specs.ModelGrammar.Brackets.{in_all, in_channel, in_operation}
+use Rattle.parse_expressions.specs.ModelLexer.Tokens as t
+use Rattle.parse_expressions.specs.ModelLexer.Tokens.{Tokens}
+use Rattle.parse_expressions.specs.ModelLexer.Rules.{At, Takes}
+use Rattle.parse_expressions.specs.ModelLexer.Statements.{DerivesChannel, NextName, NextExpression, DerivesArguments, DerivesOperation}
+use Rattle.parse_expressions.specs.ModelLexer.Brackets.{in_all, in_channel, in_operation}
 use Rattle.parse_expressions.specs.Parse.{name}
 use Rattle.parse_expressions.proofs.Parsers.{and_then_ok, made}
 use Rattle.parse_expressions.proofs.OneToken.{name_ok, name_reads}

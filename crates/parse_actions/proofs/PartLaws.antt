@@ -4,11 +4,11 @@ use Rattle.model_tree.specs.declared.vocabulary.Word.{Word}
 use Rattle.model_tree.specs.declared.vocabulary.Symbol.TheVariants as s
 use Rattle.model_tree.specs.Tree as tree
 use Rattle.model_tree.specs.Limits.{depth}
-use Rattle.parse_expressions.specs.ModelGrammar.Tokens as t
-use Rattle.parse_expressions.specs.ModelGrammar.Tokens.{Tokens}
-use Rattle.parse_expressions.specs.ModelGrammar.Rules.{At, Takes}
-use Rattle.parse_expressions.specs.ModelGrammar.Expressions.{DerivesExpression, is_the_symbol, sees}
-use Rattle.parse_expressions.specs.ModelGrammar.Statements.{NextName, NextExpression}
+use Rattle.parse_expressions.specs.ModelLexer.Tokens as t
+use Rattle.parse_expressions.specs.ModelLexer.Tokens.{Tokens}
+use Rattle.parse_expressions.specs.ModelLexer.Rules.{At, Takes}
+use Rattle.parse_expressions.specs.ModelLexer.Expressions.{DerivesExpression, is_the_symbol, sees}
+use Rattle.parse_expressions.specs.ModelLexer.Statements.{NextName, NextExpression}
 use Rattle.parse_expressions.specs.Parse.{skip, word_in, word_ahead, symbol, expression}
 use Rattle.parse_expressions.proofs.Parsers.{and_then_ok}
 use Rattle.parse_expressions.proofs.OneToken.{at_front, is_symbol_same, skip_some, symbol_ok, symbol_reads, name_ok, name_reads}

@@ -8,11 +8,11 @@ use Rattle.model_tree.specs.declared.types.TypeForm.{TypeForm}
 use Rattle.model_tree.specs.declared.types.TypeForm.TheVariants as form
 use Rattle.model_tree.specs.declared.types.VarType.{VarType}
 use Rattle.model_tree.specs.declared.types.VarType.TheVariants as var_type
-use Rattle.parse_expressions.specs.ModelGrammar.Tokens as t
-use Rattle.parse_expressions.specs.ModelGrammar.Tokens.{Tokens}
-use Rattle.parse_expressions.specs.ModelGrammar.Rules.{At}
-use Rattle.parse_expressions.specs.ModelGrammar.Expressions.{sees}
-use Rattle.parse_expressions.specs.ModelGrammar.Statements.{Width, DerivesForm, DerivesType, DerivesVarTypeAt}
+use Rattle.parse_expressions.specs.ModelLexer.Tokens as t
+use Rattle.parse_expressions.specs.ModelLexer.Tokens.{Tokens}
+use Rattle.parse_expressions.specs.ModelLexer.Rules.{At}
+use Rattle.parse_expressions.specs.ModelLexer.Expressions.{sees}
+use Rattle.parse_expressions.specs.ModelLexer.Statements.{Width, DerivesForm, DerivesType, DerivesVarTypeAt}
 use Rattle.parse_expressions.specs.Parse.{symbol, number, word, is_the_word}
 use Rattle.parse_expressions.proofs.Parsers.{choose_cases, and_then_ok, made}
 use Rattle.parse_expressions.proofs.OneToken.{symbol_ok, number_ok, symbol_reads, number_reads, this_word_at}

@@ -7,12 +7,12 @@ use Rattle.model_tree.specs.declared.vocabulary.Word.TheVariants as w
 use Rattle.model_tree.specs.declared.vocabulary.Symbol.TheVariants as s
 use Rattle.model_tree.specs.Tree as tree
 use Rattle.model_tree.specs.Limits.{depth}
-use Rattle.parse_expressions.specs.ModelGrammar.Tokens as t
-use Rattle.parse_expressions.specs.ModelGrammar.Tokens.{Tokens}
-use Rattle.parse_expressions.specs.ModelGrammar.Rules.{At, Takes, Separated, Maybe, Written}
-use Rattle.parse_expressions.specs.ModelGrammar.Expressions.{DerivesExpression, is_the_symbol, sees}
-use Rattle.parse_expressions.specs.ModelGrammar.Statements.{DerivesEvent, DerivesSensitive, DerivesArguments, DerivesSpan, DerivesWaiting, DerivesNotification, DerivesHandle, DerivesSpawn, DerivesWho}
-use Rattle.parse_expressions.specs.ModelGrammar.Brackets.{in_option, in_all, in_channel, in_events, in_waiting, in_notification}
+use Rattle.parse_expressions.specs.ModelLexer.Tokens as t
+use Rattle.parse_expressions.specs.ModelLexer.Tokens.{Tokens}
+use Rattle.parse_expressions.specs.ModelLexer.Rules.{At, Takes, Separated, Maybe, Written}
+use Rattle.parse_expressions.specs.ModelLexer.Expressions.{DerivesExpression, is_the_symbol, sees}
+use Rattle.parse_expressions.specs.ModelLexer.Statements.{DerivesEvent, DerivesSensitive, DerivesArguments, DerivesSpan, DerivesWaiting, DerivesNotification, DerivesHandle, DerivesSpawn, DerivesWho}
+use Rattle.parse_expressions.specs.ModelLexer.Brackets.{in_option, in_all, in_channel, in_events, in_waiting, in_notification}
 use Rattle.parse_expressions.specs.Parse.{pure, word, is_the_word, sees_second, flag, symbol, named, name, expression}
 use Rattle.parse_expressions.proofs.Parsers.{choose_cases, choose_first, choose_other, and_then_ok, made}
 use Rattle.parse_expressions.proofs.OneToken.{symbol_ok, symbol_reads, named_ok, name_ok, name_reads, word_ok, this_word_at, word_reads, word_sees, flag_ok, flag_reads}

@@ -7,7 +7,7 @@ use Rattle.model_tree.specs.declared.vocabulary.Symbol.TheVariants as s
 use Rattle.model_tree.specs.declared.statements.Control.{Control}
 use Rattle.model_tree.specs.declared.statements.Control.TheVariants as order
 use Rattle.model_tree.specs.Tree as tree
-use Rattle.parse_expressions.specs.ModelGrammar.Expressions.{is_the_symbol, sees}
+use Rattle.parse_expressions.specs.ModelLexer.Expressions.{is_the_symbol, sees}
 use Rattle.parse_expressions.specs.Parse.{Parser, ◌>>=◌, pure, choose, refuse, text, name, flag, expression}
 use Rattle.parse_actions.specs.ChannelParse.{channel, optional_expression}
 use Rattle.parse_actions.specs.declared.actions.ActionStart.{ActionStart}

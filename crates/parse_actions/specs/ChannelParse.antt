@@ -10,8 +10,8 @@ use Rattle.model_tree.specs.declared.types.TypeForm.TheVariants as form
 use Rattle.model_tree.specs.declared.types.VarType.{VarType}
 use Rattle.model_tree.specs.declared.types.VarType.TheVariants as var_type
 use Rattle.model_tree.specs.Tree as tree
-use Rattle.parse_expressions.specs.ModelGrammar.Tokens as t
-use Rattle.parse_expressions.specs.ModelGrammar.Expressions.{is_the_symbol, sees}
+use Rattle.parse_expressions.specs.ModelLexer.Tokens as t
+use Rattle.parse_expressions.specs.ModelLexer.Expressions.{is_the_symbol, sees}
 use Rattle.parse_expressions.specs.Parse.{Parser, ◌>>=◌, pure, choose, many, word, is_the_word, symbol, named, name, number, sees_number, opened, inside, expression, group}
 
 -- a width between angle brackets

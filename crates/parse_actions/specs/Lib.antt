@@ -5,6 +5,5 @@ pub mod Actions
 pub mod Parse
 pub mod SimTime
 pub mod LogicValues
-pub mod ModelGrammar
 pub mod ModelLexer
 pub mod ParseExpressions

@@ -1,4 +1,11 @@
+pub use Rattle.parse_expressions.specs.ModelLexer.Brackets as Brackets
 pub use Rattle.parse_expressions.specs.ModelLexer.Cut as Cut
+pub use Rattle.parse_expressions.specs.ModelLexer.Expressions as Expressions
+pub use Rattle.parse_expressions.specs.ModelLexer.Items as Items
+pub use Rattle.parse_expressions.specs.ModelLexer.Languages as Languages
 pub use Rattle.parse_expressions.specs.ModelLexer.Laws as Laws
 pub use Rattle.parse_expressions.specs.ModelLexer.Reads as Reads
-pub use Rattle.parse_expressions.specs.ModelLexer.Seen as Seen
+pub use Rattle.parse_expressions.specs.ModelLexer.Rules as Rules
+pub use Rattle.parse_expressions.specs.ModelLexer.Statements as Statements
+pub use Rattle.parse_expressions.specs.ModelLexer.Tokens as Tokens
+pub use Rattle.parse_expressions.specs.ModelLexer.Views as Views

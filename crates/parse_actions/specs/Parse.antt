@@ -3,7 +3,7 @@
 use Rattle.std.specs.Prelude.{ℕ, Bool, false, Option, Some, None}
 use Rattle.model_tree.specs.declared.vocabulary.Word.{Word}
 use Rattle.model_tree.specs.Tree as tree
-use Rattle.parse_expressions.specs.ModelGrammar.Tokens as t
+use Rattle.parse_expressions.specs.ModelLexer.Tokens as t
 use Rattle.parse_expressions.specs.Parse.{Parser, ◌>>=◌, pure, refuse, where_some, skip, word_ahead}
 use Rattle.parse_actions.specs.Operations.{operation_start, begins_operation, started_operation}
 use Rattle.parse_actions.specs.Actions.{action_start, begins_action, started_action}

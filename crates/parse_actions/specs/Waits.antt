@@ -6,7 +6,7 @@ use Rattle.model_tree.specs.declared.vocabulary.Symbol.TheVariants as s
 use Rattle.model_tree.specs.declared.statements.Who.{Who}
 use Rattle.model_tree.specs.declared.statements.Who.TheVariants as who_is
 use Rattle.model_tree.specs.Tree as tree
-use Rattle.parse_expressions.specs.ModelGrammar.Expressions.{is_the_symbol, sees}
+use Rattle.parse_expressions.specs.ModelLexer.Expressions.{is_the_symbol, sees}
 use Rattle.parse_expressions.specs.Parse.{Parser, ◌>>=◌, pure, choose, word, is_the_word, sees_second, flag, symbol, named, name, expression}
 use Rattle.parse_actions.specs.ChannelParse.{event, events, sensitive, arguments, at_semicolon}
 

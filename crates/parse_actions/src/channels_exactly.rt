@@ -3,10 +3,10 @@ ghost use Rattle.model_tree.specs.declared.vocabulary.Symbol.TheVariants as s;
 ghost use Rattle.model_tree.specs.declared.types.SignalType.{SignalType};
 ghost use Rattle.model_tree.specs.declared.types.VarType.{VarType};
 ghost use Rattle.model_tree.specs.Tree as tree;
-ghost use Rattle.parse_expressions.specs.ModelGrammar.Tokens.{Tokens};
-ghost use Rattle.parse_expressions.specs.ModelGrammar.Expressions.{is_the_symbol, sees};
-ghost use Rattle.parse_expressions.specs.ModelGrammar.Statements.{DerivesType, DerivesVarTypeAt, DerivesChannel, DerivesEvent, DerivesArguments};
-ghost use Rattle.parse_expressions.specs.ModelGrammar.Brackets.{in_channel, in_all};
+ghost use Rattle.parse_expressions.specs.ModelLexer.Tokens.{Tokens};
+ghost use Rattle.parse_expressions.specs.ModelLexer.Expressions.{is_the_symbol, sees};
+ghost use Rattle.parse_expressions.specs.ModelLexer.Statements.{DerivesType, DerivesVarTypeAt, DerivesChannel, DerivesEvent, DerivesArguments};
+ghost use Rattle.parse_expressions.specs.ModelLexer.Brackets.{in_channel, in_all};
 ghost use Rattle.parse_actions.specs.ChannelParse as spec;
 
 /// A type of signals is read exactly where one is derived.

@@ -1,10 +1,10 @@
 ghost use Rattle.std.specs.Prelude.{◌≡◌, ◌↔◌, ℕ, ◌≤◌, true, Some};
 ghost use Rattle.model_tree.specs.Tree as tree;
 ghost use Rattle.model_tree.specs.declared.vocabulary.Symbol.TheVariants as s;
-ghost use Rattle.parse_expressions.specs.ModelGrammar.Tokens.{Tokens};
-ghost use Rattle.parse_expressions.specs.ModelGrammar.Expressions.{is_the_symbol, sees};
-ghost use Rattle.parse_expressions.specs.ModelGrammar.Statements.{DerivesOperation, DerivesAction};
-ghost use Rattle.parse_expressions.specs.ModelGrammar.Brackets.{in_operation, in_action};
+ghost use Rattle.parse_expressions.specs.ModelLexer.Tokens.{Tokens};
+ghost use Rattle.parse_expressions.specs.ModelLexer.Expressions.{is_the_symbol, sees};
+ghost use Rattle.parse_expressions.specs.ModelLexer.Statements.{DerivesOperation, DerivesAction};
+ghost use Rattle.parse_expressions.specs.ModelLexer.Brackets.{in_operation, in_action};
 ghost use Rattle.parse_actions.specs.Parse as spec;
 
 /// An operation is read up to a semicolon exactly where the grammar derives it up to there with no more brackets

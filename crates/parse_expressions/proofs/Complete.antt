@@ -17,19 +17,19 @@ use Rattle.model_tree.specs.declared.expressions.Conversion.{Conversion}
 use Rattle.model_tree.specs.declared.expressions.Conversion.TheVariants as conversion
 use Rattle.model_tree.specs.Limits.{level, depth, token_count}
 use Rattle.model_tree.specs.Tree as tree
-use Rattle.model_lexer.specs.ModelGrammar.Tokens as t
-use Rattle.model_lexer.specs.ModelGrammar.Tokens.{Tokens}
-use Rattle.model_lexer.specs.ModelGrammar.Rules.{◌⨾◌, At, Takes}
+use Rattle.model_lexer.specs.Tokens as t
+use Rattle.model_lexer.specs.Tokens.{Tokens}
+use Rattle.model_lexer.specs.Rules.{◌⨾◌, At, Takes}
 use Rattle.parse_expressions.specs.declared.starts.Leaf.{Leaf}
 use Rattle.parse_expressions.specs.declared.starts.Leaf.TheVariants as leaf
 use Rattle.parse_expressions.specs.declared.starts.Start.{Start}
 use Rattle.parse_expressions.specs.declared.starts.Start.TheVariants as start
-use Rattle.model_lexer.specs.ModelGrammar.Expressions.{Short, Parenthesized, DerivesAt, unit_in, operator_in, is_the_symbol, is_link, extends, goes_on, sees, IsOver, BeginsWith}
+use Rattle.model_lexer.specs.Expressions.{Short, Parenthesized, DerivesAt, unit_in, operator_in, is_the_symbol, is_link, extends, goes_on, sees, IsOver, BeginsWith}
 use Rattle.model_tree.specs.Spelling.{binary_symbol, unary_symbol, conversion_word}
 use Rattle.parse_expressions.specs.Parse.{Parser, and_then, repeat, unit_ahead, operator_ahead, sign_in, sign_ahead, token_start, start_of, leaf_tree, number_or_time, literal, leaf_expression, member, bounds, short, at_no_link, is_not_of, at_none_of, binary, levelled, sees_number, sees_bounds, group, paren, convert, vector, concat, placed, placed_by, place, channel, index, link, chain, primary_of, primary, unary, operand, climb, inside, expression}
 use Rattle.parse_expressions.proofs.Parsers.{choose_first, choose_other, repeat_stops, repeat_goes}
 use Rattle.parse_expressions.proofs.OneToken.{is_symbol_same, skip_reads, symbol_reads, opened_reads, named_reads, name_reads, numbered_reads, number_reads, logical_reads, symbol_sees, named_unit, operator_symbol, sign_symbol, truth_begins, conversion_begins, constant_begins}
-use Rattle.model_lexer.proofs.ModelGrammar.SoundExpressions.{counted}
+use Rattle.model_lexer.proofs.SoundExpressions.{counted}
 use Rattle.parse_expressions.proofs.Sound.{AtFree, NoneFrom, level_small, lower}
 
 -- an expression takes a token at least

@@ -1,7 +1,7 @@
 -- The descent at its last level and its last bracket, and before them.
 use Rattle.std.proofs.Common.{◌≡◌, ℕ, zero, suc, ◌+◌, ◌-◌, ◌<◌, None, refl, arith}
 use Rattle.model_tree.specs.Tree as tree
-use Rattle.model_lexer.specs.ModelGrammar.Tokens.{Tokens}
+use Rattle.model_lexer.specs.Tokens.{Tokens}
 use Rattle.parse_expressions.specs.Parse.{Parser, levelled, operand, climb, inside, expression}
 
 pub climb_ends : (d : ℕ) (within : Parser tree.Expression) (k n : ℕ) → k ≡ 0 → climb d within k n ≡ operand d within

@@ -5,5 +5,4 @@ pub mod Complete
 pub mod Many
 pub mod Descent
 pub mod LogicValues
-pub mod ModelGrammar
 pub mod ModelLexer

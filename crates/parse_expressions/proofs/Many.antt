@@ -2,8 +2,8 @@
 use Rattle.std.proofs.Common.{◌≡◌, ℕ, zero, suc, ◌+◌, ◌-◌, ◌<◌, ◌≤◌, Bool, true, false, List, [], ◌∷◌, ◌++◌, length, Option, Some, None, sym, ◌∙◌, refl, ap, subst, ⊎_elim, append_assoc, arith}
 use Rattle.std.proofs.lemmas.Bool.{cases_Bool}
 use Rattle.std.proofs.lemmas.List.{append-nil}
-use Rattle.model_lexer.specs.ModelGrammar.Tokens.{Tokens}
-use Rattle.model_lexer.specs.ModelGrammar.Rules.{Rule, Each}
+use Rattle.model_lexer.specs.Tokens.{Tokens}
+use Rattle.model_lexer.specs.Rules.{Rule, Each}
 use Rattle.parse_expressions.specs.Parse.{Parser, pure, repeat, one_more, many}
 use Rattle.parse_expressions.proofs.Parsers.{and_then_ok, repeat_stops, repeat_goes, turn_stops, turn_goes, turn_fails, turns_end}
 

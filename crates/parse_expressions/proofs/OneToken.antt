@@ -23,14 +23,14 @@ use Rattle.model_tree.specs.declared.expressions.Conversion.{Conversion}
 use Rattle.model_tree.specs.declared.expressions.Conversion.TheVariants as conversion
 use Rattle.model_tree.specs.declared.expressions.NamedConstant.{NamedConstant}
 use Rattle.model_tree.specs.declared.expressions.NamedConstant.TheVariants as constant
-use Rattle.model_lexer.specs.ModelGrammar.Tokens as t
-use Rattle.model_lexer.specs.ModelGrammar.Tokens.{Tokens}
-use Rattle.model_lexer.specs.ModelGrammar.Rules.{At, Takes, Written}
+use Rattle.model_lexer.specs.Tokens as t
+use Rattle.model_lexer.specs.Tokens.{Tokens}
+use Rattle.model_lexer.specs.Rules.{At, Takes, Written}
 use Rattle.parse_expressions.specs.declared.starts.Leaf.{Leaf}
 use Rattle.parse_expressions.specs.declared.starts.Leaf.TheVariants as leaf
 use Rattle.parse_expressions.specs.declared.starts.Start.{Start}
 use Rattle.parse_expressions.specs.declared.starts.Start.TheVariants as start
-use Rattle.model_lexer.specs.ModelGrammar.Expressions.{operator_of, operator_in, unit_of, unit_in, is_the_symbol, sees}
+use Rattle.model_lexer.specs.Expressions.{operator_of, operator_in, unit_of, unit_in, is_the_symbol, sees}
 use Rattle.model_tree.specs.Spelling.{unary_symbol, binary_symbol, truth_word, conversion_word, constant_word}
 use Rattle.parse_expressions.specs.Parse.{skip, symbol, named, name_in, name, numbered, number_in, number, is_the_number, this_number, logical, logic_in, opened, operator_ahead, sign_of, sign_in, sign_ahead, word_start, symbol_start, token_start, start_of, pure, is_the_word, word, true_behind, flag, text_in, text}
 use Rattle.parse_expressions.proofs.Parsers.{and_then_ok, choose_cases, choose_first, choose_other}

@@ -1,7 +1,7 @@
 -- What parsers that are put together give, and each turn of a loop.
 use Rattle.std.proofs.Common.{◌≡◌, ℕ, zero, suc, ◌+◌, ◌-◌, ◌<◌, ◌≤◌, Bool, true, false, Option, Some, None, sym, ◌∙◌, refl, subst, ⊎_elim, arith}
 use Rattle.std.proofs.lemmas.Bool.{cases_Bool}
-use Rattle.model_lexer.specs.ModelGrammar.Tokens.{Tokens}
+use Rattle.model_lexer.specs.Tokens.{Tokens}
 use Rattle.parse_expressions.specs.Parse.{Parser, and_then, choose, where_some, repeat}
 
 -- what one of two parsers gave

@@ -12,14 +12,14 @@ use Rattle.model_tree.specs.declared.expressions.BinaryOp.TheVariants as op
 use Rattle.model_tree.specs.declared.expressions.Conversion.{Conversion}
 use Rattle.model_tree.specs.Limits.{level, depth}
 use Rattle.model_tree.specs.Tree as tree
-use Rattle.model_lexer.specs.ModelGrammar.Tokens as t
-use Rattle.model_lexer.specs.ModelGrammar.Tokens.{Tokens}
-use Rattle.model_lexer.specs.ModelGrammar.Rules.{◌⨾◌, At, Takes}
+use Rattle.model_lexer.specs.Tokens as t
+use Rattle.model_lexer.specs.Tokens.{Tokens}
+use Rattle.model_lexer.specs.Rules.{◌⨾◌, At, Takes}
 use Rattle.parse_expressions.specs.declared.starts.Leaf.{Leaf}
 use Rattle.parse_expressions.specs.declared.starts.Leaf.TheVariants as leaf
 use Rattle.parse_expressions.specs.declared.starts.Start.{Start}
 use Rattle.parse_expressions.specs.declared.starts.Start.TheVariants as start
-use Rattle.model_lexer.specs.ModelGrammar.Expressions.{Short, Parenthesized, DerivesAt, unit_in, operator_in, is_the_symbol, is_link, extends, goes_on, sees, BeginsWith}
+use Rattle.model_lexer.specs.Expressions.{Short, Parenthesized, DerivesAt, unit_in, operator_in, is_the_symbol, is_link, extends, goes_on, sees, BeginsWith}
 use Rattle.parse_expressions.specs.Parse.{Parser, pure, skip, named, name, numbered, number, logical, symbol, opened, unit_ahead, operator_ahead, sign_ahead, start_of, leaf_tree, with_unit, number_or_time, literal, leaf_expression, member, bounds, measured, short, at_no_link, is_not_of, at_none_of, with_operator, binary, levelled, sees_number, sees_bounds, group, paren, convert, vector, concat, placed, placed_by, place, channel, element, index, link, chain, primary_of, primary, unary, operand, climb, inside, expression}
 use Rattle.parse_expressions.proofs.Parsers.{choose_cases, where_cases, and_then_ok, made, repeat_ok}
 use Rattle.parse_expressions.proofs.OneToken.{symbol_ok, opened_ok, named_ok, name_ok, numbered_ok, number_ok, logical_ok, unit_in_named, sign_at, operator_at, leaf_word, leaf_at, conversion_at, vector_at, concat_at, at_front}

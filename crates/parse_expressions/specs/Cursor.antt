@@ -1,8 +1,8 @@
 -- What contracts see of a cursor: the tokens that are left.
 use Rattle.std.specs.Prelude.{List}
-use Rattle.model_lexer.specs.ModelGrammar.Tokens.{Tokens}
+use Rattle.model_lexer.specs.Tokens.{Tokens}
 use Rattle.model_lexer.specs.declared.token.Token.{Token}
-use Rattle.model_lexer.specs.Seen.{lexemes}
+use Rattle.model_lexer.specs.Views.{lexemes}
 use Rattle.model_lexer.specs.Laws.{with_lines}
 
 abbrev pub tokens_view : List Token → Tokens

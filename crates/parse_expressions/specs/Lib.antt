@@ -2,5 +2,4 @@ pub mod Cursor
 pub mod Parse
 pub mod SimTime
 pub mod LogicValues
-pub mod ModelGrammar
 pub mod ModelLexer

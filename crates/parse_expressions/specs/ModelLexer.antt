@@ -1,4 +1,11 @@
+pub use Rattle.model_lexer.specs.Brackets as Brackets
 pub use Rattle.model_lexer.specs.Cut as Cut
+pub use Rattle.model_lexer.specs.Expressions as Expressions
+pub use Rattle.model_lexer.specs.Items as Items
+pub use Rattle.model_lexer.specs.Languages as Languages
 pub use Rattle.model_lexer.specs.Laws as Laws
 pub use Rattle.model_lexer.specs.Reads as Reads
-pub use Rattle.model_lexer.specs.Seen as Seen
+pub use Rattle.model_lexer.specs.Rules as Rules
+pub use Rattle.model_lexer.specs.Statements as Statements
+pub use Rattle.model_lexer.specs.Tokens as Tokens
+pub use Rattle.model_lexer.specs.Views as Views

@@ -20,12 +20,12 @@ use Rattle.model_tree.specs.declared.expressions.Conversion.TheVariants as conve
 use Rattle.model_tree.specs.declared.expressions.NamedConstant.TheVariants as constant
 use Rattle.model_tree.specs.Limits.{level}
 use Rattle.model_tree.specs.Tree as tree
-use Rattle.model_lexer.specs.ModelGrammar.Tokens as t
+use Rattle.model_lexer.specs.Tokens as t
 use Rattle.parse_expressions.specs.declared.starts.Leaf.{Leaf}
 use Rattle.parse_expressions.specs.declared.starts.Leaf.TheVariants as leaf
 use Rattle.parse_expressions.specs.declared.starts.Start.{Start}
 use Rattle.parse_expressions.specs.declared.starts.Start.TheVariants as start
-use Rattle.model_lexer.specs.ModelGrammar.Expressions.{operator_in, unit_in, is_the_symbol, is_link, sees}
+use Rattle.model_lexer.specs.Expressions.{operator_in, unit_in, is_the_symbol, is_link, sees}
 
 abbrev pub Parser : Type 0 → Type 0
 Parser A = t.Tokens → Option (A × t.Tokens)

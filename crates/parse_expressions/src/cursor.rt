@@ -1,8 +1,8 @@
 ghost use Rattle.std.specs.Prelude.{◌≡◌, ◌≢◌, ℕ, ◌^◌, ◌<◌, ◌≤◌, List, [], length, IsTrue, OnOk, OnErr};
-ghost use Rattle.model_lexer.specs.ModelGrammar.Tokens.{are_limited};
+ghost use Rattle.model_lexer.specs.Tokens.{are_limited};
 ghost use Rattle.model_lexer.specs.LogicValues.Digits.{digits};
 ghost use Rattle.parse_expressions.specs.Cursor.{tokens_view};
-ghost use Rattle.model_lexer.specs.ModelGrammar.Expressions as grammar;
+ghost use Rattle.model_lexer.specs.Expressions as grammar;
 ghost use Rattle.parse_expressions.specs.Parse as spec;
 
 use super::kinds::{
@@ -26,7 +26,7 @@ pub struct Cursor<'a> {
 
 impl<'a> Model for Cursor<'a> {
     ghost use Rattle.std.specs.Prelude.{IsTrue};
-    ghost use Rattle.model_lexer.specs.ModelGrammar.Tokens.{Tokens, are_limited};
+    ghost use Rattle.model_lexer.specs.Tokens.{Tokens, are_limited};
     ghost use Rattle.parse_expressions.specs.Cursor.{tokens_view};
 
     ghost Value = { Tokens };

@@ -1,6 +1,6 @@
 ghost use Rattle.std.specs.Prelude.{◌≡◌};
-ghost use Rattle.model_lexer.specs.Seen.{token_of};
-ghost use Rattle.model_lexer.specs.ModelGrammar.Expressions as grammar;
+ghost use Rattle.model_lexer.specs.Views.{token_of};
+ghost use Rattle.model_lexer.specs.Expressions as grammar;
 ghost use Rattle.parse_expressions.specs.Parse as spec;
 
 use super::starts::{Start, operator_of, sign_of, symbol_start, unit_of, unit_word, word_start};

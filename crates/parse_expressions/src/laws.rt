@@ -1,7 +1,7 @@
 ghost use Rattle.std.specs.Prelude.{◌≡◌, ◌↔◌, ℕ, Some};
 ghost use Rattle.model_tree.specs.Tree as tree;
-ghost use Rattle.model_lexer.specs.ModelGrammar.Tokens.{Tokens};
-ghost use Rattle.model_lexer.specs.ModelGrammar.Expressions.{BeginsWith};
+ghost use Rattle.model_lexer.specs.Tokens.{Tokens};
+ghost use Rattle.model_lexer.specs.Expressions.{BeginsWith};
 ghost use Rattle.parse_expressions.specs.Parse.{expression};
 
 /// No tokens begin with two expressions, nor with one in two ways.

@@ -1,7 +1,7 @@
 ghost use Rattle.std.specs.Prelude.{◌≡◌, ℕ, ◌^◌, ◌<◌, length};
 ghost use Rattle.model_tree.specs.Tree as tree;
 ghost use Rattle.model_tree.specs.Views.{expression_of};
-ghost use Rattle.model_lexer.specs.ModelGrammar.Tokens.{Tokens};
+ghost use Rattle.model_lexer.specs.Tokens.{Tokens};
 ghost use Rattle.parse_expressions.specs.Parse as spec;
 
 use super::building::boxed;

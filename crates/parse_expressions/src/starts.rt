@@ -1,7 +1,7 @@
 ghost use Rattle.std.specs.Prelude.{◌≡◌};
 ghost use Rattle.model_tree.specs.Views.{expression_of};
 ghost use Rattle.model_tree.specs.Limits as limits;
-ghost use Rattle.model_lexer.specs.ModelGrammar.Expressions as grammar;
+ghost use Rattle.model_lexer.specs.Expressions as grammar;
 ghost use Rattle.parse_expressions.specs.Parse as spec;
 
 use model_lexer::sim_time_api::Unit;

@@ -4,10 +4,10 @@ use Rattle.model_tree.specs.declared.vocabulary.Word.{Word}
 use Rattle.model_tree.specs.declared.vocabulary.Word.TheVariants as w
 use Rattle.model_tree.specs.declared.vocabulary.Symbol.TheVariants as s
 use Rattle.model_tree.specs.Tree as tree
-use Rattle.parse_actions.specs.ModelGrammar.Tokens as t
-use Rattle.parse_actions.specs.ModelGrammar.Tokens.{Tokens}
-use Rattle.parse_actions.specs.ModelGrammar.Expressions.{sees}
-use Rattle.parse_actions.specs.ModelGrammar.Statements.{DerivesOperation, DerivesStatement}
+use Rattle.parse_actions.specs.ModelLexer.Tokens as t
+use Rattle.parse_actions.specs.ModelLexer.Tokens.{Tokens}
+use Rattle.parse_actions.specs.ModelLexer.Expressions.{sees}
+use Rattle.parse_actions.specs.ModelLexer.Statements.{DerivesOperation, DerivesStatement}
 use Rattle.parse_actions.specs.ParseExpressions.Parse.{is_the_word}
 use Rattle.parse_actions.specs.Operations.{begins_operation}
 use Rattle.parse_actions.specs.Actions.{begins_action}

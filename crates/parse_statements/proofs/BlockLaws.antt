@@ -5,12 +5,12 @@ use Rattle.model_tree.specs.declared.vocabulary.Symbol.TheVariants as s
 use Rattle.model_tree.specs.Limits.{depth}
 use Rattle.model_tree.specs.Views.{block_of}
 use Rattle.model_tree.specs.Tree as tree
-use Rattle.parse_actions.specs.ModelGrammar.Tokens as t
-use Rattle.parse_actions.specs.ModelGrammar.Tokens.{Tokens}
-use Rattle.parse_actions.specs.ModelGrammar.Rules.{Rule, ◌⨾◌, Takes, Each}
-use Rattle.parse_actions.specs.ModelGrammar.Expressions.{sees, DerivesExpression}
-use Rattle.parse_actions.specs.ModelGrammar.Statements.{Braced, HasHandler, DerivesStatement, DerivesStatements, DerivesElse, DerivesHandlers, DerivesBlock}
-use Rattle.parse_actions.specs.ModelGrammar.Brackets.{in_statement, in_block, in_else, in_handlers}
+use Rattle.parse_actions.specs.ModelLexer.Tokens as t
+use Rattle.parse_actions.specs.ModelLexer.Tokens.{Tokens}
+use Rattle.parse_actions.specs.ModelLexer.Rules.{Rule, ◌⨾◌, Takes, Each}
+use Rattle.parse_actions.specs.ModelLexer.Expressions.{sees, DerivesExpression}
+use Rattle.parse_actions.specs.ModelLexer.Statements.{Braced, HasHandler, DerivesStatement, DerivesStatements, DerivesElse, DerivesHandlers, DerivesBlock}
+use Rattle.parse_actions.specs.ModelLexer.Brackets.{in_statement, in_block, in_else, in_handlers}
 use Rattle.parse_actions.specs.ParseExpressions.Parse.{Parser, pure, word, is_the_word, symbol, name, expression}
 use Rattle.parse_actions.proofs.ParseExpressions.Parsers.{and_then_ok, choose_cases, choose_first, choose_other, made}
 use Rattle.parse_actions.proofs.ParseExpressions.OneToken.{symbol_ok, name_ok, word_ok, this_word_at, symbol_reads, name_reads, word_reads, symbol_sees, word_sees}
@@ -19,7 +19,7 @@ use Rattle.parse_actions.proofs.ParseExpressions.Sound.{expression_ok}
 use Rattle.parse_actions.proofs.ParseExpressions.Complete.{expression_reads, over_at}
 use Rattle.parse_statements.specs.Parse.{plain, some_else, else_part, if_statement, while_statement, guard_statement, handler, at_no_catch, more_handlers, handlers, handlers_of_list, try_statement, try_or_plain, guard_or_less, while_or_less, statement, at_right_brace, statements, braced, block}
 use Rattle.parse_statements.proofs.PlainLaws.{Within, plain_ok, var_reads, assign_reads, result_statement_reads, operate_statement_reads, act_statement_reads}
-use Rattle.parse_actions.proofs.ModelGrammar.Shrinks.{statement_shortens, handler_shortens}
+use Rattle.parse_actions.proofs.ModelLexer.Shrinks.{statement_shortens, handler_shortens}
 use Rattle.parse_statements.proofs.Begins.{Apart, act_apart, operate_apart, Follow, statement_begins, brace_follows}
 
 -- a handler: the name of what it catches, and its block

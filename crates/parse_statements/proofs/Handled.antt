@@ -7,7 +7,7 @@ use Rattle.model_tree.specs.declared.statements.Statement.TheOpen.{Statement-F}
 use Rattle.model_tree.specs.declared.vocabulary.Word.TheVariants as w
 use Rattle.model_tree.specs.Views.{statement_of, statement_step, block_of, body_of, handlers_of}
 use Rattle.model_tree.specs.Tree as tree
-use Rattle.parse_actions.specs.ModelGrammar.Tokens.{Tokens}
+use Rattle.parse_actions.specs.ModelLexer.Tokens.{Tokens}
 use Rattle.parse_actions.specs.ParseExpressions.Parse.{Parser, word}
 use Rattle.parse_statements.specs.Parse.{handlers, handlers_in, handlers_of_list, try_statement}
 

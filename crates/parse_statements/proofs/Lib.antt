@@ -3,7 +3,6 @@ mod Begins
 pub mod BlockLaws
 mod Handled
 pub mod LogicValues
-pub mod ModelGrammar
 pub mod ModelLexer
 pub mod ParseExpressions
 pub mod ParseActions

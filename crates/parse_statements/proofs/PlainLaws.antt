@@ -5,12 +5,12 @@ use Rattle.model_tree.specs.declared.vocabulary.Symbol.TheVariants as s
 use Rattle.model_tree.specs.declared.types.VarType.{VarType}
 use Rattle.model_tree.specs.Limits.{depth}
 use Rattle.model_tree.specs.Tree as tree
-use Rattle.parse_actions.specs.ModelGrammar.Tokens as t
-use Rattle.parse_actions.specs.ModelGrammar.Tokens.{Tokens}
-use Rattle.parse_actions.specs.ModelGrammar.Rules.{Rule, At, Takes, Maybe}
-use Rattle.parse_actions.specs.ModelGrammar.Expressions.{sees, is_the_symbol, DerivesExpression}
-use Rattle.parse_actions.specs.ModelGrammar.Statements.{DerivesTarget, DerivesInitial, DerivesMember, DerivesIndex, DerivesOperation, DerivesStatement}
-use Rattle.parse_actions.specs.ModelGrammar.Brackets.{in_option, in_index, in_operation, in_action, in_statement}
+use Rattle.parse_actions.specs.ModelLexer.Tokens as t
+use Rattle.parse_actions.specs.ModelLexer.Tokens.{Tokens}
+use Rattle.parse_actions.specs.ModelLexer.Rules.{Rule, At, Takes, Maybe}
+use Rattle.parse_actions.specs.ModelLexer.Expressions.{sees, is_the_symbol, DerivesExpression}
+use Rattle.parse_actions.specs.ModelLexer.Statements.{DerivesTarget, DerivesInitial, DerivesMember, DerivesIndex, DerivesOperation, DerivesStatement}
+use Rattle.parse_actions.specs.ModelLexer.Brackets.{in_option, in_index, in_operation, in_action, in_statement}
 use Rattle.parse_actions.specs.ParseExpressions.Parse.{pure, choose, word, is_the_word, symbol, named, name, expression}
 use Rattle.parse_actions.proofs.ParseExpressions.Parsers.{and_then_ok, choose_cases, choose_first, choose_other, made}
 use Rattle.parse_actions.proofs.ParseExpressions.OneToken.{symbol_ok, named_ok, name_ok, this_word_at, symbol_reads, named_reads, name_reads, word_reads, symbol_sees, word_sees}

@@ -1,4 +1,11 @@
+pub use Rattle.parse_actions.specs.ModelLexer.Brackets as Brackets
 pub use Rattle.parse_actions.specs.ModelLexer.Cut as Cut
+pub use Rattle.parse_actions.specs.ModelLexer.Expressions as Expressions
+pub use Rattle.parse_actions.specs.ModelLexer.Items as Items
+pub use Rattle.parse_actions.specs.ModelLexer.Languages as Languages
 pub use Rattle.parse_actions.specs.ModelLexer.Laws as Laws
 pub use Rattle.parse_actions.specs.ModelLexer.Reads as Reads
-pub use Rattle.parse_actions.specs.ModelLexer.Seen as Seen
+pub use Rattle.parse_actions.specs.ModelLexer.Rules as Rules
+pub use Rattle.parse_actions.specs.ModelLexer.Statements as Statements
+pub use Rattle.parse_actions.specs.ModelLexer.Tokens as Tokens
+pub use Rattle.parse_actions.specs.ModelLexer.Views as Views

@@ -7,8 +7,8 @@ use Rattle.model_tree.specs.declared.vocabulary.Symbol.TheVariants as s
 use Rattle.model_tree.specs.declared.statements.Statement.{Statement}
 use Rattle.model_tree.specs.Tree as tree
 use Rattle.model_tree.specs.Views.{block_of, body_of}
-use Rattle.parse_actions.specs.ModelGrammar.Tokens as t
-use Rattle.parse_actions.specs.ModelGrammar.Expressions.{is_the_symbol, sees}
+use Rattle.parse_actions.specs.ModelLexer.Tokens as t
+use Rattle.parse_actions.specs.ModelLexer.Expressions.{is_the_symbol, sees}
 use Rattle.parse_actions.specs.ParseExpressions.Parse.{Parser, ◌>>=◌, pure, refuse, choose, many, word, is_the_word, symbol, named, name, expression}
 use Rattle.parse_actions.specs.ChannelParse.{variable_type, optional_member, optional_index}
 use Rattle.parse_actions.specs.Parse.{sees_operation, sees_action, operation, action}

@@ -1,8 +1,8 @@
 ghost use Rattle.std.specs.Prelude.{◌≡◌, ◌↔◌, ℕ, suc, ◌≤◌, Some};
 ghost use Rattle.model_tree.specs.Tree as tree;
-ghost use Rattle.parse_actions.specs.ModelGrammar.Tokens.{Tokens};
-ghost use Rattle.parse_actions.specs.ModelGrammar.Statements.{DerivesBlock};
-ghost use Rattle.parse_actions.specs.ModelGrammar.Brackets.{in_block};
+ghost use Rattle.parse_actions.specs.ModelLexer.Tokens.{Tokens};
+ghost use Rattle.parse_actions.specs.ModelLexer.Statements.{DerivesBlock};
+ghost use Rattle.parse_actions.specs.ModelLexer.Brackets.{in_block};
 ghost use Rattle.parse_statements.specs.Parse.{block};
 
 /// A block is read up to a token exactly where the grammar derives it up to there with no more brackets open than

@@ -4,7 +4,7 @@ use Rattle.std.specs.FinMap as map
 use Rattle.std.proofs.lemmas.Option.{same_Some}
 use Rattle.payload_pool.specs.declared.pool.Counted.{Counted}
 use Rattle.payload_pool.specs.Payloads.{Payloads, new_payload, one_more, one_less, with_counted, with_made, with_acquired, with_released}
-use Rattle.numbered_slots.proofs.Lemmas.MapLemmas.{get-insert_same, remove_absent, remove-insert}
+use Rattle.numbered_slots.proofs.MapLemmas.{get-insert_same, remove_absent, remove-insert}
 use Rattle.numbered_slots.specs.Numbered.{without}
 
 -- what is not live cannot be taken out

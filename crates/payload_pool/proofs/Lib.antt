@@ -1,4 +1,4 @@
 pub mod TransferLemmas
 pub mod CountLemmas
 pub mod LawLemmas
-pub mod Lemmas
+pub mod NumberedSlots

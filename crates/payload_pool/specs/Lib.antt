@@ -3,5 +3,4 @@ pub mod Moves
 pub mod Payloads
 pub mod Lends
 pub mod Carried
-pub mod Lemmas
 pub mod NumberedSlots

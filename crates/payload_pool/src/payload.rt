@@ -1,5 +1,5 @@
 //! What a transaction carries.
-use plain_lists::Bytes;
+use logic_values::Bytes;
 
 /// The command to bring bytes from the memory into the payload.
 pub const READ: i32 = 0;

@@ -6,8 +6,8 @@ ghost use Rattle.std.specs.FinMap as map;
 ghost use Rattle.payload_pool.specs.Payloads as spec;
 
 use crate::payload::{IGNORE, INCOMPLETE, Payload};
+use logic_values::Bytes;
 use numbered_slots::Slots;
-use plain_lists::Bytes;
 use std::alloc::{AllocError, Global};
 use std::marker::Model;
 

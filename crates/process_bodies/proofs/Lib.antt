@@ -1,3 +1,4 @@
 pub mod Places
 pub mod Showing
+pub mod Found
 pub mod KernelBodies

@@ -1,3 +1,4 @@
 pub mod Bodies
+pub mod Marks
 pub mod KernelBodies
 pub mod ProcessState

@@ -5,7 +5,7 @@ use Rattle.std.specs.Ordering.{nat_cmp, eq_by_cmp}
 use Rattle.std.specs.FinSet as set
 use Rattle.std.specs.FinSet.{FinSet, contains, items}
 use Rattle.ready_set.specs.Ready.{rising, IsLeast}
-use Rattle.ready_set.specs.Kept.{AllAbove, IsRising}
+use Rattle.ready_set.specs.Layout.{AllAbove, IsRising}
 use Rattle.ready_set.proofs.Rising.{has, same_ties, tied, has-in_order, rising-in_order}
 
 -- the rising order of a set has its members

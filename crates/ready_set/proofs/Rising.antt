@@ -6,7 +6,7 @@ use Rattle.std.proofs.lemmas.Bool.{cases_eq, cases_order, lt-ltb, le-ltb}
 use Rattle.std.specs.Ordering.{nat_cmp, eq_by_cmp}
 use Rattle.std.specs.Cmp.{unsigned_tied}
 use Rattle.ready_set.specs.Ready.{placed, in_order}
-use Rattle.ready_set.specs.Kept.{AllAbove, IsRising}
+use Rattle.ready_set.specs.Layout.{AllAbove, IsRising}
 
 -- whether q is in the list
 abbrev pub has : ℕ → List ℕ → Bool

@@ -14,7 +14,7 @@ use Rattle.room_map.specs.Entries.{without}
 use Rattle.std.specs.FinSet as set
 use Rattle.std.specs.FinSet.{FinSet, contains, insert, remove, items, len, from_list}
 use Rattle.ready_set.specs.Ready.{Ready, placed, rising, with_member, without_member}
-use Rattle.ready_set.specs.Kept.{AllAbove, IsRising, is_other, keys_of}
+use Rattle.ready_set.specs.Layout.{AllAbove, IsRising, is_other, keys_of}
 use Rattle.ready_set.proofs.Rising.{has, tied, above_all, has-placed, has-in_order, rising-in_order, same_rising}
 
 abbrev set_of : List ℕ → FinSet nat_cmp

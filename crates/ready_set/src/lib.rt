@@ -29,7 +29,7 @@ impl Model for ReadySet {
 
     ghost coded = { ready_code };
 
-    ghost use Rattle.ready_set.specs.Kept.{keys_of};
+    ghost use Rattle.ready_set.specs.Layout.{keys_of};
 
     ghost view = { λ s. record {
       members = set.from_list (keys_of s.kept.entries);

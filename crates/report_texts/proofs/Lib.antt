@@ -1,3 +1,3 @@
 pub mod Upward
 pub mod Stands
-pub mod Kept
+pub mod PathTexts

@@ -11,7 +11,7 @@ use Rattle.kernel_state.specs.SimModel.Texts.{closing, end_line}
 use Rattle.kernel_state.specs.SimModel.declared.plain.Stop.{Stop}
 use Rattle.kernel_state.specs.Kernel.{StandsFor, whole_design}
 use Rattle.kernel_state.specs.declared.kernel.Kernel.{Kernel}
-use Rattle.report_texts.specs.Seen.{with_line, value_in, line_for, closing_of}
+use Rattle.report_texts.specs.ReportViews.{with_line, value_in, line_for, closing_of}
 
 -- both texts by the design, the channels and the time
 abbrev line_by : Design → Channels → ℕ → Option Visible → Option (List ℕ)

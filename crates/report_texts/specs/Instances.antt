@@ -8,7 +8,7 @@ use Rattle.flat_design.specs.declared.design.Design.{Design}
 use Rattle.kernel_state.specs.SimModel.Configuration.{Config, Instance, instance_at, arena}
 use Rattle.kernel_state.specs.SimModel.Steps.{turn_line}
 use Rattle.kernel_state.specs.SimModel.Storing.{print_line}
-use Rattle.kernel_state.specs.KernelProcesses.Seen.{body_at as kept_at}
+use Rattle.kernel_state.specs.KernelProcesses.InstanceViews.{body_at as kept_at}
 use Rattle.kernel_state.specs.Kernel.{StandsFor, path_in, whole_design}
 use Rattle.kernel_state.specs.declared.kernel.Kept.{Kept}
 use Rattle.kernel_state.specs.declared.kernel.Kernel.{Kernel}

@@ -1,3 +1,3 @@
 pub mod Climbs
-pub mod Seen
+pub mod ReportViews
 pub mod Instances

@@ -3,7 +3,7 @@ ghost use Rattle.std.specs.Prelude.{◌≡◌, ◌++◌, OnOk, IfOk};
 ghost use Rattle.kernel_state.specs.SimModel.Configuration.{Config};
 ghost use Rattle.kernel_state.specs.SimModel.Texts as spec;
 ghost use Rattle.kernel_state.specs.Kernel.{StandsFor};
-ghost use Rattle.report_texts.specs.Seen.{final_of, finals_of, closing_of};
+ghost use Rattle.report_texts.specs.ReportViews.{final_of, finals_of, closing_of};
 
 use crate::faults::push_fault;
 use crate::pieces::{push_number, push_value, push_word_and_number};

@@ -3,7 +3,7 @@ ghost use Rattle.std.specs.Prelude.{◌≡◌, ◌++◌, OnOk, IfOk, slice_get};
 ghost use Rattle.kernel_state.specs.SimModel.Configuration.{Config, path_of};
 ghost use Rattle.kernel_state.specs.SimModel.Steps as step;
 ghost use Rattle.kernel_state.specs.Kernel.{StandsFor};
-ghost use Rattle.report_texts.specs.Seen.{with_line, value_in, line_for};
+ghost use Rattle.report_texts.specs.ReportViews.{with_line, value_in, line_for};
 
 use crate::paths::push_path;
 use crate::pieces::{push_number, push_value};

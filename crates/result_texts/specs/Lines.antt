@@ -5,8 +5,8 @@ use Rattle.std.specs.List.{flat_map}
 use Rattle.std.specs.Ordering.{int_eq}
 use Rattle.bus_router.specs.DmiMap.declared.order.Rank.{Rank}
 use Rattle.bus_router.specs.DmiMap.Ranks.{AreInOrder}
-use Rattle.bus_answers.specs.PayloadPool.declared.payload.Payload.{Payload}
-use Rattle.bus_answers.specs.PayloadPool.declared.payload.TheConstants.{READ, OK}
+use Rattle.bus_router.specs.PayloadPool.declared.payload.Payload.{Payload}
+use Rattle.bus_router.specs.PayloadPool.declared.payload.TheConstants.{READ, OK}
 use Rattle.bus_router.specs.TrafficFile.declared.Bus.{Bus}
 use Rattle.bus_router.specs.TrafficFile.Traffic.{line_at, initiator_at, initiator_of}
 use Rattle.bus_router.specs.declared.rows.BusRow.{BusRow}

@@ -5,7 +5,7 @@ ghost use Rattle.std.specs.List.{flat_map};
 ghost use Rattle.bus_router.specs.TrafficFile.Traffic.{CanRun};
 ghost use Rattle.result_texts.specs.Lines as spec;
 
-use bus_answers::payload_pool_api::{OK, Payload, READ};
+use bus_router::payload_pool_api::{OK, Payload, READ};
 use bus_router::traffic_file_api::Bus;
 use bus_router::{BusRow, initiator_at, line_at};
 use std::alloc::{AllocError, Global};

@@ -1,5 +1,5 @@
 ghost use Rattle.std.specs.Prelude.{◌≡◌, ◌<◌, ℕ, List, length};
-ghost use Rattle.bus_answers.specs.PayloadPool.declared.payload.Payload.{Payload};
+ghost use Rattle.bus_router.specs.PayloadPool.declared.payload.Payload.{Payload};
 ghost use Rattle.bus_router.specs.TrafficFile.declared.Bus.{Bus};
 ghost use Rattle.bus_router.specs.declared.rows.BusRow.{BusRow};
 ghost use Rattle.result_texts.specs.Lines.{IsTextOf};

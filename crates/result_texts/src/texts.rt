@@ -3,15 +3,14 @@ ghost use Rattle.std.specs.Prelude.{◌≡◌, ℕ, ◌<◌, ◌++◌, IfOk, OnO
 ghost use Rattle.std.specs.List.{flat_map};
 ghost use Rattle.bus_router.specs.TrafficFile.Traffic.{CanRun};
 ghost use Rattle.bus_router.specs.Times.{row_at};
-ghost use Rattle.bus_answers.specs.Pools.{payload_with, IsLive};
+ghost use Rattle.bus_router.specs.Pools.{payload_with, IsLive};
 ghost use Rattle.result_texts.specs.Lines.{access_line, end_line, IsTextOf};
 
 use crate::bus_lines::{push_line, push_number};
 use crate::order::{last_time, return_order};
-use bus_answers::live_payload;
-use bus_answers::payload_pool_api::Pool;
-use bus_router::BusRow;
+use bus_router::payload_pool_api::Pool;
 use bus_router::traffic_file_api::Bus;
+use bus_router::{BusRow, live_payload};
 use std::alloc::{AllocError, Global};
 
 /// Adds the lines of these accesses.

@@ -5,7 +5,7 @@ use Rattle.std.proofs.lemmas.Bool.{cases_lt}
 use Rattle.room_map.specs.declared.nodes.Node.{Node}
 use Rattle.room_map.specs.Shape.{is_at}
 use Rattle.room_map.specs.Nodes.{Changed}
-use Rattle.room_map.specs.Kept.{among, falling, next_in, next_at, IsChain}
+use Rattle.room_map.specs.Layout.{among, falling, next_in, next_at, IsChain}
 use Rattle.room_map.proofs.Sizes.{at_itself, at_other, at_some}
 
 pub length-falling : (from n : ℕ) (is : List ℕ) → length (falling from n is) ≡ n + length is

@@ -10,7 +10,7 @@ pub mod Changes
 pub mod Leavings
 pub mod Chains
 pub mod Depths
-pub mod Kept
+pub mod CallEffects
 pub mod Sides
 pub mod Results
 pub mod Stacks

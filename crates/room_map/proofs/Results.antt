@@ -10,10 +10,10 @@ use Rattle.room_map.specs.Room.{Room}
 use Rattle.room_map.specs.Entries.{without, as_map}
 use Rattle.room_map.specs.Shape.{Shape, is_at, entries, height, times}
 use Rattle.room_map.specs.Nodes.{Under, Changed, CanEnter, HasEntered, HasKey, HasValue, CanLeave, HasLeft}
-use Rattle.room_map.specs.Kept.{among, falling, tree, next_at, IsChain, IsKept}
+use Rattle.room_map.specs.Layout.{among, falling, tree, next_at, IsChain, IsKept}
 use Rattle.room_map.proofs.Maps.{as_map-put, as_map-without, length-put_new, length-without}
 use Rattle.room_map.proofs.Chains.{chain_grown}
-use Rattle.room_map.proofs.Kept.{first_free, can_enter, kept_entered, has_key, kept_value, can_leave, left_there, kept_left, kept_grown, kept_tree, kept_as, written, changed_in, enter_in, has_in, leave_in, kept_in, front_stays}
+use Rattle.room_map.proofs.CallEffects.{first_free, can_enter, kept_entered, has_key, kept_value, can_leave, left_there, kept_left, kept_grown, kept_tree, kept_as, written, changed_in, enter_in, has_in, leave_in, kept_in, front_stays}
 
 -- a map with an entry more than there were
 pub record IsInserted {K V : Type 0} (R : K → K → Ordering) (old : Room K V) (key : K) (value : V) (ns : List (Node K V)) (root free spare : ℕ) : Type 0 where

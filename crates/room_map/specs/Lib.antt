@@ -2,4 +2,4 @@ pub mod Entries
 pub mod Room
 pub mod Shape
 pub mod Nodes
-pub mod Kept
+pub mod Layout

@@ -34,7 +34,7 @@ pub struct RoomMap<K: Ord + Copy, V: Copy> {
 impl<K: Ord + Copy, V: Copy> Model for RoomMap<K, V> {
     ghost use Rattle.room_map.specs.Room.{Room};
     ghost use Rattle.room_map.specs.Shape.{entries, height};
-    ghost use Rattle.room_map.specs.Kept.{tree, IsKept};
+    ghost use Rattle.room_map.specs.Layout.{tree, IsKept};
 
     ghost Value = { Room K V };
 

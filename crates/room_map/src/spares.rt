@@ -2,7 +2,7 @@
 ghost use Rattle.std.specs.Prelude.{◌≡◌, ℕ, ◌-◌, ◌<◌, ◌≤◌, List, length, slice_get};
 ghost use Rattle.room_map.specs.Shape.{is_at};
 ghost use Rattle.room_map.specs.Nodes.{Changed};
-ghost use Rattle.room_map.specs.Kept.{among, falling, next_at, IsChain};
+ghost use Rattle.room_map.specs.Layout.{among, falling, next_at, IsChain};
 
 use crate::nodes::{NONE, Node, node_at, put};
 

@@ -12,7 +12,7 @@ use Rattle.script_text.specs.ScriptText.{read_script}
 use Rattle.script_text.specs.NamedScript.{name_script}
 use Rattle.script_text.specs.declared.forms.TextCommand.{TextCommand}
 use Rattle.expanded_text.specs.Becomes.{Becomes}
-use Rattle.run_input.specs.Judged.{IsRead, HasNoTree, BreaksRule, BreaksWhole, IsBrokenModel, AcceptsModel, BreaksScript, IsBrokenScript, Accepts, ReadsReplay, IsBrokenReplay, IsLayoutOf, IsDesignOfSource}
+use Rattle.run_input.specs.Acceptance.{IsRead, HasNoTree, BreaksRule, BreaksWhole, IsBrokenModel, AcceptsModel, BreaksScript, IsBrokenScript, Accepts, ReadsReplay, IsBrokenReplay, IsLayoutOf, IsDesignOfSource}
 use Rattle.run_input.proofs.Designs.{same_naming}
 
 -- no model reads as two trees

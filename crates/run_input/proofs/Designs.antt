@@ -28,7 +28,7 @@ use Rattle.script_text.specs.ValueTexts.{value_read}
 use Rattle.script_text.specs.declared.forms.CommandForm.{CommandForm}
 use Rattle.script_text.specs.declared.forms.CommandForm.TheVariants as form
 use Rattle.script_text.specs.declared.forms.TextCommand.{TextCommand}
-use Rattle.run_input.specs.Judged.{CanRun, IsDesignOfSource}
+use Rattle.run_input.specs.Acceptance.{CanRun, IsDesignOfSource}
 
 -- what two designs agree in so that a script names the same in both
 record Agree (d e : Design) : Type 0 where

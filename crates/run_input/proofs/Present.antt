@@ -1,6 +1,6 @@
 -- What is read of a file that is there.
 use Rattle.std.proofs.Common.{◌≡◌, ◌<◌, ◌∙◌, ℕ, List, length, Option, Some, None, ap, refl, subst}
-use Rattle.sim_io.specs.Told.{Files, Lacks, IsText, IsLarge, text_of}
+use Rattle.sim_io.specs.Contents.{Files, Lacks, IsText, IsLarge, text_of}
 use Rattle.run_input.specs.Together.{Together}
 
 -- where a file is there, its text is its bytes

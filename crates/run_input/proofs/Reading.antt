@@ -1,6 +1,6 @@
 -- Why one of several files was not read, from why a file was not.
 use Rattle.std.proofs.Common.{◌≤◌, ◌⊎◌, inl, inr, ⊎_elim, ℕ, List, length, Option, Some, None, ap, refl, sym, subst}
-use Rattle.sim_io.specs.Told.{Files, AfterTold, Same, Lacks, IsPastOf, IsText, IsLarge}
+use Rattle.sim_io.specs.Contents.{Files, AfterTold, Same, Lacks, IsPastOf, IsText, IsLarge}
 use Rattle.sim_io.proofs.Chains.{large_of_past, past_of, after_told_same, lacks_before}
 use Rattle.run_input.specs.Limits.{model_limit, script_limit, replay_limit}
 use Rattle.run_input.specs.Loaded.{TextCause, ReplayCause, FileCause, LoadCause, IfTooLarge, IsAloneLimit, IsRunLimit, TookPast, TookReplayPast, TookOnePast}

@@ -7,14 +7,14 @@ use Rattle.model_tree.specs.declared.faults.CheckStop.TheVariants.{Refused}
 use Rattle.model_tree.specs.declared.faults.ParseStop.{ParseStop}
 use Rattle.model_tree.specs.declared.faults.ParseStop.TheVariants as parse_stop
 use Rattle.model_tree.specs.declared.whole.Tree.{Tree}
-use Rattle.model_tree.specs.Seen.{source_of}
+use Rattle.model_tree.specs.WholeTree.{source_of}
 use Rattle.script_text.specs.ModelLexer.Reads.{Reads}
 use Rattle.expanded_text.specs.Becomes.{Becomes}
 use Rattle.elaborate.specs.TickRules.Sources.{source_fault, ticked}
 use Rattle.model_tree.specs.Stops.{IfRefused}
 use Rattle.flat_design.specs.declared.design.Design.{Design}
 use Rattle.elaborate.specs.Elaborated.{elaboration_fault}
-use Rattle.run_input.specs.Judged.{IsRead, ReadsExpanded, BreaksRule, BreaksWhole, IsBrokenModel, HasModelFault, AcceptsModel, IsDesignOfSource, IsDesignOfText, BreaksScript, HasScriptFault, HasReplayFault, IsBrokenReplay}
+use Rattle.run_input.specs.Acceptance.{IsRead, ReadsExpanded, BreaksRule, BreaksWhole, IsBrokenModel, HasModelFault, AcceptsModel, IsDesignOfSource, IsDesignOfText, BreaksScript, HasScriptFault, HasReplayFault, IsBrokenReplay}
 use Rattle.run_input.specs.Refused.{HasTextFault, IfModelFault}
 use Rattle.run_input.specs.declared.judging.ModelStop.{ModelStop}
 use Rattle.run_input.specs.declared.judging.JudgeStop.{JudgeStop}

@@ -1,6 +1,6 @@
 pub mod Limits
 pub mod Together
 pub mod Loaded
-pub mod Judged
+pub mod Acceptance
 pub mod Refused
 pub mod ResultTexts

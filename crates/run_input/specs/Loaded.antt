@@ -1,6 +1,6 @@
 -- What the reading of files gives: of a model alone, or of a model, a script and, where one is named, a replay file.
 use Rattle.std.specs.Prelude.{◌≡◌, ◌≤◌, ◌⊎◌, ℕ, List, Option, Some, None, IfSome, length, ⊤}
-use Rattle.sim_io.specs.Told.{Files, Lacks, IsText, IsLarge, IsPast, IsPastLimit, IsPastOf}
+use Rattle.sim_io.specs.Contents.{Files, Lacks, IsText, IsLarge, IsPast, IsPastLimit, IsPastOf}
 use Rattle.run_input.specs.Limits.{model_limit, script_limit, replay_limit}
 use Rattle.run_input.specs.Together.{Together}
 use Rattle.run_input.specs.declared.loading.LoadStop.{LoadStop}

@@ -2,7 +2,7 @@
 use Rattle.std.specs.Prelude.{ℕ, List, Option, ⊤}
 use Rattle.model_tree.specs.Tree as tree
 use Rattle.flat_design.specs.declared.design.Design.{Design}
-use Rattle.run_input.specs.Judged.{Accepts, AcceptsModel, HasModelFault, HasReplayFault, HasScriptFault, IsDesignOfSource}
+use Rattle.run_input.specs.Acceptance.{Accepts, AcceptsModel, HasModelFault, HasReplayFault, HasScriptFault, IsDesignOfSource}
 use Rattle.script_text.specs.SimModel.declared.plain.Command.{Command}
 use Rattle.result_texts.specs.declared.refusals.ModelFault.{ModelFault}
 use Rattle.result_texts.specs.declared.refusals.ScriptFault.{ScriptFault}

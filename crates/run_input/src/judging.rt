@@ -1,8 +1,8 @@
 ghost use Rattle.std.specs.Prelude.{◌≡◌, ◌<◌, ◌^◌, ℕ, List, None, IfErr, IfOk, OnOk, length};
 ghost use Rattle.model_tree.specs.Tree as tree;
-ghost use Rattle.model_tree.specs.Seen.{source_of};
+ghost use Rattle.model_tree.specs.WholeTree.{source_of};
 ghost use Rattle.model_tree.specs.Stops.{IfSyntax};
-ghost use Rattle.run_input.specs.Judged.{Accepts, AcceptsModel, CanRun, HasModelFault, HasReplayFault, HasScriptFault, IsDesignOfSource, IsDesignOfText, IsRead, NamesScript, ReadsExpanded, ReadsReplay};
+ghost use Rattle.run_input.specs.Acceptance.{Accepts, AcceptsModel, CanRun, HasModelFault, HasReplayFault, HasScriptFault, IsDesignOfSource, IsDesignOfText, IsRead, NamesScript, ReadsExpanded, ReadsReplay};
 ghost use Rattle.run_input.specs.Refused.{IfModelFault, IfScriptFault, HasTextFault};
 
 use super::loading::Texts;

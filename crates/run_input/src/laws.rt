@@ -1,6 +1,6 @@
 ghost use Rattle.std.specs.Prelude.{◌≡◌, ◌⊎◌, ℕ, List};
 ghost use Rattle.model_tree.specs.Tree.{Source};
-ghost use Rattle.run_input.specs.Judged.{AcceptsModel, BreaksRule, BreaksWhole, HasNoTree, IsBrokenModel, IsRead};
+ghost use Rattle.run_input.specs.Acceptance.{AcceptsModel, BreaksRule, BreaksWhole, HasNoTree, IsBrokenModel, IsRead};
 
 use expanded_text::{none_as_it_stands, one_reading};
 use model_parser::one_tree;

@@ -1,5 +1,5 @@
 ghost use Rattle.std.specs.Prelude.{◌<◌, ◌^◌, IfErr, IfOk, length};
-ghost use Rattle.run_input.specs.Judged.{HasModelFault, IsLayoutOf};
+ghost use Rattle.run_input.specs.Acceptance.{HasModelFault, IsLayoutOf};
 ghost use Rattle.run_input.specs.Refused.{IfModelFault};
 
 use super::judging::{ModelStop, judge_tree, read_model};

@@ -1,5 +1,5 @@
 ghost use Rattle.std.specs.Prelude.{◌≡◌, ◌≤◌, IfErr, IfOk, IfSome, length, option_copied};
-ghost use Rattle.sim_io.specs.Told.{AfterTold, IsText, IsWhole, Same};
+ghost use Rattle.sim_io.specs.Contents.{AfterTold, IsText, IsWhole, Same};
 ghost use Rattle.sim_io.specs.Cause.{Rose};
 ghost use Rattle.run_input.specs.Limits.{model_limit, replay_limit};
 ghost use Rattle.run_input.specs.Together.{Together};

@@ -2,7 +2,7 @@
 use Rattle.std.specs.Prelude.{ℕ, suc, min, Bool, true, false, nat_lt, if◌then◌else◌, List, [], ◌∷◌, slice_get, bytes_eq, codes, Option, Some, None, option_map, option_and_then, Result, Ok, Err}
 use Rattle.sim_model.specs.SimTime.declared.moments.Unit.{Unit as TimeUnit}
 use Rattle.sim_model.specs.SimTime.declared.moments.Unit.TheVariants as unit
-use Rattle.text_lines.specs.ModelGrammar.Expressions.{unit_of}
+use Rattle.text_lines.specs.ModelLexer.Expressions.{unit_of}
 use Rattle.text_lines.specs.Lines.{lines, words, is_comment, number_read, line_number}
 use Rattle.script_text.specs.declared.forms.CommandForm.{CommandForm}
 use Rattle.script_text.specs.declared.forms.CommandForm.TheVariants as form

@@ -5,7 +5,7 @@ ghost use Rattle.script_text.specs.ChoiceList.{read_choices};
 ghost use Rattle.script_text.specs.ChoiceProgress.{list_lines_left, SerialGoesOn, SerialStopsAt};
 
 use sim_model::flat_design_api::Choices;
-use sim_model::plain_lists_api::Items;
+use sim_model::logic_values_api::Items;
 use std::alloc::Global;
 use text_lines::model_tree_api::ParseStop;
 use text_lines::{cut, decimal_read, line_number, without_return};

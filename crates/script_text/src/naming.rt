@@ -13,8 +13,7 @@ use super::values::value_read;
 use model_tree::sim_time_api::{Resolution, Unit, of_unit};
 use sim_model::Command;
 use sim_model::flat_design_api::{Design, ObjectForm, ValueType, Visible, VisibleId};
-use sim_model::logic_values_api::{Text, Value};
-use sim_model::plain_lists_api::Items;
+use sim_model::logic_values_api::{Items, Text, Value};
 use std::alloc::Global;
 use text_lines::model_tree_api::{CheckStop, Fault, Kind};
 

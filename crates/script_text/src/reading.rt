@@ -1,14 +1,13 @@
 ghost use Rattle.std.specs.Prelude.{◌≡◌, ◌≤◌, [], ◌∷◌, ◌++◌, length, bytes_eq, codes, IfOk, IfErr, OnOk};
 ghost use Rattle.text_lines.specs.ModelTree.Stops.{IfSyntax};
-ghost use Rattle.text_lines.specs.ModelGrammar.Expressions as grammar;
+ghost use Rattle.text_lines.specs.ModelLexer.Expressions as grammar;
 ghost use Rattle.script_text.specs.ScriptText as spec;
 ghost use Rattle.text_lines.specs.Lines.{words, line_number};
 ghost use Rattle.script_text.specs.ScriptText.{read_script};
 ghost use Rattle.script_text.specs.Progress.{GoesOn, StopsAt};
 
 use super::forms::{CommandForm, LineForm, TextCommand};
-use sim_model::logic_values_api::Text;
-use sim_model::plain_lists_api::Items;
+use sim_model::logic_values_api::{Items, Text};
 use sim_model::sim_time_api::Unit;
 use std::alloc::{AllocError, Global};
 use text_lines::model_tree_api::ParseStop;

@@ -3,8 +3,8 @@ use Rattle.std.proofs.Common.{◌≡◌, ◌<◌, ◌≤◌, ◌+◌, ℕ, zero,
 use Rattle.std.specs.Prelude.{slice_get, if◌then◌else◌}
 use Rattle.std.specs.List.{flat_map}
 use Rattle.std.proofs.lemmas.Bool.Decides.{nat_tests}
-use Rattle.write_buffer.specs.SimIo.declared.outside.Trouble.{Trouble}
-use Rattle.write_buffer.specs.SimIo.declared.outside.Trouble.TheVariants as trouble
+use Rattle.sim_io.specs.declared.outside.Trouble.{Trouble}
+use Rattle.sim_io.specs.declared.outside.Trouble.TheVariants as trouble
 use Rattle.flat_design.specs.declared.faults.RunFault.{RunFault}
 use Rattle.flat_design.specs.declared.design.Design.{Design}
 use Rattle.flat_design.specs.declared.design.Visible.{Visible}

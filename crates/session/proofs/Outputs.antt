@@ -1,10 +1,10 @@
 -- What the outside took of texts that are written one after another.
 use Rattle.std.proofs.Common.{◌≡◌, ◌≢◌, ◌<◌, ◌≤◌, ◌+◌, ◌⊎◌, inl, inr, ℕ, List, [], ◌∷◌, ◌++◌, length, Option, Some, None, Result, Ok, Err, refl, sym, ◌∙◌, ap, subst, arith, append_assoc, append-nil, length-append}
 use Rattle.std.specs.Io.KnownBytes.{append_known}
-use Rattle.write_buffer.specs.SimIo.Told.{Files, AfterTold, Same, Grows, Grew}
-use Rattle.write_buffer.specs.SimIo.declared.outside.Trouble.{Trouble}
-use Rattle.write_buffer.specs.SimIo.declared.outside.Trouble.TheVariants as trouble
-use Rattle.write_buffer.proofs.SimIo.Chains.{after_told_same, grew_on, grew_none, append_known_on}
+use Rattle.sim_io.specs.Contents.{Files, AfterTold, Same, Grows, Grew}
+use Rattle.sim_io.specs.declared.outside.Trouble.{Trouble}
+use Rattle.sim_io.specs.declared.outside.Trouble.TheVariants as trouble
+use Rattle.sim_io.proofs.Chains.{after_told_same, grew_on, grew_none, append_known_on}
 use Rattle.session.specs.Outputs.{Texts, behind, no_texts, text_for, Outer, Names, HasName, AreApart, AreNames, FileGot, FileGrew, FilesGot, IsOther, Took, IsFront, AreFronts, LacksByte, TookFronts, TookShort, IsNear, Given, FitsRoom, LetGo}
 use Rattle.vcd_trace.specs.SimModel.declared.plain.Stop.{Stop}
 use Rattle.session.specs.Telling.{With, FrontIf, ShortOf, IsPart, Fronts3, AreParts, Recorded, Nothing, EmptyFor, AllOut, Closes, Finishes}

@@ -1,1 +1,1 @@
-pub use Rattle.write_buffer.proofs.SimIo.Chains as Chains
+pub use Rattle.sim_io.proofs.Chains as Chains

@@ -3,13 +3,13 @@ use Rattle.std.proofs.Common.{◌≡◌, ℕ, List, [], ◌∷◌, ◌++◌, tak
 use Rattle.std.specs.Prelude.{slice_get}
 use Rattle.std.specs.List.{flat_map}
 use Rattle.flat_design.specs.LogicValues.declared.kinds.Value.{Value}
-use Rattle.write_buffer.specs.Moved.{Moved, SinkTook, FileTook}
-use Rattle.write_buffer.specs.SimIo.Told.{Files, Grew}
-use Rattle.write_buffer.specs.SimIo.Taken.{PieceTaken, TookOf}
-use Rattle.write_buffer.specs.SimIo.Taken as piece
-use Rattle.write_buffer.proofs.SimIo.Chains.{grew_none, grew_on, file_grew_on}
-use Rattle.write_buffer.specs.SimIo.declared.outside.Trouble.{Trouble}
-use Rattle.write_buffer.specs.SimIo.declared.outside.Trouble.TheVariants as trouble
+use Rattle.sim_io.specs.Moved.{Moved, SinkTook, FileTook}
+use Rattle.sim_io.specs.Contents.{Files, Grew}
+use Rattle.sim_io.specs.Writes.{PieceTaken, TookOf}
+use Rattle.sim_io.specs.Writes as piece
+use Rattle.sim_io.proofs.Chains.{grew_none, grew_on, file_grew_on}
+use Rattle.sim_io.specs.declared.outside.Trouble.{Trouble}
+use Rattle.sim_io.specs.declared.outside.Trouble.TheVariants as trouble
 use Rattle.flat_design.specs.declared.design.Visible.{Visible}
 use Rattle.vcd_trace.specs.SimModel.Configuration.{Config, Told, line}
 use Rattle.vcd_trace.specs.SimModel.Steps.{shows}
@@ -21,7 +21,7 @@ use Rattle.kernel_start.specs.KernelState.declared.kernel.Kernel.{Kernel}
 use Rattle.kernel_runs.specs.Made.{told_by_show}
 use Rattle.kernel_runs.specs.declared.answers.Telling.TheVariants as telling
 use Rattle.report_texts.specs.Instances.{IsPrintLine, IsTurnLine}
-use Rattle.report_texts.specs.Seen.{with_line}
+use Rattle.report_texts.specs.ReportViews.{with_line}
 use Rattle.session.specs.Outputs.{FileGrew, IsFront}
 use Rattle.session.specs.Telling.{text_if, text_so_far, TextOf, TextOfTurn, With, IsPart, Into, Nothing}
 use Rattle.session.proofs.Fronts.{texts-push}

@@ -1,6 +1,6 @@
 -- A turn of the loop of a session: a step that went or a taking, and what was given of it.
 use Rattle.std.proofs.Common.{◌≡◌, ◌≤◌, ◌+◌, ℕ, List, [], ◌∷◌, ◌++◌, Ok, Err, sym, subst}
-use Rattle.write_buffer.specs.SimIo.declared.outside.Trouble.{Trouble}
+use Rattle.sim_io.specs.declared.outside.Trouble.{Trouble}
 use Rattle.vcd_trace.specs.SimModel.Configuration.{Config}
 use Rattle.vcd_trace.specs.SimModel.Steps.{step}
 use Rattle.vcd_trace.specs.SimModel.Runs.{Chooser}

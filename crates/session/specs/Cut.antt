@@ -1,6 +1,6 @@
 -- How a session ends that is cut.
-use Rattle.write_buffer.specs.SimIo.declared.outside.Trouble.{Trouble}
-use Rattle.write_buffer.specs.SimIo.declared.outside.Trouble.TheVariants as trouble
+use Rattle.sim_io.specs.declared.outside.Trouble.{Trouble}
+use Rattle.sim_io.specs.declared.outside.Trouble.TheVariants as trouble
 use Rattle.vcd_trace.specs.SimModel.declared.plain.Stop.{Stop}
 use Rattle.vcd_trace.specs.SimModel.declared.plain.Stop.TheVariants as stop
 

@@ -1,8 +1,8 @@
 -- What a session writes, and how much of it the outside took.
 use Rattle.std.specs.Prelude.{◌≡◌, ◌≢◌, ◌<◌, ◌≤◌, ◌⊎◌, ◌+◌, ℕ, List, [], ◌++◌, length, Option, Some, None, ⊤}
 use Rattle.std.specs.Io.KnownBytes.{append_known}
-use Rattle.write_buffer.specs.SimIo.Cause.{Rose}
-use Rattle.write_buffer.specs.SimIo.Told.{Files, AfterTold, Same, Grows, Grew}
+use Rattle.sim_io.specs.Cause.{Rose}
+use Rattle.sim_io.specs.Contents.{Files, AfterTold, Same, Grows, Grew}
 use Rattle.session.specs.declared.buffers.Buffers.{Buffers}
 
 -- the texts of a session: its report; its trace, and the list of its choices, where a file is to get them

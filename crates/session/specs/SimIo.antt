@@ -1,5 +1,5 @@
-pub use Rattle.write_buffer.specs.SimIo.Cause as Cause
-pub use Rattle.write_buffer.specs.SimIo.Keeps as Keeps
-pub use Rattle.write_buffer.specs.SimIo.Taken as Taken
-pub use Rattle.write_buffer.specs.SimIo.Told as Told
-pub use Rattle.write_buffer.specs.SimIo.declared as declared
+pub use Rattle.sim_io.specs.Cause as Cause
+pub use Rattle.sim_io.specs.Contents as Contents
+pub use Rattle.sim_io.specs.Keeps as Keeps
+pub use Rattle.sim_io.specs.Writes as Writes
+pub use Rattle.sim_io.specs.declared as declared

@@ -1,8 +1,8 @@
 -- What a step adds to the texts of a session.
 use Rattle.std.specs.Prelude.{◌≡◌, ◌<◌, ◌⊎◌, ℕ, List, [], ◌∷◌, ◌++◌, length, Option, Some, None, Result, Ok, Err, ⊤}
 use Rattle.std.specs.List.{flat_map}
-use Rattle.write_buffer.specs.SimIo.declared.outside.Trouble.{Trouble}
-use Rattle.write_buffer.specs.SimIo.declared.outside.Trouble.TheVariants as trouble
+use Rattle.sim_io.specs.declared.outside.Trouble.{Trouble}
+use Rattle.sim_io.specs.declared.outside.Trouble.TheVariants as trouble
 use Rattle.vcd_trace.specs.SimModel.Configuration.{Config, Snapshot}
 use Rattle.vcd_trace.specs.SimModel.Texts.{shown, closing, choice_text}
 use Rattle.vcd_trace.specs.SimModel.Steps.{step, went}

@@ -1,12 +1,11 @@
 //! What a session holds of its texts before it is written.
 ghost use Rattle.std.specs.Prelude.{◌≡◌, ◌≤◌, ◌⊎◌, ℕ, List, IfOk, IfSome};
-ghost use Rattle.write_buffer.specs.SimIo.Keeps.{WriteKeeps};
-ghost use Rattle.write_buffer.specs.SimIo.Told.{Grew};
+ghost use Rattle.sim_io.specs.Keeps.{WriteKeeps};
+ghost use Rattle.sim_io.specs.Contents.{Grew};
 ghost use Rattle.session.specs.Outputs.{AreNames, FileGrew, FitsRoom, IsFront, LetGo, due_of, no_texts, outer_of};
 
+use sim_io::{Held, Shelf, Sink};
 use std::alloc::{AllocError, Global};
-use write_buffer::Held;
-use write_buffer::sim_io_api::{Shelf, Sink};
 
 /// A buffer for each text of a session.
 #[derive(Drop)]

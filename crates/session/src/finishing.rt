@@ -1,6 +1,6 @@
 //! How a session is ended.
 ghost use Rattle.std.specs.Prelude.{◌≡◌, ◌≤◌, IfSome};
-ghost use Rattle.write_buffer.specs.SimIo.Keeps.{WriteKeeps};
+ghost use Rattle.sim_io.specs.Keeps.{WriteKeeps};
 ghost use Rattle.session.specs.Course.{IsEnd};
 ghost use Rattle.session.specs.Outputs.{AreNames, LetGo, OneRose, due_of, outer_of};
 ghost use Rattle.session.specs.Telling.{TextFor, LastPointOf, IsClosing, Closes, Finishes};
@@ -10,10 +10,10 @@ use crate::plans::Outcome;
 use crate::recording::record_end;
 use flat_design::Choices;
 use kernel_start::kernel_state_api::Kernel;
+use sim_io::{Shelf, Sink, Trouble};
 use std::alloc::Global;
 use vcd_trace::Tracing;
 use vcd_trace::sim_model_api::Stop;
-use write_buffer::sim_io_api::{Shelf, Sink, Trouble};
 
 /// Ends a session for want of memory between two steps: what is held is written as far as it can be.
 pub(crate) fn cut_between<S: Shelf, O: Sink>(

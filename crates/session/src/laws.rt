@@ -5,7 +5,7 @@ ghost use Rattle.vcd_trace.specs.SimModel.Configuration.{Config};
 ghost use Rattle.kernel_start.specs.KernelState.Kernel.{StandsFor};
 ghost use Rattle.kernel_start.specs.KernelState.declared.kernel.Kernel.{Kernel};
 ghost use Rattle.laws_reached.specs.Reached.{IsReached};
-ghost use Rattle.kernel_runs.specs.Asked.{MayStep};
+ghost use Rattle.kernel_runs.specs.Premises.{MayStep};
 ghost use Rattle.session.specs.Begun.{GoesOn};
 
 use laws_reached::{

@@ -16,7 +16,7 @@ pub use plans::{Outcome, Plan};
 
 /// What is passed on of sim_io.
 pub mod sim_io_api {
-    pub use write_buffer::sim_io_api::{
+    pub use sim_io::{
         HostShelf, HostSink, MemoryShelf, MemorySink, Shelf, Sink, SoundShelf, Trouble, write_all,
     };
 }

@@ -5,7 +5,7 @@ ghost use Rattle.flat_design.specs.declared.design.SemaphorePart.{SemaphorePart}
 ghost use Rattle.kernel_start.specs.InstanceTable.declared.TheConstants.{MAX_LIVE};
 ghost use Rattle.vcd_trace.specs.SimModel.Configuration.{Config, start};
 ghost use Rattle.kernel_start.specs.KernelState.Kernel.{StandsFor};
-ghost use Rattle.write_buffer.specs.SimIo.Keeps.{WriteKeeps};
+ghost use Rattle.sim_io.specs.Keeps.{WriteKeeps};
 ghost use Rattle.laws_reached.specs.Reached.{IsReached};
 ghost use Rattle.session.specs.Course.{Ran};
 ghost use Rattle.session.specs.Begun.{HasBegun, IsFirst};
@@ -22,10 +22,10 @@ use kernel_runs::{Made, make_step};
 use kernel_start::{SoundKernel, SplitDesign, apart, first_kernel};
 use laws_reached::kernel_phases_api::Choosing;
 use laws_reached::runs_begin;
+use sim_io::{Shelf, Sink, Trouble};
 use std::alloc::{AllocError, Global};
 use vcd_trace::Tracing;
 use vcd_trace::sim_model_api::{Command, Stop};
-use write_buffer::sim_io_api::{Shelf, Sink, Trouble};
 
 /// Makes the place of one more choice, where there is none.
 #[inline(always)]

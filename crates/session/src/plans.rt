@@ -3,8 +3,8 @@ ghost use Rattle.std.specs.Prelude.{◌≡◌};
 ghost use Rattle.session.specs.Cut as spec;
 
 use flat_design::Choices;
+use sim_io::Trouble;
 use vcd_trace::sim_model_api::{Log, Rule, Stop};
-use write_buffer::sim_io_api::Trouble;
 
 /// How a session is to be run.
 #[derive(Drop)]

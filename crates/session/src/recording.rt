@@ -1,6 +1,6 @@
 //! What a session writes of each of its steps, and at its end.
 ghost use Rattle.std.specs.Prelude.{◌≡◌, ℕ, Option, IfSome, Err};
-ghost use Rattle.write_buffer.specs.SimIo.Keeps.{WriteKeeps};
+ghost use Rattle.sim_io.specs.Keeps.{WriteKeeps};
 ghost use Rattle.session.specs.Course.{IsEnd};
 ghost use Rattle.session.specs.Outputs.{AreNames, OneRose, due_of, outer_of};
 ghost use Rattle.session.specs.Telling.{Recorded, Nothing, TextOf, TextOfTurn, TextFor, HeaderOf, PointOf, LastPointOf, IsClosing, IsLineOf, Closes, AllOut, left_by};
@@ -11,10 +11,10 @@ use crate::traces::{begin_trace, end_choices, end_trace, list_choice, trace_step
 use flat_design::sim_time_api::Time;
 use kernel_runs::Telling;
 use kernel_start::kernel_state_api::Kernel;
+use sim_io::{Shelf, Sink, Trouble};
 use std::alloc::Global;
 use vcd_trace::Tracing;
 use vcd_trace::sim_model_api::{Log, Stop};
-use write_buffer::sim_io_api::{Shelf, Sink, Trouble};
 
 /// Gives what a step that was begun at this time adds, by the kernel after it: its line, and then its point of the trace.
 #[inline(always)]

@@ -1,8 +1,8 @@
 //! What a report tells of a step.
 ghost use Rattle.std.specs.Prelude.{◌≡◌, [], IfOk, OnOk, Err};
-ghost use Rattle.write_buffer.specs.SimIo.Cause.{RoseIf};
-ghost use Rattle.write_buffer.specs.SimIo.Told.{Grew};
-ghost use Rattle.write_buffer.specs.Moved.{SinkTook};
+ghost use Rattle.sim_io.specs.Cause.{RoseIf};
+ghost use Rattle.sim_io.specs.Contents.{Grew};
+ghost use Rattle.sim_io.specs.Moved.{SinkTook};
 ghost use Rattle.session.specs.Course.{IsEnd};
 ghost use Rattle.session.specs.Telling.{Into, IsClosing, TextOf, TextOfTurn, text_if};
 
@@ -11,10 +11,9 @@ use flat_design::{Line, StmtId};
 use kernel_runs::Telling;
 use kernel_start::kernel_state_api::Kernel;
 use report_texts::{closing, print_in, show, turn_text};
+use sim_io::{Held, Sink, Trouble};
 use std::alloc::{AllocError, Global};
 use vcd_trace::sim_model_api::{Log, Stop};
-use write_buffer::Held;
-use write_buffer::sim_io_api::{Sink, Trouble};
 
 /// The text that a taking adds to a report, where it tells the turns, by the kernel after it.
 pub(crate) fn text_of_turn(

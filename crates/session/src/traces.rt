@@ -1,16 +1,15 @@
 //! What a session gives its files: the trace, a point at a time, and its choices, a line at a time.
 ghost use Rattle.std.specs.Prelude.{◌≡◌, [], IfOk, IfSome, OnOk, Some, Err, string_bytes};
-ghost use Rattle.write_buffer.specs.SimIo.Cause.{RoseIf};
-ghost use Rattle.write_buffer.specs.SimIo.Keeps.{WriteKeeps};
+ghost use Rattle.sim_io.specs.Cause.{RoseIf};
+ghost use Rattle.sim_io.specs.Keeps.{WriteKeeps};
 ghost use Rattle.session.specs.Outputs.{FileGrew};
 ghost use Rattle.session.specs.Telling.{Into, TextFor, HeaderOf, PointOf, LastPointOf, IsLineOf, Nothing, EmptyFor};
 
 use flat_design::sim_time_api::Time;
 use kernel_start::kernel_state_api::Kernel;
+use sim_io::{Held, Shelf, Trouble};
 use std::alloc::{AllocError, Global};
 use vcd_trace::{Tracing, header_text};
-use write_buffer::Held;
-use write_buffer::sim_io_api::{Shelf, Trouble};
 
 /// Gives the header of the trace, where there is one.
 pub(crate) fn begin_trace<S: Shelf>(

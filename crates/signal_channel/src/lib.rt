@@ -12,8 +12,5 @@ pub use signal::{Changed, Policy, Signal, WriterConflict};
 
 /// What is passed on of logic_values.
 pub mod logic_values_api {
-    pub use logic_values::{
-        Digit, Lv, Sign, Text, Value, add, and, concat, cut, digit, div, is_same, lt, mul, not, or,
-        rem, shl, shr, slice, sub, value_text, vector_of_digits, xor,
-    };
+    pub use logic_values::Value;
 }

@@ -3,10 +3,10 @@ use Rattle.std.proofs.Common.{◌⊎◌, inl, inr, Result, ◌≡◌, ◌<◌, �
 use Rattle.std.proofs.lemmas.List.{take-take}
 use Rattle.std.proofs.Math.Seq.{take-add, take-append-add}
 use Rattle.std.specs.Io.KnownBytes.{append_known, Consumes}
-use Rattle.sim_io.specs.Told.{Files, Same, AfterTold, WereTold, Grows, Grew, Lacks, IsText, IsLarge, IsWhole, IsPast, IsPastLimit, IsPastOf, text_of}
+use Rattle.sim_io.specs.Contents.{Files, Same, AfterTold, WereTold, Grows, Grew, Lacks, IsText, IsLarge, IsWhole, IsPast, IsPastLimit, IsPastOf, text_of}
 use Rattle.sim_io.specs.Cause.{Rose}
 use Rattle.std.specs.Io.{StartsWith}
-use Rattle.sim_io.specs.Taken.{PieceTaken, TookOf}
+use Rattle.sim_io.specs.Writes.{PieceTaken, TookOf}
 use Rattle.sim_io.specs.declared.outside.Trouble.{Trouble}
 use Rattle.sim_io.specs.Keeps.{IdsStay, ReadKeeps, WriteKeeps}
 

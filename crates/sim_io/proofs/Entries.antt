@@ -10,7 +10,7 @@ use Rattle.std.proofs.lemmas.List.Folds.{find_at, find-set, find_past, find-appe
 use Rattle.std.proofs.lemmas.Option.{slice_get-get_or, slice_get_past}
 use Rattle.std.proofs.lemmas.Slice.Eq.{bytes_eq-Decides}
 use Rattle.std.proofs.lemmas.Bool.{ltb-true, ltb-false, eqb-true}
-use Rattle.sim_io.specs.Told.{Others}
+use Rattle.sim_io.specs.Contents.{Others}
 use Rattle.sim_io.specs.Memory.{Entry, entries, named, contents, place_of, entry_at, bytes_at, put, with_empty}
 
 -- the entry that stands for no file

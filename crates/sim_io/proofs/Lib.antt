@@ -2,3 +2,4 @@ pub mod Chains
 pub mod Entries
 pub mod Steps
 mod Places
+pub mod Moves

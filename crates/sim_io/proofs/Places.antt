@@ -6,7 +6,7 @@ use Rattle.std.specs.Io.KnownBytes.{Consumes, IsAtEnd}
 use Rattle.std.proofs.lemmas.List.{length-set, drop-drop, take-append-drop, nil_from_length}
 use Rattle.std.proofs.lemmas.List.Sums.{prefix_len-le-length}
 use Rattle.std.proofs.lemmas.Bool.{ltb-false}
-use Rattle.sim_io.specs.Told.{AfterTold, Same, text_of}
+use Rattle.sim_io.specs.Contents.{AfterTold, Same, text_of}
 use Rattle.sim_io.specs.Keeps.{ReadKeeps}
 use Rattle.sim_io.specs.Sound.{FileState, SoundState, named, texts, place_of, file_at, put, begun, given, rest_of, told, told_until, IsReading, IsCreated, StandsFor, writes_of}
 

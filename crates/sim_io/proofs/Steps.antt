@@ -3,8 +3,8 @@ use Rattle.std.proofs.Common.{◌≡◌, ◌<◌, ◌≤◌, ◌+◌, ◌⊎◌,
 use Rattle.std.specs.Prelude.{Result, Ok, Err, IfOk, OnOk, MatchOption, not}
 use Rattle.std.specs.Option.{option_map}
 use Rattle.std.proofs.lemmas.List.Sums.{prefix_len-le-length}
-use Rattle.sim_io.specs.Told.{Lacks, Grows, text_of}
-use Rattle.sim_io.specs.Taken.{taken, Creates}
+use Rattle.sim_io.specs.Contents.{Lacks, Grows, text_of}
+use Rattle.sim_io.specs.Writes.{taken, Creates}
 use Rattle.sim_io.specs.Memory.{Entry, named, contents, place_of, bytes_at, with_empty, rest_of, reader_at, ShelfState, left_of, StandsFor, opened, given, emptied, appended}
 use Rattle.sim_io.specs.declared.outside.Trouble.{Trouble}
 use Rattle.sim_io.specs.declared.outside.Trouble.TheVariants.{Failed, NoMemory}

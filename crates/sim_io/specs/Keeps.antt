@@ -2,7 +2,7 @@
 -- The parameters are the shelf's own words: its files, a count, the ids that are read, the ids that
 -- were created, and the file that a created id stands for.
 use Rattle.std.specs.Prelude.{◌≡◌, ℕ, List, Option}
-use Rattle.sim_io.specs.Told.{Files, AfterTold, Same, WereTold}
+use Rattle.sim_io.specs.Contents.{Files, AfterTold, Same, WereTold}
 
 -- the ids that may be used, and what they stand for, from one call to the next
 pub record IdsStay {S : Type 0} (Reading : S → ℕ → Type 0) (Created : S → ℕ → Type 0) (StandsFor : S → ℕ → List ℕ → Type 0) (old new : S) : Type 0 where

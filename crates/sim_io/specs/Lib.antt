@@ -1,7 +1,8 @@
-pub mod Told
+pub mod Contents
 pub mod Cause
 pub mod Keeps
-pub mod Taken
+pub mod Writes
 pub mod Memory
 pub mod Host
 pub mod Sound
+pub mod Moved

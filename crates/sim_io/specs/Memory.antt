@@ -2,7 +2,7 @@
 use Rattle.std.specs.Prelude.{◌≡◌, ◌<◌, ◌+◌, ◌-◌, ◌⊎◌, ℕ, Bool, min, List, [], ◌∷◌, ◌++◌, length, map, take, drop, find, nat_eq, nat_lt, if◌then◌else◌, Option, None, Some, Result, Ok, Err, bytes_eq, slice_get, slice_set, Contains, String, Vec, string_bytes}
 use Rattle.std.specs.List.{position_or_len, slice_index_or, list_any}
 use Rattle.std.specs.Option.{option_map}
-use Rattle.sim_io.specs.Told.{Files}
+use Rattle.sim_io.specs.Contents.{Files}
 use Rattle.sim_io.specs.Cause.{next}
 use Rattle.sim_io.specs.declared.memory_shelf.Reader.{Reader}
 use Rattle.sim_io.specs.declared.outside.Trouble.{Trouble}

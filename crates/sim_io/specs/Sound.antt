@@ -2,7 +2,7 @@
 use Rattle.std.specs.Prelude.{◌≡◌, ◌≤◌, ◌+◌, ℕ, Bool, true, false, List, [], length, drop, find, bytes_eq, slice_set, Option, None, Some}
 use Rattle.std.specs.List.{position_or_len, slice_index_or}
 use Rattle.std.specs.Option.{option_map}
-use Rattle.sim_io.specs.Told.{Files}
+use Rattle.sim_io.specs.Contents.{Files}
 
 -- a file: its name, its bytes, and how many of them were given since it was opened
 pub record FileState : Type 0 where

@@ -2,10 +2,10 @@
 ghost use Rattle.std.specs.Prelude.{◌≡◌, ◌<◌, ◌≤◌, ◌+◌, ◌^◌, ◌↔◌, ◌⊎◌, ℕ, List, [], ◌∷◌, ◌++◌, Option, Some, Contains, IsTrue, length, take, drop, min, nat_eq, nat_lt, unwrap_or, IfOk, IfSome, OnOk, IsErrOf, MatchResult, MatchOption, position, option_copied, vec_len, is_ok, if◌then◌else◌, bytes_eq, string_bytes};
 ghost use Rattle.std.specs.List.{list_any};
 ghost use Rattle.std.specs.Io.KnownBytes.{ReadConsumes};
-ghost use Rattle.sim_io.specs.Told.{text_of, Lacks, Unchanged, AfterTold, Grows};
+ghost use Rattle.sim_io.specs.Contents.{text_of, Lacks, Unchanged, AfterTold, Grows};
 ghost use Rattle.sim_io.specs.Cause.{next, HasCause, HasCauseOrLacks};
 ghost use Rattle.sim_io.specs.Keeps.{ReadKeeps, WriteKeeps};
-ghost use Rattle.sim_io.specs.Taken.{taken, Creates};
+ghost use Rattle.sim_io.specs.Writes.{taken, Creates};
 ghost use Rattle.sim_io.specs.Memory.{entries, named, contents, place_of, put, bytes_at, rest_of, reader_at, moved, with_empty, told, IsReading, left_of, IsCreated, StandsFor, reads_of, writes_of, is_listed, IsListed, opened, given, emptied, appended};
 
 use super::memory_sink::is_listed_in;

@@ -1,9 +1,9 @@
 //! A sink that keeps its bytes in memory.
 ghost use Rattle.std.specs.Prelude.{◌≡◌, ◌<◌, ◌≤◌, ◌↔◌, ◌⊎◌, ℕ, List, [], Option, Some, Contains, IsTrue, length, IfOk, IsErrOf, nat_eq};
 ghost use Rattle.std.specs.List.{list_any};
-ghost use Rattle.sim_io.specs.Told.{Grew};
+ghost use Rattle.sim_io.specs.Contents.{Grew};
 ghost use Rattle.sim_io.specs.Cause.{HasCause};
-ghost use Rattle.sim_io.specs.Taken.{taken};
+ghost use Rattle.sim_io.specs.Writes.{taken};
 ghost use Rattle.sim_io.specs.Memory.{SinkState, fitting, WriteFails, written};
 
 use super::outside::{Sink, Trouble};

@@ -1,8 +1,8 @@
 //! A sink that drops what it is given.
 ghost use Rattle.std.specs.Prelude.{◌≡◌, ◌<◌, ◌≤◌, ℕ, List, None, Ok, length, IfOk, IsErrOf};
-ghost use Rattle.sim_io.specs.Told.{Grew};
+ghost use Rattle.sim_io.specs.Contents.{Grew};
 ghost use Rattle.sim_io.specs.Cause.{HasCause};
-ghost use Rattle.sim_io.specs.Taken.{taken};
+ghost use Rattle.sim_io.specs.Writes.{taken};
 
 use crate::{Sink, Trouble};
 

@@ -1,10 +1,10 @@
 //! What the simulator sees of the world outside: files on a shelf, and sinks for bytes.
 ghost use Rattle.std.specs.Prelude.{◌≡◌, ◌<◌, ◌≤◌, ℕ, List, Option, Some, length, IfOk, IfSome, IsErrOf};
 ghost use Rattle.std.specs.Io.KnownBytes.{ReadConsumes};
-ghost use Rattle.sim_io.specs.Told.{Files, text_of, AfterTold, Unchanged, Lacks, Grows, Grew};
+ghost use Rattle.sim_io.specs.Contents.{Files, text_of, AfterTold, Unchanged, Lacks, Grows, Grew};
 ghost use Rattle.sim_io.specs.Cause.{HasCause, HasCauseOrLacks};
 ghost use Rattle.sim_io.specs.Keeps.{ReadKeeps, WriteKeeps};
-ghost use Rattle.sim_io.specs.Taken.{taken, Creates};
+ghost use Rattle.sim_io.specs.Writes.{taken, Creates};
 
 use thiserror::Error;
 

@@ -2,10 +2,10 @@
 ghost use Rattle.std.specs.Prelude.{◌≡◌, ◌<◌, ◌≤◌, ◌^◌, ◌-◌, ℕ, List, [], ◌∷◌, Option, Some, None, Ok, true, false, length, take, min, IfOk, IfSome, IsErrOf, position};
 ghost use Rattle.std.specs.List.{position_or_len, slice_index_or};
 ghost use Rattle.std.specs.Io.KnownBytes.{ReadConsumes};
-ghost use Rattle.sim_io.specs.Told.{text_of, Lacks, Unchanged, AfterTold, Grows};
+ghost use Rattle.sim_io.specs.Contents.{text_of, Lacks, Unchanged, AfterTold, Grows};
 ghost use Rattle.sim_io.specs.Cause.{HasCause, HasCauseOrLacks};
 ghost use Rattle.sim_io.specs.Keeps.{ReadKeeps, WriteKeeps};
-ghost use Rattle.sim_io.specs.Taken.{taken, Creates};
+ghost use Rattle.sim_io.specs.Writes.{taken, Creates};
 ghost use Rattle.sim_io.specs.Sound.{SoundState, named, texts, place_of, file_at, rest_of, put, begun, given, told, IsReading, left_of, IsCreated, StandsFor, reads_of, writes_of};
 
 use super::sound_file::SoundFile;

@@ -1,13 +1,13 @@
 //! Whole texts: read to their end within a limit, or written to their last byte.
 ghost use Rattle.std.specs.Prelude.{◌≡◌, ◌<◌, ◌≤◌, ◌+◌, ◌⊎◌, ℕ, List, [], length, IfOk, IfSome, IsErrOf, OnOk};
 ghost use Rattle.std.specs.Io.KnownBytes.{Consumes, IsAtEnd};
-ghost use Rattle.sim_io.specs.Told.{Lacks, IsWhole, IsPastLimit, IsPast};
+ghost use Rattle.sim_io.specs.Contents.{Lacks, IsWhole, IsPastLimit, IsPast};
 ghost use Rattle.sim_io.specs.Cause.{Rose, RoseIf};
 ghost use Rattle.sim_io.specs.Keeps.{ReadKeeps, WriteKeeps};
-ghost use Rattle.sim_io.specs.Taken.{TookOf, FileTook};
+ghost use Rattle.sim_io.specs.Writes.{TookOf, FileTook};
 
 use super::outside::{Shelf, Sink, Trouble};
-use plain_lists::Bytes;
+use logic_values::Bytes;
 use std::alloc::Global;
 use thiserror::Error;
 

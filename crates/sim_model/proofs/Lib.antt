@@ -1,3 +1,3 @@
 pub mod LogicValues
-pub mod Lemmas
+pub mod NumberedSlots
 pub mod TransportPhases

@@ -20,7 +20,6 @@ pub mod Trace
 pub mod Clean
 pub mod SimTime
 pub mod LogicValues
-pub mod Lemmas
 pub mod NumberedSlots
 pub mod EventCore
 pub mod SignalChannel

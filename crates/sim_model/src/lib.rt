@@ -28,9 +28,9 @@ pub mod flat_design_api {
 
 /// What is passed on of logic_values.
 pub mod logic_values_api {
-    pub use signal_channel::logic_values_api::{
-        Digit, Lv, Sign, Text, Value, add, and, concat, cut, digit, div, is_same, lt, mul, not, or,
-        rem, shl, shr, slice, sub, value_text, vector_of_digits, xor,
+    pub use payload_pool::logic_values_api::{
+        Bytes, Digit, Items, Lv, Sign, Text, Value, add, and, concat, cut, digit, div, is_same, lt,
+        mul, not, or, rem, shl, shr, slice, sub, value_text, vector_of_digits, xor,
     };
 }
 
@@ -44,11 +44,6 @@ pub mod model_tree_api {
 /// What is passed on of payload_pool.
 pub mod payload_pool_api {
     pub use payload_pool::{Bytes, INCOMPLETE, MAX_BYTES, MakeStop, Payload, Pool, carry};
-}
-
-/// What is passed on of plain_lists.
-pub mod plain_lists_api {
-    pub use payload_pool::plain_lists_api::{Bytes, Items};
 }
 
 /// What is passed on of quantum_keeper.
@@ -69,4 +64,9 @@ pub mod sim_time_api {
 /// What is passed on of transport_phases.
 pub mod transport_phases_api {
     pub use transport_phases::{Hop, Path, Rule};
+}
+
+/// What is passed on of numbered_slots.
+pub mod numbered_slots_api {
+    pub use payload_pool::numbered_slots_api::{Marks, only_marked_places_rise};
 }

@@ -1,13 +1,12 @@
 //! Files and streams, of the operating system and in memory, with a call that fails in their midst.
 
 use sim_io::{
-    HostShelf, HostSink, MemoryShelf, MemorySink, ReadStop, Shelf, Trouble, read_all, read_opened,
-    write_all, write_file,
+    Held, HostShelf, HostSink, MemoryShelf, MemorySink, ReadStop, Shelf, Trouble, read_all,
+    read_opened, write_all, write_file,
 };
 use std::alloc::{AllocError, Global};
 use std::fs;
 use std::test::Fail;
-use write_buffer::Held;
 
 // A shelf with two files of the name `m`, of which the first holds "model". This call of it fails.
 fn make_shelf(alloc: Global, fails_at: u64) -> Result<MemoryShelf, AllocError> {

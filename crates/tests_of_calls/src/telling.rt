@@ -1,7 +1,7 @@
 //! What is told of a case that came out otherwise than it says.
 
 use case_files::{Case, Counts, Outcome, difference, outside_of, read_cases};
-use plain_lists::Items;
+use logic_values::Items;
 use sim_io::{Shelf, write_all, write_file};
 use std::alloc::Global;
 use std::test::Fail;

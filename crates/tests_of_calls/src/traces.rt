@@ -2,8 +2,7 @@
 
 use flat_design::sim_time_api::Resolution;
 use flat_design::{Code, Design, Object, ObjectForm, Objects};
-use logic_values::Text;
-use plain_lists::Items;
+use logic_values::{Items, Text};
 use std::alloc::{AllocError, Global};
 use std::test::Fail;
 use vcd_trace::header;

@@ -3,5 +3,4 @@ pub mod Pieces
 pub mod Words
 pub mod LineForms
 pub mod ModelLexer
-pub mod ModelGrammar
 pub mod ModelTree

@@ -1,5 +1,5 @@
 //! The words of a traffic file: names, numbers in their ranges, and bytes; and what an access does.
-use model_tree::plain_lists_api::Items;
+use model_tree::logic_values_api::Items;
 
 /// Bytes in order.
 pub type Bytes = Items<u8>;

@@ -7,8 +7,7 @@ ghost use Rattle.text_lines.specs.Words as spec;
 
 use crate::{BusAction, Bytes, all_hex_digits, number_read};
 use model_tree::is_word;
-use model_tree::logic_values_api::Text;
-use model_tree::plain_lists_api::Items;
+use model_tree::logic_values_api::{Items, Text};
 use std::alloc::{AllocError, Global};
 
 /// The longest name.

@@ -1,6 +1,6 @@
 //! Whole trees.
 ghost use Rattle.std.specs.Prelude.{◌≡◌};
-ghost use Rattle.model_tree.specs.Seen.{model_of};
+ghost use Rattle.model_tree.specs.WholeTree.{model_of};
 ghost use Rattle.tick_trees.specs.Ticks.{ticks};
 
 use crate::items::retime_modules;

@@ -1,7 +1,7 @@
 //! Items, modules and whole trees.
 ghost use Rattle.std.specs.Prelude.{◌≡◌, map};
 ghost use Rattle.std.specs.List.{flat_map};
-ghost use Rattle.model_tree.specs.Seen.{model_of};
+ghost use Rattle.model_tree.specs.WholeTree.{model_of};
 ghost use Rattle.model_tree.specs.Views.{item_of, modules_of};
 ghost use Rattle.tick_trees.specs.Times as times;
 ghost use Rattle.tick_trees.specs.Unfit as spec;

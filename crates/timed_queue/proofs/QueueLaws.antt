@@ -17,7 +17,7 @@ use Rattle.timed_queue.specs.Nodes.{IsEntry, Same, Grown, Others, Holds, name_of
 use Rattle.timed_queue.specs.Placing.{place_at}
 use Rattle.timed_queue.specs.Sound.{IsWheel, IsSettled, AreFrom, IsLeastTime, IsDueNode}
 use Rattle.timed_queue.specs.Timed.{is_at, is_due, IsEarliest}
-use Rattle.timed_queue.specs.Kept.{time_at, timed, times_of, IsQueue}
+use Rattle.timed_queue.specs.Layout.{time_at, timed, times_of, IsQueue}
 use Rattle.timed_queue.proofs.EntryLaws.{entry_before, entry_after}
 use Rattle.timed_queue.proofs.MoveLaws.{entry_old, entry_new}
 use Rattle.timed_queue.proofs.MapLemmas.{same_gets, get-inserted, get-removed}

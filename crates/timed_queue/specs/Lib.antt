@@ -4,5 +4,5 @@ pub mod Nodes
 pub mod Marked
 pub mod Nearer
 pub mod Sound
-pub mod Kept
+pub mod Layout
 pub mod SimTime

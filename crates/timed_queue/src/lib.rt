@@ -45,7 +45,7 @@ impl Model for TimedQueue {
     ghost coded = { timed_code };
 
     ghost use Rattle.std.specs.Prelude.{length};
-    ghost use Rattle.timed_queue.specs.Kept.{times_of, IsQueue, HasRoom};
+    ghost use Rattle.timed_queue.specs.Layout.{times_of, IsQueue, HasRoom};
 
     ghost view = { λ q. record {
       times = times_of q.index.entries q.wheel.nodes.items;

@@ -20,7 +20,7 @@ use Rattle.run_input.specs.ResultTexts.declared.refusals.ModelFault.{ModelFault}
 use Rattle.run_input.specs.ResultTexts.declared.refusals.Refusal.{Refusal}
 use Rattle.run_input.specs.ResultTexts.declared.refusals.Refusal.TheVariants as refusal
 use Rattle.run_input.proofs.Apart.{OneTree}
-use Rattle.tlmsim.specs.Asked.{IsPlan, budget_of}
+use Rattle.tlmsim.specs.Requests.{IsPlan, budget_of}
 use Rattle.tlmsim.specs.Call.{Call, Keeps}
 use Rattle.tlmsim.specs.Telling.{Tells, TellsStop, refusal_status}
 use Rattle.tlmsim.specs.Headline.{ReadFailed, TooLarge, ModelRefused, RefusedFor, Ended, NoRun, Finished, TextCut, TextLacking, LineCut, LineLacking, ScriptTold, ModelTold, Untouched, Gets, Gives, IsSilent, Answers, IsRefusal, IsRunStatus, stop_status}

@@ -1,7 +1,7 @@
 -- What a call was given, against what was read in it and what came of that.
 use Rattle.std.proofs.Common.{◌≡◌, ◌<◌, ◌≤◌, ◌⊎◌, ⊎_elim, ℕ, List, length, Option, Some, None, subst, ap, refl, arith}
 use Rattle.std.specs.Prelude.{IfSome}
-use Rattle.session.specs.SimIo.Told.{Files, Lacks, IsText, IsLarge}
+use Rattle.session.specs.SimIo.Contents.{Files, Lacks, IsText, IsLarge}
 use Rattle.session.specs.SimIo.Cause.{Rose}
 use Rattle.command_line.specs.declared.modes.PageKind.{PageKind}
 use Rattle.command_line.specs.Line.{Mode, Simulation, Simulate, Page, Generate, line_of}
@@ -9,7 +9,7 @@ use Rattle.run_input.specs.Limits.{model_limit, script_limit, replay_limit}
 use Rattle.run_input.specs.Loaded.{AreTexts}
 use Rattle.run_input.specs.Together.{Together}
 use Rattle.run_input.proofs.Present.{text_at, large_at, lacks_none}
-use Rattle.tlmsim.specs.Asked.{HasTexts, HasText, IsModel, replay_of}
+use Rattle.tlmsim.specs.Requests.{HasTexts, HasText, IsModel, replay_of}
 use Rattle.tlmsim.specs.Call.{Call}
 use Rattle.tlmsim.specs.Pages.{ReadsModel}
 use Rattle.tlmsim.specs.Headline.{UnreadIn, ReadFailed, LargeIn, TooLarge, Reads, Given, ModelGiven, PageGiven, Within, PastLimit, names_model}

@@ -1,6 +1,6 @@
 -- Which status comes of what a call is given, by what came of it.
 use Rattle.std.proofs.Common.{◌≡◌, ◌<◌, ◌≤◌, ◌⊎◌, inl, inr, ⊎_elim, ℕ, List, length, codes, Option, Some, None, Err, subst, sym, refl}
-use Rattle.session.specs.SimIo.Told.{Files}
+use Rattle.session.specs.SimIo.Contents.{Files}
 use Rattle.session.specs.SimIo.Cause.{Rose}
 use Rattle.model_tree.specs.Tree as tree
 use Rattle.traffic_file.specs.declared.stops.BusStop.{BusStop}
@@ -19,11 +19,11 @@ use Rattle.run_input.specs.ResultTexts.declared.refusals.ScriptFault.{ScriptFaul
 use Rattle.run_input.specs.ResultTexts.declared.refusals.Refusal.{Refusal}
 use Rattle.run_input.specs.ResultTexts.declared.refusals.Refusal.TheVariants as refusal
 use Rattle.run_input.specs.Limits.{model_limit}
-use Rattle.run_input.specs.Judged.{IsBrokenModel, AcceptsModel, IsBrokenScript, Accepts, ReadsReplay, HasReplayFault, IsBrokenReplay}
+use Rattle.run_input.specs.Acceptance.{IsBrokenModel, AcceptsModel, IsBrokenScript, Accepts, ReadsReplay, HasReplayFault, IsBrokenReplay}
 use Rattle.run_input.proofs.Refusals.{model_broken_by, script_broken_by, replay_broken_by}
 use Rattle.run_input.proofs.Apart.{OneTree, not_broken, not_both, not_listed}
 use Rattle.tlmsim.specs.Call.{Call}
-use Rattle.tlmsim.specs.Asked.{HasTexts, IsModel}
+use Rattle.tlmsim.specs.Requests.{HasTexts, IsModel}
 use Rattle.tlmsim.specs.Headline.{UnreadIn, LargeIn, ReadFailed, TooLarge, ModelRefused, ScriptRefused, ReplayRefused, BusRefused, RefusedFor, Accepted, HasPage, PageShort, IsCut, OneRose, Given, ModelGiven, PageGiven, Within, PastLimit, Gives, IsRunStatus, stop_status}
 use Rattle.tlmsim.specs.Pages.{IsPageOf, IsFitFor, IsUnfitFor, ReadsModel}
 use Rattle.tlmsim.specs.Telling.{refusal_status}

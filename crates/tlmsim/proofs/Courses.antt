@@ -1,7 +1,7 @@
 -- Runs, by what was taken of their texts.
 use Rattle.std.proofs.Common.{◌≡◌, ◌<◌, ◌+◌, ◌-◌, ℕ, suc, List, ◌++◌, length, Option, Some, None, refl, sym, ◌∙◌, subst, arith}
 use Rattle.std.specs.Prelude.{IfSome}
-use Rattle.session.specs.SimIo.Told.{Files, AfterTold, Grew, Same, WereTold}
+use Rattle.session.specs.SimIo.Contents.{Files, AfterTold, Grew, Same, WereTold}
 use Rattle.session.proofs.SimIo.Chains.{grew_on}
 use Rattle.command_line.specs.SimModel.Configuration.{Config}
 use Rattle.command_line.specs.SimModel.declared.plain.Stop.{Stop}
@@ -15,7 +15,7 @@ use Rattle.tlmsim.specs.Held.{FilesHold, FilesMade}
 use Rattle.tlmsim.proofs.Holding.{held_by}
 use Rattle.tlmsim.specs.Call.{Call, no_names}
 use Rattle.tlmsim.specs.Orderly.{HadNoEnd}
-use Rattle.tlmsim.specs.Taken.{Holds}
+use Rattle.tlmsim.specs.WrittenTexts.{Holds}
 
 -- what was taken in one way was taken in another
 wrote_with : (A B : Texts → Type 0) → ((t : Texts) → A t → B t) → (e : Option Stop) (whole : Texts) (s : Stop) → Wrote A e whole s → Wrote B e whole s

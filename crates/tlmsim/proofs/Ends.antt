@@ -5,8 +5,8 @@ use Rattle.std.specs.Borrow.{Bor}
 use Rattle.std.proofs.lemmas.Bool.{false≢true}
 use Rattle.std.proofs.lemmas.Slice.Eq.{bytes_eq-Decides}
 use Rattle.session.specs.SimIo.Cause.{Rose}
-use Rattle.session.specs.SimIo.Told.{Files, AfterTold, Grew, IsText, Same, WereTold}
-use Rattle.session.specs.SimIo.Taken.{TookOf}
+use Rattle.session.specs.SimIo.Contents.{Files, AfterTold, Grew, IsText, Same, WereTold}
+use Rattle.session.specs.SimIo.Writes.{TookOf}
 use Rattle.session.proofs.SimIo.Chains.{grew_none, grew_on, rose_on}
 use Rattle.session.specs.SimIo.declared.outside.Trouble.{Trouble}
 use Rattle.session.specs.SimIo.declared.outside.Trouble.TheVariants as trouble
@@ -18,7 +18,7 @@ use Rattle.command_line.specs.SimModel.declared.plain.Command.{Command}
 use Rattle.command_line.specs.SimModel.declared.plain.Stop.{Stop}
 use Rattle.command_line.specs.SimModel.declared.plain.Stop.TheVariants as stop
 use Rattle.command_line.specs.Line.{Simulation, Mode, Simulate, Page, Generate, are_apart, line_of}
-use Rattle.command_line.specs.Seen.{text_of}
+use Rattle.command_line.specs.Views.{text_of}
 use Rattle.command_line.specs.declared.modes.PageKind.{PageKind}
 use Rattle.command_line.specs.declared.modes.PageKind.TheVariants as page_kind
 use Rattle.traffic_file.specs.declared.stops.BusStop.{BusStop}
@@ -36,7 +36,7 @@ use Rattle.tlmsim.specs.Held.{FilesHold, FilesMade, FilesSpared, IsAsBefore, IsS
 use Rattle.model_gen.specs.Generated.{generated}
 use Rattle.run_input.specs.Limits.{model_limit}
 use Rattle.run_input.specs.Loaded.{AreTexts, FileCause, LoadCause}
-use Rattle.run_input.specs.Judged.{Accepts, HasModelFault, ReadsReplay}
+use Rattle.run_input.specs.Acceptance.{Accepts, HasModelFault, ReadsReplay}
 use Rattle.run_input.specs.Refused.{HasTextFault, IfModelFault}
 use Rattle.run_input.specs.Together.{Together}
 use Rattle.run_input.specs.declared.loading.LoadStop.{LoadStop}
@@ -45,11 +45,11 @@ use Rattle.run_input.specs.declared.judging.JudgeStop.{JudgeStop}
 use Rattle.run_input.specs.declared.judging.JudgeStop.TheVariants as judge_stop
 use Rattle.run_input.specs.declared.judging.ModelStop.{ModelStop}
 use Rattle.run_input.specs.declared.judging.ModelStop.TheVariants as model_stop
-use Rattle.tlmsim.specs.Asked.{HasText, HasTexts, IsPlan, PlansRun, replay_of}
+use Rattle.tlmsim.specs.Requests.{HasText, HasTexts, IsPlan, PlansRun, replay_of}
 use Rattle.tlmsim.specs.Call.{Call, IsNamed, NamesOne, OnlyThese, names_if, names_in, no_names}
 use Rattle.tlmsim.specs.Headline.{Accepted, Ended, EndedShort, IsCut, HasPage, OneRose, Session}
 use Rattle.tlmsim.specs.Orderly.{HadNoEnd, Orderly}
-use Rattle.tlmsim.specs.Taken.{Spared, Holds, TakesAll, TakesShort, steps_line}
+use Rattle.tlmsim.specs.WrittenTexts.{Spared, Holds, TakesAll, TakesShort, steps_line}
 use Rattle.tlmsim.specs.Worked.{CutNow, EndedSo, TellsBy, TellsSteps, Unmoved, Works, HasNoPage, unfit, unformed, unread, unserved}
 use Rattle.tlmsim.specs.Pages.{ReadsModel}
 use Rattle.tlmsim.specs.declared.working.WorkStop.{WorkStop}

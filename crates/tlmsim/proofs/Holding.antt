@@ -2,7 +2,7 @@
 use Rattle.std.proofs.Common.{◌≡◌, ◌≢◌, inl, inr, ℕ, List, Option, Some, None, refl, sym, ◌∙◌, ap, subst}
 use Rattle.std.specs.Io.KnownBytes.{append_known}
 use Rattle.std.specs.Prelude.{IfSome}
-use Rattle.session.specs.SimIo.Told.{Files, AfterTold, WereTold}
+use Rattle.session.specs.SimIo.Contents.{Files, AfterTold, WereTold}
 use Rattle.session.specs.Outputs.{AreApart, FileGot, FilesGot, IsOther, Names, Texts}
 use Rattle.tlmsim.specs.Held.{FileHolds, FileMade, FileSpared, FilesHold, FilesMade, FilesSpared, IsAsBefore, IsEmptied, IsSpared, names_of}
 

@@ -1,7 +1,7 @@
 -- How much was taken of a file that is too large, as each answer hands it on.
 use Rattle.std.proofs.Common.{◌≡◌, ⊎_elim, ◌∙◌, ℕ, List, Option, Some, Result, Ok, Err, arith, subst, sym}
 use Rattle.std.specs.Prelude.{IfErr}
-use Rattle.session.specs.SimIo.Told.{Files}
+use Rattle.session.specs.SimIo.Contents.{Files}
 use Rattle.command_line.specs.Line.{Mode}
 use Rattle.command_line.specs.SimModel.declared.plain.Stop.{Stop}
 use Rattle.command_line.specs.SimModel.declared.plain.Stop.TheVariants as stop
@@ -14,7 +14,7 @@ use Rattle.run_input.specs.declared.loading.LoadStop.TheVariants as load_stop
 use Rattle.run_input.specs.declared.judging.JudgeStop.{JudgeStop}
 use Rattle.run_input.specs.declared.judging.JudgeStop.TheVariants as judge_stop
 use Rattle.session.specs.declared.plans.Outcome.{Outcome}
-use Rattle.tlmsim.specs.Asked.{IsLimitIn, IsLimitOf}
+use Rattle.tlmsim.specs.Requests.{IsLimitIn, IsLimitOf}
 use Rattle.tlmsim.specs.Headline.{stop_status}
 use Rattle.tlmsim.specs.Telling.{Tells, refusal_status}
 use Rattle.tlmsim.specs.Worked.{HasNoPage, IfLarge, unfit, unread}

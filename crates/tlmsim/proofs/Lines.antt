@@ -2,8 +2,8 @@
 use Rattle.std.proofs.Common.{◌≡◌, ◌<◌, ◌≤◌, ⊎_elim, ℕ, Bool, true, false, ◌||◌, nat_eq, List, length, take, Option, Result, Ok, Err, subst, sym, ap, ◌∙◌, refl, arith}
 use Rattle.std.proofs.lemmas.Bool.{false≢true}
 use Rattle.std.proofs.Math.Seq.{take-length}
-use Rattle.session.specs.SimIo.Told.{Grew}
-use Rattle.session.specs.SimIo.Taken.{TookOf}
+use Rattle.session.specs.SimIo.Contents.{Grew}
+use Rattle.session.specs.SimIo.Writes.{TookOf}
 use Rattle.session.specs.SimIo.declared.outside.Trouble.{Trouble}
 use Rattle.session.proofs.SimIo.Chains.{grew_on}
 use Rattle.session.specs.Course.{IsEnd}

@@ -1,6 +1,6 @@
 -- What a call of the top speaks of: the words, and the outside before and after it.
 use Rattle.std.specs.Prelude.{◌≡◌, ◌≤◌, ◌⊎◌, ℕ, List, Option, Some, None, ⊤}
-use Rattle.session.specs.SimIo.Told.{Files, AfterTold}
+use Rattle.session.specs.SimIo.Contents.{Files, AfterTold}
 use Rattle.command_line.specs.Line.{Mode, Simulate, Page, Generate, line_of}
 use Rattle.session.specs.Outputs.{Names, IsOther}
 

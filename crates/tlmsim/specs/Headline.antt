@@ -1,6 +1,6 @@
 -- The answers of the top call, the cause of each, and what `err` gets with it.
 use Rattle.std.specs.Prelude.{◌≡◌, ◌≤◌, ◌⊎◌, ◌<◌, ℕ, List, [], Option, Some, None, Err, length, codes}
-use Rattle.session.specs.SimIo.Told.{Files, AfterTold, Grew, Lacks, IsLarge, Same}
+use Rattle.session.specs.SimIo.Contents.{Files, AfterTold, Grew, Lacks, IsLarge, Same}
 use Rattle.session.specs.SimIo.Cause.{Rose}
 use Rattle.flat_design.specs.declared.faults.RunFault.{RunFault}
 use Rattle.traffic_file.specs.declared.stops.BusStop.{BusStop}
@@ -23,13 +23,13 @@ use Rattle.session.specs.Outputs.{Texts, IsFront}
 use Rattle.session.specs.declared.plans.Plan.{Plan}
 use Rattle.run_input.specs.Limits.{model_limit, script_limit, replay_limit}
 use Rattle.run_input.specs.Loaded.{IsUnread, IsTooLarge}
-use Rattle.run_input.specs.Judged.{IsBrokenModel, HasModelFault, AcceptsModel, IsBrokenScript, HasScriptFault, Accepts, ReadsReplay, HasReplayFault, IsBrokenReplay, IsDesignOfSource}
+use Rattle.run_input.specs.Acceptance.{IsBrokenModel, HasModelFault, AcceptsModel, IsBrokenScript, HasScriptFault, Accepts, ReadsReplay, HasReplayFault, IsBrokenReplay, IsDesignOfSource}
 use Rattle.run_input.specs.Together.{Together}
-use Rattle.tlmsim.specs.Asked.{HasTexts, HasText, IsModel, IsPlan, budget_of, replay_of}
+use Rattle.tlmsim.specs.Requests.{HasTexts, HasText, IsModel, IsPlan, budget_of, replay_of}
 use Rattle.tlmsim.specs.Call.{Call, Keeps, NamesOne, names_in, names_if}
 use Rattle.tlmsim.specs.Orderly.{Orderly, HadNoEnd}
 use Rattle.tlmsim.specs.Pages.{IsPageOf, IsFitFor, IsUnfitFor}
-use Rattle.tlmsim.specs.Taken.{Holds, TakesAll, TakesShort, Spared}
+use Rattle.tlmsim.specs.WrittenTexts.{Holds, TakesAll, TakesShort, Spared}
 use Rattle.tlmsim.specs.Telling.{WroteCut}
 use Rattle.run_input.specs.ResultTexts.ErrLines.{usage_line, read_line, model_line, script_line, replay_line, bus_line, large_line, err_line, write_line, memory_line}
 use Rattle.run_input.specs.ResultTexts.declared.refusals.ModelFault.{ModelFault}

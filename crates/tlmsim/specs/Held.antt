@@ -1,6 +1,6 @@
 -- What the files of a session hold, before it and behind it.
 use Rattle.std.specs.Prelude.{◌≡◌, ◌⊎◌, ℕ, List, [], Option, Some, None, ⊤}
-use Rattle.session.specs.SimIo.Told.{Files, Same, Others}
+use Rattle.session.specs.SimIo.Contents.{Files, Same, Others}
 use Rattle.session.specs.Outputs.{IsOther, Names, Texts}
 
 abbrev pub names_of : Option (List ℕ) → Option (List ℕ) → Names

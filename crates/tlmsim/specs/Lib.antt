@@ -1,9 +1,9 @@
 pub mod Held
 pub mod Call
 pub mod Pages
-pub mod Asked
+pub mod Requests
 pub mod Orderly
-pub mod Taken
+pub mod WrittenTexts
 pub mod Telling
 pub mod Headline
 pub mod Worked

@@ -13,7 +13,7 @@ use Rattle.laws_order.specs.OrderFree.declared.verdicts.Verdict.TheVariants as v
 use Rattle.laws_order.specs.AnyOrder.{OrderDoesNotMatter}
 use Rattle.command_line.specs.declared.modes.PageKind.{PageKind}
 use Rattle.command_line.specs.declared.modes.PageKind.TheVariants as page_kind
-use Rattle.run_input.specs.Judged.{AcceptsModel, IsBrokenModel, IsLayoutOf, IsDesignOfSource}
+use Rattle.run_input.specs.Acceptance.{AcceptsModel, IsBrokenModel, IsLayoutOf, IsDesignOfSource}
 
 -- the line of a verdict
 abbrev pub verdict_line : Verdict → List ℕ

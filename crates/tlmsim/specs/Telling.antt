@@ -1,6 +1,6 @@
 -- What the telling of a refusal leaves on `err`, and the status that it gives.
 use Rattle.std.specs.Prelude.{◌≡◌, ◌≤◌, ◌<◌, ◌⊎◌, ◌++◌, ℕ, List, Option, length, take}
-use Rattle.session.specs.SimIo.Told.{Grew}
+use Rattle.session.specs.SimIo.Contents.{Grew}
 use Rattle.session.specs.SimIo.Cause.{Rose}
 use Rattle.session.specs.Fronts.{WroteFront}
 use Rattle.command_line.specs.SimModel.declared.plain.Stop.{Stop}

@@ -1,6 +1,6 @@
 -- What the work below the statuses comes to.
 use Rattle.std.specs.Prelude.{◌≡◌, ◌<◌, ◌⊎◌, ⊤, ℕ, Bool, true, false, List, length, Option, Result, Ok, Err}
-use Rattle.session.specs.SimIo.Told.{AfterTold, Grew, Same}
+use Rattle.session.specs.SimIo.Contents.{AfterTold, Grew, Same}
 use Rattle.command_line.specs.SimModel.declared.plain.Stop.{Stop}
 use Rattle.command_line.specs.SimModel.declared.plain.Stop.TheVariants as stop
 use Rattle.session.specs.Course.{IsEnd}
@@ -11,7 +11,7 @@ use Rattle.traffic_file.specs.declared.stops.BusStop.TheVariants as bus_stop
 use Rattle.traffic_file.specs.BusText.{bus_of}
 use Rattle.command_line.specs.declared.modes.PageKind.{PageKind}
 use Rattle.command_line.specs.declared.modes.PageKind.TheVariants as page_kind
-use Rattle.run_input.specs.Judged.{HasModelFault}
+use Rattle.run_input.specs.Acceptance.{HasModelFault}
 use Rattle.run_input.specs.ResultTexts.declared.refusals.Refusal.TheVariants as refusal
 use Rattle.run_input.specs.declared.loading.LoadStop.{LoadStop}
 use Rattle.run_input.specs.declared.loading.LoadStop.TheVariants as load_stop
@@ -22,7 +22,7 @@ use Rattle.run_input.specs.declared.judging.ModelStop.TheVariants as model_stop
 use Rattle.tlmsim.specs.Call.{Call}
 use Rattle.tlmsim.specs.Headline.{Ended, IsCut, PageTold, OneRose, RefusedFor}
 use Rattle.tlmsim.specs.Pages.{ReadsModel}
-use Rattle.tlmsim.specs.Taken.{steps_line}
+use Rattle.tlmsim.specs.WrittenTexts.{steps_line}
 use Rattle.tlmsim.specs.declared.working.WorkStop.{WorkStop}
 use Rattle.tlmsim.specs.declared.working.WorkStop.TheVariants as work_stop
 

@@ -1,6 +1,6 @@
 //! The files that a session writes, made empty.
 ghost use Rattle.std.specs.Prelude.{◌≡◌, Option, IfOk, IfSome, IsErrOf, IsSome, OnErr, option_copied};
-ghost use Rattle.session.specs.SimIo.Told.{AfterTold};
+ghost use Rattle.session.specs.SimIo.Contents.{AfterTold};
 ghost use Rattle.session.specs.SimIo.Cause.{RoseIf};
 ghost use Rattle.session.specs.SimIo.Keeps.{WriteKeeps};
 ghost use Rattle.session.specs.Outputs.{AreApart, AreNames, HasName};

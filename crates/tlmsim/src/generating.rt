@@ -1,12 +1,12 @@
 //! The run of a generated model.
 ghost use Rattle.std.specs.Prelude.{◌≡◌, ◌≤◌, ◌^◌, ℕ, List, Option, IfErr, IfOk, None, Some, length};
-ghost use Rattle.session.specs.SimIo.Told.{AfterTold, Same};
+ghost use Rattle.session.specs.SimIo.Contents.{AfterTold, Same};
 ghost use Rattle.session.specs.SimIo.Cause.{RoseIf};
 ghost use Rattle.command_line.specs.Line as line;
 ghost use Rattle.model_gen.specs.Generated as spec;
-ghost use Rattle.tlmsim.specs.Asked.{IsPlan};
+ghost use Rattle.tlmsim.specs.Requests.{IsPlan};
 ghost use Rattle.tlmsim.specs.Call.{outside_of};
-ghost use Rattle.tlmsim.specs.Taken.{steps_line};
+ghost use Rattle.tlmsim.specs.WrittenTexts.{steps_line};
 ghost use Rattle.tlmsim.specs.Worked.{IfLarge, IsCutAs, TellsSteps, CutNow, Works};
 
 use super::running::{rule_of, run};

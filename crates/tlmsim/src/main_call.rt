@@ -1,7 +1,7 @@
 ghost use Rattle.std.specs.Prelude.{◌≡◌, ℕ, List};
 ghost use Rattle.command_line.specs.Line.{line_of};
 ghost use Rattle.run_input.specs.Loaded.{TookOnePast};
-ghost use Rattle.tlmsim.specs.Asked.{IsLimitOf};
+ghost use Rattle.tlmsim.specs.Requests.{IsLimitOf};
 ghost use Rattle.tlmsim.specs.Call.{outside_of};
 ghost use Rattle.tlmsim.specs.Headline.{Answers, IsRunStatus};
 

@@ -1,12 +1,12 @@
 //! Pages: what is told of one file.
 ghost use Rattle.std.specs.Prelude.{◌≡◌, ◌≤◌, ◌<◌, ◌^◌, ℕ, List, Option, Some, IfErr, IfOk, length};
-ghost use Rattle.session.specs.SimIo.Told.{AfterTold, Same};
+ghost use Rattle.session.specs.SimIo.Contents.{AfterTold, Same};
 ghost use Rattle.command_line.specs.Line as line;
 ghost use Rattle.laws_order.specs.OrderFree.Free.{Says};
-ghost use Rattle.run_input.specs.Judged.{HasModelFault};
+ghost use Rattle.run_input.specs.Acceptance.{HasModelFault};
 ghost use Rattle.run_input.specs.Loaded.{TookOnePast};
 ghost use Rattle.run_input.specs.Refused.{IfModelFault};
-ghost use Rattle.tlmsim.specs.Asked.{IsLimitIn};
+ghost use Rattle.tlmsim.specs.Requests.{IsLimitIn};
 ghost use Rattle.tlmsim.specs.Call.{outside_of};
 ghost use Rattle.tlmsim.specs.Pages as spec;
 ghost use Rattle.tlmsim.specs.Pages.{IsPageOf, IsVerdictOf, Means};

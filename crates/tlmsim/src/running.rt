@@ -2,13 +2,13 @@
 ghost use Rattle.std.specs.Prelude.{◌≡◌, ◌≤◌, ◌^◌, IfSome, None};
 ghost use Rattle.session.specs.SimIo.Cause.{Rose, RoseIf};
 ghost use Rattle.session.specs.SimIo.Keeps.{WriteKeeps};
-ghost use Rattle.session.specs.SimIo.Told.{Grew};
+ghost use Rattle.session.specs.SimIo.Contents.{Grew};
 ghost use Rattle.command_line.specs.SimModel.Configuration.{start};
 ghost use Rattle.command_line.specs.SimModel.declared.plain.Stop.{Stop};
 ghost use Rattle.session.specs.Course.{Ran};
 ghost use Rattle.session.specs.Outputs.{AreNames, OneRose, Took, outer_of};
-ghost use Rattle.run_input.specs.Judged.{CanRun};
-ghost use Rattle.tlmsim.specs.Asked as spec;
+ghost use Rattle.run_input.specs.Acceptance.{CanRun};
+ghost use Rattle.tlmsim.specs.Requests as spec;
 ghost use Rattle.tlmsim.specs.Orderly.{HadNoEnd, Orderly};
 
 use command_line::Order;

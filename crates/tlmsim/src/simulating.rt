@@ -1,13 +1,13 @@
 //! The simulation of a model under a script.
 ghost use Rattle.std.specs.Prelude.{◌≡◌, ◌≤◌, ◌^◌, ℕ, List, Option, Some, ⊤, IfErr, option_copied};
-ghost use Rattle.session.specs.SimIo.Told.{AfterTold};
+ghost use Rattle.session.specs.SimIo.Contents.{AfterTold};
 ghost use Rattle.command_line.specs.Line as line;
-ghost use Rattle.command_line.specs.Seen.{rule_of as seen_rule, simulation_of};
+ghost use Rattle.command_line.specs.Views.{rule_of as seen_rule, simulation_of};
 ghost use Rattle.session.specs.Outputs.{AreApart};
 ghost use Rattle.run_input.specs.Loaded.{TookOnePast};
 ghost use Rattle.run_input.specs.Together.{Together};
 ghost use Rattle.tlmsim.specs.Held.{ForEach};
-ghost use Rattle.tlmsim.specs.Asked.{IsLimitIn, IsRule, PlansRun, replay_of};
+ghost use Rattle.tlmsim.specs.Requests.{IsLimitIn, IsRule, PlansRun, replay_of};
 ghost use Rattle.tlmsim.specs.Call.{OnlyThese, names_in, outside_of};
 ghost use Rattle.tlmsim.specs.Worked as spec;
 ghost use Rattle.tlmsim.specs.Worked.{IfLarge, Works};

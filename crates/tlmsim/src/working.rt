@@ -1,9 +1,9 @@
 //! The work that the words ask for.
 ghost use Rattle.std.specs.Prelude.{◌≡◌, ◌≤◌, ℕ, List, Option, IfErr};
-ghost use Rattle.session.specs.SimIo.Told.{AfterTold};
+ghost use Rattle.session.specs.SimIo.Contents.{AfterTold};
 ghost use Rattle.command_line.specs.Line as line;
 ghost use Rattle.run_input.specs.Loaded.{TookOnePast};
-ghost use Rattle.tlmsim.specs.Asked.{IsLimitOf};
+ghost use Rattle.tlmsim.specs.Requests.{IsLimitOf};
 ghost use Rattle.tlmsim.specs.Call.{OnlyThese, names_if, outside_of};
 ghost use Rattle.tlmsim.specs.Worked.{IfLarge, Works};
 

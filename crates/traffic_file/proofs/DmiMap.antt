@@ -1,2 +1,2 @@
-pub use Rattle.dmi_map.proofs.Kept as Kept
 pub use Rattle.dmi_map.proofs.OneOrder as OneOrder
+pub use Rattle.dmi_map.proofs.OrderedPlaces as OrderedPlaces

@@ -9,8 +9,7 @@ ghost use Rattle.traffic_file.specs.Stops.{IsJudgedAs};
 use super::stops::{BusKind, BusStop};
 use super::{Bus, BusInitiator, BusLine, BusTarget, Invalidate};
 use dmi_map::{AddressMap, MapStop};
-use model_tree::logic_values_api::Text;
-use model_tree::plain_lists_api::Items;
+use model_tree::logic_values_api::{Items, Text};
 use std::alloc::Global;
 use text_lines::{BusAction, LineForm, line_number, text_of};
 

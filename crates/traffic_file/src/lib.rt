@@ -6,16 +6,10 @@ mod reading;
 mod stops;
 
 use dmi_map::AddressMap;
-use model_tree::logic_values_api::Text;
-use model_tree::plain_lists_api::Items;
+use model_tree::logic_values_api::{Items, Text};
 pub use reading::read_bus;
 pub use stops::{BusKind, BusStop};
 use text_lines::BusAction;
-
-/// What is passed on of plain_lists.
-pub mod plain_lists_api {
-    pub use model_tree::plain_lists_api::Items;
-}
 
 /// What is passed on of dmi_map.
 pub mod dmi_map_api {
@@ -32,6 +26,11 @@ pub mod payload_pool_api {
 /// What is passed on of text_lines.
 pub mod text_lines_api {
     pub use text_lines::BusAction;
+}
+
+/// What is passed on of logic_values.
+pub mod logic_values_api {
+    pub use model_tree::logic_values_api::Items;
 }
 
 /// A memory of `size` bytes that takes `latency` for each access. Where it begins stands in the map alone.

@@ -8,11 +8,11 @@ use Rattle.transport_phases.specs.declared.phases.Phase.{Phase}
 use Rattle.transport_phases.specs.declared.phases.Answer.{Answer}
 use Rattle.transport_phases.specs.declared.phases.Answer.TheVariants.{Accepted, Updated, Completed}
 use Rattle.transport_phases.specs.declared.phases.Rule.{Rule}
-use Rattle.transport_phases.specs.declared.kept.State.{State}
-use Rattle.transport_phases.specs.declared.kept.State.TheVariants.{Idle, Req, Acc, Resp, Closing}
-use Rattle.transport_phases.specs.declared.kept.Open.{Open}
-use Rattle.transport_phases.specs.declared.kept.Open.TheVariants.{Nothing, NonBlocking, Blocking}
-use Rattle.transport_phases.specs.declared.kept.Kept.{Kept}
+use Rattle.transport_phases.specs.declared.transaction.State.{State}
+use Rattle.transport_phases.specs.declared.transaction.State.TheVariants.{Idle, Req, Acc, Resp, Closing}
+use Rattle.transport_phases.specs.declared.transaction.Open.{Open}
+use Rattle.transport_phases.specs.declared.transaction.Open.TheVariants.{Nothing, NonBlocking, Blocking}
+use Rattle.transport_phases.specs.declared.transaction.Kept.{Kept}
 use Rattle.transport_phases.specs.Phases.{fresh, is_fresh, is_idle, is_nothing, is_requesting, is_responding, called, returned, verdict, first_broken, call_rules, return_rules}
 use Rattle.transport_phases.specs.Rows.{Rows, kept_in, IsRegistered}
 use Rattle.transport_phases.specs.Seats.{NoOther, MayEnter}

@@ -5,7 +5,7 @@ use Rattle.std.specs.List.{filter}
 use Rattle.std.proofs.lemmas.List.{map-append}
 use Rattle.std.proofs.lemmas.List.Elements.{filter-append}
 use Rattle.transport_phases.specs.declared.phases.Path.{Path}
-use Rattle.transport_phases.specs.declared.kept.Kept.{Kept}
+use Rattle.transport_phases.specs.declared.transaction.Kept.{Kept}
 use Rattle.transport_phases.specs.Phases.{phase_of, answer_of, first_broken, call_rules, return_rules, b_call_rules, b_return_rules}
 use Rattle.transport_phases.specs.History.{Entry, Call, Return, BCall, BReturn, Left, transaction, kept_of, other_requests, other_responds, broken}
 use Rattle.transport_phases.specs.Words.{letter_of, letters_of}

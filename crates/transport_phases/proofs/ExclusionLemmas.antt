@@ -8,9 +8,9 @@ use Rattle.transport_phases.specs.declared.phases.Phase.TheVariants.{BeginReq, E
 use Rattle.transport_phases.specs.declared.phases.Answer.{Answer}
 use Rattle.transport_phases.specs.declared.phases.Answer.TheVariants.{Accepted, Updated, Completed}
 use Rattle.transport_phases.specs.declared.phases.Rule.{Rule}
-use Rattle.transport_phases.specs.declared.kept.State.{State}
-use Rattle.transport_phases.specs.declared.kept.State.TheVariants.{Idle, Req, Acc, Resp, Closing}
-use Rattle.transport_phases.specs.declared.kept.Kept.{Kept}
+use Rattle.transport_phases.specs.declared.transaction.State.{State}
+use Rattle.transport_phases.specs.declared.transaction.State.TheVariants.{Idle, Req, Acc, Resp, Closing}
+use Rattle.transport_phases.specs.declared.transaction.Kept.{Kept}
 use Rattle.transport_phases.specs.Phases.{fresh, phase_of, answer_of, requests, responds, is_requesting, is_responding, state_called, state_accepted, state_returned, first_broken, call_rules, return_rules}
 use Rattle.transport_phases.specs.History.{Entry, Call, Return, BCall, BReturn, Left, transaction, after_entry, kept_of, state_of, is_other_among, other_requests, other_responds, broken}
 use Rattle.transport_phases.specs.Unbroken.{UnbrokenFrom, AtMostOne}

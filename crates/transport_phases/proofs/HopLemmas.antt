@@ -5,11 +5,11 @@ use Rattle.std.specs.Ordering.{nat_cmp}
 use Rattle.std.specs.List.{list_any}
 use Rattle.std.specs.FinMap as map
 use Rattle.std.proofs.lemmas.Bool.{eqb-true, eqb-false, ne_eqb}
-use Rattle.transport_phases.specs.declared.kept.Kept.{Kept}
-use Rattle.transport_phases.specs.declared.kept.State.{State}
-use Rattle.transport_phases.specs.declared.kept.State.TheVariants.{Idle, Req, Acc, Resp, Closing}
-use Rattle.transport_phases.specs.declared.kept.Open.{Open}
-use Rattle.transport_phases.specs.declared.kept.Open.TheVariants.{Nothing, NonBlocking, Blocking}
+use Rattle.transport_phases.specs.declared.transaction.Kept.{Kept}
+use Rattle.transport_phases.specs.declared.transaction.State.{State}
+use Rattle.transport_phases.specs.declared.transaction.State.TheVariants.{Idle, Req, Acc, Resp, Closing}
+use Rattle.transport_phases.specs.declared.transaction.Open.{Open}
+use Rattle.transport_phases.specs.declared.transaction.Open.TheVariants.{Nothing, NonBlocking, Blocking}
 use Rattle.transport_phases.specs.declared.phases.Path.{Path}
 use Rattle.transport_phases.specs.declared.phases.Answer.{Answer}
 use Rattle.transport_phases.specs.declared.phases.Phase.{Phase}

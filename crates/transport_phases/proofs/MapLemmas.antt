@@ -5,7 +5,7 @@ use Rattle.std.proofs.lemmas.Bool.{cases_lt, eqb-true, eqb-false, ne_eqb}
 use Rattle.std.specs.Ordering.{nat_cmp, eq_by_cmp}
 use Rattle.std.specs.Cmp.{nat_cmp_total, unsigned_tied}
 use Rattle.std.specs.FinMap as map
-use Rattle.transport_phases.specs.declared.kept.Kept.{Kept}
+use Rattle.transport_phases.specs.declared.transaction.Kept.{Kept}
 use Rattle.transport_phases.specs.Phases.{is_fresh}
 use Rattle.transport_phases.specs.Seats.{SetsRow}
 

@@ -1,8 +1,8 @@
 -- Which call of a transaction is open, by its words.
 use Rattle.std.proofs.Common.{◌≡◌, ℕ, true, List, refl, ap}
 use Rattle.std.specs.Prelude.{◌↔◌}
-use Rattle.transport_phases.specs.declared.kept.Open.{Open}
-use Rattle.transport_phases.specs.declared.kept.Open.TheVariants.{Nothing, NonBlocking, Blocking}
+use Rattle.transport_phases.specs.declared.transaction.Open.{Open}
+use Rattle.transport_phases.specs.declared.transaction.Open.TheVariants.{Nothing, NonBlocking, Blocking}
 use Rattle.transport_phases.specs.Phases.{is_open_nb, is_open_b}
 use Rattle.transport_phases.specs.History.{Entry, is_open}
 use Rattle.transport_phases.specs.Words.{Letter, letters_of}

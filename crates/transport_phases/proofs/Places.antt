@@ -1,11 +1,11 @@
 -- The places of a word, and the ways between them.
 use Rattle.std.proofs.Common.{◌≡◌, true, List, [], ◌∷◌, ◌++◌, sym, true≢false}
 use Rattle.transport_phases.specs.declared.phases.Phase.TheVariants.{BeginReq, EndReq, BeginResp, EndResp}
-use Rattle.transport_phases.specs.declared.kept.State.{State}
-use Rattle.transport_phases.specs.declared.kept.State.TheVariants.{Idle, Req, Acc, Resp, Closing}
-use Rattle.transport_phases.specs.declared.kept.Open.{Open}
-use Rattle.transport_phases.specs.declared.kept.Open.TheVariants.{Nothing, NonBlocking, Blocking}
-use Rattle.transport_phases.specs.declared.kept.Kept.{Kept}
+use Rattle.transport_phases.specs.declared.transaction.State.{State}
+use Rattle.transport_phases.specs.declared.transaction.State.TheVariants.{Idle, Req, Acc, Resp, Closing}
+use Rattle.transport_phases.specs.declared.transaction.Open.{Open}
+use Rattle.transport_phases.specs.declared.transaction.Open.TheVariants.{Nothing, NonBlocking, Blocking}
+use Rattle.transport_phases.specs.declared.transaction.Kept.{Kept}
 use Rattle.transport_phases.specs.Words.{Letter, Calls, Accepts, Updates, Completes, Blocks, Unblocks, Leaves, is_call}
 
 -- between two words, in a call of b_transport, in the call of each phase, and behind those that leave the transaction open

@@ -8,7 +8,7 @@ use Rattle.transport_phases.specs.declared.phases.Phase.TheVariants.{BeginReq, E
 use Rattle.transport_phases.specs.declared.phases.Answer.{Answer}
 use Rattle.transport_phases.specs.declared.phases.Answer.TheVariants.{Accepted, Updated, Completed}
 use Rattle.transport_phases.specs.declared.phases.Rule.{Rule}
-use Rattle.transport_phases.specs.declared.kept.Open.TheVariants.{Nothing, NonBlocking, Blocking}
+use Rattle.transport_phases.specs.declared.transaction.Open.TheVariants.{Nothing, NonBlocking, Blocking}
 use Rattle.transport_phases.specs.Phases.{allows, may_answer, may_update, is_idle, is_updated, is_open_nb, is_open_b, is_one, has_response, first_broken, call_rules, return_rules, b_call_rules, b_return_rules}
 use Rattle.transport_phases.specs.Words.{Letter, Calls, Blocks, Unblocks, Leaves, letter_called, letter_answered}
 use Rattle.transport_phases.specs.Lawful.{begins_request, begins_response, carries_response}

@@ -4,7 +4,7 @@ use Rattle.std.specs.Prelude.{◌==◌, not, if◌then◌else◌, unwrap_or}
 use Rattle.std.specs.Ordering.{nat_cmp}
 use Rattle.std.specs.FinMap as map
 use Rattle.std.proofs.lemmas.Bool.{cases_eq, eqb-true, ne_eqb}
-use Rattle.transport_phases.specs.declared.kept.Kept.{Kept}
+use Rattle.transport_phases.specs.declared.transaction.Kept.{Kept}
 use Rattle.transport_phases.specs.Phases.{fresh, is_requesting, is_responding}
 use Rattle.transport_phases.specs.Rows.{Rows, row_of, kept_in}
 use Rattle.transport_phases.specs.History.{Entry, kept_of, is_other_among, StandsFor}

@@ -4,10 +4,10 @@ use Rattle.std.specs.List.{list_any}
 use Rattle.std.specs.FinMap as map
 use Rattle.transport_phases.specs.declared.phases.Path.{Path}
 use Rattle.transport_phases.specs.declared.phases.Rule.{Rule}
-use Rattle.transport_phases.specs.declared.kept.State.{State}
-use Rattle.transport_phases.specs.declared.kept.Open.{Open}
-use Rattle.transport_phases.specs.declared.kept.Open.TheVariants.{Nothing, Blocking}
-use Rattle.transport_phases.specs.declared.kept.Kept.{Kept}
+use Rattle.transport_phases.specs.declared.transaction.State.{State}
+use Rattle.transport_phases.specs.declared.transaction.Open.{Open}
+use Rattle.transport_phases.specs.declared.transaction.Open.TheVariants.{Nothing, Blocking}
+use Rattle.transport_phases.specs.declared.transaction.Kept.{Kept}
 use Rattle.transport_phases.specs.Phases.{phase_of, answer_of, fresh, called, returned, is_requesting, is_responding, first_broken, call_rules, return_rules, b_call_rules, b_return_rules}
 use Rattle.transport_phases.specs.Rows.{Rows, row_of}
 

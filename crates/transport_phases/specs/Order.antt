@@ -1,6 +1,6 @@
 -- Which entry may come next.
 use Rattle.std.specs.Prelude.{◌≡◌, ◌≢◌, Bool, true, false, List, [], ◌∷◌, ◌++◌}
-use Rattle.transport_phases.specs.declared.kept.Open.TheVariants.{Nothing, NonBlocking, Blocking}
+use Rattle.transport_phases.specs.declared.transaction.Open.TheVariants.{Nothing, NonBlocking, Blocking}
 use Rattle.transport_phases.specs.History.{Entry, Call, Return, BCall, BReturn, Left, is_open}
 use Rattle.transport_phases.specs.Words.{Letter, Calls, Accepts, Updates, Completes, Blocks, Unblocks, Leaves}
 

@@ -9,11 +9,11 @@ use Rattle.transport_phases.specs.declared.phases.Answer.{Answer}
 use Rattle.transport_phases.specs.declared.phases.Answer.TheVariants.{Accepted, Updated, Completed}
 use Rattle.transport_phases.specs.declared.phases.Rule.{Rule}
 use Rattle.transport_phases.specs.declared.phases.Rule.TheVariants.{P1, P2, P3, P4, P5, P6, P7, P8, P9, P10}
-use Rattle.transport_phases.specs.declared.kept.State.{State}
-use Rattle.transport_phases.specs.declared.kept.State.TheVariants.{Idle, Req, Acc, Resp, Closing}
-use Rattle.transport_phases.specs.declared.kept.Open.{Open}
-use Rattle.transport_phases.specs.declared.kept.Open.TheVariants.{Nothing, NonBlocking, Blocking}
-use Rattle.transport_phases.specs.declared.kept.Kept.{Kept}
+use Rattle.transport_phases.specs.declared.transaction.State.{State}
+use Rattle.transport_phases.specs.declared.transaction.State.TheVariants.{Idle, Req, Acc, Resp, Closing}
+use Rattle.transport_phases.specs.declared.transaction.Open.{Open}
+use Rattle.transport_phases.specs.declared.transaction.Open.TheVariants.{Nothing, NonBlocking, Blocking}
+use Rattle.transport_phases.specs.declared.transaction.Kept.{Kept}
 
 -- the phase of a code
 abbrev pub phase_of : ℤ → Option Phase

@@ -3,8 +3,8 @@ use Rattle.std.specs.Prelude.{◌⊎◌, ℕ, ◌+◌, ◌<◌, IsTrue, Option, 
 use Rattle.std.specs.Ordering.{nat_cmp}
 use Rattle.std.specs.Coded.{Coded, code_by, coded×, coded_ℕ}
 use Rattle.std.specs.FinMap as map
-use Rattle.transport_phases.specs.declared.kept.Kept.{Kept}
-use Rattle.transport_phases.specs.contracts.kept.Kept as kept_row
+use Rattle.transport_phases.specs.declared.transaction.Kept.{Kept}
+use Rattle.transport_phases.specs.contracts.transaction.Kept as kept_row
 use Rattle.transport_phases.specs.Phases.{fresh, is_fresh}
 
 -- the row of each transaction that has one

@@ -1,6 +1,6 @@
 -- Histories in which nothing was broken.
 use Rattle.std.specs.Prelude.{◌≡◌, ℕ, Bool, true, List, [], ◌∷◌, ◌++◌, None}
-use Rattle.transport_phases.specs.declared.kept.Kept.{Kept}
+use Rattle.transport_phases.specs.declared.transaction.Kept.{Kept}
 use Rattle.transport_phases.specs.History.{Entry, broken, kept_of}
 
 -- each of the later entries broke no rule after those before it

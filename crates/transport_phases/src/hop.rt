@@ -6,10 +6,10 @@ ghost use Rattle.transport_phases.specs.Seats.{SetsRow, NoOther, MayEnter};
 ghost use Rattle.transport_phases.specs.History.{Entry, Call, Return, BCall, BReturn, Left, broken, StandsFor, other_requests, other_responds};
 
 use crate::Open;
-use crate::kept::Kept;
 use crate::phases::{Path, Rule, answer_of, phase_of};
 use crate::rows::{row_at, set_row};
 use crate::seats::{has_other, seat_after};
+use crate::transaction::Kept;
 use room_map::RoomMap;
 use std::alloc::{AllocError, Global};
 use std::marker::Model;

@@ -1,7 +1,7 @@
 //! Which histories a hop may have, by the words of each transaction and by what may not overlap, and that this is what
 //! the rules of the base protocol ask for.
 ghost use Rattle.std.specs.Prelude.{◌≡◌, ◌↔◌, ℕ, true, List, [], ◌∷◌, ◌++◌, None};
-ghost use Rattle.transport_phases.specs.declared.kept.Open.TheVariants.{NonBlocking, Blocking};
+ghost use Rattle.transport_phases.specs.declared.transaction.Open.TheVariants.{NonBlocking, Blocking};
 ghost use Rattle.transport_phases.specs.Phases.{is_requesting, is_responding};
 ghost use Rattle.transport_phases.specs.History.{Entry, kept_of, is_open, broken};
 ghost use Rattle.transport_phases.specs.Unbroken.{Unbroken};

@@ -1,7 +1,7 @@
 //! Laws of the base protocol's rules.
 ghost use Rattle.std.specs.Prelude.{◌≢◌, ℕ, List, IsTrue};
 ghost use Rattle.std.specs.FinMap as map;
-ghost use Rattle.transport_phases.specs.declared.kept.Open.TheVariants.{Nothing};
+ghost use Rattle.transport_phases.specs.declared.transaction.Open.TheVariants.{Nothing};
 ghost use Rattle.transport_phases.specs.Phases.{is_requesting, is_responding};
 ghost use Rattle.transport_phases.specs.History.{Entry, is_open, StandsFor};
 ghost use Rattle.transport_phases.specs.Rows.{Rows};

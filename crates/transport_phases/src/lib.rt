@@ -5,15 +5,15 @@
 #![tactic(auto)]
 
 mod hop;
-mod kept;
 mod lawful;
 mod laws;
 mod phases;
 mod rows;
 mod seats;
+mod transaction;
 
 pub use hop::Hop;
-pub use kept::{Kept, Open, State};
 pub use lawful::{lawful_exactly, states_by_words};
 pub use laws::{one_at_a_time, open_calls_have_rows};
 pub use phases::{Answer, Path, Phase, Rule};
+pub use transaction::{Kept, Open, State};

@@ -7,7 +7,7 @@ ghost use Rattle.transport_phases.specs.Phases.{is_fresh};
 ghost use Rattle.transport_phases.specs.Rows.{kept_in};
 ghost use Rattle.transport_phases.specs.Seats.{SetsRow};
 
-use crate::kept::Kept;
+use crate::transaction::Kept;
 use room_map::RoomMap;
 
 // What is kept of the transaction.

@@ -12,11 +12,11 @@ mod ids;
 mod laws;
 mod lines;
 mod points;
-mod seen;
 mod tables;
 mod takings;
 mod tracing;
 mod values;
+mod visible;
 mod walks;
 
 pub use choices::choices_text;

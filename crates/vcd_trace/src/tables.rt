@@ -4,7 +4,7 @@ ghost use Rattle.laws_runs.specs.SimModel.Trace.{items_from};
 ghost use Rattle.vcd_trace.specs.Tables.{row_of, with_item, variable_at, variable_of};
 
 use flat_design::{Object, Visible};
-use laws_runs::plain_lists_api::Items;
+use laws_runs::logic_values_api::Items;
 use std::alloc::{AllocError, Global};
 
 /// So many rows without numbers.

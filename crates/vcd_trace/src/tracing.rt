@@ -9,10 +9,9 @@ ghost use Rattle.vcd_trace.specs.Points.{IsPoint, snapshot_of};
 ghost use Rattle.vcd_trace.specs.Traced.{trace_so_far, Keeps};
 
 use crate::point;
-use crate::seen::visible_values;
+use crate::visible::visible_values;
 use kernel_state::Kernel;
-use laws_runs::logic_values_api::{Text, Value};
-use laws_runs::plain_lists_api::Items;
+use laws_runs::logic_values_api::{Items, Text, Value};
 use laws_runs::sim_time_api::Time;
 use laws_runs::steps_add_snapshots;
 use std::alloc::{AllocError, Global};

@@ -9,7 +9,7 @@ ghost use Rattle.vcd_trace.specs.Walks.{AreTables, visits, task_text, task_cost,
 use crate::lines::{close_scope, open_scope, push_variable};
 use crate::tables::{items_of_each, variables_of_each};
 use flat_design::{Design, Object, ObjectForm};
-use laws_runs::plain_lists_api::Items;
+use laws_runs::logic_values_api::Items;
 use std::alloc::{AllocError, Global};
 
 /// What is still to be written.

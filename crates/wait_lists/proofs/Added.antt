@@ -12,8 +12,8 @@ use Rattle.wait_lists.specs.declared.waiter.Waiter.{Waiter}
 use Rattle.wait_lists.specs.Shown.{Shown}
 use Rattle.wait_lists.specs.Chains.{none, loose, free, Link, has_tag, IsList, leave, cut, put, first_after}
 use Rattle.wait_lists.specs.Nodes.{by_event, by_wait, event_of, first_in, first_at, IsHeads, AllHome, refirst, event_at, events_at, events_from, shown_of, shown}
-use Rattle.wait_lists.specs.declared.kept.Kept.{Kept}
-use Rattle.wait_lists.specs.Kept.{Fit, shown_by}
+use Rattle.wait_lists.specs.declared.layout.Kept.{Kept}
+use Rattle.wait_lists.specs.Layout.{Fit, shown_by}
 use Rattle.wait_lists.proofs.Counted.{times, times-same}
 use Rattle.wait_lists.proofs.Chains.{in_list, out_of, lives, length-leave, once_in}
 use Rattle.wait_lists.proofs.HeadLemmas.{lists-few}

@@ -4,11 +4,11 @@ use Rattle.std.specs.Prelude.{slice_get, unwrap_or, is_some}
 use Rattle.std.specs.Ordering.{nat_cmp}
 use Rattle.std.specs.FinMap as maps
 use Rattle.event_core.specs.declared.event.Ev.{Ev}
-use Rattle.lemmas.specs.Updated.{updated}
+use Rattle.numbered_slots.specs.Updated.{updated}
 use Rattle.wait_lists.specs.Waits.{Wait, Waits, with_wait, with_mark, with_room, without_instance, room_for}
 use Rattle.wait_lists.specs.Shown.{Shown, listed, wait_of, mark_of, room_of, shown_at, told, waits_of}
-use Rattle.wait_lists.proofs.Told.{get-room, with_wait-told, with_mark-told, with_room-told, without-told}
-use Rattle.lemmas.proofs.MapLemmas.{is_updated, get-updated_same, get-updated_other}
+use Rattle.wait_lists.proofs.ByPlace.{get-room, with_wait-told, with_mark-told, with_room-told, without-told}
+use Rattle.numbered_slots.proofs.MapLemmas.{is_updated, get-updated_same, get-updated_other}
 use Rattle.wait_lists.proofs.Telling.{Placed, told-here, told-set_same, told-set_other}
 
 module _ (es : List (ℕ × ℕ)) (ss : List Shown) (placed : Placed es ss) (p at : ℕ) (s new : Shown)

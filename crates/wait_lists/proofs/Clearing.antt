@@ -3,11 +3,11 @@ use Rattle.std.proofs.Common.{◌≡◌, ℕ, zero, suc, ◌<◌, ◌≤◌, ◌
 use Rattle.std.specs.Prelude.{slice_get}
 use Rattle.event_core.specs.declared.event.Ev.{Ev}
 use Rattle.wait_lists.specs.declared.waiter.Waiter.{Waiter}
-use Rattle.wait_lists.specs.declared.kept.Kept.{Kept}
+use Rattle.wait_lists.specs.declared.layout.Kept.{Kept}
 use Rattle.wait_lists.specs.Shown.{Shown, events_of}
 use Rattle.wait_lists.specs.Chains.{none}
 use Rattle.wait_lists.specs.Nodes.{shown_of}
-use Rattle.wait_lists.specs.Kept.{IsSound, IsOf, IsUsed, IsShorter, shown_by}
+use Rattle.wait_lists.specs.Layout.{IsSound, IsOf, IsUsed, IsShorter, shown_by}
 use Rattle.wait_lists.proofs.Places.{slice_get-set_same}
 use Rattle.wait_lists.proofs.Refit.{get-inside, shown-at}
 use Rattle.wait_lists.proofs.Rewritten.{used-of, first-of, no-first, some-first}

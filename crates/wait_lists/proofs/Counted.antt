@@ -9,7 +9,7 @@ use Rattle.std.proofs.lemmas.Bool.{cases_eq}
 use Rattle.std.proofs.lemmas.List.{length-map}
 use Rattle.std.proofs.lemmas.List.Sums.{sum_by-cons}
 use Rattle.std.proofs.lemmas.Map.Made.{length-le_from_is_member}
-use Rattle.lemmas.proofs.MapLemmas.{ties_no_other}
+use Rattle.numbered_slots.proofs.MapLemmas.{ties_no_other}
 
 -- how often it stands there
 abbrev pub times : ℕ → List ℕ → ℕ

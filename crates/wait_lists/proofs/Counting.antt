@@ -5,12 +5,12 @@ use Rattle.std.specs.declared.cmp.Ordering.TheVariants.{Less}
 use Rattle.std.specs.Ordering.{nat_cmp, eq_by_cmp, is_eq, ordering_reverse}
 use Rattle.std.specs.Cmp.{nat_cmp_total}
 use Rattle.std.specs.FinMap as maps
-use Rattle.lemmas.proofs.MapLemmas.{ties_itself, len-updated}
+use Rattle.numbered_slots.proofs.MapLemmas.{ties_itself, len-updated}
 use Rattle.room_map.specs.Entries.{AllAbove, IsRising}
 use Rattle.room_map.proofs.Walks.{above_found}
 use Rattle.wait_lists.specs.Shown.{Shown, room_of, shown_at, indexed}
-use Rattle.wait_lists.specs.Kept.{serial_of}
-use Rattle.wait_lists.proofs.Told.{get-indexed}
+use Rattle.wait_lists.specs.Layout.{serial_of}
+use Rattle.wait_lists.proofs.ByPlace.{get-indexed}
 
 none_found : (o : Option ℕ) → (is_some o ≡ true → ⊥) → o ≡ None
 none_found None never = refl

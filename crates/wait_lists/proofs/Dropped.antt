@@ -11,8 +11,8 @@ use Rattle.wait_lists.specs.Waits.{without}
 use Rattle.wait_lists.specs.Shown.{Shown}
 use Rattle.wait_lists.specs.Chains.{none, loose, free, Link, has_tag, IsList, leave, cut, put, first_after}
 use Rattle.wait_lists.specs.Nodes.{code_of, by_event, by_wait, first_in, IsHeads, HasRows, IsHome, AllHome, refirst, event_at, events_at, shown_of, shown}
-use Rattle.wait_lists.specs.declared.kept.Kept.{Kept}
-use Rattle.wait_lists.specs.Kept.{Fit, shown_by, IsOf, IsShorter, IsCutAt}
+use Rattle.wait_lists.specs.declared.layout.Kept.{Kept}
+use Rattle.wait_lists.specs.Layout.{Fit, shown_by, IsOf, IsShorter, IsCutAt}
 use Rattle.wait_lists.proofs.Counted.{times, times-same, times-other}
 use Rattle.wait_lists.proofs.Chains.{In, in_list, out_of, leave-none, times-leave_same, length-leave, once_in}
 use Rattle.wait_lists.proofs.NodeLemmas.{outside-event, outside-wait}

@@ -9,12 +9,12 @@ use Rattle.std.proofs.lemmas.Bool.{cases_eq}
 use Rattle.std.proofs.lemmas.List.{length-append}
 use Rattle.std.proofs.lemmas.List.Sums.{sum_by-append}
 use Rattle.event_core.specs.declared.event.Ev.{Ev}
-use Rattle.wait_lists.specs.declared.kept.Kept.{Kept}
+use Rattle.wait_lists.specs.declared.layout.Kept.{Kept}
 use Rattle.wait_lists.specs.Waits.{Wait, has, named_by, waits_for, waits_naming}
 use Rattle.wait_lists.specs.Shown.{Shown, wait_of, mark_of, shown_at, told, waits_of}
 use Rattle.wait_lists.specs.Chains.{none, Link, has_tag, walk}
 use Rattle.wait_lists.specs.Nodes.{code_of, event_of, by_event, by_wait, first_in, events_at, shown_of}
-use Rattle.wait_lists.specs.Kept.{IsSound, IsOf, IsUsed, IsNodes, IsCutAt, IsStruck, last_in, first_from, shown_by, waits_by}
+use Rattle.wait_lists.specs.Layout.{IsSound, IsOf, IsUsed, IsNodes, IsCutAt, IsStruck, last_in, first_from, shown_by, waits_by}
 use Rattle.wait_lists.proofs.Counted.{times, times-same, times-other}
 use Rattle.wait_lists.proofs.Places.{slice_get-set_same, slice_get-set_other}
 use Rattle.wait_lists.proofs.Chains.{In, lives, in_list, walk-goes, few-below, once_in}
@@ -24,7 +24,7 @@ use Rattle.wait_lists.proofs.Moved.{IsSome-tag}
 use Rattle.wait_lists.proofs.Refit.{shown-at, waiter-of, events-row, get-inside, sum-set}
 use Rattle.wait_lists.proofs.Rewritten.{used-of}
 use Rattle.wait_lists.proofs.Telling.{shown-serial}
-use Rattle.wait_lists.proofs.Told.{get-waits, contains-marks}
+use Rattle.wait_lists.proofs.ByPlace.{get-waits, contains-marks}
 use Rattle.wait_lists.proofs.Passing.{Passed, passed_none, room-more, passed_more}
 use Rattle.wait_lists.proofs.Struck.{last-within, named-listed, starts, of-same, of-within, goes-split, last-next, waits-s, waits-struck, ends-same, none-left-is, wait-left}
 

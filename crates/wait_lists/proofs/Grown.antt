@@ -14,7 +14,7 @@ use Rattle.std.specs.FinMap as maps
 use Rattle.wait_lists.specs.Shown.{Shown, shown_at, waits_of}
 use Rattle.wait_lists.specs.Chains.{none, loose, free, Link, Links, next_of, prev_of, has_tag, IsList, put}
 use Rattle.wait_lists.specs.Nodes.{event_link, wait_link, by_event, by_wait, at_tag, first_in, IsHeads, events_from, shown_of, shown}
-use Rattle.wait_lists.specs.Kept.{Fit, Seats, serial_of}
+use Rattle.wait_lists.specs.Layout.{Fit, Seats, serial_of}
 use Rattle.wait_lists.proofs.HeadLemmas.{first-same, heads-same}
 use Rattle.wait_lists.proofs.Counted.{times, times-same, times-other}
 use Rattle.wait_lists.proofs.Places.{slice_get-push_last, slice_get-push_other}
@@ -22,7 +22,7 @@ use Rattle.wait_lists.proofs.Chains.{In, goes-same, lives, list-put_here, list-p
 use Rattle.wait_lists.proofs.NodeLemmas.{outside-event, event-there}
 use Rattle.wait_lists.proofs.EventLemmas.{events-same, event-tags}
 use Rattle.wait_lists.proofs.Moved.{untagged, IsSome-tag}
-use Rattle.wait_lists.proofs.Told.{same-told}
+use Rattle.wait_lists.proofs.ByPlace.{same-told}
 use Rattle.wait_lists.proofs.Telling.{shown-serial}
 use Rattle.wait_lists.proofs.Refit.{same_by_get, shown_opt, shown-get, events-row, one-list}
 

@@ -9,7 +9,7 @@ use Rattle.std.specs.Ordering.{nat_cmp, eq_by_cmp, is_eq}
 use Rattle.std.specs.Cmp.{nat_cmp_total, unsigned_tied, eq_by_cmp_equiv}
 use Rattle.std.specs.FinMap as maps
 use Rattle.std.specs.FinMap.Entries.{find-put}
-use Rattle.lemmas.proofs.MapLemmas.{ties_itself, ties_no_other}
+use Rattle.numbered_slots.proofs.MapLemmas.{ties_itself, ties_no_other}
 use Rattle.room_map.specs.Entries.{AllAbove, IsRising, without}
 use Rattle.wait_lists.specs.Chains.{none, free, Link, Links, has_tag, IsList}
 use Rattle.wait_lists.specs.declared.heads.Firsts.{Firsts}

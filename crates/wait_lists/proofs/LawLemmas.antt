@@ -13,8 +13,8 @@ use Rattle.std.proofs.lemmas.Map.Made.{length-le_from_is_member}
 use Rattle.event_core.specs.declared.event.Ev.{Ev}
 use Rattle.wait_lists.specs.Waits.{Waits, waits_naming, is_met_by, AllHaveRoom, AddsEach}
 use Rattle.wait_lists.specs.Shown.{Shown, wait_of, room_of, told, waits_of}
-use Rattle.lemmas.proofs.MapLemmas.{ties_itself, ties_no_other}
-use Rattle.wait_lists.proofs.Told.{get-waits, get-room}
+use Rattle.numbered_slots.proofs.MapLemmas.{ties_itself, ties_no_other}
+use Rattle.wait_lists.proofs.ByPlace.{get-waits, get-room}
 use Rattle.wait_lists.proofs.Counted.{length-le_keys}
 use Rattle.wait_lists.proofs.MetLemmas.{naming-met, at_most_one, counted}
 

@@ -1,7 +1,7 @@
 pub mod Counted
 pub mod Chains
 pub mod Places
-pub mod Lemmas
+pub mod NumberedSlots
 pub mod HeadLemmas
 pub mod NodeLemmas
 pub mod EventLemmas
@@ -9,7 +9,7 @@ pub mod Moved
 pub mod Refit
 pub mod Dropped
 pub mod Added
-pub mod Told
+pub mod ByPlace
 pub mod SetLemmas
 pub mod MetLemmas
 pub mod LawLemmas

@@ -6,7 +6,7 @@ use Rattle.wait_lists.specs.declared.nodes.Node.{Node}
 use Rattle.wait_lists.specs.declared.waiter.Waiter.{Waiter}
 use Rattle.wait_lists.specs.Chains.{none, free, IsList}
 use Rattle.wait_lists.specs.Nodes.{by_event, begins_at, first_in, IsHeads}
-use Rattle.wait_lists.specs.Kept.{Fit}
+use Rattle.wait_lists.specs.Layout.{Fit}
 use Rattle.wait_lists.proofs.Counted.{times-same}
 use Rattle.wait_lists.proofs.Chains.{lives}
 

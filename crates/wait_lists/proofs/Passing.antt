@@ -7,7 +7,7 @@ use Rattle.std.proofs.lemmas.Bool.{cases_eq}
 use Rattle.std.proofs.lemmas.List.Sums.{sum_by-append}
 use Rattle.event_core.specs.declared.event.Ev.{Ev}
 use Rattle.wait_lists.specs.Waits.{Wait, Waits, after, named_by, waits_for, waits_naming, wait_after, is_met_by, with_wait, AddsEach}
-use Rattle.lemmas.proofs.MapLemmas.{get-updated_same, get-updated_other}
+use Rattle.numbered_slots.proofs.MapLemmas.{get-updated_same, get-updated_other}
 use Rattle.wait_lists.proofs.Counted.{times, times-same, times-other, length-le_keys}
 use Rattle.wait_lists.proofs.MetLemmas.{wait_after-unnamed, naming-met, naming-waits, at_most_one, counted}
 

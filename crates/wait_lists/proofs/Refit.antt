@@ -13,7 +13,7 @@ use Rattle.wait_lists.specs.declared.waiter.Waiter.{Waiter}
 use Rattle.wait_lists.specs.Shown.{Shown}
 use Rattle.wait_lists.specs.Chains.{none, IsList}
 use Rattle.wait_lists.specs.Nodes.{by_event, by_wait, refirst, events_at, events_from, shown_of, shown}
-use Rattle.wait_lists.specs.Kept.{Seats, serial_of}
+use Rattle.wait_lists.specs.Layout.{Seats, serial_of}
 use Rattle.wait_lists.proofs.Counted.{times}
 use Rattle.wait_lists.proofs.Places.{slice_get-set_same, slice_get-set_other}
 use Rattle.wait_lists.proofs.Chains.{walk-list}

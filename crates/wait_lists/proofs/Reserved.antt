@@ -3,7 +3,7 @@ use Rattle.std.proofs.Common.{◌≡◌, ℕ, ◌≤◌, ◌≢◌, max, Some, a
 use Rattle.std.specs.Prelude.{Result, Ok, Err, OnOk, OnErr, is_some, unwrap_or}
 use Rattle.std.specs.FinMap as maps
 use Rattle.wait_lists.specs.Waits.{Waits, with_room, room_for, HasRoom}
-use Rattle.lemmas.proofs.MapLemmas.{get-updated_same, get-updated_other}
+use Rattle.numbered_slots.proofs.MapLemmas.{get-updated_same, get-updated_other}
 
 module _ (old new : Waits) (p items : ℕ) where
   module _ (is : new ≡ with_room old p (max items (room_for old p))) where

@@ -7,11 +7,11 @@ use Rattle.std.proofs.lemmas.Option.{slice_get_within}
 use Rattle.wait_lists.specs.declared.heads.Firsts.{Firsts}
 use Rattle.wait_lists.specs.declared.nodes.Node.{Node}
 use Rattle.wait_lists.specs.declared.waiter.Waiter.{Waiter}
-use Rattle.wait_lists.specs.declared.kept.Kept.{Kept}
+use Rattle.wait_lists.specs.declared.layout.Kept.{Kept}
 use Rattle.wait_lists.specs.Shown.{Shown}
 use Rattle.wait_lists.specs.Chains.{none, free, Link, has_tag, IsList}
 use Rattle.wait_lists.specs.Nodes.{by_event, by_wait, event_at, events_from, shown_of, shown}
-use Rattle.wait_lists.specs.Kept.{Fit, Seats, IsOf, IsUsed, IsCutAt}
+use Rattle.wait_lists.specs.Layout.{Fit, Seats, IsOf, IsUsed, IsCutAt}
 use Rattle.wait_lists.proofs.Counted.{times-same}
 use Rattle.wait_lists.proofs.Places.{slice_get-set_same, slice_get-set_other}
 use Rattle.wait_lists.proofs.Chains.{lives}

@@ -8,17 +8,17 @@ use Rattle.std.specs.Cmp.{nat_cmp_total}
 use Rattle.std.proofs.lemmas.Bool.{cases_eq}
 use Rattle.std.proofs.lemmas.Option.{slice_get_within}
 use Rattle.std.proofs.lemmas.List.Sums.{sum_by-append}
-use Rattle.lemmas.proofs.MapLemmas.{ties_itself, ties_no_other}
+use Rattle.numbered_slots.proofs.MapLemmas.{ties_itself, ties_no_other}
 use Rattle.room_map.specs.Entries.{without}
-use Rattle.wait_lists.specs.declared.kept.Kept.{Kept}
+use Rattle.wait_lists.specs.declared.layout.Kept.{Kept}
 use Rattle.wait_lists.specs.Waits.{without_instance, with_room}
 use Rattle.wait_lists.specs.Shown.{Shown, listed, wait_of, mark_of, room_of, shown_at, waits_of}
-use Rattle.wait_lists.specs.Kept.{IsSound, Seats, serial_of, shown_by}
+use Rattle.wait_lists.specs.Layout.{IsSound, Seats, serial_of, shown_by}
 use Rattle.wait_lists.proofs.Counted.{times, times-same, times-other}
 use Rattle.wait_lists.proofs.Places.{slice_get-set_same, slice_get-set_other}
 use Rattle.wait_lists.proofs.Chains.{few-below}
 use Rattle.wait_lists.proofs.HeadLemmas.{find-without}
-use Rattle.wait_lists.proofs.Told.{without-told, with_room-told}
+use Rattle.wait_lists.proofs.ByPlace.{without-told, with_room-told}
 use Rattle.wait_lists.proofs.Telling.{shown-serial, one_place}
 use Rattle.wait_lists.specs.declared.waiter.Waiter.{Waiter}
 use Rattle.wait_lists.specs.Chains.{none}

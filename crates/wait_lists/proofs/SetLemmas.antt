@@ -4,7 +4,7 @@ use Rattle.std.proofs.lemmas.Bool.{cases_eq}
 use Rattle.std.specs.Ordering.{nat_cmp, eq_by_cmp}
 use Rattle.std.specs.Cmp.{nat_cmp_total}
 use Rattle.std.specs.FinSet as set
-use Rattle.lemmas.proofs.MapLemmas.{ties_itself, ties_no_other}
+use Rattle.numbered_slots.proofs.MapLemmas.{ties_itself, ties_no_other}
 use Rattle.wait_lists.specs.Waits.{marked}
 
 pub contains-marked : (s : set.FinSet nat_cmp) (k : ℕ) (b : Bool) (q : ℕ) → set.contains (marked s k b) q ≡ cond (eq_by_cmp nat_cmp q k) b (set.contains s q)

@@ -9,18 +9,18 @@ use Rattle.std.proofs.lemmas.List.{length-map}
 use Rattle.event_core.specs.declared.event.Ev.{Ev}
 use Rattle.event_core.specs.Ev.{same_event}
 use Rattle.wait_lists.specs.declared.waiter.Waiter.{Waiter}
-use Rattle.wait_lists.specs.declared.kept.Kept.{Kept}
+use Rattle.wait_lists.specs.declared.layout.Kept.{Kept}
 use Rattle.wait_lists.specs.Waits.{Wait, AnyOf, AllOf, has, without, any_of, all_of, after, named_by, waits_for, wait_after, with_wait}
 use Rattle.wait_lists.specs.Shown.{Shown, listed, wait_of, mark_of, told, waits_of}
 use Rattle.wait_lists.specs.Chains.{none, Link, Links, has_tag, next_of, Goes}
 use Rattle.wait_lists.specs.Nodes.{code_of, by_event, by_wait, first_in, event_at, events_at, shown_of}
-use Rattle.wait_lists.specs.Kept.{IsSound, IsOf, IsUsed, IsNodes, IsStruck, last_in, first_from, shown_by, waits_by}
+use Rattle.wait_lists.specs.Layout.{IsSound, IsOf, IsUsed, IsNodes, IsStruck, last_in, first_from, shown_by, waits_by}
 use Rattle.wait_lists.proofs.Counted.{times-same, times-other}
 use Rattle.wait_lists.proofs.Chains.{In, in_list, lives}
 use Rattle.wait_lists.proofs.NodeLemmas.{outside-event, event-within}
 use Rattle.wait_lists.proofs.EventLemmas.{tagged-event, same-itself}
 use Rattle.wait_lists.proofs.Moved.{IsSome-tag, tag-none}
-use Rattle.wait_lists.proofs.Told.{get-waits, contains-marks}
+use Rattle.wait_lists.proofs.ByPlace.{get-waits, contains-marks}
 use Rattle.wait_lists.proofs.Telling.{told-here}
 use Rattle.wait_lists.proofs.Changes.{changed-wait}
 use Rattle.wait_lists.proofs.Refit.{waiter-of, shown-at, events-row}

@@ -5,7 +5,7 @@ use Rattle.std.specs.Ordering.{nat_cmp}
 use Rattle.std.specs.FinMap as maps
 use Rattle.std.proofs.lemmas.Option.{slice_get_within}
 use Rattle.wait_lists.specs.Shown.{Shown, shown_at, told}
-use Rattle.wait_lists.specs.Kept.{serial_of}
+use Rattle.wait_lists.specs.Layout.{serial_of}
 use Rattle.wait_lists.proofs.Places.{slice_get-set_same, slice_get-set_other}
 
 abbrev pub Placed : List (ℕ × ℕ) → List Shown → Type 0

@@ -7,7 +7,7 @@ use Rattle.wait_lists.specs.declared.heads.Firsts.{Firsts}
 use Rattle.wait_lists.specs.declared.nodes.Node.{Node}
 use Rattle.wait_lists.specs.declared.waiter.Waiter.{Waiter}
 use Rattle.wait_lists.specs.Nodes.{events_from, shown_of, shown}
-use Rattle.wait_lists.specs.Kept.{Fit}
+use Rattle.wait_lists.specs.Layout.{Fit}
 use Rattle.wait_lists.proofs.Refit.{shown-at, seats-set}
 use Rattle.wait_lists.proofs.Rewritten.{shown-set, refit-waiter}
 

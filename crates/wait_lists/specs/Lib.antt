@@ -2,5 +2,5 @@ pub mod Waits
 pub mod Shown
 pub mod Chains
 pub mod Nodes
-pub mod Kept
+pub mod Layout
 pub mod EventCore

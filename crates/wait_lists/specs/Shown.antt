@@ -4,7 +4,7 @@ use Rattle.std.specs.Ordering.{nat_cmp}
 use Rattle.std.specs.Coded.{Coded, code_by, coded×, coded_ℕ, coded_bool, coded_list}
 use Rattle.std.specs.FinMap as map
 use Rattle.std.specs.FinSet as set
-use Rattle.lemmas.specs.Updated.{updated}
+use Rattle.numbered_slots.specs.Updated.{updated}
 use Rattle.event_core.specs.declared.event.Ev.{Ev}
 use Rattle.event_core.specs.contracts.event.Ev as ev
 use Rattle.wait_lists.specs.Waits.{Wait, Waits, any_of, all_of, marked}

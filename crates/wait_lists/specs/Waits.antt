@@ -7,7 +7,7 @@ use Rattle.std.specs.FinMap as map
 use Rattle.std.specs.FinSet as set
 use Rattle.event_core.specs.declared.event.Ev.{Ev}
 use Rattle.event_core.specs.contracts.event.Ev as ev
-use Rattle.lemmas.specs.Updated.{updated}
+use Rattle.numbered_slots.specs.Updated.{updated}
 use Rattle.event_core.specs.Ev.{same_event}
 
 -- the event stands in the list

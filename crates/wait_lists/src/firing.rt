@@ -6,9 +6,9 @@ ghost use Rattle.std.specs.FinMap as map;
 ghost use Rattle.wait_lists.specs.Waits.{waits_naming, wait_after, is_met_by, AddsEach};
 ghost use Rattle.wait_lists.specs.Shown.{Shown};
 ghost use Rattle.wait_lists.specs.Chains.{none};
-ghost use Rattle.wait_lists.specs.Kept.{IsSound, IsUsed, IsOf, IsNodes, IsCutAt, IsStruck, last_in, first_from, shown_by, waits_by};
+ghost use Rattle.wait_lists.specs.Layout.{IsSound, IsUsed, IsOf, IsNodes, IsCutAt, IsStruck, last_in, first_from, shown_by, waits_by};
 
-use crate::kept::{Kept, clear_wait, drop_node, event_code, first_node};
+use crate::layout::{Kept, clear_wait, drop_node, event_code, first_node};
 use crate::nodes::NONE;
 use crate::waiter::Waiter;
 use event_core::Ev;

@@ -4,9 +4,9 @@ ghost use Rattle.std.specs.Ordering.{nat_cmp};
 ghost use Rattle.std.specs.FinMap as map;
 ghost use Rattle.wait_lists.specs.Waits.{with_room, room_for};
 ghost use Rattle.wait_lists.specs.Chains.{none};
-ghost use Rattle.wait_lists.specs.Kept.{IsSound, shown_by, waits_by};
+ghost use Rattle.wait_lists.specs.Layout.{IsSound, shown_by, waits_by};
 
-use crate::kept::{Kept, place_of, room_at};
+use crate::layout::{Kept, place_of, room_at};
 use crate::linking::put_event;
 use crate::nodes::{FREE, NONE, loose_node};
 use crate::waiter::{idle_waiter, put_waiter, set_room};

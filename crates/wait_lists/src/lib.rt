@@ -12,8 +12,8 @@ ghost use Rattle.std.specs.FinSet as set;
 mod firing;
 mod growing;
 mod heads;
-mod kept;
 mod laws;
+mod layout;
 mod linking;
 mod nodes;
 mod waiter;
@@ -21,10 +21,10 @@ mod waiter;
 pub use event_core::Ev;
 use firing::strike_all;
 use growing::make_room;
-use kept::{Kept, nothing_kept, put_out, set_mark, set_wait};
 pub use laws::{
     as_many_as_have_room, as_many_as_serials, as_many_as_wait_for_it, who_waits_has_room,
 };
+use layout::{Kept, nothing_kept, put_out, set_mark, set_wait};
 use std::alloc::{AllocError, Global};
 use std::marker::Model;
 
@@ -41,7 +41,7 @@ impl Model for WaitLists {
 
     ghost coded = { waits_code };
 
-    ghost use Rattle.wait_lists.specs.Kept.{IsSound, waits_by};
+    ghost use Rattle.wait_lists.specs.Layout.{IsSound, waits_by};
 
     ghost view = { λ w. waits_by w.kept };
 

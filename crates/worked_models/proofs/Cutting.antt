@@ -3,7 +3,7 @@ use Rattle.std.proofs.Common.{◌≡◌, ℕ, zero, suc, ◌+◌, Bool, true, fa
 use Rattle.std.specs.Prelude.{◌==◌}
 use Rattle.std.proofs.lemmas.Bool.{eqb-true}
 use Rattle.std.proofs.lemmas.Option.{same_Some}
-use Rattle.model_lexer.specs.ModelGrammar.Tokens.{Token}
+use Rattle.model_lexer.specs.Tokens.{Token}
 use Rattle.model_lexer.specs.declared.forms.Piece.{Piece}
 use Rattle.model_lexer.specs.Forms.{is_passed}
 use Rattle.model_lexer.specs.Fronts.{piece_at}

@@ -5,8 +5,8 @@ use Rattle.model_lexer.specs.ModelTree.Vocabulary.{word_of}
 use Rattle.model_lexer.specs.ModelTree.declared.items.Head.TheVariants as head
 use Rattle.model_lexer.specs.ModelTree.declared.vocabulary.Word.TheVariants as w
 use Rattle.model_lexer.specs.ModelTree.declared.vocabulary.Symbol.TheVariants as s
-use Rattle.model_lexer.specs.ModelGrammar.Tokens.{Token, name, quoted, word, symbol, symbol_of}
-use Rattle.model_lexer.specs.ModelGrammar.Items.{DerivesModel}
+use Rattle.model_lexer.specs.Tokens.{Token, name, quoted, word, symbol, symbol_of}
+use Rattle.model_lexer.specs.Items.{DerivesModel}
 use Rattle.model_lexer.specs.Cut.{Lexeme}
 use Rattle.model_lexer.specs.Laws.{with_lines}
 use Rattle.model_lexer.specs.Reads.{Reads}

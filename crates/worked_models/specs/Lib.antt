@@ -10,3 +10,4 @@ pub mod Texts
 pub mod Models
 pub mod ClockedTrees
 pub mod ClockedCoded
+pub mod TrafficTexts

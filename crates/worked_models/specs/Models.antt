@@ -1,6 +1,6 @@
 -- Whole models with one clocked thread, written by hand, and what they become.
 use Rattle.std.specs.Prelude.{◌++◌, codes}
-use Rattle.model_lexer.specs.ModelGrammar.Tokens.{Tokens}
+use Rattle.model_lexer.specs.Tokens.{Tokens}
 use Rattle.worked_models.specs.Texts.{on}
 
 -- a thread that is reset at an edge

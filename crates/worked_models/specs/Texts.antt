@@ -1,6 +1,6 @@
 -- Texts with clocked threads, written by hand, and what they become.
 use Rattle.std.specs.Prelude.{ℕ, ◌==◌, if◌then◌else◌, List, [], ◌∷◌, ◌++◌, codes, Option, Some, None}
-use Rattle.model_lexer.specs.ModelGrammar.Tokens.{Token, Tokens}
+use Rattle.model_lexer.specs.Tokens.{Token, Tokens}
 use Rattle.model_lexer.specs.declared.forms.Form.{Form}
 use Rattle.model_lexer.specs.Forms.{form_of}
 use Rattle.model_lexer.specs.Meanings.{meaning}

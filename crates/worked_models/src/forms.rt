@@ -1,6 +1,6 @@
 //! The trees of the whole models that the texts become: each has its clocked thread, with these ticks.
 ghost use Rattle.std.specs.Prelude.{[], ◌∷◌, drop};
-ghost use Rattle.model_lexer.specs.ModelGrammar.Items.{DerivesModel};
+ghost use Rattle.model_lexer.specs.Items.{DerivesModel};
 ghost use Rattle.expanded_text.specs.Clocked.{IsClocked};
 ghost use Rattle.worked_models.specs.Models as models;
 ghost use Rattle.worked_models.specs.ClockedTrees as trees;

@@ -10,6 +10,8 @@
 //! Worked texts with clocked threads: what the definition of an expansion makes of token lists written by hand, computed by the
 //! checker. A clause says of one text what it becomes, or that it becomes nothing; of the tree of a model which ticks its clocked
 //! thread has; and of the code of one of these that it has them too, by the law on all clocked threads.
+//!
+//! Texts of traffic written by hand, and what the definitions give for them.
 #![tactic(auto)]
 
 mod calling;
@@ -22,6 +24,7 @@ mod naming;
 mod orders;
 mod reaching;
 mod texts;
+mod traffic_texts;
 mod using;
 mod valuing;
 
@@ -53,6 +56,9 @@ pub use reaching::{
 };
 pub use texts::{
     others_become_nothing, resets_are_tested, several_expand, ticks_wait, words_are_reserved,
+};
+pub use traffic_texts::{
+    faults_have_their_order, forms_come_before_faults, limits_are_counted, lines_are_read,
 };
 pub use using::{
     channels_are_of_their_kind, handles_are_told_apart, sensitivities_are_static,

@@ -1,5 +1,5 @@
 //! Texts written by hand, and what they become.
-ghost use Rattle.model_lexer.specs.ModelGrammar.Tokens.{Tokens};
+ghost use Rattle.model_lexer.specs.Tokens.{Tokens};
 ghost use Rattle.clocked.specs.Expanded.{Expands};
 ghost use Rattle.worked_models.specs.Texts as texts;
 

@@ -2,7 +2,7 @@ use Rattle.std.proofs.Common.{length, ap, ◌∙◌}
 use Rattle.std.specs.Prelude.{nat_lt}
 use Rattle.design_rules.specs.Paths.{ends_of}
 use Rattle.design_rules.specs.BindingFaults.{first_broken, has_twice}
-use Rattle.binding.proofs.Kept.{judged_kept}
+use Rattle.binding.proofs.PortChannels.{judged_kept}
 use Rattle.binding.proofs.kinds.port_kind.Goals as goal
 
 pub returns : goal.returns

@@ -1,5 +1,5 @@
 use Rattle.std.proofs.lemmas.Result.{IfOk-weaker}
-use Rattle.bus_answers.specs.Pools.{payload_with}
+use Rattle.bus_router.specs.Pools.{payload_with}
 use Rattle.result_texts.specs.Lines.{IsTextOf}
 use Rattle.bus_runs.specs.Runs.{IsRunText}
 use Rattle.bus_runs.proofs.texts.run_text.Goals as goal

@@ -7,7 +7,7 @@ use Rattle.check_expressions.specs.ModelRules.Passes.{constructs, fault_of}
 use Rattle.check_expressions.specs.ModelRules.Sites.{channel_sites}
 use Rattle.check_expressions.specs.CheckNames.Places.{scope_of}
 use Rattle.check_expressions.specs.Findings.{faults_of}
-use Rattle.check_expressions.specs.Judged.{member_fault}
+use Rattle.check_expressions.specs.ConstructFindings.{member_fault}
 use Rattle.check_expressions.specs.declared.heads.MemberUse.TheVariants as used
 use Rattle.check_actions.proofs.Parts.{member_event}
 use Rattle.check_actions.proofs.events.member_event_finding.Goals as goal

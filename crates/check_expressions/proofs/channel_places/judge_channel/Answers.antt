@@ -9,7 +9,7 @@ use Rattle.check_names.specs.ModelRules.Passes.{constructs, fault_of}
 use Rattle.check_names.specs.ModelRules.Sites.{place_sites}
 use Rattle.check_names.specs.Places.{scope_of}
 use Rattle.check_expressions.specs.Findings.{faults_of}
-use Rattle.check_expressions.specs.Judged.{at_of, channel_fault}
+use Rattle.check_expressions.specs.ConstructFindings.{at_of, channel_fault}
 use Rattle.check_expressions.specs.declared.channels.At.TheVariants as at
 use Rattle.check_expressions.proofs.Forms.{channel_sites_are}
 use Rattle.check_expressions.proofs.channel_places.judge_channel.Goals as goal

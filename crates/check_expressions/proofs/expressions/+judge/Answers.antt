@@ -17,7 +17,7 @@ use Rattle.check_names.specs.ModelRules.Sites.{has_index, sites_as}
 use Rattle.check_names.specs.ModelRules.Values.{fails, refuse, refuses, is_beyond, element_differs}
 use Rattle.check_names.specs.Places.{scope_of}
 use Rattle.check_expressions.specs.Findings.{faults_of, told}
-use Rattle.check_expressions.specs.Judged.{channel_fault, own_fault}
+use Rattle.check_expressions.specs.ConstructFindings.{channel_fault, own_fault}
 use Rattle.check_expressions.specs.declared.channels.At.TheVariants as at
 use Rattle.check_expressions.proofs.Forms.{of_form, convert_sites, unary_sites, vector_sites, slice_sites, binary_sites, concat_sites, element_sites, named_sites, placed_sites, placed_by_sites, member_sites}
 use Rattle.check_expressions.proofs.expressions.+judge.Goals as goal

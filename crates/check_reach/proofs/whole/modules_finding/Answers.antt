@@ -3,7 +3,7 @@ use Rattle.model_tree.specs.declared.items.Item.{Item}
 use Rattle.model_tree.specs.Views.{module_of}
 use Rattle.check_expressions.specs.CheckNames.ModuleNames.{items_of}
 use Rattle.check_expressions.specs.Findings.{fault_seen, faults_of}
-use Rattle.check_reach.specs.Judged.{items_fault, module_fault}
+use Rattle.check_reach.specs.Findings.{items_fault, module_fault}
 use Rattle.check_reach.proofs.Turns.{found_item, none_item}
 use Rattle.check_reach.proofs.whole.modules_finding.Goals as goal
 

@@ -1,7 +1,7 @@
 use Rattle.std.proofs.Common.{◌≡◌, drop}
 use Rattle.model_tree.specs.Views.{modules_of}
 use Rattle.check_expressions.specs.ModelRules.Names.{first}
-use Rattle.check_reach.specs.Judged.{module_fault}
+use Rattle.check_reach.specs.Findings.{module_fault}
 use Rattle.check_reach.proofs.whole.modules_finding.Given as goal
 
 abbrev pub invariant-loop-owner : goal.invariant-loop-owner

@@ -7,7 +7,7 @@ use Rattle.check_actions.specs.ModelRules.Targets.{destination_of}
 use Rattle.check_actions.specs.ModelRules.Names.{goes_nowhere}
 use Rattle.check_actions.specs.CheckNames.Places.{scope_of}
 use Rattle.check_actions.specs.CheckExpressions.Findings.{faults_of, told_if}
-use Rattle.check_actions.specs.CheckExpressions.Judged.{member_fault}
+use Rattle.check_actions.specs.CheckExpressions.ConstructFindings.{member_fault}
 use Rattle.check_actions.specs.CheckExpressions.declared.heads.MemberUse.TheVariants as used
 use Rattle.check_statements.proofs.Found.{assign_member_is}
 use Rattle.check_statements.proofs.own.assign_member.Goals as goal

@@ -1,6 +1,6 @@
 use Rattle.std.proofs.Common.{List, [], ap, sym, ◌∙◌}
 use Rattle.std.proofs.lemmas.Result.{IfOk-weaker}
-use Rattle.model_tree.specs.Seen.{model_of}
+use Rattle.model_tree.specs.WholeTree.{model_of}
 use Rattle.model_tree.specs.Views.{modules_of}
 use Rattle.model_tree.specs.declared.items.Module.{Module}
 use Rattle.check_statements.specs.Doubled.{in_modules}

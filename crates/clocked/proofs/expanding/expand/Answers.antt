@@ -1,13 +1,13 @@
 use Rattle.std.proofs.Common.{◌≡◌, ◌+◌, ◌<◌, List, length, take, drop, ◌∙◌, sym, ap, subst, arith}
 use Rattle.std.proofs.lemmas.List.{take_all}
 use Rattle.std.specs.Prelude.{Ok, Err}
-use Rattle.model_lexer.specs.ModelGrammar.Tokens.{Tokens}
+use Rattle.model_lexer.specs.Tokens.{Tokens}
 use Rattle.model_lexer.specs.declared.token.Token.{Token}
-use Rattle.model_lexer.specs.Seen.{token_of}
+use Rattle.model_lexer.specs.Views.{token_of}
 use Rattle.clocked.specs.Words.{Sign}
 use Rattle.clocked.specs.Expanded.{line_behind}
 use Rattle.clocked.specs.Turns.{language, turn}
-use Rattle.clocked.specs.Seen.{tokens_in, expansion_in, state_in, Turned}
+use Rattle.clocked.specs.Views.{tokens_in, expansion_in, state_in, Turned}
 use Rattle.clocked.proofs.Leads.{Leads}
 use Rattle.clocked.proofs.Looping.{tokens_on, tokens_at, line_more, turned_on, refused_at, only_refused, only_one, led_expands, led_nowhere}
 use Rattle.clocked.proofs.expanding.expand.Goals as goal

@@ -1,7 +1,7 @@
 use Rattle.std.proofs.Common.{◌≡◌, take}
 use Rattle.clocked.specs.Expanded.{line_behind}
 use Rattle.clocked.specs.Turns.{language}
-use Rattle.clocked.specs.Seen.{tokens_in, state_in, expansion_in}
+use Rattle.clocked.specs.Views.{tokens_in, state_in, expansion_in}
 use Rattle.clocked.proofs.Leads.{Leads}
 use Rattle.clocked.proofs.expanding.expand.Given as goal
 

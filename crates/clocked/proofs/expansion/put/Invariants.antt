@@ -1,6 +1,6 @@
 use Rattle.std.proofs.Common.{◌≡◌, ◌++◌, take}
 use Rattle.clocked.specs.Expanded.{put}
-use Rattle.clocked.specs.Seen.{expansion_in, kinds_in}
+use Rattle.clocked.specs.Views.{expansion_in, kinds_in}
 use Rattle.clocked.proofs.expansion.put.Given as goal
 
 -- as many kinds as have been looked at are put in

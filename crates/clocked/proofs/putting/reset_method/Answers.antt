@@ -1,9 +1,9 @@
 use Rattle.std.proofs.Common.{[], ◌∷◌}
 use Rattle.model_tree.specs.declared.vocabulary.Word.TheVariants as w
-use Rattle.model_lexer.specs.ModelGrammar.Tokens.{name, word}
+use Rattle.model_lexer.specs.Tokens.{name, word}
 use Rattle.clocked.specs.Parts.{reset_name}
 use Rattle.clocked.specs.Expanded.{put, reset_body}
-use Rattle.clocked.specs.Seen.{reset_in}
+use Rattle.clocked.specs.Views.{reset_in}
 use Rattle.clocked.proofs.Adding.{adds_then}
 use Rattle.clocked.proofs.putting.reset_method.Goals as goal
 

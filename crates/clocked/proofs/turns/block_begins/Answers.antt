@@ -1,5 +1,5 @@
 use Rattle.std.proofs.Common.{[], ◌∷◌}
-use Rattle.model_lexer.specs.Seen.{token_of}
+use Rattle.model_lexer.specs.Views.{token_of}
 use Rattle.clocked.specs.Expanded.{put, body_before}
 use Rattle.clocked.proofs.Adding.{adds_then}
 use Rattle.clocked.proofs.turns.block_begins.Goals as goal

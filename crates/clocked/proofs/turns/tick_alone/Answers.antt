@@ -1,7 +1,7 @@
-use Rattle.model_lexer.specs.Seen.{token_of}
+use Rattle.model_lexer.specs.Views.{token_of}
 use Rattle.clocked.specs.Expanded.{put}
 use Rattle.clocked.specs.Turns.{tick_end, tick_one}
-use Rattle.clocked.specs.Seen.{head_in}
+use Rattle.clocked.specs.Views.{head_in}
 use Rattle.clocked.proofs.Adding.{adds_then}
 use Rattle.clocked.proofs.turns.tick_alone.Goals as goal
 

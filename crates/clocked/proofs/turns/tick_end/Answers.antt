@@ -1,7 +1,7 @@
 use Rattle.std.proofs.Common.{[], ◌∷◌}
-use Rattle.model_lexer.specs.Seen.{token_of}
+use Rattle.model_lexer.specs.Views.{token_of}
 use Rattle.clocked.specs.Expanded.{put, tick_behind}
-use Rattle.clocked.specs.Seen.{reset_if}
+use Rattle.clocked.specs.Views.{reset_if}
 use Rattle.clocked.proofs.Adding.{adds_then}
 use Rattle.clocked.proofs.turns.tick_end.Goals as goal
 

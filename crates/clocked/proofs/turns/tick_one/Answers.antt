@@ -1,5 +1,5 @@
 use Rattle.std.proofs.Common.{[], ◌∷◌}
-use Rattle.model_lexer.specs.ModelGrammar.Tokens.{number}
+use Rattle.model_lexer.specs.Tokens.{number}
 use Rattle.clocked.specs.Expanded.{put, tick_before}
 use Rattle.clocked.proofs.Adding.{adds_then}
 use Rattle.clocked.proofs.turns.tick_one.Goals as goal

@@ -1,5 +1,5 @@
 use Rattle.std.proofs.Common.{subst, sym}
-use Rattle.model_tree.specs.Seen.{model_of}
+use Rattle.model_tree.specs.WholeTree.{model_of}
 use Rattle.binding.specs.DesignRules.ObjectFaults.{cycle_fault, limit_fault}
 use Rattle.binding.specs.DesignRules.Formed.{AreFormed}
 use Rattle.elaborate.proofs.Faults.{first_none, second_none}

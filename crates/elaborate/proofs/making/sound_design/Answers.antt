@@ -1,4 +1,4 @@
-use Rattle.model_tree.specs.Seen.{model_of}
+use Rattle.model_tree.specs.WholeTree.{model_of}
 use Rattle.elaborate.proofs.LaidOut.{accepted, apart_still, at_resolution, laid_out}
 use Rattle.elaborate.proofs.making.sound_design.Goals as goal
 

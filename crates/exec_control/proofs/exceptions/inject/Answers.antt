@@ -1,7 +1,7 @@
 use Rattle.std.proofs.Common.{refl, sym, ap, ◌∙◌}
 use Rattle.std.specs.Prelude.{Ok, Err}
 use Rattle.flat_design.specs.declared.faults.RunFault.TheVariants as fault
-use Rattle.exec_data.specs.KernelProcesses.Seen.{is_on}
+use Rattle.exec_data.specs.KernelProcesses.InstanceViews.{is_on}
 use Rattle.exec_data.proofs.KernelState.Ending.{follows_as}
 use Rattle.exec_control.specs.Thrown.{past, injects}
 use Rattle.exec_control.proofs.Injected.{others_live, others_state, raised, there_still, is_injected, is_uncaught, nothing_raised}

@@ -3,7 +3,7 @@ use Rattle.std.specs.Option.{option_copied_mut}
 use Rattle.flat_design.specs.Code.{arena_of}
 use Rattle.exec_data.specs.SimModel.Residual.{settle, taken_off, has_goal}
 use Rattle.exec_data.specs.SimModel.Configuration.{arena}
-use Rattle.exec_data.proofs.KernelState.Taken.{strip-taken}
+use Rattle.exec_data.proofs.KernelState.OneLess.{strip-taken}
 use Rattle.exec_data.specs.ProcessBodies.Bodies as bodies
 use Rattle.exec_data.specs.ProcessBodies.Bodies.{left_in}
 use Rattle.exec_data.proofs.KernelState.Frames.{one_body_sound, old_body_sound, steps_to, settled_before, there_still}

@@ -1,7 +1,7 @@
 use Rattle.std.proofs.Common.{refl, sym, ap, ◌∙◌, subst}
 use Rattle.std.specs.Prelude.{Err}
 use Rattle.flat_design.specs.declared.faults.RunFault.TheVariants as fault
-use Rattle.exec_data.specs.KernelProcesses.Seen.{is_on}
+use Rattle.exec_data.specs.KernelProcesses.InstanceViews.{is_on}
 use Rattle.exec_data.specs.SimModel.Control.{throw_call}
 use Rattle.exec_data.specs.KernelState.Ways.{moved_on}
 use Rattle.exec_data.specs.KernelState.Moves.{Does}

@@ -1,7 +1,7 @@
 use Rattle.std.proofs.Common.{ap, ◌∙◌}
 use Rattle.exec_data.specs.SimModel.Configuration.{change_instance}
 use Rattle.std.specs.Prelude.{None}
-use Rattle.exec_data.specs.KernelProcesses.Seen.{is_on}
+use Rattle.exec_data.specs.KernelProcesses.InstanceViews.{is_on}
 use Rattle.exec_data.proofs.KernelState.Pushing.{pushed_sound, pushed_moves, pushed_whole}
 use Rattle.exec_control.proofs.pushing.push.Goals as goal
 

@@ -4,7 +4,7 @@ use Rattle.exec_data.specs.SimModel.Residual.{has_goal}
 use Rattle.exec_data.specs.SimModel.Unwinding.{left_by_raise}
 use Rattle.exec_data.specs.SimModel.Calls.{with_left}
 use Rattle.exec_data.specs.ProcessBodies.Bodies.{left_in}
-use Rattle.exec_data.specs.KernelProcesses.Seen.{body_at as kept_at}
+use Rattle.exec_data.specs.KernelProcesses.InstanceViews.{body_at as kept_at}
 use Rattle.exec_data.specs.KernelState.Kernel.{StandsFor}
 use Rattle.exec_control.proofs.Throwing.{left_still, left_then_raised}
 use Rattle.exec_control.proofs.throws.raise_at.Goals as goal

@@ -5,7 +5,7 @@ use Rattle.kernel_view.specs.SimModel.Values.{on_ok}
 use Rattle.kernel_view.specs.SimModel.Storing.{passes, print_line}
 use Rattle.kernel_view.specs.SimModel.Statements.{settled_in}
 use Rattle.kernel_view.proofs.KernelState.Frames.{trace_moves}
-use Rattle.exec_data.specs.Told.{FollowsPrint}
+use Rattle.exec_data.specs.PrintAnswers.{FollowsPrint}
 use Rattle.exec_data.proofs.prints.print.Goals as goal
 
 pub returns-in-Ok-clause-prints : goal.returns-in-Ok-clause-prints

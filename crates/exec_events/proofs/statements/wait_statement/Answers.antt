@@ -5,7 +5,7 @@ use Rattle.kernel_view.specs.SimModel.Statements.{settled_in}
 use Rattle.kernel_view.specs.SimModel.Storing.{passes}
 use Rattle.kernel_view.specs.SimModel.Waiting.{awaited}
 use Rattle.kernel_view.specs.SimModel.Waits.{waits}
-use Rattle.kernel_view.specs.KernelProcesses.Seen.{deadline_of}
+use Rattle.kernel_view.specs.KernelProcesses.InstanceViews.{deadline_of}
 use Rattle.kernel_view.specs.KernelProcesses.Moved.{wait_as}
 use Rattle.kernel_view.specs.Standings.{next_here}
 use Rattle.exec_events.proofs.Doing.{goes_on, is_refused, is_at_fault}

@@ -2,7 +2,7 @@ use Rattle.std.proofs.Common.{false, true, option_map, sym, ap, ◌∙◌}
 use Rattle.flat_design.specs.Code.{term_of, event_terms, await_term}
 use Rattle.kernel_view.specs.SimModel.Waiting.{awaited, awaits}
 use Rattle.kernel_view.specs.Standings.{next_here}
-use Rattle.exec_events.specs.Asked.{wait_for, ends}
+use Rattle.exec_events.specs.Requests.{wait_for, ends}
 use Rattle.exec_events.proofs.triggers.end_of.Goals as goal
 
 pub returns-in-For : goal.returns-in-For

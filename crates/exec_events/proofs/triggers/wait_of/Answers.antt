@@ -5,7 +5,7 @@ use Rattle.kernel_view.specs.SimModel.Configuration.{Trigger}
 use Rattle.kernel_view.specs.SimModel.Waiting.{awaited, awaits}
 use Rattle.kernel_view.specs.KernelProcesses.Moved.{wait_as}
 use Rattle.kernel_view.specs.Standings.{Everywhere, next_here}
-use Rattle.exec_events.specs.Asked.{wait_for}
+use Rattle.exec_events.specs.Requests.{wait_for}
 use Rattle.exec_events.specs.Named.{events_named}
 use Rattle.exec_events.proofs.Gathered.{waits_for, if_found}
 use Rattle.exec_events.proofs.triggers.wait_of.Goals as goal

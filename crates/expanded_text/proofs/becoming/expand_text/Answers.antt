@@ -1,10 +1,10 @@
 use Rattle.std.proofs.Common.{◌≡◌, ℕ, List, ◌∙◌, sym, ap, subst}
 use Rattle.model_lexer.specs.Laws.{with_lines}
-use Rattle.model_lexer.specs.Seen.{lexemes}
+use Rattle.model_lexer.specs.Views.{lexemes}
 use Rattle.model_lexer.specs.declared.token.Token.{Token}
 use Rattle.clocked.specs.declared.expansion.Placed.{Placed}
 use Rattle.clocked.specs.Expanded.{Expands}
-use Rattle.clocked.specs.Seen.{tokens_in, expansion_in}
+use Rattle.clocked.specs.Views.{tokens_in, expansion_in}
 use Rattle.expanded_text.specs.Becomes.{Becomes}
 use Rattle.expanded_text.specs.Page.{page}
 use Rattle.expanded_text.proofs.Texts.{becomes, expands_here}

@@ -1,6 +1,6 @@
 use Rattle.std.proofs.Common.{◌≡◌, take}
 use Rattle.clocked.specs.Expanded.{line_behind}
-use Rattle.clocked.specs.Seen.{expansion_in}
+use Rattle.clocked.specs.Views.{expansion_in}
 use Rattle.expanded_text.specs.Page.{tokens_from}
 use Rattle.expanded_text.proofs.pages.page_of.Given as goal
 

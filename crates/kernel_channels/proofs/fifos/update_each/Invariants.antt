@@ -1,7 +1,7 @@
 use Rattle.std.proofs.Common.{◌≡◌, drop, map}
 use Rattle.kernel_events.specs.FlatDesign.declared.design.FifoPart.{FifoPart}
 use Rattle.kernel_events.specs.FifoSync.Fifos.{after_update}
-use Rattle.kernel_channels.specs.Asked.{fifo_change, items_after, events_after}
+use Rattle.kernel_channels.specs.UpdateMarks.{fifo_change, items_after, events_after}
 use Rattle.kernel_channels.proofs.fifos.update_each.Given as goal
 
 abbrev pub invariant-loop-n : goal.invariant-loop-n

@@ -1,7 +1,7 @@
 use Rattle.std.proofs.Common.{◌≡◌, drop, map}
 use Rattle.kernel_events.specs.FlatDesign.declared.design.SignalPart.{SignalPart}
 use Rattle.kernel_events.specs.SignalChannel.Signals.{settled, change_of}
-use Rattle.kernel_channels.specs.Asked.{items_after, marks_after, events_after}
+use Rattle.kernel_channels.specs.UpdateMarks.{items_after, marks_after, events_after}
 use Rattle.kernel_channels.proofs.signals.update_each.Given as goal
 
 abbrev pub invariant-loop-n : goal.invariant-loop-n

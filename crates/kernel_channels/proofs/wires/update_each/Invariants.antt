@@ -1,7 +1,7 @@
 use Rattle.std.proofs.Common.{◌≡◌, drop, map}
 use Rattle.kernel_events.specs.FlatDesign.declared.design.ResolvedPart.{ResolvedPart}
 use Rattle.kernel_events.specs.SignalChannel.Drivers.{resettled}
-use Rattle.kernel_channels.specs.Asked.{wire_change, items_after, marks_after, events_after}
+use Rattle.kernel_channels.specs.UpdateMarks.{wire_change, items_after, marks_after, events_after}
 use Rattle.kernel_channels.proofs.wires.update_each.Given as goal
 
 abbrev pub invariant-loop-n : goal.invariant-loop-n

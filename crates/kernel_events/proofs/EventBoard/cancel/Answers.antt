@@ -1,7 +1,7 @@
 use Rattle.std.proofs.Common.{◌<◌, length, sym, ap, ◌∙◌, subst, arith}
 use Rattle.sim_model.specs.EventCore.declared.notifications.Pending.TheVariants as pending
 use Rattle.sim_model.specs.Configuration.{change}
-use Rattle.kernel_events.specs.Kept.{IsTied}
+use Rattle.kernel_events.specs.Layout.{IsTied}
 use Rattle.kernel_events.proofs.Changed.{changed_is, has_time, room_for, tied_changed}
 use Rattle.kernel_events.proofs.EventBoard.cancel.Goals as goal
 

@@ -1,5 +1,5 @@
 use Rattle.std.proofs.Common.{sym, ◌∙◌, subst}
-use Rattle.kernel_events.specs.Kept.{IsTied}
+use Rattle.kernel_events.specs.Layout.{IsTied}
 use Rattle.kernel_events.proofs.Changed.{tied_first}
 use Rattle.kernel_events.proofs.EventBoard.new.Goals as goal
 

@@ -1,7 +1,7 @@
 use Rattle.std.proofs.Common.{◌≡◌, Option, None, Some, refl, ap, ◌∙◌, sym}
 use Rattle.std.specs.Prelude.{IsNone, IfNone, IfSome, ◌↔◌}
 use Rattle.sim_model.specs.Phases.{earliest_event}
-use Rattle.kernel_events.proofs.Taken.{empty_from_len}
+use Rattle.kernel_events.proofs.DueEvents.{empty_from_len}
 use Rattle.kernel_events.proofs.Earliest.{none_told, none_timed, bound_told}
 use Rattle.kernel_events.proofs.EventBoard.not_before.Goals as goal
 

@@ -6,7 +6,7 @@ use Rattle.sim_model.specs.EventCore.declared.notifications.When.{When}
 use Rattle.sim_model.specs.EventCore.declared.notifications.When.TheVariants as when
 use Rattle.sim_model.specs.EventCore.Notifications.{pending_at, notified, comes_first, effect_of}
 use Rattle.sim_model.specs.Configuration.{change}
-use Rattle.kernel_events.specs.Kept.{IsTied}
+use Rattle.kernel_events.specs.Layout.{IsTied}
 use Rattle.kernel_events.proofs.Changed.{changed_is, has_time, room_for, tied_changed, overridden}
 use Rattle.kernel_events.proofs.EventBoard.notify.Goals as goal
 

@@ -2,9 +2,9 @@ use Rattle.std.proofs.Common.{◌≡◌, ◌++◌, ◌-◌, ℕ, false, length, 
 use Rattle.std.specs.Prelude.{count_by}
 use Rattle.sim_model.specs.Phases.{is_at, due_events, without_pending}
 use Rattle.kernel_events.specs.Numbered.{fixed}
-use Rattle.kernel_events.specs.Kept.{IsTied, nothing_at, AreBelow}
+use Rattle.kernel_events.specs.Layout.{IsTied, nothing_at, AreBelow}
 use Rattle.sim_model.specs.EventCore.Notifications.{pending_at}
-use Rattle.kernel_events.proofs.Taken.{none_is_at, none_due, all_left, due, fixed-append, nothing_left, below-due, behind, keys_due, len_due, tied_at}
+use Rattle.kernel_events.proofs.DueEvents.{none_is_at, none_due, all_left, due, fixed-append, nothing_left, below-due, behind, keys_due, len_due, tied_at}
 use Rattle.kernel_events.proofs.EventBoard.take_at.Goals as goal
 
 pub take_due-requires : goal.take_due-requires

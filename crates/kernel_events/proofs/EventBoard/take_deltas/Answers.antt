@@ -1,9 +1,9 @@
 use Rattle.std.proofs.Common.{◌≡◌, ◌++◌, ◌-◌, length, map, take, drop, sym, ap, ◌∙◌, subst}
-use Rattle.number_marks.specs.Places.{marked_places}
+use Rattle.sim_model.specs.NumberedSlots.Places.{marked_places}
 use Rattle.sim_model.specs.Phases.{is_delta, due_events, without_pending}
 use Rattle.kernel_events.specs.Numbered.{fixed}
-use Rattle.kernel_events.specs.Kept.{IsTied, nothing_at, AreBelow}
-use Rattle.kernel_events.proofs.Taken.{due, fixed-append, nothing_left, below-due, behind, tied_deltas}
+use Rattle.kernel_events.specs.Layout.{IsTied, nothing_at, AreBelow}
+use Rattle.kernel_events.proofs.DueEvents.{due, fixed-append, nothing_left, below-due, behind, tied_deltas}
 use Rattle.kernel_events.proofs.EventBoard.take_deltas.Goals as goal
 
 pub cancel_all-requires : goal.cancel_all-requires

@@ -1,6 +1,6 @@
 use Rattle.std.proofs.Common.{sym, ap, inr}
 use Rattle.kernel_processes.proofs.Changed.{ended_time, put_zero, put_deadline, then_changes, told_as, more_zero, more_times}
-use Rattle.kernel_processes.specs.Seen.{seen}
+use Rattle.kernel_processes.specs.InstanceViews.{seen}
 use Rattle.kernel_processes.specs.Sound.{time_of, is_zero}
 use Rattle.kernel_processes.proofs.changes.put_time.Goals as goal
 

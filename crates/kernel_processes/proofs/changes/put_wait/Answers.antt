@@ -1,7 +1,7 @@
 use Rattle.std.proofs.Common.{sym, ap, ◌∙◌}
 use Rattle.std.specs.Prelude.{option_copied}
 use Rattle.kernel_processes.specs.Moves.{sensitive_of, listed_as}
-use Rattle.kernel_processes.specs.Seen.{seen}
+use Rattle.kernel_processes.specs.InstanceViews.{seen}
 use Rattle.wait_lists.specs.Waits as lists
 use Rattle.kernel_processes.proofs.Changed.{put_lists, told_as}
 use Rattle.kernel_processes.proofs.changes.put_wait.Goals as goal

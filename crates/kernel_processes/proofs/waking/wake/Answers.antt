@@ -1,7 +1,7 @@
 use Rattle.std.proofs.Common.{◌≡◌, true, false, Option, Some, None, refl, sym, ap, ◌∙◌, true≢false}
 use Rattle.instance_table.specs.declared.instances.Instance.{Instance as Entry}
 use Rattle.kernel_processes.specs.declared.parts.Process.{Process}
-use Rattle.kernel_processes.specs.Seen.{is_on}
+use Rattle.kernel_processes.specs.InstanceViews.{is_on}
 use Rattle.kernel_processes.specs.Moves.{is_heard, met}
 use Rattle.kernel_processes.proofs.Changed.{left_lists, then_changes}
 use Rattle.kernel_processes.proofs.Rousing.{not-true, woke, still_sound}

@@ -1,5 +1,5 @@
 use Rattle.std.proofs.Common.{◌≡◌, true, false, refl, sym, ap, ◌∙◌, subst, true≢false}
-use Rattle.kernel_processes.specs.Seen.{is_on}
+use Rattle.kernel_processes.specs.InstanceViews.{is_on}
 use Rattle.kernel_processes.specs.Moved.{IsTop}
 use Rattle.kernel_state.proofs.Stacks.{not_below, below_top_is, nobody_below}
 use Rattle.kernel_state.proofs.control.is_below_top.Goals as goal

@@ -1,6 +1,6 @@
 use Rattle.std.proofs.Common.{◌≡◌, ◌&&◌, true, false, sym, ap, ◌∙◌}
 use Rattle.kernel_processes.specs.SimModel.Residual.{has_goal}
-use Rattle.kernel_processes.specs.Seen.{is_on}
+use Rattle.kernel_processes.specs.InstanceViews.{is_on}
 use Rattle.kernel_state.proofs.Stacks.{on_top_is, off_stack_is}
 use Rattle.kernel_state.proofs.control.is_in_unwinding.Goals as goal
 

@@ -1,7 +1,7 @@
 use Rattle.std.proofs.Common.{◌≡◌, false, sym, ap, ◌∙◌}
 use Rattle.kernel_processes.specs.SimModel.Configuration.{change_instance}
 use Rattle.std.specs.Prelude.{None}
-use Rattle.kernel_processes.specs.Seen.{is_on}
+use Rattle.kernel_processes.specs.InstanceViews.{is_on}
 use Rattle.kernel_state.proofs.Pushing.{pushed_sound, pushed_moves, pushed_whole}
 use Rattle.kernel_state.proofs.control.push.Goals as goal
 

@@ -4,7 +4,7 @@ use Rattle.kernel_processes.specs.SimModel.Residual.{goal as before}
 use Rattle.kernel_processes.specs.SimModel.Unwinding.{unw, left_by_unw}
 use Rattle.kernel_processes.specs.SimModel.Configuration.{with_residual}
 use Rattle.kernel_processes.specs.SimModel.Calls.{with_left}
-use Rattle.kernel_processes.specs.Seen.{is_on}
+use Rattle.kernel_processes.specs.InstanceViews.{is_on}
 use Rattle.kernel_state.specs.Kernel.{StandsFor}
 use Rattle.kernel_state.proofs.Stacks.{on_top_is, off_stack_is}
 use Rattle.kernel_state.proofs.Ending.{unwound_on_top, unwound_and_pushed, still_there}

@@ -5,7 +5,7 @@ use Rattle.kernel_processes.specs.SimModel.Residual.{settle}
 use Rattle.kernel_processes.specs.SimModel.Configuration.{change, instance_at, arena}
 use Rattle.kernel_processes.specs.SimModel.Control.{unless_ended, ends_or_restarts}
 use Rattle.kernel_processes.specs.SimModel.Statements.{settled_in}
-use Rattle.kernel_processes.specs.Seen.{is_on}
+use Rattle.kernel_processes.specs.InstanceViews.{is_on}
 use Rattle.kernel_processes.specs.Moved.{IsTop}
 use Rattle.kernel_state.specs.Ways.{moved, moved_on}
 use Rattle.kernel_state.proofs.Ending.{alive_in, still_alive, is_refused, follows_any, follows_as}

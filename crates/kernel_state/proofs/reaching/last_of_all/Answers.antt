@@ -1,5 +1,5 @@
 use Rattle.std.proofs.Common.{◌==◌, not, ◌∷◌, [], sym, ap, ◌∙◌}
-use Rattle.kernel_processes.specs.Seen.{is_on}
+use Rattle.kernel_processes.specs.InstanceViews.{is_on}
 use Rattle.kernel_state.specs.Added.{all_added}
 use Rattle.kernel_state.proofs.Reached.{not_last, comes_last}
 use Rattle.kernel_state.proofs.reaching.last_of_all.Goals as goal

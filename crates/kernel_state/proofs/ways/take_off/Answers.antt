@@ -3,7 +3,7 @@ use Rattle.std.specs.Option.{option_copied_mut}
 use Rattle.kernel_processes.specs.SimModel.Residual.{settle, taken_off}
 use Rattle.kernel_processes.specs.SimModel.Configuration.{arena}
 use Rattle.kernel_state.proofs.Frames.{one_body_sound, old_body_sound, steps_to, settled_before, was}
-use Rattle.kernel_state.proofs.Taken.{strip-taken}
+use Rattle.kernel_state.proofs.OneLess.{strip-taken}
 use Rattle.kernel_state.proofs.ways.take_off.Goals as goal
 
 pub owed-requires : goal.owed-requires

@@ -7,7 +7,7 @@ use Rattle.exec_channels.specs.KernelState.Stopping.{DoesOrStops}
 use Rattle.exec_channels.specs.KernelBodies.Around.{around_if}
 use Rattle.exec_channels.specs.KernelBodies.Depths.{blocks_in}
 use Rattle.kernel_steps.specs.Taking.{takes_memory}
-use Rattle.kernel_steps.specs.Told.{CarriesAll}
+use Rattle.kernel_steps.specs.StepAnswers.{CarriesAll}
 use Rattle.kernel_steps.specs.declared.answers.StepAnswer.TheVariants as answer
 use Rattle.kernel_steps.proofs.Blocks.{is_first}
 use Rattle.kernel_steps.proofs.Answered.{carried, plain_carried, plain_faulted, plain_refused, taking_carried, taking_faulted, taking_refused, sending_carried, try_carried}

@@ -6,7 +6,7 @@ use Rattle.exec_channels.specs.SimModel.Configuration.{arena}
 use Rattle.exec_channels.specs.SimModel.Statements.{settled_in}
 use Rattle.exec_channels.specs.SimModel.Storing.{do_print}
 use Rattle.exec_channels.specs.KernelView.Standings.{next_here}
-use Rattle.exec_control.specs.ExecData.Told.{FollowsPrint}
+use Rattle.exec_control.specs.ExecData.PrintAnswers.{FollowsPrint}
 use Rattle.kernel_steps.proofs.Silent.{print_keeps}
 use Rattle.kernel_steps.proofs.Prints.{lives_still, print_stays, printed_tells, fault_tells}
 use Rattle.kernel_steps.proofs.data.print_step.Goals as goal

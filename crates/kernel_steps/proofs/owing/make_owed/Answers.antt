@@ -4,7 +4,7 @@ use Rattle.exec_channels.specs.SimModel.Residual.{settle, taken_off}
 use Rattle.exec_channels.specs.SimModel.Configuration.{arena, with_residual}
 use Rattle.exec_channels.specs.SimModel.Control.{control_call, throw_call}
 use Rattle.exec_channels.specs.SimModel.Statements.{settled_in}
-use Rattle.kernel_steps.specs.Told.{TellsAll}
+use Rattle.kernel_steps.specs.StepAnswers.{TellsAll}
 use Rattle.kernel_steps.specs.declared.answers.StepAnswer.TheVariants as answer
 use Rattle.kernel_steps.proofs.Answered.{left}
 use Rattle.kernel_steps.proofs.Silent.{owed_control_quiet, owed_throw_quiet}

@@ -3,7 +3,7 @@ use Rattle.flat_design.specs.Code.{statement_of}
 use Rattle.exec_channels.specs.SimModel.Residual.{taken_off}
 use Rattle.exec_channels.specs.SimModel.Configuration.{with_residual}
 use Rattle.exec_channels.specs.SimModel.Statements.{owed_by}
-use Rattle.kernel_steps.specs.Told.{MakesAll}
+use Rattle.kernel_steps.specs.StepAnswers.{MakesAll}
 use Rattle.kernel_steps.specs.declared.answers.StepAnswer.TheVariants as answer
 use Rattle.kernel_steps.proofs.Shows.{has_owed}
 use Rattle.kernel_steps.proofs.owing.on_owed.Goals as goal

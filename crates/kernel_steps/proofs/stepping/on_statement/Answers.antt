@@ -2,7 +2,7 @@ use Rattle.std.proofs.Common.{option_map, refl, sym, ap, ◌∙◌, subst}
 use Rattle.flat_design.specs.Code.{statement_of}
 use Rattle.exec_channels.specs.SimModel.Statements.{on_statement}
 use Rattle.kernel_steps.specs.Taking.{takes_memory_if}
-use Rattle.kernel_steps.specs.Told.{MakesAll}
+use Rattle.kernel_steps.specs.StepAnswers.{MakesAll}
 use Rattle.kernel_steps.specs.declared.answers.StepAnswer.TheVariants as answer
 use Rattle.kernel_steps.proofs.Shows.{has_statement}
 use Rattle.kernel_steps.proofs.stepping.on_statement.Goals as goal

@@ -1,5 +1,5 @@
 use Rattle.sim_model.specs.TransportPhases.History.{BCall}
-use Rattle.kernel_transactions.proofs.Judged.{judged_as}
+use Rattle.kernel_transactions.proofs.Judgements.{judged_as}
 use Rattle.kernel_transactions.proofs.TransactionBoard.b_call.Goals as goal
 
 pub returns-clause-answer : goal.returns-clause-answer

@@ -4,7 +4,7 @@ use Rattle.sim_model.specs.TransportPhases.Phases.{verdict}
 use Rattle.sim_model.specs.TransportPhases.History.{Call, broken}
 use Rattle.kernel_transactions.specs.Hops.{history_at}
 use Rattle.kernel_transactions.specs.Answers.{complete_in}
-use Rattle.kernel_transactions.proofs.Judged.{judged_as}
+use Rattle.kernel_transactions.proofs.Judgements.{judged_as}
 use Rattle.kernel_transactions.proofs.TransactionBoard.call.Goals as goal
 
 pub returns-clause-answer : goal.returns-clause-answer

@@ -1,4 +1,4 @@
-use Rattle.kernel_transactions.proofs.Judged.{used_as, live_found, complete_read}
+use Rattle.kernel_transactions.proofs.Judgements.{used_as, live_found, complete_read}
 use Rattle.kernel_transactions.proofs.laws.live_payloads_are_used.Goals as goal
 
 pub returns-clause-used : goal.returns-clause-used

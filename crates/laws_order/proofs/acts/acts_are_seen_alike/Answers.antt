@@ -1,5 +1,5 @@
 use Rattle.order_free.specs.Free.{Uses}
-use Rattle.laws_order.proofs.Seen.{acted-alike}
+use Rattle.laws_order.proofs.ProcessViews.{acted-alike}
 use Rattle.laws_order.proofs.acts.acts_are_seen_alike.Goals as goal
 
 pub returns : goal.returns

@@ -1,6 +1,6 @@
 use Rattle.order_free.specs.Free.{Uses}
 use Rattle.laws_order.proofs.Ruled.{free-apart}
-use Rattle.laws_order.proofs.Seen.{all-unseen}
+use Rattle.laws_order.proofs.ProcessViews.{all-unseen}
 use Rattle.laws_order.proofs.acts.many_acts_are_unseen.Goals as goal
 
 pub returns : goal.returns

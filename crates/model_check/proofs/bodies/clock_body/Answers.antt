@@ -1,6 +1,6 @@
 use Rattle.std.proofs.Common.{◌≡◌, ℕ, Option, refl, sym, ◌∙◌, subst}
-use Rattle.code_rooms.specs.CodeRules.Bodies.{IsClockBlock}
-use Rattle.code_rooms.specs.CodeRules.Numbered.{AtBlock}
+use Rattle.code_rules.specs.Bodies.{IsClockBlock}
+use Rattle.code_rules.specs.Numbered.{AtBlock}
 use Rattle.model_check.proofs.bodies.clock_body.Goals as goal
 
 pub returns-clause-reads : goal.returns-clause-reads

@@ -1,5 +1,5 @@
 use Rattle.std.proofs.Common.{◌≡◌, drop}
-use Rattle.code_rooms.specs.ModelRules.Scopes.{with_parameters}
+use Rattle.code_rules.specs.ModelRules.Scopes.{with_parameters}
 use Rattle.check_reach.specs.CheckNames.Places.{scope_of}
 use Rattle.model_check.proofs.bodies.declare_parameters.Given as goal
 

@@ -1,10 +1,10 @@
 use Rattle.std.proofs.Common.{◌≡◌, ℕ, List, refl, sym, ap, ◌∙◌, subst}
 use Rattle.model_tree.specs.Views.{body_of, modules_of}
-use Rattle.code_rooms.specs.CodeRules.Bodies.{LocalSource, AreLocals}
-use Rattle.code_rooms.specs.CodeRules.Numbered.{AtBlock, IsBlock}
+use Rattle.code_rules.specs.Bodies.{LocalSource, AreLocals}
+use Rattle.code_rules.specs.Numbered.{AtBlock, IsBlock}
 use Rattle.code_blocks.specs.CodeTerms.Sources.{sources_of}
 use Rattle.code_blocks.specs.CodeDeeds.Homes.{home_of}
-use Rattle.code_rooms.specs.ModelRules.Scopes.{Scope, item_scope}
+use Rattle.code_rules.specs.ModelRules.Scopes.{Scope, item_scope}
 use Rattle.check_reach.specs.CheckNames.ModuleNames.{items_of}
 use Rattle.model_check.proofs.bodies.process_body.Goals as goal
 

@@ -1,4 +1,4 @@
-use Rattle.model_tree.specs.Seen.{model_of}
+use Rattle.model_tree.specs.WholeTree.{model_of}
 use Rattle.model_check.proofs.Raised.{still_apart, still_stand}
 use Rattle.model_check.proofs.checked.roomy_code.Goals as goal
 

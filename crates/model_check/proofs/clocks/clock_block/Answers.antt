@@ -1,5 +1,5 @@
 use Rattle.std.proofs.Common.{◌≡◌, ◌<◌, ◌-◌, ◌+◌, ◌==◌, ℕ, length, List, [], ◌∷◌, ◌++◌, Some, Bool, true, false, refl, sym, ap, ◌∙◌, subst, arith}
-use Rattle.code_rooms.specs.LogicValues.declared.kinds.Value.TheVariants as value
+use Rattle.code_rules.specs.LogicValues.declared.kinds.Value.TheVariants as value
 use Rattle.flat_design.specs.Code as code
 use Rattle.std.specs.Prelude.{slice_get, if◌then◌else◌}
 use Rattle.flat_design.specs.Code.{Arena}
@@ -8,8 +8,8 @@ use Rattle.flat_design.specs.Typed.{EachOf}
 use Rattle.code_blocks.specs.Laid.{EachFrom, FromNowOn, Grows, HangsFrom, OnlyFrom, StandsInside}
 use Rattle.code_blocks.proofs.Owned.{added_owned, block_owned, each_of_two, none_from, one_owned}
 use Rattle.code_blocks.proofs.Only.{added_from, block_only, first_only, none_hangs, one_only, only_up}
-use Rattle.code_rooms.specs.CodeRules.Bodies.{span_of, start_of, wait_for, waits_first, one_period}
-use Rattle.code_rooms.specs.CodeRules.Numbered.{AtBlock, AreFirst}
+use Rattle.code_rules.specs.Bodies.{span_of, start_of, wait_for, waits_first, one_period}
+use Rattle.code_rules.specs.Numbered.{AtBlock, AreFirst}
 use Rattle.model_check.specs.Parts.{high_and_low}
 use Rattle.code_blocks.proofs.Growth.{block_there, blocks_grow}
 use Rattle.model_check.proofs.LaidLemmas.{first_more, if_ok_grown}

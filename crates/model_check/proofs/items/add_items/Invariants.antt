@@ -1,7 +1,7 @@
 use Rattle.std.proofs.Common.{◌≡◌, ◌++◌, drop, length, List}
 use Rattle.flat_design.specs.declared.code.CodeBody.{CodeBody}
 use Rattle.model_tree.specs.Views.{modules_of}
-use Rattle.code_rooms.specs.CodeRules.Bodies.{AreBodies}
+use Rattle.code_rules.specs.Bodies.{AreBodies}
 use Rattle.code_blocks.specs.LawsCode.HasCode.{ItemsHaveCode}
 use Rattle.code_blocks.specs.CodeDeeds.Homes.{home_of}
 use Rattle.check_reach.specs.CheckNames.ModuleNames.{items_of}

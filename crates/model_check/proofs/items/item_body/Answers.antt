@@ -1,9 +1,9 @@
 use Rattle.std.proofs.Common.{◌≡◌, [], ◌∷◌, length, refl, sym, subst}
 use Rattle.model_tree.specs.Views.{item_of, modules_of}
 use Rattle.model_tree.specs.declared.items.Item.{Item}
-use Rattle.code_rooms.specs.CodeRules.Bodies.{IsBodyIf, around_item, source_of}
+use Rattle.code_rules.specs.Bodies.{IsBodyIf, around_item, source_of}
 use Rattle.code_blocks.specs.CodeDeeds.Homes.{home_of}
-use Rattle.code_rooms.specs.ModelRules.Scopes.{item_scope}
+use Rattle.code_rules.specs.ModelRules.Scopes.{item_scope}
 use Rattle.check_reach.specs.CheckNames.ModuleNames.{items_of}
 use Rattle.code_blocks.proofs.Owned.{one_owned}
 use Rattle.model_check.proofs.items.item_body.Goals as goal

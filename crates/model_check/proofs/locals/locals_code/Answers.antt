@@ -2,7 +2,7 @@ use Rattle.std.proofs.Common.{◌≡◌, ◌+◌, ◌++◌, ◌∷◌, List, [],
 use Rattle.std.proofs.lemmas.List.{append-nil, drop_all}
 use Rattle.model_tree.specs.declared.types.VarType.TheVariants.{Plain}
 use Rattle.model_tree.specs.declared.types.TypeForm.TheVariants.{Bool}
-use Rattle.code_rooms.specs.CodeRules.Bodies.{AreLocals}
+use Rattle.code_rules.specs.Bodies.{AreLocals}
 use Rattle.code_blocks.specs.CodeTerms.declared.sources.Source.{Source}
 use Rattle.code_blocks.specs.CodeTerms.Sources.{source_of, sources_of}
 use Rattle.model_check.proofs.LocalLemmas.{first_typed, next_local, next_seen_at}

@@ -1,6 +1,6 @@
 use Rattle.std.proofs.Common.{drop, List, ◌++◌}
 use Rattle.flat_design.specs.declared.code.Local.{Local}
-use Rattle.code_rooms.specs.CodeRules.Bodies.{AreLocals}
+use Rattle.code_rules.specs.Bodies.{AreLocals}
 use Rattle.code_blocks.specs.LawsCode.HasCode.{LocalsHaveTypes}
 use Rattle.code_blocks.specs.CodeTerms.Sources.{sources_of}
 use Rattle.model_check.proofs.locals.locals_code.Given as goal

@@ -1,7 +1,7 @@
 use Rattle.std.proofs.Common.{◌≡◌, Option, Some, None, subst, sym, ◌∙◌}
 use Rattle.std.specs.Prelude.{IfErr, IfOk}
 use Rattle.std.proofs.lemmas.Result.{err_from_is_err_and}
-use Rattle.model_tree.specs.Seen.{model_of, source_of}
+use Rattle.model_tree.specs.WholeTree.{model_of, source_of}
 use Rattle.model_tree.specs.Stops.{IfRefused}
 use Rattle.model_tree.specs.Tree as tree
 use Rattle.model_tree.specs.declared.faults.Fault.{Fault}
@@ -9,7 +9,7 @@ use Rattle.tick_rules.specs.TickTrees.Ticks.{ticks}
 use Rattle.tick_rules.specs.Sources.{modules_fault, resolution_fault, resolution_of, ticked, told_fault}
 use Rattle.tick_rules.proofs.Same.{same_ticks}
 use Rattle.model_check.proofs.Ticked.{of_modules}
-use Rattle.model_check.proofs.Told.{first_refused, none_told, rules_hold}
+use Rattle.model_check.proofs.TickJudgements.{first_refused, none_told, rules_hold}
 use Rattle.model_check.proofs.sources.judge_source.Goals as goal
 
 -- the fault of a resolution comes before all others

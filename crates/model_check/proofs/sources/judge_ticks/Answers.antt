@@ -1,9 +1,9 @@
 use Rattle.std.proofs.Common.{ap, sym, ◌∙◌}
-use Rattle.model_tree.specs.Seen.{model_of}
-use Rattle.code_rooms.specs.ModelRules.Passes.{first_fault}
+use Rattle.model_tree.specs.WholeTree.{model_of}
+use Rattle.code_rules.specs.ModelRules.Passes.{first_fault}
 use Rattle.tick_rules.specs.TickTrees.Ticks.{ticks}
 use Rattle.tick_rules.specs.Sources.{told_fault}
-use Rattle.model_check.proofs.Told.{told_of, refused_with}
+use Rattle.model_check.proofs.TickJudgements.{told_of, refused_with}
 use Rattle.model_check.proofs.sources.judge_ticks.Goals as goal
 
 pub returns-in-Ok-clause-accepted : goal.returns-in-Ok-clause-accepted

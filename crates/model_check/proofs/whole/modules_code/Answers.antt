@@ -3,7 +3,7 @@ use Rattle.std.proofs.lemmas.List.{append-nil, drop_all, map-append}
 use Rattle.model_tree.specs.Views.{module_of, modules_of}
 use Rattle.model_tree.specs.declared.items.Module.{Module}
 use Rattle.flat_design.specs.declared.code.CodeBody.{CodeBody}
-use Rattle.code_rooms.specs.CodeRules.Bodies.{AreModules}
+use Rattle.code_rules.specs.Bodies.{AreModules}
 use Rattle.code_blocks.specs.LawsCode.HasCode.{ModulesHaveCode}
 use Rattle.check_reach.specs.CheckNames.ModelNames.{module_items}
 use Rattle.model_check.proofs.LocalLemmas.{next_seen}

@@ -1,7 +1,7 @@
 use Rattle.std.proofs.Common.{◌≡◌, ◌++◌, drop, length, List}
 use Rattle.flat_design.specs.declared.code.CodeBody.{CodeBody}
 use Rattle.model_tree.specs.Views.{modules_of}
-use Rattle.code_rooms.specs.CodeRules.Bodies.{AreModules}
+use Rattle.code_rules.specs.Bodies.{AreModules}
 use Rattle.code_blocks.specs.LawsCode.HasCode.{ModulesHaveCode}
 use Rattle.code_blocks.specs.Laid.{EachFrom, FromNowOn, IsNested, StandsInside}
 use Rattle.model_check.specs.Parts.{AreLaidApart, body_blocks}

@@ -1,10 +1,10 @@
 use Rattle.std.proofs.Common.{◌≡◌, List, length, ap, sym, refl, ◌∙◌}
-use Rattle.model_tree.specs.Seen.{model_of}
+use Rattle.model_tree.specs.WholeTree.{model_of}
 use Rattle.model_tree.specs.Views.{modules_of}
 use Rattle.model_tree.specs.declared.items.Module.{Module}
 use Rattle.flat_design.specs.Code.{arena_of}
 use Rattle.flat_design.specs.declared.code.Code.{Code}
-use Rattle.code_rooms.specs.CodeRules.Bodies.{exceptions_of, once}
+use Rattle.code_rules.specs.Bodies.{exceptions_of, once}
 use Rattle.code_blocks.specs.CodeTerms.Names.{thrown_in_modules}
 use Rattle.model_check.proofs.BodyLemmas.{modules_at, modules_coded_at}
 use Rattle.code_blocks.proofs.Growth.{nested_none, nested_code}

@@ -1,7 +1,7 @@
 use Rattle.std.proofs.Common.{◌≡◌, drop}
 use Rattle.std.specs.List.{find}
 use Rattle.std.specs.Str.{bytes_eq}
-use Rattle.model_grammar.specs.ModelTree.Vocabulary.{symbol_text}
+use Rattle.model_tree.specs.Vocabulary.{symbol_text}
 use Rattle.model_lexer.proofs.fronts.spelled.Given as goal
 
 -- the symbols that are left give what all of them give

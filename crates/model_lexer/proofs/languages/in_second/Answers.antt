@@ -1,5 +1,5 @@
 use Rattle.std.proofs.Common.{refl}
-use Rattle.model_lexer.specs.Seen.{front_of}
+use Rattle.model_lexer.specs.Views.{front_of}
 use Rattle.model_lexer.proofs.Later.{one_told}
 use Rattle.model_lexer.proofs.languages.in_second.Goals as goal
 

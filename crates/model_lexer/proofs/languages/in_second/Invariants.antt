@@ -1,7 +1,7 @@
 use Rattle.std.proofs.Common.{◌≡◌, drop}
-use Rattle.model_grammar.specs.Languages.{behind_other, in_second}
+use Rattle.model_lexer.specs.Languages.{behind_other, in_second}
 use Rattle.model_lexer.specs.Laws.{with_lines}
-use Rattle.model_lexer.specs.Seen.{front_of, lexemes}
+use Rattle.model_lexer.specs.Views.{front_of, lexemes}
 use Rattle.model_lexer.proofs.Later.{told}
 use Rattle.model_lexer.proofs.languages.in_second.Given as goal
 

@@ -1,7 +1,7 @@
 use Rattle.std.proofs.Common.{◌≡◌, ℕ, ◌+◌, List, [], ◌∷◌, ◌++◌, drop, subst, arith}
 use Rattle.model_lexer.specs.declared.lexing.Next.TheVariants as next
 use Rattle.model_lexer.specs.Cut.{IsGap, IsStuck}
-use Rattle.model_lexer.specs.Seen.{token_of, lexemes, IsNext}
+use Rattle.model_lexer.specs.Views.{token_of, lexemes, IsNext}
 use Rattle.model_lexer.proofs.Cuts.{up_to_gap, piece_some, lexeme}
 use Rattle.model_lexer.proofs.Turns.{Stands, stands_within, turn_fits, turn_only, turn_up_to, counted, gap_fits, gap_only, all_found, only_found, none_found, line_turn, gap_within, one_more}
 use Rattle.model_lexer.proofs.lexing.tokens.Goals as goal

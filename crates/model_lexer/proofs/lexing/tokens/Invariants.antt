@@ -1,6 +1,6 @@
 use Rattle.std.proofs.Common.{◌≡◌, ◌-◌, ◌≤◌, length}
 use Rattle.model_lexer.specs.Cut.{line_at, CutUpTo}
-use Rattle.model_lexer.specs.Seen.{lexemes}
+use Rattle.model_lexer.specs.Views.{lexemes}
 use Rattle.model_lexer.proofs.Turns.{Fits, Only}
 use Rattle.model_lexer.proofs.lexing.tokens.Given as goal
 

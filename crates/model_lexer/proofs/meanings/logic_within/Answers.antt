@@ -1,7 +1,7 @@
 use Rattle.std.proofs.Common.{◌≡◌, ℕ, ◌+◌, ◌<◌, List, [], ◌∷◌, ◌++◌, length, take, get_or, Some, ◌∙◌, sym, ap, arith}
 use Rattle.std.proofs.Math.Seq.{take-length}
-use Rattle.model_grammar.specs.LogicValues.declared.kinds.Digit.{Digit}
-use Rattle.model_grammar.specs.LogicValues.Digits.{digits}
+use Rattle.model_tree.specs.LogicValues.declared.kinds.Digit.{Digit}
+use Rattle.model_tree.specs.LogicValues.Digits.{digits}
 use Rattle.model_lexer.specs.Meanings.{logic_digit, logic_digits}
 use Rattle.model_lexer.proofs.LogicDigits.{digits_more, digits_within, behind_within, behind_all, behind_at}
 use Rattle.model_lexer.proofs.meanings.logic_within.Goals as goal

@@ -1,5 +1,5 @@
 use Rattle.std.proofs.Common.{◌≡◌, ◌+◌, take}
-use Rattle.model_grammar.specs.LogicValues.Digits.{digits}
+use Rattle.model_tree.specs.LogicValues.Digits.{digits}
 use Rattle.model_lexer.specs.Meanings.{logic_digits}
 use Rattle.model_lexer.proofs.meanings.logic_within.Given as goal
 

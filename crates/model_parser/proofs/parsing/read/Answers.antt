@@ -1,7 +1,7 @@
 use Rattle.std.proofs.Common.{ap, ◌∙◌}
 use Rattle.std.proofs.lemmas.Result.{err_from_is_err_and}
 use Rattle.parse_statements.specs.ModelLexer.Laws.{with_lines}
-use Rattle.parse_statements.specs.ModelLexer.Seen.{lexemes}
+use Rattle.parse_statements.specs.ModelLexer.Views.{lexemes}
 use Rattle.parse_statements.proofs.ModelLexer.CutLaws.{language_cut}
 use Rattle.model_parser.proofs.Stops.{left_stopped}
 use Rattle.model_parser.proofs.parsing.read.Goals as goal

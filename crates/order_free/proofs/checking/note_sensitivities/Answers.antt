@@ -1,8 +1,8 @@
 use Rattle.std.proofs.Common.{List, length, refl, ap, sym, ◌∙◌, subst}
 use Rattle.std.specs.Prelude.{slice_get}
 use Rattle.std.proofs.lemmas.Option.{slice_get_read}
-use Rattle.order_uses.specs.EventCore.declared.event.Ev.{Ev}
-use Rattle.order_uses.specs.FlatDesign.declared.design.ProcessPart.{ProcessPart}
+use Rattle.flat_design.specs.EventCore.declared.event.Ev.{Ev}
+use Rattle.flat_design.specs.declared.design.ProcessPart.{ProcessPart}
 use Rattle.order_free.specs.Tables.{Took, claims, uses_of_events}
 use Rattle.order_free.specs.declared.users.Users.TheVariants as users
 use Rattle.order_free.proofs.Homes.{none_told, sensitivity_told}

@@ -1,4 +1,4 @@
-use Rattle.order_free.proofs.Judged.{says}
+use Rattle.order_free.proofs.DesignVerdicts.{says}
 use Rattle.order_free.proofs.checking.order_free.Goals as goal
 
 pub returns : goal.returns

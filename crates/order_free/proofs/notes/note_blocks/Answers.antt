@@ -1,8 +1,8 @@
 use Rattle.std.proofs.Common.{ℕ, List, subst}
 use Rattle.std.specs.Prelude.{slice_get, get_or}
 use Rattle.std.specs.List.{flat_map}
-use Rattle.order_uses.specs.Uses.{uses_of_deed}
-use Rattle.order_uses.specs.declared.uses.Deed.{Deed}
+use Rattle.order_free.specs.Uses.{uses_of_deed}
+use Rattle.order_free.specs.declared.uses.Deed.{Deed}
 use Rattle.order_free.specs.Spreading.{label_at}
 use Rattle.order_free.specs.Tables as tables
 use Rattle.order_free.specs.Tables.{Took, claims, uses_in, claims_in}

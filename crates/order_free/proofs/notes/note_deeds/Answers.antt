@@ -1,7 +1,7 @@
 use Rattle.std.proofs.Common.{List}
 use Rattle.std.specs.List.{flat_map}
-use Rattle.order_uses.specs.Uses.{uses_of_deed}
-use Rattle.order_uses.specs.declared.uses.Deed.{Deed}
+use Rattle.order_free.specs.Uses.{uses_of_deed}
+use Rattle.order_free.specs.declared.uses.Deed.{Deed}
 use Rattle.order_free.specs.Tables as tables
 use Rattle.order_free.specs.Tables.{Took, claims}
 use Rattle.order_free.proofs.Taking.{took_next, claims_next}

@@ -1,6 +1,6 @@
 use Rattle.std.proofs.Common.{take}
 use Rattle.std.specs.List.{flat_map}
-use Rattle.order_uses.specs.Uses.{read_from}
+use Rattle.order_free.specs.Uses.{read_from}
 use Rattle.order_free.specs.Tables.{Took, claims}
 use Rattle.order_free.proofs.notes.note_read_channels.Given as goal
 

@@ -1,8 +1,8 @@
 use Rattle.std.proofs.Common.{List, subst}
 use Rattle.std.specs.List.{flat_map}
-use Rattle.order_uses.specs.FlatDesign.declared.design.ChannelId.{ChannelId}
-use Rattle.order_uses.specs.Uses.{written_to}
-use Rattle.order_uses.specs.declared.uses.Use.{Use}
+use Rattle.flat_design.specs.declared.design.ChannelId.{ChannelId}
+use Rattle.order_free.specs.Uses.{written_to}
+use Rattle.order_free.specs.declared.uses.Use.{Use}
 use Rattle.order_free.specs.Tables as tables
 use Rattle.order_free.specs.Tables.{Took, claims}
 use Rattle.order_free.proofs.Taking.{took_next, claims_next}

@@ -1,6 +1,6 @@
 use Rattle.std.proofs.Common.{take}
 use Rattle.std.specs.List.{flat_map}
-use Rattle.order_uses.specs.Uses.{written_to}
+use Rattle.order_free.specs.Uses.{written_to}
 use Rattle.order_free.specs.Tables.{Took, claims}
 use Rattle.order_free.proofs.notes.note_written_channels.Given as goal
 

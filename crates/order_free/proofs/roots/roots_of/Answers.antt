@@ -1,5 +1,5 @@
 use Rattle.std.proofs.Common.{◌+◌, List, length, replicate, [], ap, sym, ◌∙◌, subst}
-use Rattle.order_uses.specs.FlatDesign.declared.design.InstancePart.{InstancePart}
+use Rattle.flat_design.specs.declared.design.InstancePart.{InstancePart}
 use Rattle.order_free.specs.Roots.{AreRoots}
 use Rattle.order_free.proofs.Begun.{none_begun}
 use Rattle.order_free.proofs.roots.roots_of.Goals as goal

@@ -1,5 +1,5 @@
 use Rattle.std.proofs.Common.{List, refl, sym, ap, ◌∙◌}
-use Rattle.order_uses.specs.declared.uses.Use.TheVariants as used
+use Rattle.order_free.specs.declared.uses.Use.TheVariants as used
 use Rattle.order_free.specs.Users.{is_many, users_in}
 use Rattle.order_free.specs.declared.users.Users.{Users}
 use Rattle.order_free.specs.Broken as broken

@@ -5,7 +5,7 @@ use Rattle.std.specs.FinSet as set
 use Rattle.std.proofs.lemmas.List.{length-map}
 use Rattle.std.proofs.lemmas.Option.{slice_get-map}
 use Rattle.ready_set.specs.Ready.{rising}
-use Rattle.ready_set.specs.Kept.{keys_of}
+use Rattle.ready_set.specs.Layout.{keys_of}
 use Rattle.ready_set.proofs.Shown.{rising-keys, len-set_of, rising-set_of}
 use Rattle.ready_set.proofs.ReadySet.greatest.Goals as goal
 

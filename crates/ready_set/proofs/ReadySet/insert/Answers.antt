@@ -1,7 +1,7 @@
 use Rattle.std.proofs.Common.{◌≡◌, ◌∙◌, false, ap, sym, ⊎_elim, true≢false, ◌<◌, subst}
 use Rattle.std.specs.FinSet as set
 use Rattle.ready_set.specs.Ready.{with_member}
-use Rattle.ready_set.specs.Kept.{keys_of}
+use Rattle.ready_set.specs.Layout.{keys_of}
 use Rattle.ready_set.proofs.Shown.{absent, shown-put, with_again}
 use Rattle.ready_set.proofs.ReadySet.insert.Goals as goal
 

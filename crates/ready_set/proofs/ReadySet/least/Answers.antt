@@ -2,7 +2,7 @@ use Rattle.std.proofs.Common.{◌∙◌, ap, sym}
 use Rattle.std.specs.Prelude.{option_map, slice_get}
 use Rattle.std.proofs.lemmas.Option.{slice_get-map}
 use Rattle.ready_set.specs.Ready.{rising}
-use Rattle.ready_set.specs.Kept.{keys_of}
+use Rattle.ready_set.specs.Layout.{keys_of}
 use Rattle.ready_set.proofs.Shown.{rising-keys, rising-set_of}
 use Rattle.ready_set.proofs.ReadySet.least.Goals as goal
 

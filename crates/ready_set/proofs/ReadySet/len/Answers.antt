@@ -1,7 +1,7 @@
 use Rattle.std.proofs.Common.{◌∙◌, ap, sym}
 use Rattle.std.specs.FinSet as set
 use Rattle.std.proofs.lemmas.List.{length-map}
-use Rattle.ready_set.specs.Kept.{keys_of}
+use Rattle.ready_set.specs.Layout.{keys_of}
 use Rattle.ready_set.proofs.Shown.{rising-keys, len-set_of}
 use Rattle.ready_set.proofs.ReadySet.len.Goals as goal
 

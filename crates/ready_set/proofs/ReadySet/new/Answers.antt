@@ -2,7 +2,7 @@ use Rattle.std.proofs.Common.{ap, subst, sym}
 use Rattle.std.specs.Ordering.{nat_cmp}
 use Rattle.std.specs.FinSet as set
 use Rattle.room_map.specs.Entries.{IsRising}
-use Rattle.ready_set.specs.Kept.{keys_of}
+use Rattle.ready_set.specs.Layout.{keys_of}
 use Rattle.ready_set.proofs.ReadySet.new.Goals as goal
 
 pub invariant_of-result : goal.invariant_of-result

@@ -3,7 +3,7 @@ use Rattle.std.proofs.Common.{◌≡◌, sym, ◌∙◌}
 use Rattle.kernel_state.specs.SimModel.Configuration.{Config}
 use Rattle.kernel_state.specs.SimModel.Texts.{closing}
 use Rattle.kernel_state.specs.Kernel.{StandsFor}
-use Rattle.report_texts.specs.Seen.{closing_of}
+use Rattle.report_texts.specs.ReportViews.{closing_of}
 use Rattle.report_texts.proofs.Stands.{closing_is}
 use Rattle.report_texts.proofs.closings.closing.Goals as goal
 

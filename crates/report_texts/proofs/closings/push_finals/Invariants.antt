@@ -1,5 +1,5 @@
 use Rattle.std.proofs.Common.{◌≡◌, ◌++◌, take}
-use Rattle.report_texts.specs.Seen.{finals_of}
+use Rattle.report_texts.specs.ReportViews.{finals_of}
 use Rattle.report_texts.proofs.closings.push_finals.Given as goal
 
 -- the lines so far are those of the objects so far

@@ -1,5 +1,5 @@
 use Rattle.std.proofs.lemmas.Result.{on_ok_weaker}
-use Rattle.report_texts.proofs.Kept.{is_print}
+use Rattle.report_texts.proofs.PathTexts.{is_print}
 use Rattle.report_texts.proofs.prints.print_in.Goals as goal
 
 pub returns : goal.returns

@@ -2,7 +2,7 @@ use Rattle.std.proofs.lemmas.Result.{IfOk-weaker}
 use Rattle.std.proofs.Common.{◌≡◌}
 use Rattle.kernel_state.specs.SimModel.Steps.{turn_line}
 use Rattle.report_texts.specs.Instances.{path_at, IsTurnLine}
-use Rattle.report_texts.proofs.Kept.{is_turn}
+use Rattle.report_texts.proofs.PathTexts.{is_turn}
 use Rattle.report_texts.proofs.prints.turn_text.Goals as goal
 
 pub returns : goal.returns

@@ -4,7 +4,7 @@ use Rattle.std.specs.Prelude.{slice_get}
 use Rattle.kernel_state.specs.SimModel.Configuration.{Config}
 use Rattle.kernel_state.specs.SimModel.Steps.{shows}
 use Rattle.kernel_state.specs.Kernel.{StandsFor}
-use Rattle.report_texts.specs.Seen.{with_line, line_for}
+use Rattle.report_texts.specs.ReportViews.{with_line, line_for}
 use Rattle.report_texts.proofs.Stands.{shown_line}
 use Rattle.report_texts.proofs.shows.show.Goals as goal
 

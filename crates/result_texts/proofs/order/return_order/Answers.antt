@@ -1,6 +1,6 @@
 use Rattle.std.proofs.Common.{length, false, refl, ap, ◌∙◌, subst, arith}
 use Rattle.bus_router.specs.DmiMap.Ranks.{rank_at, AreInOrder}
-use Rattle.bus_router.proofs.DmiMap.Kept.{all_below, one_more, rank_of, order_by_same}
+use Rattle.bus_router.proofs.DmiMap.OrderedPlaces.{all_below, one_more, rank_of, order_by_same}
 use Rattle.bus_router.specs.Times.{row_at}
 use Rattle.result_texts.specs.Lines.{returned_rank}
 use Rattle.result_texts.proofs.order.return_order.Goals as goal

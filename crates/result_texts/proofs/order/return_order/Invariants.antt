@@ -1,5 +1,5 @@
 use Rattle.bus_router.specs.DmiMap.Ranks.{rank_at, AreInOrder}
-use Rattle.bus_router.proofs.DmiMap.Kept.{HoldsBelow}
+use Rattle.bus_router.proofs.DmiMap.OrderedPlaces.{HoldsBelow}
 use Rattle.result_texts.proofs.order.return_order.Given as goal
 
 abbrev pub invariant-loop-k : goal.invariant-loop-k

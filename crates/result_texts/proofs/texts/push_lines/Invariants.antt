@@ -1,7 +1,7 @@
 use Rattle.std.proofs.Common.{◌≡◌, ◌++◌, take}
 use Rattle.std.specs.List.{flat_map}
 use Rattle.bus_router.specs.Times.{row_at}
-use Rattle.bus_answers.specs.Pools.{payload_with}
+use Rattle.bus_router.specs.Pools.{payload_with}
 use Rattle.result_texts.specs.Lines.{access_line}
 use Rattle.result_texts.proofs.texts.push_lines.Given as goal
 

@@ -3,9 +3,9 @@ use Rattle.std.specs.FinMap as map
 use Rattle.room_map.specs.Room.{Room}
 use Rattle.room_map.specs.Entries.{as_map}
 use Rattle.room_map.specs.Shape.{entries}
-use Rattle.room_map.specs.Kept.{tree}
+use Rattle.room_map.specs.Layout.{tree}
 use Rattle.room_map.proofs.Maps.{get-as_map, get-none}
-use Rattle.room_map.proofs.Kept.{under_in}
+use Rattle.room_map.proofs.CallEffects.{under_in}
 use Rattle.room_map.proofs.RoomMap.get.Goals as goal
 
 pub returns-clause-in_map : goal.returns-clause-in_map

@@ -1,4 +1,4 @@
-use Rattle.room_map.specs.Kept.{tree}
+use Rattle.room_map.specs.Layout.{tree}
 use Rattle.room_map.proofs.Results.{may_enter, inserted}
 use Rattle.room_map.proofs.RoomMap.insert.Goals as goal
 

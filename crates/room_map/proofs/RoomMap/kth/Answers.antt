@@ -1,8 +1,8 @@
 use Rattle.std.proofs.Common.{ap, ◌∙◌}
 use Rattle.std.specs.Prelude.{slice_get}
 use Rattle.room_map.specs.Room.{Room}
-use Rattle.room_map.specs.Kept.{tree}
-use Rattle.room_map.proofs.Kept.{under_in}
+use Rattle.room_map.specs.Layout.{tree}
+use Rattle.room_map.proofs.CallEffects.{under_in}
 use Rattle.room_map.proofs.RoomMap.kth.Goals as goal
 
 pub kth-requires : goal.kth-requires

@@ -1,9 +1,9 @@
 use Rattle.std.proofs.Common.{◌+◌, ◌^◌, ◌<◌, ◌≤◌, length, ap, ◌∙◌, subst}
 use Rattle.room_map.specs.Room.{Room}
 use Rattle.room_map.specs.Entries.{IsRising}
-use Rattle.room_map.specs.Kept.{tree}
+use Rattle.room_map.specs.Layout.{tree}
 use Rattle.room_map.proofs.Depths.{shallow}
-use Rattle.room_map.proofs.Kept.{few_kept, under_in}
+use Rattle.room_map.proofs.CallEffects.{few_kept, under_in}
 use Rattle.room_map.proofs.RoomMap.len.Goals as goal
 
 pub returns-clause-len : goal.returns-clause-len

@@ -1,6 +1,6 @@
 use Rattle.std.proofs.Common.{ap}
 use Rattle.room_map.specs.Shape.{entries}
-use Rattle.room_map.proofs.Kept.{none_kept, kept_as, kept_tree}
+use Rattle.room_map.proofs.CallEffects.{none_kept, kept_as, kept_tree}
 use Rattle.room_map.proofs.RoomMap.new.Goals as goal
 
 pub invariant_of-result : goal.invariant_of-result

@@ -1,4 +1,4 @@
-use Rattle.room_map.specs.Kept.{tree}
+use Rattle.room_map.specs.Layout.{tree}
 use Rattle.room_map.proofs.Results.{may_replace, replaced}
 use Rattle.room_map.proofs.RoomMap.replace.Goals as goal
 

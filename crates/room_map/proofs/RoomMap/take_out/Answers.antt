@@ -3,7 +3,7 @@ use Rattle.std.specs.Prelude.{is_some}
 use Rattle.std.specs.FinMap as map
 use Rattle.room_map.specs.Entries.{as_map}
 use Rattle.room_map.specs.Room.{Room}
-use Rattle.room_map.specs.Kept.{tree}
+use Rattle.room_map.specs.Layout.{tree}
 use Rattle.room_map.proofs.Rising.{without-absent}
 use Rattle.room_map.proofs.Maps.{as_map-without}
 use Rattle.room_map.proofs.Results.{may_leave, freed_there, removed, gives_one}

@@ -1,5 +1,5 @@
 use Rattle.std.proofs.Common.{◌≡◌, ℕ, ◌+◌, ◌-◌, ◌∷◌, List, refl, sym, ap, ◌∙◌, subst, arith}
-use Rattle.room_map.specs.Kept.{among, falling, IsChain}
+use Rattle.room_map.specs.Layout.{among, falling, IsChain}
 use Rattle.room_map.proofs.Sizes.{at_other}
 use Rattle.room_map.proofs.Chains.{falling-suc, falling-zero, among-above, chain_kept}
 use Rattle.room_map.proofs.spares.free_all.Goals as goal

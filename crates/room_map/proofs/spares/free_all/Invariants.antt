@@ -1,6 +1,6 @@
 use Rattle.std.proofs.Common.{◌≡◌, ℕ, ◌-◌, ◌<◌, ◌≤◌, List}
 use Rattle.std.specs.Prelude.{slice_get}
-use Rattle.room_map.specs.Kept.{among, falling, IsChain}
+use Rattle.room_map.specs.Layout.{among, falling, IsChain}
 use Rattle.room_map.proofs.spares.free_all.Given as goal
 
 abbrev pub invariant-loop-i : goal.invariant-loop-i

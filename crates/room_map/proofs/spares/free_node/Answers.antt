@@ -1,5 +1,5 @@
 use Rattle.std.proofs.Common.{sym, ap, ◌∙◌}
-use Rattle.room_map.specs.Kept.{next_in}
+use Rattle.room_map.specs.Layout.{next_in}
 use Rattle.room_map.proofs.Held.{item_there}
 use Rattle.room_map.proofs.spares.free_node.Goals as goal
 

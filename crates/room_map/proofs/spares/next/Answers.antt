@@ -1,5 +1,5 @@
 use Rattle.std.proofs.Common.{sym, ap, ◌∙◌}
-use Rattle.room_map.specs.Kept.{next_in}
+use Rattle.room_map.specs.Layout.{next_in}
 use Rattle.room_map.proofs.spares.next.Goals as goal
 
 pub returns-in-None : goal.returns-in-None

@@ -1,5 +1,5 @@
 use Rattle.std.proofs.Common.{subst, List, ℕ, None}
-use Rattle.run_input.specs.Judged.{Accepts}
+use Rattle.run_input.specs.Acceptance.{Accepts}
 use Rattle.run_input.specs.Refused.{HasTextFault}
 use Rattle.run_input.proofs.Refusals.{beside_replay}
 use Rattle.run_input.proofs.judging.judge.Goals as goal

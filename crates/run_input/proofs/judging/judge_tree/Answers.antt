@@ -1,5 +1,5 @@
 use Rattle.std.proofs.Common.{◌≡◌, ◌∙◌, Some, None, ap, inl, inr, subst}
-use Rattle.model_tree.specs.Seen.{model_of, source_of}
+use Rattle.model_tree.specs.WholeTree.{model_of, source_of}
 use Rattle.model_tree.specs.Tree as tree
 use Rattle.model_tree.specs.declared.items.Head.{Head}
 use Rattle.elaborate.specs.TickRules.Sources.{resolution_of, source_fault, ticked}

@@ -1,5 +1,5 @@
 use Rattle.std.proofs.Common.{List, ℕ, sym, subst, IfOk}
-use Rattle.model_tree.specs.Seen.{source_of}
+use Rattle.model_tree.specs.WholeTree.{source_of}
 use Rattle.script_text.specs.ModelLexer.Reads.{Reads}
 use Rattle.run_input.proofs.Refusals.{expanded_only, expanded_read}
 use Rattle.run_input.proofs.judging.read_expanded.Goals as goal

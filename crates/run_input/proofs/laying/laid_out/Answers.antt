@@ -1,4 +1,4 @@
-use Rattle.model_tree.specs.Seen.{source_of}
+use Rattle.model_tree.specs.WholeTree.{source_of}
 use Rattle.run_input.proofs.laying.laid_out.Goals as goal
 
 pub returns-in-Ok-page-clause-page : goal.returns-in-Ok-page-clause-page

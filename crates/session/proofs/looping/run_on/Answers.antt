@@ -1,7 +1,7 @@
 use Rattle.std.proofs.Common.{◌<◌, ◌+◌, ◌-◌, ◌^◌, All, length, refl, sym, subst, arith}
 use Rattle.std.proofs.lemmas.Option.{IfSome_then}
 use Rattle.flat_design.specs.declared.design.SemaphorePart.{SemaphorePart}
-use Rattle.write_buffer.proofs.SimIo.Chains.{write_keeps_on}
+use Rattle.sim_io.proofs.Chains.{write_keeps_on}
 use Rattle.session.specs.Outputs.{AreNames}
 use Rattle.session.proofs.Outputs.{finishes_from, let_go_from, recorded_from}
 use Rattle.session.proofs.Going.{begins, cut_before_step, cut_in_header, never_began, ended_run, faulted_run, first_keeps, unready_run, spent_run}

@@ -1,5 +1,5 @@
 use Rattle.std.proofs.Common.{◌-◌, ◌≡◌, ◌≤◌, [], drop, length}
-use Rattle.write_buffer.specs.SimIo.Keeps.{WriteKeeps}
+use Rattle.sim_io.specs.Keeps.{WriteKeeps}
 use Rattle.vcd_trace.specs.SimModel.Configuration.{Config}
 use Rattle.kernel_start.specs.KernelState.Kernel.{StandsFor}
 use Rattle.laws_reached.specs.Reached.{IsReached}

@@ -1,5 +1,5 @@
 use Rattle.std.proofs.Common.{[], Ok, Err, refl}
-use Rattle.write_buffer.proofs.SimIo.Chains.{grew_none}
+use Rattle.sim_io.proofs.Chains.{grew_none}
 use Rattle.session.specs.Outputs.{AreNames}
 use Rattle.session.specs.Telling.{HeaderOf, Nothing, TextFor}
 use Rattle.session.proofs.Outputs.{file_same, let_go_on, let_go_from, records, trace_parts, with_nothing}

@@ -1,5 +1,5 @@
 use Rattle.std.proofs.Common.{length, ◌-◌, ◌≡◌, ◌≤◌, take}
-use Rattle.sim_io.specs.Told.{Grew}
+use Rattle.sim_io.specs.Contents.{Grew}
 use Rattle.sim_io.proofs.transfer.write_all.Given as goal
 
 abbrev pub invariant-loop-done : goal.invariant-loop-done

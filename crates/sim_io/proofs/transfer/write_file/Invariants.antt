@@ -1,5 +1,5 @@
 use Rattle.std.proofs.Common.{length, ◌-◌, ◌≡◌, ◌≤◌, ℕ, List, take}
-use Rattle.sim_io.specs.Told.{AfterTold, Grows}
+use Rattle.sim_io.specs.Contents.{AfterTold, Grows}
 use Rattle.sim_io.specs.Keeps.{WriteKeeps}
 use Rattle.sim_io.proofs.transfer.write_file.Given as goal
 

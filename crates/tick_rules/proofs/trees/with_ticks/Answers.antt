@@ -2,7 +2,7 @@ use Rattle.std.proofs.Common.{◌≡◌, ℕ, ◌++◌, true, List, length, map,
 use Rattle.std.proofs.lemmas.List.{take_all, drop_all}
 use Rattle.model_tree.specs.Languages.{keeps_language}
 use Rattle.model_tree.specs.Limits.{is_sound}
-use Rattle.model_tree.specs.Seen.{model_of}
+use Rattle.model_tree.specs.WholeTree.{model_of}
 use Rattle.model_tree.specs.Tree as tree
 use Rattle.model_tree.specs.Views.{modules_of}
 use Rattle.tick_trees.specs.Retimed as retimed

@@ -4,7 +4,7 @@ use Rattle.std.specs.Ordering.{nat_cmp}
 use Rattle.std.specs.FinMap as map
 use Rattle.std.specs.FinMap.{find}
 use Rattle.timed_queue.specs.Timed.{without}
-use Rattle.timed_queue.specs.Kept.{times_of}
+use Rattle.timed_queue.specs.Layout.{times_of}
 use Rattle.timed_queue.proofs.QueueLaws.{one_name, queue_removed, queue_unfound, unfound, finds_without, times_cut, has-times_of}
 use Rattle.timed_queue.proofs.TimedQueue.clear.Goals as goal
 

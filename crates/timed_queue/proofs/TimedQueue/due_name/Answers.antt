@@ -1,6 +1,6 @@
 use Rattle.std.proofs.Common.{sym, ap, ◌∙◌}
 use Rattle.timed_queue.specs.Timed.{Timed, is_due}
-use Rattle.timed_queue.specs.Kept.{times_of}
+use Rattle.timed_queue.specs.Layout.{times_of}
 use Rattle.timed_queue.proofs.QueueLaws.{due_is, none_is_due}
 use Rattle.timed_queue.proofs.TimedQueue.due_name.Goals as goal
 

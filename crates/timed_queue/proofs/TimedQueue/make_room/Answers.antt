@@ -1,6 +1,6 @@
 use Rattle.std.proofs.Common.{◌≡◌, ◌⊎◌, ℕ, max, List, Result, Ok, Err, OnOk, OnErr, inl, inr, sym, ap, ◌∙◌, subst, ⊎_elim, arith}
 use Rattle.timed_queue.specs.Timed.{Timed}
-use Rattle.timed_queue.specs.Kept.{times_of, IsQueue}
+use Rattle.timed_queue.specs.Layout.{times_of, IsQueue}
 use Rattle.timed_queue.proofs.QueueLaws.{queue_grown, times_grown}
 use Rattle.timed_queue.proofs.TimedQueue.make_room.Goals as goal
 

@@ -4,7 +4,7 @@ use Rattle.std.specs.Ordering.{nat_cmp}
 use Rattle.std.specs.FinMap as map
 use Rattle.std.specs.FinMap.{find}
 use Rattle.timed_queue.specs.Timed.{with_time}
-use Rattle.timed_queue.specs.Kept.{times_of}
+use Rattle.timed_queue.specs.Layout.{times_of}
 use Rattle.timed_queue.proofs.QueueLaws.{one_name, apart_free, queue_same, queue_renewed, queue_added, finds_put, finds_itself, times_put, has-times_of}
 use Rattle.timed_queue.proofs.TimedQueue.set.Goals as goal
 

@@ -1,5 +1,5 @@
 use Rattle.std.proofs.Common.{◌≡◌, ap, arith}
-use Rattle.session.specs.SimIo.Told.{Grew}
+use Rattle.session.specs.SimIo.Contents.{Grew}
 use Rattle.session.specs.declared.plans.Plan.{Plan}
 use Rattle.tlmsim.proofs.Courses.{ran_some, ran_with}
 use Rattle.tlmsim.proofs.Ends.{files_stay, generated_so, steps_rose}

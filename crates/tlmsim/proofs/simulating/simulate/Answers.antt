@@ -1,7 +1,7 @@
 use Rattle.std.proofs.Common.{◌≡◌, Err, ap, arith, inl, inr, refl, ⊎_elim}
 use Rattle.session.proofs.SimIo.Chains.{rose_on, were_told_on}
 use Rattle.command_line.specs.Line.{Simulate}
-use Rattle.command_line.specs.Seen.{simulation_of}
+use Rattle.command_line.specs.Views.{simulation_of}
 use Rattle.session.specs.Outputs.{AreNames}
 use Rattle.tlmsim.specs.Call.{names_in}
 use Rattle.tlmsim.proofs.Courses.{holds_by, ran_some, ran_with}

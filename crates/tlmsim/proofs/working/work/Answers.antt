@@ -1,5 +1,5 @@
 use Rattle.std.proofs.Common.{◌≤◌, arith}
-use Rattle.command_line.specs.Seen.{simulation_of}
+use Rattle.command_line.specs.Views.{simulation_of}
 use Rattle.tlmsim.proofs.Ends.{apart_of}
 use Rattle.tlmsim.proofs.Large.{large_asked, never_large}
 use Rattle.tlmsim.proofs.working.work.Goals as goal

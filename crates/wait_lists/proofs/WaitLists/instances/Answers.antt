@@ -1,6 +1,6 @@
 use Rattle.std.proofs.Common.{sym, ap, ◌∙◌}
 use Rattle.std.specs.FinMap as map
-use Rattle.wait_lists.specs.Kept.{shown_by}
+use Rattle.wait_lists.specs.Layout.{shown_by}
 use Rattle.wait_lists.proofs.Counting.{count-placed}
 use Rattle.wait_lists.proofs.WaitLists.instances.Goals as goal
 

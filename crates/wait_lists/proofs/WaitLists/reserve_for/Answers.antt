@@ -1,7 +1,7 @@
 use Rattle.std.proofs.Common.{ap, ◌∙◌}
 use Rattle.std.specs.FinMap as map
 use Rattle.std.proofs.lemmas.Result.{on_ok_weaker}
-use Rattle.wait_lists.specs.Kept.{waits_by}
+use Rattle.wait_lists.specs.Layout.{waits_by}
 use Rattle.wait_lists.proofs.Reserved.{has_room, room_grows, others_stay}
 use Rattle.wait_lists.proofs.WaitLists.reserve_for.Goals as goal
 

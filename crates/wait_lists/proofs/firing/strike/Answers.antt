@@ -2,7 +2,7 @@ use Rattle.std.proofs.Common.{◌≡◌, ℕ, ◌<◌, true≢false, length, Som
 use Rattle.std.specs.Prelude.{slice_get}
 use Rattle.wait_lists.specs.Shown.{Shown}
 use Rattle.wait_lists.specs.Nodes.{shown_of}
-use Rattle.wait_lists.specs.Kept.{shown_by}
+use Rattle.wait_lists.specs.Layout.{shown_by}
 use Rattle.wait_lists.proofs.Refit.{shown-at}
 use Rattle.wait_lists.proofs.Struck.{of-same, of-within, same-waiter, told-empty, told-full}
 use Rattle.wait_lists.proofs.Clearing.{empty-first, full-first}

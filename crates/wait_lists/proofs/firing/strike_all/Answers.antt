@@ -2,7 +2,7 @@ use Rattle.std.proofs.Common.{ℕ, ◌≡◌, List, length, drop, sym, ◌∙◌
 use Rattle.std.specs.Prelude.{vec_len}
 use Rattle.std.specs.List.Sorted.{IsStrictlyIncreasing}
 use Rattle.wait_lists.specs.Waits.{is_met_by, AddsEach}
-use Rattle.wait_lists.specs.Kept.{waits_by}
+use Rattle.wait_lists.specs.Layout.{waits_by}
 use Rattle.wait_lists.proofs.Risen.{adds-sorted, rises-behind, whole}
 use Rattle.wait_lists.proofs.firing.strike_all.Goals as goal
 

@@ -1,8 +1,8 @@
 use Rattle.std.proofs.Common.{ℕ, ◌≡◌, ◌<◌, length, refl, ap, ◌∙◌, sym, subst, arith}
 use Rattle.std.specs.Prelude.{vec_len}
 use Rattle.std.proofs.lemmas.List.{length-append}
-use Rattle.wait_lists.specs.declared.kept.Kept.{Kept}
-use Rattle.wait_lists.specs.Kept.{waits_by}
+use Rattle.wait_lists.specs.declared.layout.Kept.{Kept}
+use Rattle.wait_lists.specs.Layout.{waits_by}
 use Rattle.wait_lists.proofs.Passing.{passed_struck, passed_met}
 use Rattle.wait_lists.proofs.Struck.{used-within}
 use Rattle.wait_lists.proofs.Going.{going-none, used-next, room-next, stays-within, node-owner, step-muted, step-struck, all-muted}

@@ -1,6 +1,6 @@
 use Rattle.std.proofs.Common.{◌≡◌, ◌+◌, ◌-◌, ◌≤◌, length}
 use Rattle.std.specs.Prelude.{vec_capacity}
-use Rattle.wait_lists.specs.Kept.{IsSound, shown_by}
+use Rattle.wait_lists.specs.Layout.{IsSound, shown_by}
 use Rattle.wait_lists.proofs.growing.make_nodes.Given as goal
 
 abbrev pub invariant-loop-kept : goal.invariant-loop-kept

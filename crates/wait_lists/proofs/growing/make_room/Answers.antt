@@ -1,7 +1,7 @@
 use Rattle.std.proofs.Common.{◌≡◌, ℕ, max, sym, ◌∙◌, subst, arith}
 use Rattle.std.specs.Prelude.{OnOk}
 use Rattle.wait_lists.specs.Waits.{with_room, room_for}
-use Rattle.wait_lists.specs.Kept.{shown_by, waits_by}
+use Rattle.wait_lists.specs.Layout.{shown_by, waits_by}
 use Rattle.wait_lists.proofs.Changes.{no_room}
 use Rattle.wait_lists.proofs.growing.make_room.Goals as goal
 

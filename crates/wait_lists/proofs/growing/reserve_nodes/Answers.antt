@@ -1,6 +1,6 @@
 use Rattle.std.proofs.Common.{ℕ, List, sym, subst}
 use Rattle.wait_lists.specs.declared.nodes.Node.{Node}
-use Rattle.wait_lists.specs.Kept.{Fit}
+use Rattle.wait_lists.specs.Layout.{Fit}
 use Rattle.wait_lists.proofs.Grown.{fit-heads}
 use Rattle.wait_lists.proofs.growing.reserve_nodes.Goals as goal
 

@@ -3,7 +3,7 @@ use Rattle.std.proofs.lemmas.List.{length-set}
 use Rattle.std.proofs.lemmas.Option.{slice_get_within}
 use Rattle.wait_lists.specs.declared.waiter.Waiter.{Waiter}
 use Rattle.wait_lists.specs.Nodes.{events_from, shown_of, shown}
-use Rattle.wait_lists.specs.Kept.{shown_by}
+use Rattle.wait_lists.specs.Layout.{shown_by}
 use Rattle.wait_lists.proofs.Refit.{shown-at}
 use Rattle.wait_lists.proofs.Rewritten.{refit-waiter, no-first}
 use Rattle.wait_lists.proofs.Written.{shown-kind}

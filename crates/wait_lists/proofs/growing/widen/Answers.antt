@@ -7,7 +7,7 @@ use Rattle.wait_lists.specs.declared.waiter.Waiter.{Waiter}
 use Rattle.wait_lists.specs.Waits.{with_room, room_for}
 use Rattle.wait_lists.specs.Shown.{waits_of}
 use Rattle.wait_lists.specs.Nodes.{shown_of}
-use Rattle.wait_lists.specs.Kept.{shown_by, waits_by}
+use Rattle.wait_lists.specs.Layout.{shown_by, waits_by}
 use Rattle.wait_lists.proofs.Changes.{wide_already, changed-room, room_for-told}
 use Rattle.wait_lists.proofs.Refit.{get-inside, shown-at, seats-set}
 use Rattle.wait_lists.proofs.Rewritten.{refit-waiter}

@@ -1,4 +1,4 @@
-use Rattle.wait_lists.specs.Kept.{shown_by}
+use Rattle.wait_lists.specs.Layout.{shown_by}
 use Rattle.wait_lists.proofs.LawLemmas.{all_have_room}
 use Rattle.wait_lists.proofs.laws.who_waits_has_room.Goals as goal
 

@@ -4,8 +4,8 @@ use Rattle.std.proofs.Math.Dec.{lit≤}
 use Rattle.model_lexer.specs.ModelTree.Vocabulary.{word_of}
 use Rattle.model_lexer.specs.ModelTree.declared.vocabulary.Word.TheVariants as w
 use Rattle.model_lexer.specs.ModelTree.declared.vocabulary.Symbol.TheVariants as s
-use Rattle.model_lexer.specs.ModelGrammar.Tokens.{Tokens, name, number, quoted, word, symbol, symbol_of}
-use Rattle.model_lexer.specs.ModelGrammar.Items.{DerivesModel}
+use Rattle.model_lexer.specs.Tokens.{Tokens, name, number, quoted, word, symbol, symbol_of}
+use Rattle.model_lexer.specs.Items.{DerivesModel}
 use Rattle.worked_models.specs.Models.{at_once_expanded}
 use Rattle.worked_models.specs.ClockedTrees.{five_edges, at_once_lines, on_line, at_once_model}
 use Rattle.worked_models.proofs.forms.the_thread_with_a_reset_at_once.Goals as goal

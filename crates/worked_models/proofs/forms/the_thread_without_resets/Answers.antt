@@ -4,8 +4,8 @@ use Rattle.std.proofs.Math.Dec.{lit≤}
 use Rattle.model_lexer.specs.ModelTree.Vocabulary.{word_of}
 use Rattle.model_lexer.specs.ModelTree.declared.vocabulary.Word.TheVariants as w
 use Rattle.model_lexer.specs.ModelTree.declared.vocabulary.Symbol.TheVariants as s
-use Rattle.model_lexer.specs.ModelGrammar.Tokens.{Tokens, name, number, quoted, word, symbol, symbol_of}
-use Rattle.model_lexer.specs.ModelGrammar.Items.{DerivesModel}
+use Rattle.model_lexer.specs.Tokens.{Tokens, name, number, quoted, word, symbol, symbol_of}
+use Rattle.model_lexer.specs.Items.{DerivesModel}
 use Rattle.worked_models.specs.Models.{without_expanded}
 use Rattle.worked_models.specs.ClockedTrees.{three_alone, one_alone, on_line, without_model}
 use Rattle.worked_models.proofs.forms.the_thread_without_resets.Goals as goal

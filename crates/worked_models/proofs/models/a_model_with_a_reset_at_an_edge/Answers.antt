@@ -1,6 +1,6 @@
 use Rattle.std.proofs.Common.{refl}
 use Rattle.model_lexer.specs.ModelTree.Vocabulary.{word_of}
-use Rattle.model_lexer.specs.ModelGrammar.Tokens.{symbol_of}
+use Rattle.model_lexer.specs.Tokens.{symbol_of}
 use Rattle.clocked.specs.Words.{new_word_of}
 use Rattle.clocked.proofs.Sound.{run_expands}
 use Rattle.worked_models.specs.Models as models

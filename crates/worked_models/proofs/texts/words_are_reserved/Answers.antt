@@ -1,6 +1,6 @@
 use Rattle.std.proofs.Common.{◌≡◌, Some, None}
 use Rattle.model_lexer.specs.ModelTree.Vocabulary.{word_of}
-use Rattle.model_lexer.specs.ModelGrammar.Tokens.{symbol_of}
+use Rattle.model_lexer.specs.Tokens.{symbol_of}
 use Rattle.clocked.specs.Words.{new_word_of}
 use Rattle.worked_models.specs.Texts as texts
 use Rattle.clocked.proofs.Complete.{expands_run}

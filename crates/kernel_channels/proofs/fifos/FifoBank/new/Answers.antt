@@ -2,7 +2,7 @@ use Rattle.std.proofs.Common.{◌≡◌, ◌∙◌, false, map, length, replicat
 use Rattle.std.proofs.lemmas.List.{length-map}
 use Rattle.kernel_events.specs.FifoSync.Fifos.{after_update, nothing_in}
 use Rattle.kernel_events.specs.FlatDesign.declared.design.FifoPart.{FifoPart}
-use Rattle.kernel_channels.specs.Asked.{Rests}
+use Rattle.kernel_channels.specs.UpdateMarks.{Rests}
 use Rattle.kernel_channels.proofs.Resting.{empty_rests}
 use Rattle.kernel_channels.proofs.fifos.FifoBank.new.Goals as goal
 

@@ -2,7 +2,7 @@ use Rattle.std.proofs.Common.{◌<◌, ◌∙◌, List, length, set, slice_get, 
 use Rattle.std.specs.Prelude.{option_map}
 use Rattle.kernel_events.specs.FifoSync.Fifos.{Queued, readable, after_read, after_update}
 use Rattle.kernel_events.specs.SimModel.Configuration.{change}
-use Rattle.kernel_channels.specs.Asked.{Rests, HasRoom}
+use Rattle.kernel_channels.specs.UpdateMarks.{Rests, HasRoom}
 use Rattle.kernel_channels.proofs.Resting.{rests_set}
 use Rattle.kernel_channels.proofs.Changing.{changed_there, answered_there, same_length}
 use Rattle.kernel_channels.proofs.fifos.FifoBank.read.Goals as goal

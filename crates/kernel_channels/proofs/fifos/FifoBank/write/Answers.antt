@@ -2,7 +2,7 @@ use Rattle.std.proofs.Common.{◌≡◌, ◌<◌, ◌∙◌, ℕ, zero, suc, Boo
 use Rattle.std.specs.Prelude.{option_map, ◌==◌}
 use Rattle.kernel_events.specs.FifoSync.Fifos.{Queued, free, after_write, after_update}
 use Rattle.kernel_events.specs.SimModel.Configuration.{change}
-use Rattle.kernel_channels.specs.Asked.{Rests, HasRoom}
+use Rattle.kernel_channels.specs.UpdateMarks.{Rests, HasRoom}
 use Rattle.kernel_channels.proofs.Resting.{rests_set}
 use Rattle.kernel_channels.proofs.Changing.{changed_there, answered_there, same_length}
 use Rattle.kernel_channels.proofs.fifos.FifoBank.write.Goals as goal

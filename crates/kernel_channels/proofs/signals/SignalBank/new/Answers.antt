@@ -2,7 +2,7 @@ use Rattle.std.proofs.Common.{◌≡◌, ◌∙◌, false, map, length, replicat
 use Rattle.std.proofs.lemmas.List.{length-map, length-replicate}
 use Rattle.kernel_events.specs.SignalChannel.Signals.{settled}
 use Rattle.kernel_events.specs.SimModel.Configuration.{first_signal}
-use Rattle.kernel_channels.specs.Asked.{Rests}
+use Rattle.kernel_channels.specs.UpdateMarks.{Rests}
 use Rattle.kernel_channels.proofs.Resting.{first_rests}
 use Rattle.kernel_channels.proofs.signals.SignalBank.new.Goals as goal
 

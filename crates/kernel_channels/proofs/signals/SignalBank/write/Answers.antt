@@ -1,7 +1,7 @@
 use Rattle.std.proofs.Common.{◌<◌, ◌∙◌, length, set, slice_get, sym, ap, subst, arith}
 use Rattle.kernel_events.specs.SignalChannel.Signals.{settled}
 use Rattle.kernel_events.specs.SimModel.Configuration.{change}
-use Rattle.kernel_channels.specs.Asked.{Rests, HasRoom}
+use Rattle.kernel_channels.specs.UpdateMarks.{Rests, HasRoom}
 use Rattle.kernel_channels.specs.Codes.{Values}
 use Rattle.kernel_channels.specs.Writers.{conflict_at, written_unless}
 use Rattle.kernel_channels.proofs.Resting.{rests_set}

@@ -1,6 +1,6 @@
 use Rattle.std.proofs.Common.{◌≡◌, ◌<◌, length, subst}
 use Rattle.std.specs.Prelude.{MatchOption}
-use Rattle.sim_io.specs.Told.{Lacks}
+use Rattle.sim_io.specs.Contents.{Lacks}
 use Rattle.sim_io.specs.Memory.{ShelfState, entries, told, place_of}
 use Rattle.sim_io.proofs.Steps.{place_told}
 use Rattle.sim_io.proofs.memory_shelf.MemoryShelf.place.Goals as goal

@@ -1,6 +1,6 @@
 use Rattle.std.proofs.Common.{◌<◌, length, sym, subst}
 use Rattle.std.specs.Prelude.{IfOk}
-use Rattle.sim_io.specs.Taken.{Creates}
+use Rattle.sim_io.specs.Writes.{Creates}
 use Rattle.sim_io.specs.Memory.{ShelfState, contents, StandsFor}
 use Rattle.sim_io.proofs.Steps.{clear_creates, clear_stands, clear_id}
 use Rattle.sim_io.proofs.memory_shelf.MemoryShelfShelf.create.Goals as goal

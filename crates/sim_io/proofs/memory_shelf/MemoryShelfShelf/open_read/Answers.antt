@@ -1,6 +1,6 @@
 use Rattle.std.proofs.Common.{◌≡◌, Some, sym, subst}
 use Rattle.std.specs.Prelude.{IfOk}
-use Rattle.sim_io.specs.Told.{text_of}
+use Rattle.sim_io.specs.Contents.{text_of}
 use Rattle.sim_io.specs.Memory.{ShelfState, contents, left_of}
 use Rattle.sim_io.proofs.Steps.{open_gives}
 use Rattle.sim_io.proofs.memory_shelf.MemoryShelfShelf.open_read.Goals as goal

@@ -1,6 +1,6 @@
 use Rattle.std.proofs.Common.{sym, subst}
-use Rattle.sim_io.specs.Told.{Grows}
-use Rattle.sim_io.specs.Taken.{taken}
+use Rattle.sim_io.specs.Contents.{Grows}
+use Rattle.sim_io.specs.Writes.{taken}
 use Rattle.sim_io.specs.Memory.{ShelfState, contents}
 use Rattle.sim_io.proofs.Steps.{append_grows}
 use Rattle.sim_io.proofs.memory_shelf.MemoryShelfShelf.write.Goals as goal

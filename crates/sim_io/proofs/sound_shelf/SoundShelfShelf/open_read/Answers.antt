@@ -1,7 +1,7 @@
 use Rattle.std.proofs.Common.{◌≡◌, ◌≤◌, Some, length, sym, subst, arith}
 use Rattle.std.specs.Prelude.{IfSome}
 use Rattle.std.proofs.lemmas.List.{length-set}
-use Rattle.sim_io.specs.Told.{text_of}
+use Rattle.sim_io.specs.Contents.{text_of}
 use Rattle.sim_io.specs.Keeps.{ReadKeeps}
 use Rattle.sim_io.specs.Sound.{SoundState, texts, place_of, file_at, begun, told, IsReading, left_of, IsCreated, StandsFor, writes_of}
 use Rattle.sim_io.proofs.Places.{place_within, read_keeps, opened_left, opened_told}

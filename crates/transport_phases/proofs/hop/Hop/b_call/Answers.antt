@@ -1,6 +1,6 @@
 use Rattle.std.proofs.Common.{◌∙◌, sym, ap, refl}
-use Rattle.transport_phases.specs.declared.kept.Kept.{Kept}
-use Rattle.transport_phases.specs.declared.kept.Open.TheVariants.{Blocking}
+use Rattle.transport_phases.specs.declared.transaction.Kept.{Kept}
+use Rattle.transport_phases.specs.declared.transaction.Open.TheVariants.{Blocking}
 use Rattle.transport_phases.specs.Phases.{verdict, first_broken, b_call_rules}
 use Rattle.transport_phases.specs.History.{BCall}
 use Rattle.transport_phases.proofs.HopLemmas.{kept_read, stands_after}

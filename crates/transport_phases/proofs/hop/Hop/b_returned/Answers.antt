@@ -1,6 +1,6 @@
 use Rattle.std.proofs.Common.{◌∙◌, ap, refl}
-use Rattle.transport_phases.specs.declared.kept.Kept.{Kept}
-use Rattle.transport_phases.specs.declared.kept.Open.TheVariants.{Nothing}
+use Rattle.transport_phases.specs.declared.transaction.Kept.{Kept}
+use Rattle.transport_phases.specs.declared.transaction.Open.TheVariants.{Nothing}
 use Rattle.transport_phases.specs.History.{BReturn}
 use Rattle.transport_phases.proofs.HopLemmas.{kept_read, stands_after}
 use Rattle.transport_phases.proofs.hop.Hop.b_returned.Goals as goal

@@ -2,7 +2,7 @@ use Rattle.std.proofs.Common.{◌∙◌, sym, ap, subst}
 use Rattle.std.specs.Ordering.{nat_cmp}
 use Rattle.std.specs.FinMap as map
 use Rattle.room_map.specs.Entries.{as_map}
-use Rattle.transport_phases.specs.declared.kept.Kept.{Kept}
+use Rattle.transport_phases.specs.declared.transaction.Kept.{Kept}
 use Rattle.transport_phases.specs.Phases.{is_requesting, is_responding}
 use Rattle.transport_phases.specs.Rows.{Rows}
 use Rattle.transport_phases.specs.Seats.{seat_after, IsSeat, MayEnter}

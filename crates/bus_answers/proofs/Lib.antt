@@ -1,4 +1,0 @@
-pub mod Places
-pub mod Served
-pub mod OneAnswer
-pub mod Added

@@ -1,4 +1,0 @@
-pub mod Answers
-pub mod Serving
-pub mod Pools
-pub mod PayloadPool

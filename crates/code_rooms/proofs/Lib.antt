@@ -1,9 +1,0 @@
-pub mod Greatest
-pub mod Inside
-pub mod Tabled
-pub mod Still
-pub mod Needed
-pub mod Suffices
-pub mod Read
-pub mod Designs
-pub mod ModelRules

@@ -1,1 +1,0 @@
-pub use Rattle.code_rules.proofs.ModelRules.Firsts as Firsts

@@ -1,5 +1,0 @@
-use Rattle.code_rooms.proofs.Suffices.{waits}
-use Rattle.code_rooms.proofs.rooms_suffice.waits_have_room.Goals as goal
-
-pub returns : goal.returns
-returns c = λ d rooms. waits d rooms

@@ -1,3 +1,0 @@
-pub use Rattle.code_rules.specs.Bodies as Bodies
-pub use Rattle.code_rules.specs.Deeds as Deeds
-pub use Rattle.code_rules.specs.Numbered as Numbered

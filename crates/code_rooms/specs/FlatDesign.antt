@@ -1,6 +1,0 @@
-pub use Rattle.code_rules.specs.FlatDesign.Code as Code
-pub use Rattle.code_rules.specs.FlatDesign.Denotes as Denotes
-pub use Rattle.code_rules.specs.FlatDesign.Sound as Sound
-pub use Rattle.code_rules.specs.FlatDesign.Typed as Typed
-pub use Rattle.code_rules.specs.FlatDesign.ValueTypes as ValueTypes
-pub use Rattle.code_rules.specs.FlatDesign.declared as declared

@@ -1,9 +1,0 @@
-pub mod Rooms
-pub mod RoomFields
-pub mod Tables
-pub mod DesignFields
-pub mod LogicValues
-pub mod ModelTree
-pub mod FlatDesign
-pub mod ModelRules
-pub mod CodeRules

@@ -1,1 +1,0 @@
-pub use Rattle.number_marks.specs.Places as Places

@@ -1,0 +1,1 @@
+pub use Rattle.sim_model.specs.NumberedSlots.Places as Places

@@ -1,1 +1,0 @@
-pub use Rattle.wait_lists.proofs.Lemmas.MapLemmas as MapLemmas

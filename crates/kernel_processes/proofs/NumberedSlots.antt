@@ -1,0 +1,1 @@
+pub use Rattle.wait_lists.proofs.NumberedSlots.MapLemmas as MapLemmas

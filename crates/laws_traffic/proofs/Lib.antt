@@ -1,4 +1,0 @@
-pub mod Turns
-pub mod Routed
-pub mod Direct
-pub mod Whole

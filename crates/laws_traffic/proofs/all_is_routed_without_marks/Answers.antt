@@ -1,5 +1,0 @@
-use Rattle.laws_traffic.proofs.Routed.{routed_table}
-use Rattle.laws_traffic.proofs.all_is_routed_without_marks.Goals as goal
-
-pub returns : goal.returns
-returns c = λ bus rows can unmarked. routed_table bus can unmarked rows

@@ -1,6 +1,0 @@
-use Rattle.bus_router.specs.Times.{row_at}
-use Rattle.laws_traffic.proofs.Turns.{take_turns}
-use Rattle.laws_traffic.proofs.hops_take_turns.Goals as goal
-
-pub returns : goal.returns
-returns c = λ bus rows it. take_turns bus (row_at rows) it.timed

@@ -1,5 +1,0 @@
-use Rattle.laws_traffic.proofs.Routed.{none_left}
-use Rattle.laws_traffic.proofs.none_is_left_without_marks.Goals as goal
-
-pub returns : goal.returns
-returns c = λ bus table regions can unmarked it. none_left bus can unmarked table regions it

@@ -1,3 +1,0 @@
-pub mod Routed
-pub mod Direct
-pub mod Turns

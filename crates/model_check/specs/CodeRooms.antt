@@ -1,1 +1,0 @@
-pub use Rattle.code_rooms.specs.Rooms as Rooms

@@ -1,1 +1,0 @@
-pub use Rattle.model_tree.proofs.LogicValues.VectorLaws as VectorLaws

@@ -1,1 +1,0 @@
-pub use Rattle.model_tree.specs.SimTime.declared as declared

@@ -1,1 +1,0 @@
-pub use Rattle.lemmas.proofs.MapLemmas as MapLemmas

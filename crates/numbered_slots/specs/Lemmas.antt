@@ -1,1 +1,0 @@
-pub use Rattle.lemmas.specs.Updated as Updated

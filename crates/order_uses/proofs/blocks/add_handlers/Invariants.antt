@@ -1,6 +1,0 @@
-use Rattle.std.proofs.Common.{◌≡◌, ◌++◌, map, take}
-use Rattle.flat_design.specs.declared.code.Handler.{Handler}
-use Rattle.order_uses.proofs.blocks.add_handlers.Given as goal
-
-abbrev pub invariant-loop-handler : goal.invariant-loop-handler
-invariant-loop-handler l = l.targets.items ≡ l.fn.targets.items ++ map (λ (h : Handler). h.block) (take l.handler-index l.handlers)

@@ -1,8 +1,0 @@
-use Rattle.std.proofs.Common.{◌≡◌, take}
-use Rattle.std.specs.List.{flat_map}
-use Rattle.flat_design.specs.Code.{arena_of}
-use Rattle.order_uses.specs.Blocks.{targets_at}
-use Rattle.order_uses.proofs.blocks.targets_in.Given as goal
-
-abbrev pub invariant-loop-n : goal.invariant-loop-n
-invariant-loop-n l = l.targets.items ≡ flat_map (targets_at (arena_of l.code)) (take l.n-index l.block)

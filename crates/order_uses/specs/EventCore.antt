@@ -1,1 +1,0 @@
-pub use Rattle.flat_design.specs.EventCore.declared as declared

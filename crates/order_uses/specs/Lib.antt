@@ -1,4 +1,0 @@
-pub mod Uses
-pub mod Blocks
-pub mod FlatDesign
-pub mod EventCore

@@ -1,1 +1,0 @@
-pub use Rattle.numbered_slots.proofs.Lemmas.MapLemmas as MapLemmas

@@ -1,0 +1,1 @@
+pub use Rattle.numbered_slots.proofs.MapLemmas as MapLemmas

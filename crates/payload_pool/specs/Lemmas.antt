@@ -1,1 +1,0 @@
-pub use Rattle.numbered_slots.specs.Lemmas.Updated as Updated

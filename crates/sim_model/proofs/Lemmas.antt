@@ -1,1 +1,0 @@
-pub use Rattle.payload_pool.proofs.Lemmas.MapLemmas as MapLemmas

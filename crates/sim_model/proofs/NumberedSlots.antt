@@ -1,0 +1,1 @@
+pub use Rattle.payload_pool.proofs.NumberedSlots.MapLemmas as MapLemmas

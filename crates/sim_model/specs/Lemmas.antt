@@ -1,1 +1,0 @@
-pub use Rattle.payload_pool.specs.Lemmas.Updated as Updated

@@ -1,1 +1,0 @@
-pub use Rattle.model_lexer.specs.ModelGrammar.Expressions as Expressions

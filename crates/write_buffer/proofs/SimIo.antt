@@ -1,1 +1,0 @@
-pub use Rattle.sim_io.proofs.Chains as Chains
