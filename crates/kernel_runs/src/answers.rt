@@ -1,10 +1,11 @@
 //! What a step of a session answers.
 ghost use Rattle.std.specs.Prelude.{◌≡◌};
+ghost use Rattle.kernel_steps.specs.StepAnswers.{whole_step};
 ghost use Rattle.kernel_runs.specs.Made.{made_of, whole_of};
 
 use flat_design::{RunFault, StmtId};
 use kernel_phases::logic_values_api::Value;
-use kernel_steps::StepAnswer;
+use kernel_steps::{StepAnswer, StepBrief};
 
 /// What a report tells of a step.
 #[derive(Clone, Copy)]
@@ -73,14 +74,27 @@ pub(crate) fn whole_of(brief: Brief, said: &Made) -> Made
 }
 
 /// The step of an instance as one of the session.
-#[inline(always)]
-pub(crate) fn of_instance(answer: StepAnswer) -> Made
-    ensures { result ≡ made_of answer }
+fn of_answer(answer: &StepAnswer) -> Made
+    ensures { result ≡ made_of answer.now }
 {
     match answer {
         StepAnswer::Went => Made::Went(Telling::Nothing),
-        StepAnswer::Printed(p, s, shown) => Made::Went(Telling::Print(p, s, shown)),
-        StepAnswer::Fault(fault) => Made::Fault(fault),
+        StepAnswer::Printed(p, s, shown) => Made::Went(Telling::Print(*p, *s, *shown)),
+        StepAnswer::Fault(fault) => Made::Fault(*fault),
         StepAnswer::NoMemory => Made::NoMemory,
+    }
+}
+
+/// The step of an instance as one of the session, by its word and what was said.
+#[inline(always)]
+pub(crate) fn of_instance(step: StepBrief, answer: &StepAnswer, said: &mut Made) -> Brief
+    ensures { whole_of result said.new ≡ made_of (whole_step step answer.now) }
+{
+    match step {
+        StepBrief::Went => Brief::Went,
+        StepBrief::Said => {
+            *said = of_answer(answer);
+            Brief::Said
+        }
     }
 }

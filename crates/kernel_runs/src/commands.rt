@@ -31,6 +31,7 @@ fn carry_out(k: &mut Kernel, command: Command) -> Made
 }
 
 /// The next command of a script; with none left the session has ended.
+#[inline(never)]
 pub(crate) fn next_command(k: &mut Kernel, script: &[Command], place: &mut usize) -> Made
     requires sound { IsSound k.old }
     requires within { place.old ≤ length script.now }

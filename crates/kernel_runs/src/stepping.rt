@@ -20,6 +20,7 @@ use kernel_start::SoundKernel;
 use std::alloc::{AllocError, Global};
 
 /// Room for all events in a list without members.
+#[inline(always)]
 fn reserve_events(k: &Kernel, events: &mut Vec<u32>) -> Result<(), AllocError>
     requires none { events.old.items ≡ [] }
     ensures room { OnOk result (HasRoom k.now events.new) }
@@ -29,6 +30,7 @@ fn reserve_events(k: &Kernel, events: &mut Vec<u32>) -> Result<(), AllocError>
 }
 
 /// Initialization.
+#[inline(always)]
 fn start(k: &mut Kernel, events: &mut Vec<u32>) -> Made
     requires sound { IsSound k.old }
     requires fresh { IsFresh k.old }
@@ -48,6 +50,7 @@ fn start(k: &mut Kernel, events: &mut Vec<u32>) -> Made
 }
 
 /// The delta notification phase.
+#[inline(always)]
 fn notify(k: &mut Kernel, events: &mut Vec<u32>) -> Made
     requires sound { IsSound k.old }
     requires none { events.old.items ≡ [] }
@@ -66,6 +69,7 @@ fn notify(k: &mut Kernel, events: &mut Vec<u32>) -> Made
 }
 
 /// The timed notification phase.
+#[inline(always)]
 fn go_to_next_time(k: &mut Kernel, events: &mut Vec<u32>) -> Made
     requires sound { IsSound k.old }
     requires none { events.old.items ≡ [] }
@@ -84,66 +88,40 @@ fn go_to_next_time(k: &mut Kernel, events: &mut Vec<u32>) -> Made
 }
 
 /// The step of the phase.
-fn go_on<C: Chooser>(k: &mut Kernel, alloc: Global, chooser: &mut C, events: &mut Vec<u32>) -> Made
+#[inline(always)]
+fn go_on<C: Chooser>(
+    k: &mut Kernel,
+    alloc: Global,
+    chooser: &mut C,
+    events: &mut Vec<u32>,
+    said: &mut Made,
+) -> Brief
     requires sound { IsSound k.old }
     requires asked { MayStep k.old }
     requires room { k.old.made < 2 ^ 31 }
     requires running { k.old.cycle.phase ≢ phase.Idle }
     requires going { k.old.cycle.stopped ≡ false }
     requires none { events.old.items ≡ [] }
-    ensures makes { Makes k.old k.new result spec.step }
-    ensures asks { Asks C.picks C.later k.old chooser.old chooser.new result spec.step }
+    ensures makes { Makes k.old k.new (whole_of result said.new) spec.step }
+    ensures asks { Asks C.picks C.later k.old chooser.old chooser.new (whole_of result said.new) spec.step }
     ensures none { events.new.items ≡ [] }
     ensures sound { IsSound k.new }
     ensures made { k.new.made ≤ k.old.made + 1 }
-    ensures refused { result ≡ Made.NoMemory → k.new.made ≡ k.old.made }
-    ensures faulted { (f : RunFault) → result ≡ Made.Fault f → k.new.made ≡ k.old.made }
+    ensures refused { whole_of result said.new ≡ Made.NoMemory → k.new.made ≡ k.old.made }
+    ensures faulted { (f : RunFault) → whole_of result said.new ≡ Made.Fault f → k.new.made ≡ k.old.made }
 {
     match k.cycle.phase {
         Phase::Idle => unreachable!(),
-        Phase::Start => start(k, events),
-        Phase::Evaluate => evaluate(k, alloc, chooser),
-        Phase::Notify => notify(k, events),
-        Phase::Timed => go_to_next_time(k, events),
+        Phase::Start => brief_of(&start(k, events), said),
+        Phase::Evaluate => evaluate(k, alloc, chooser, said),
+        Phase::Notify => brief_of(&notify(k, events), said),
+        Phase::Timed => brief_of(&go_to_next_time(k, events), said),
     }
 }
 
-/// The next step, of a kernel that is sound.
-#[inline(always)]
-fn make<C: Chooser>(
-    k: &mut Kernel,
-    alloc: Global,
-    script: &[Command],
-    place: &mut usize,
-    chooser: &mut C,
-    events: &mut Vec<u32>,
-) -> Made
-    requires sound { IsSound k.old }
-    requires asked { MayStep k.old }
-    requires room { k.old.made < 2 ^ 31 }
-    requires within { place.old ≤ length script.now }
-    requires none { events.old.items ≡ [] }
-    ensures steps { StepsOn k.old k.new (drop place.old script.now) (drop place.new script.now) result spec.step }
-    ensures asks { Asks C.picks C.later k.old chooser.old chooser.new result spec.step }
-    ensures sound { IsSound k.new }
-    ensures within { place.new ≤ length script.now }
-    ensures none { events.new.items ≡ [] }
-    ensures made { k.new.made ≤ k.old.made + 1 }
-    ensures refused { result ≡ Made.NoMemory → k.new.made ≡ k.old.made }
-    ensures faulted { (f : RunFault) → result ≡ Made.Fault f → k.new.made ≡ k.old.made }
-{
-    if k.cycle.stopped {
-        return Made::Ended;
-    }
-    match k.cycle.phase {
-        Phase::Idle => next_command(k, script, place),
-        _ => go_on(k, alloc, chooser, events),
-    }
-}
-
-/// The same, answered in a word or two where nothing else is to be said of it.
+/// The next step, of a kernel that is sound, answered in a word or two where nothing else is to be said of it.
 #[inline(never)]
-fn make_briefly<C: Chooser>(
+fn make<C: Chooser>(
     k: &mut Kernel,
     alloc: Global,
     script: &[Command],
@@ -166,7 +144,14 @@ fn make_briefly<C: Chooser>(
     ensures refused { whole_of result said.new ≡ Made.NoMemory → k.new.made ≡ k.old.made }
     ensures faulted { (f : RunFault) → whole_of result said.new ≡ Made.Fault f → k.new.made ≡ k.old.made }
 {
-    brief_of(&make(k, alloc, script, place, chooser, events), said)
+    if k.cycle.stopped {
+        *said = Made::Ended;
+        return Brief::Said;
+    }
+    match k.cycle.phase {
+        Phase::Idle => brief_of(&next_command(k, script, place), said),
+        _ => go_on(k, alloc, chooser, events, said),
+    }
 }
 
 /// Makes the next step of a session: the next command of the script where the kernel is idle, else the step of its phase
@@ -196,7 +181,7 @@ pub fn make_step<C: Chooser>(
     ensures faulted { (f : RunFault) → result ≡ Made.Fault f → k.new.kernel.made ≡ k.old.kernel.made }
 {
     let mut said = Made::Ended;
-    let brief = make_briefly(
+    let brief = make(
         &mut k.kernel,
         alloc,
         script,

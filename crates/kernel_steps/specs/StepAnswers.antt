@@ -17,7 +17,14 @@ use Rattle.exec_channels.specs.KernelState.declared.stops.StatementStop.TheVaria
 use Rattle.exec_transactions.specs.Calling.{IsOfProtocol}
 use Rattle.kernel_steps.specs.declared.answers.StepAnswer.{StepAnswer}
 use Rattle.kernel_steps.specs.declared.answers.StepAnswer.TheVariants as answer
+use Rattle.kernel_steps.specs.declared.answers.StepBrief.{StepBrief}
+use Rattle.kernel_steps.specs.declared.answers.StepBrief.TheVariants as brief
 use Rattle.kernel_steps.specs.FrameConditions.{Quiet, Keeps}
+
+-- what a step answers, by its word and what was said
+abbrev pub whole_step : StepBrief → StepAnswer → StepAnswer
+whole_step brief.Went said = answer.Went
+whole_step brief.Said said = said
 
 -- The one report that is added, in the step from c to d, is the line of a print, which is statement s, with this value. It is told
 -- by instance p, which has not ended then, at the time that it is then.

@@ -1,6 +1,6 @@
 //! What a step of an instance answers.
 ghost use Rattle.std.specs.Prelude.{◌≡◌};
-ghost use Rattle.kernel_steps.specs.StepAnswers.{plain_answer, taking_answer};
+ghost use Rattle.kernel_steps.specs.StepAnswers.{plain_answer, taking_answer, whole_step};
 
 use exec_channels::kernel_state_api::StatementStop;
 use exec_channels::logic_values_api::Value;
@@ -19,34 +19,43 @@ pub enum StepAnswer {
     NoMemory,
 }
 
+/// What a step of an instance answers, in a word.
+#[derive(Clone, Copy)]
+pub enum StepBrief {
+    /// The step is made, and nothing else is to be said of it.
+    Went,
+    /// What was said of it.
+    Said,
+}
+
 /// The answer of a statement that takes no memory.
-pub(crate) fn plain(done: Result<(), RunFault>) -> StepAnswer
-    ensures { result ≡ plain_answer done }
+#[inline(always)]
+pub(crate) fn plain(done: Result<(), RunFault>, said: &mut StepAnswer) -> StepBrief
+    ensures { whole_step result said.new ≡ plain_answer done }
 {
     match done {
-        Ok(()) => StepAnswer::Went,
-        Err(fault) => StepAnswer::Fault(fault),
+        Ok(()) => StepBrief::Went,
+        Err(fault) => {
+            *said = StepAnswer::Fault(fault);
+            StepBrief::Said
+        }
     }
 }
 
 /// That of a statement that may take memory.
-pub(crate) fn taking(done: Result<(), StatementStop>) -> StepAnswer
-    ensures { result ≡ taking_answer done }
+#[inline(always)]
+pub(crate) fn taking(done: Result<(), StatementStop>, said: &mut StepAnswer) -> StepBrief
+    ensures { whole_step result said.new ≡ taking_answer done }
 {
     match done {
-        Ok(()) => StepAnswer::Went,
-        Err(StatementStop::Fault(fault)) => StepAnswer::Fault(fault),
-        Err(StatementStop::NoMemory) => StepAnswer::NoMemory,
-    }
-}
-
-/// The same answer. That a step is made, as most are, is told by itself, with nothing of the rest moved.
-#[inline(always)]
-pub(crate) fn straight(answer: &StepAnswer) -> StepAnswer
-    ensures { result ≡ answer.now }
-{
-    match answer {
-        StepAnswer::Went => StepAnswer::Went,
-        StepAnswer::Printed(_, _, _) | StepAnswer::Fault(_) | StepAnswer::NoMemory => *answer,
+        Ok(()) => StepBrief::Went,
+        Err(StatementStop::Fault(fault)) => {
+            *said = StepAnswer::Fault(fault);
+            StepBrief::Said
+        }
+        Err(StatementStop::NoMemory) => {
+            *said = StepAnswer::NoMemory;
+            StepBrief::Said
+        }
     }
 }

@@ -10,9 +10,9 @@ ghost use Rattle.exec_transactions.specs.ExecEvents.Numbers.{NumbersEvents};
 ghost use Rattle.exec_control.specs.Thrown.{OthersHaveNoGoal};
 ghost use Rattle.exec_control.specs.Unwound.{ThrowsFree};
 ghost use Rattle.kernel_steps.specs.Taking.{takes_memory};
-ghost use Rattle.kernel_steps.specs.StepAnswers.{CarriesAll};
+ghost use Rattle.kernel_steps.specs.StepAnswers.{CarriesAll, whole_step};
 
-use crate::answers::{StepAnswer, plain, taking};
+use crate::answers::{StepAnswer, StepBrief, plain, taking};
 use crate::data::{if_step, print_step, var_step, while_step};
 use exec_channels::kernel_state_api::{Kernel, top_lives};
 use exec_channels::{lock, nb_read, nb_write, post, read, sem_trywait, sem_wait, trylock, unlock};
@@ -43,7 +43,8 @@ pub(crate) fn carry_out(
     p: u32,
     s: StmtId,
     statement: &Statement,
-) -> StepAnswer
+    said: &mut StepAnswer,
+) -> StepBrief
     requires sound { IsSound k.old }
     requires top { IsOnTop k.old p }
     requires names { NamesFit (whole_design k.old) }
@@ -54,83 +55,83 @@ pub(crate) fn carry_out(
     requires there { statement_at (arena_of k.old.program.now.code) s ≡ Some (statement_of statement.now) }
     requires free { ThrowsFree k.old p (statement_of statement.now) }
     requires others { OthersHaveNoGoal k.old }
-    ensures carries { CarriesAll k.old k.new result p s (statement_of statement.now) }
+    ensures carries { CarriesAll k.old k.new (whole_step result said.new) p s (statement_of statement.now) }
     ensures sound { IsSound k.new }
     ensures made { k.new.made ≤ k.old.made + 1 }
-    ensures refused { result ≡ StepAnswer.NoMemory → k.new.made ≡ k.old.made }
-    ensures faulted { (f : RunFault) → result ≡ StepAnswer.Fault f → k.new.made ≡ k.old.made }
-    ensures memory { result ≡ StepAnswer.NoMemory → takes_memory (statement_of statement.now) ≡ true }
+    ensures refused { whole_step result said.new ≡ StepAnswer.NoMemory → k.new.made ≡ k.old.made }
+    ensures faulted { (f : RunFault) → whole_step result said.new ≡ StepAnswer.Fault f → k.new.made ≡ k.old.made }
+    ensures memory { whole_step result said.new ≡ StepAnswer.NoMemory → takes_memory (statement_of statement.now) ≡ true }
 {
     top_lives(k, p);
     has_statement(k, p, s);
     match statement {
-        Statement::Var(n, t, e) => var_step(k, p, s, *n, *t, e),
-        Statement::Assign(to, e) => plain(assign(k, p, to, e)),
+        Statement::Var(n, t, e) => var_step(k, p, s, *n, *t, e, said),
+        Statement::Assign(to, e) => plain(assign(k, p, to, e), said),
         Statement::Call(_, f, arguments) => {
-            taking(call(k, alloc, p, s, *f, arguments.as_slice()))
+            taking(call(k, alloc, p, s, *f, arguments.as_slice()), said)
         }
-        Statement::Read(target, at) => taking(read(k, alloc, p, *target, at)),
-        Statement::NbRead(target, at, to) => plain(nb_read(k, p, *target, at, *to)),
-        Statement::NbWrite(target, at, t, e) => plain(nb_write(k, p, *target, at, *t, e)),
-        Statement::Trylock(target, at) => plain(trylock(k, p, *target, at)),
-        Statement::Unlock(target, at) => plain(unlock(k, p, *target, at)),
-        Statement::SemTrywait(target, at) => plain(sem_trywait(k, p, *target, at)),
+        Statement::Read(target, at) => taking(read(k, alloc, p, *target, at), said),
+        Statement::NbRead(target, at, to) => plain(nb_read(k, p, *target, at, *to), said),
+        Statement::NbWrite(target, at, t, e) => plain(nb_write(k, p, *target, at, *t, e), said),
+        Statement::Trylock(target, at) => plain(trylock(k, p, *target, at), said),
+        Statement::Unlock(target, at) => plain(unlock(k, p, *target, at), said),
+        Statement::SemTrywait(target, at) => plain(sem_trywait(k, p, *target, at), said),
         Statement::NbTransport(_, socket, n, phase, d) => {
-            taking(nb_transport(k, alloc, p, s, *socket, *n, *phase, *d))
+            taking(nb_transport(k, alloc, p, s, *socket, *n, *phase, *d), said)
         }
-        Statement::Write(to, t, e) => taking(write(k, alloc, p, to, *t, e)),
-        Statement::Print(text, e) => print_step(k, p, s, text, e),
+        Statement::Write(to, t, e) => taking(write(k, alloc, p, to, *t, e), said),
+        Statement::Print(text, e) => print_step(k, p, s, text, e, said),
         Statement::Notify(n) => {
             notify_named(k, p, *n);
-            StepAnswer::Went
+            StepBrief::Went
         }
         Statement::NotifyDelta(n) => {
             notify_delta(k, p, *n);
-            StepAnswer::Went
+            StepBrief::Went
         }
-        Statement::NotifyAfter(n, e) => plain(notify_after(k, p, *n, e)),
+        Statement::NotifyAfter(n, e) => plain(notify_after(k, p, *n, e), said),
         Statement::Cancel(n) => {
             cancel_named(k, p, *n);
-            StepAnswer::Went
+            StepBrief::Went
         }
-        Statement::Wait(how) => taking(wait_statement(k, alloc, p, how)),
-        Statement::NextTrigger(how) => taking(trigger_statement(k, alloc, p, how)),
-        Statement::Lock(at) => taking(lock(k, alloc, p, at)),
-        Statement::SemWait(at) => taking(sem_wait(k, alloc, p, at)),
-        Statement::Post(at) => plain(post(k, p, at)),
-        Statement::Make(n, e, more) => taking(make(k, p, *n, e, more)),
-        Statement::Acquire(n) => plain(acquire(k, p, *n)),
-        Statement::Release(n) => plain(release(k, p, *n)),
-        Statement::Carry(n, m) => plain(carry(k, alloc, p, *n, *m)),
+        Statement::Wait(how) => taking(wait_statement(k, alloc, p, how), said),
+        Statement::NextTrigger(how) => taking(trigger_statement(k, alloc, p, how), said),
+        Statement::Lock(at) => taking(lock(k, alloc, p, at), said),
+        Statement::SemWait(at) => taking(sem_wait(k, alloc, p, at), said),
+        Statement::Post(at) => plain(post(k, p, at), said),
+        Statement::Make(n, e, more) => taking(make(k, p, *n, e, more), said),
+        Statement::Acquire(n) => plain(acquire(k, p, *n), said),
+        Statement::Release(n) => plain(release(k, p, *n), said),
+        Statement::Carry(n, m) => plain(carry(k, alloc, p, *n, *m), said),
         Statement::BTransport(socket, n, d) => {
-            taking(b_transport(k, alloc, p, s, *socket, *n, *d))
+            taking(b_transport(k, alloc, p, s, *socket, *n, *d), said)
         }
-        Statement::QkGlobal(e) => plain(qk_global(k, p, e)),
-        Statement::QkInc(n, e) => plain(qk_inc(k, p, *n, e)),
-        Statement::QkSet(n, e) => plain(qk_set(k, p, *n, e)),
-        Statement::QkReset(n) => plain(qk_reset(k, p, *n)),
-        Statement::Spawn(form) => taking(spawn(k, alloc, p, form)),
+        Statement::QkGlobal(e) => plain(qk_global(k, p, e), said),
+        Statement::QkInc(n, e) => plain(qk_inc(k, p, *n, e), said),
+        Statement::QkSet(n, e) => plain(qk_set(k, p, *n, e), said),
+        Statement::QkReset(n) => plain(qk_reset(k, p, *n), said),
+        Statement::Spawn(form) => taking(spawn(k, alloc, p, form), said),
         Statement::Control(order, who, descendants) => {
-            taking(control(k, alloc, p, s, *order, *who, *descendants))
+            taking(control(k, alloc, p, s, *order, *who, *descendants), said)
         }
         Statement::ThrowIt(who, e, descendants) => {
-            taking(throw_it(k, alloc, p, s, *who, *e, *descendants))
+            taking(throw_it(k, alloc, p, s, *who, *e, *descendants), said)
         }
-        Statement::Throw(e) => plain(throw(k, p, *e)),
-        Statement::Return(e) => plain(return_value(k, p, e)),
+        Statement::Throw(e) => plain(throw(k, p, *e), said),
+        Statement::Return(e) => plain(return_value(k, p, e), said),
         Statement::Stop => {
             stop(k, p);
-            StepAnswer::Went
+            StepBrief::Went
         }
-        Statement::If(e, b, other) => if_step(k, p, s, e, *b, *other),
-        Statement::While(e, b) => while_step(k, p, s, e, *b),
+        Statement::If(e, b, other) => if_step(k, p, s, e, *b, *other, said),
+        Statement::While(e, b) => while_step(k, p, s, e, *b, said),
         Statement::Guard(b, u) => {
             begin_guard(k, p, s, *b, *u);
-            StepAnswer::Went
+            StepBrief::Went
         }
         Statement::Try(b, _) => {
             begin_try(k, p, s, *b);
-            StepAnswer::Went
+            StepBrief::Went
         }
     }
 }

@@ -5,9 +5,9 @@ ghost use Rattle.flat_design.specs.Code.{arena_of, statement_at, term_of};
 ghost use Rattle.exec_channels.specs.KernelState.Kernel.{IsSound};
 ghost use Rattle.exec_channels.specs.KernelState.Moves.{HasStatement, IsOnTop};
 ghost use Rattle.exec_control.specs.ExecData.Entered.{Shows};
-ghost use Rattle.kernel_steps.specs.StepAnswers.{Carries, CarriesAll};
+ghost use Rattle.kernel_steps.specs.StepAnswers.{Carries, CarriesAll, whole_step};
 
-use crate::answers::{StepAnswer, plain};
+use crate::answers::{StepAnswer, StepBrief, plain};
 use exec_channels::kernel_state_api::{Kernel, top_lives};
 use exec_channels::kernel_view_api::{eval_at, eval_if_at};
 use exec_channels::model_tree_api::PrintText;
@@ -22,18 +22,19 @@ pub(crate) fn var_step(
     n: u32,
     t: ValueType,
     e: &Option<Expr>,
-) -> StepAnswer
+    said: &mut StepAnswer,
+) -> StepBrief
     requires sound { IsSound k.old }
     requires top { IsOnTop k.old p }
     requires statement { HasStatement k.old p }
-    ensures carries { Carries k.old k.new result p s (code.var n t (option_map term_of e.now)) }
-    ensures takes_none { result ≢ StepAnswer.NoMemory }
+    ensures carries { Carries k.old k.new (whole_step result said.new) p s (code.var n t (option_map term_of e.now)) }
+    ensures takes_none { whole_step result said.new ≢ StepAnswer.NoMemory }
     ensures sound { IsSound k.new }
     ensures made { k.new.made ≡ k.old.made }
 {
     top_lives(k, p);
     let value = eval_if_at(k, p, e);
-    plain(var(k, p, n, t, value))
+    plain(var(k, p, n, t, value), said)
 }
 
 /// `print`.
@@ -43,13 +44,14 @@ pub(crate) fn print_step(
     s: StmtId,
     text: &PrintText,
     e: &Option<Expr>,
-) -> StepAnswer
+    said: &mut StepAnswer,
+) -> StepBrief
     requires sound { IsSound k.old }
     requires top { IsOnTop k.old p }
     requires statement { HasStatement k.old p }
     requires there { statement_at (arena_of k.old.program.now.code) s ≡ Some (code.print text.now (option_map term_of e.now)) }
-    ensures carries { CarriesAll k.old k.new result p s (code.print text.now (option_map term_of e.now)) }
-    ensures takes_none { result ≢ StepAnswer.NoMemory }
+    ensures carries { CarriesAll k.old k.new (whole_step result said.new) p s (code.print text.now (option_map term_of e.now)) }
+    ensures takes_none { whole_step result said.new ≢ StepAnswer.NoMemory }
     ensures sound { IsSound k.new }
     ensures made { k.new.made ≡ k.old.made }
 {
@@ -57,9 +59,10 @@ pub(crate) fn print_step(
     top_lives(k, p);
     let value = eval_if_at(k, p, e);
     match exec_control::exec_data_api::print(k, p, value) {
-        Ok(shown) => StepAnswer::Printed(p, s, shown),
-        Err(fault) => StepAnswer::Fault(fault),
+        Ok(shown) => *said = StepAnswer::Printed(p, s, shown),
+        Err(fault) => *said = StepAnswer::Fault(fault),
     }
+    StepBrief::Said
 }
 
 /// `if`.
@@ -70,35 +73,43 @@ pub(crate) fn if_step(
     e: &Expr,
     b: BlockId,
     other: Option<BlockId>,
-) -> StepAnswer
+    said: &mut StepAnswer,
+) -> StepBrief
     requires sound { IsSound k.old }
     requires top { IsOnTop k.old p }
     requires statement { HasStatement k.old p }
     requires next { Shows k.old p s }
     requires there { statement_at (arena_of k.old.program.now.code) s ≡ Some (code.if_ (term_of e.now) b other) }
-    ensures carries { Carries k.old k.new result p s (code.if_ (term_of e.now) b other) }
-    ensures takes_none { result ≢ StepAnswer.NoMemory }
+    ensures carries { Carries k.old k.new (whole_step result said.new) p s (code.if_ (term_of e.now) b other) }
+    ensures takes_none { whole_step result said.new ≢ StepAnswer.NoMemory }
     ensures sound { IsSound k.new }
     ensures made { k.new.made ≡ k.old.made }
 {
     top_lives(k, p);
     let value = eval_at(k, p, e);
-    plain(if_then(k, p, s, b, other, value))
+    plain(if_then(k, p, s, b, other, value), said)
 }
 
 /// `while`.
-pub(crate) fn while_step(k: &mut Kernel, p: u32, s: StmtId, e: &Expr, b: BlockId) -> StepAnswer
+pub(crate) fn while_step(
+    k: &mut Kernel,
+    p: u32,
+    s: StmtId,
+    e: &Expr,
+    b: BlockId,
+    said: &mut StepAnswer,
+) -> StepBrief
     requires sound { IsSound k.old }
     requires top { IsOnTop k.old p }
     requires statement { HasStatement k.old p }
     requires next { Shows k.old p s }
     requires there { statement_at (arena_of k.old.program.now.code) s ≡ Some (code.while_ (term_of e.now) b) }
-    ensures carries { Carries k.old k.new result p s (code.while_ (term_of e.now) b) }
-    ensures takes_none { result ≢ StepAnswer.NoMemory }
+    ensures carries { Carries k.old k.new (whole_step result said.new) p s (code.while_ (term_of e.now) b) }
+    ensures takes_none { whole_step result said.new ≢ StepAnswer.NoMemory }
     ensures sound { IsSound k.new }
     ensures made { k.new.made ≡ k.old.made }
 {
     top_lives(k, p);
     let value = eval_at(k, p, e);
-    plain(while_do(k, p, s, b, value))
+    plain(while_do(k, p, s, b, value), said)
 }

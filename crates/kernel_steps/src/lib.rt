@@ -8,5 +8,5 @@ mod leaving;
 mod owing;
 mod stepping;
 
-pub use answers::StepAnswer;
+pub use answers::{StepAnswer, StepBrief};
 pub use stepping::step_statement;

@@ -17,9 +17,9 @@ ghost use Rattle.kernel_steps.specs.Owing.{Owes};
 ghost use Rattle.kernel_steps.specs.Ready.{Ready};
 ghost use Rattle.kernel_steps.specs.Shown.{ComesNext};
 ghost use Rattle.kernel_steps.specs.Taking.{takes_memory_if, StepTakes, IsNoThread};
-ghost use Rattle.kernel_steps.specs.StepAnswers.{MakesAll, MakesStep};
+ghost use Rattle.kernel_steps.specs.StepAnswers.{MakesAll, MakesStep, whole_step};
 
-use crate::answers::{StepAnswer, plain, straight};
+use crate::answers::{StepAnswer, StepBrief, plain};
 use crate::carrying::carry_out;
 use crate::leaving::leave;
 use crate::owing::on_owed;
@@ -31,6 +31,7 @@ use flat_design::StmtId;
 use std::alloc::Global;
 
 /// What comes next in the body of an instance, once finished parts have fallen away.
+#[inline(always)]
 fn next_at(k: &Kernel, p: u32) -> Next
     requires sound { IsSound k.now }
     requires lives { Lives k.now p }
@@ -53,7 +54,14 @@ fn next_at(k: &Kernel, p: u32) -> Next
 
 /// The statement of this number comes next, and is carried out; where there is none it is past. Memory is refused only where it may
 /// take any.
-fn on_statement(k: &mut Kernel, alloc: Global, p: u32, s: StmtId) -> StepAnswer
+#[inline(always)]
+fn on_statement(
+    k: &mut Kernel,
+    alloc: Global,
+    p: u32,
+    s: StmtId,
+    said: &mut StepAnswer,
+) -> StepBrief
     requires sound { IsSound k.old }
     requires top { IsOnTop k.old p }
     requires ready { Ready k.old }
@@ -62,43 +70,47 @@ fn on_statement(k: &mut Kernel, alloc: Global, p: u32, s: StmtId) -> StepAnswer
     requires others { OthersHaveNoGoal k.old }
     requires next { Shows k.old p s }
     requires free { ThrowsFreeIf k.old p (statement_at (arena_of k.old.program.now.code) s) }
-    ensures makes { MakesAll k.old k.new result p (λ c q i r. statements.on_statement c q i r s (statement_at (arena_of k.old.program.now.code) s)) }
+    ensures makes { MakesAll k.old k.new (whole_step result said.new) p (λ c q i r. statements.on_statement c q i r s (statement_at (arena_of k.old.program.now.code) s)) }
     ensures sound { IsSound k.new }
     ensures made { k.new.made ≤ k.old.made + 1 }
-    ensures refused { result ≡ StepAnswer.NoMemory → k.new.made ≡ k.old.made }
-    ensures faulted { (f : RunFault) → result ≡ StepAnswer.Fault f → k.new.made ≡ k.old.made }
-    ensures memory { result ≡ StepAnswer.NoMemory → takes_memory_if (statement_at (arena_of k.old.program.now.code) s) ≡ true }
+    ensures refused { whole_step result said.new ≡ StepAnswer.NoMemory → k.new.made ≡ k.old.made }
+    ensures faulted { (f : RunFault) → whole_step result said.new ≡ StepAnswer.Fault f → k.new.made ≡ k.old.made }
+    ensures memory { whole_step result said.new ≡ StepAnswer.NoMemory → takes_memory_if (statement_at (arena_of k.old.program.now.code) s) ≡ true }
 {
     top_lives(k, p);
     let program = k.program;
     match program.statement(s) {
-        Some(x) => straight(&carry_out(k, alloc, p, s, x)),
+        Some(x) => carry_out(k, alloc, p, s, x, said),
         None => {
             pass(k, p);
-            StepAnswer::Went
+            StepBrief::Went
         }
     }
 }
 
 /// The body of the instance on top has ended. A thread takes no memory.
 #[inline(always)]
-fn end_body(k: &mut Kernel, p: u32) -> StepAnswer
+fn end_body(k: &mut Kernel, p: u32, said: &mut StepAnswer) -> StepBrief
     requires sound { IsSound k.old }
     requires top { IsOnTop k.old p }
-    ensures makes { MakesAll k.old k.new result p (λ c q i r. Ok (control.done_by c q i i.kind)) }
-    ensures memory { result ≡ StepAnswer.NoMemory → IsNoThread k.old p }
+    ensures makes { MakesAll k.old k.new (whole_step result said.new) p (λ c q i r. Ok (control.done_by c q i i.kind)) }
+    ensures memory { whole_step result said.new ≡ StepAnswer.NoMemory → IsNoThread k.old p }
     ensures sound { IsSound k.new }
     ensures made { k.new.made ≡ k.old.made }
 {
     match body_ends(k, p) {
-        Ok(()) => StepAnswer::Went,
-        Err(_) => StepAnswer::NoMemory,
+        Ok(()) => StepBrief::Went,
+        Err(_) => {
+            *said = StepAnswer::NoMemory;
+            StepBrief::Said
+        }
     }
 }
 
 /// One step of the instance on top (IEEE 1666-2011, 4.2.1.2): finished parts of its body fall away, and what comes next is
-/// carried out. Memory is refused only to a statement that may take any, and to a method that waits again.
-pub fn step_statement(k: &mut Kernel, alloc: Global, p: u32) -> StepAnswer
+/// carried out. Where more is to be said than that it is made, `said` says it; it is to be looked at in no other case. Memory is refused only
+/// to a statement that may take any, and to a method that waits again.
+pub fn step_statement(k: &mut Kernel, alloc: Global, p: u32, said: &mut StepAnswer) -> StepBrief
     requires sound { IsSound k.old }
     requires top { IsOnTop k.old p }
     requires ready { Ready k.old }
@@ -106,23 +118,23 @@ pub fn step_statement(k: &mut Kernel, alloc: Global, p: u32) -> StepAnswer
     requires posts { All (λ v. v < 2 ^ 64 - 1) k.old.channels.semaphores }
     requires others { OthersHaveNoGoal k.old }
     requires free { ThrowsFreeNext k.old p }
-    ensures makes { MakesStep k.old k.new result p }
+    ensures makes { MakesStep k.old k.new (whole_step result said.new) p }
     ensures sound { IsSound k.new }
     ensures made { k.new.made ≤ k.old.made + 1 }
-    ensures refused { result ≡ StepAnswer.NoMemory → k.new.made ≡ k.old.made }
-    ensures faulted { (f : RunFault) → result ≡ StepAnswer.Fault f → k.new.made ≡ k.old.made }
-    ensures memory { result ≡ StepAnswer.NoMemory → StepTakes k.old p }
+    ensures refused { whole_step result said.new ≡ StepAnswer.NoMemory → k.new.made ≡ k.old.made }
+    ensures faulted { (f : RunFault) → whole_step result said.new ≡ StepAnswer.Fault f → k.new.made ≡ k.old.made }
+    ensures memory { whole_step result said.new ≡ StepAnswer.NoMemory → StepTakes k.old p }
 {
     top_lives(k, p);
     match next_at(k, p) {
-        Next::Statement(s) => on_statement(k, alloc, p, s),
-        Next::Batch(s, q) => on_owed(k, p, s, q),
-        Next::Leave => plain(leave(k, p)),
-        Next::Done => end_body(k, p),
+        Next::Statement(s) => on_statement(k, alloc, p, s, said),
+        Next::Batch(s, q) => on_owed(k, p, s, q, said),
+        Next::Leave => plain(leave(k, p), said),
+        Next::Done => end_body(k, p, said),
         Next::Goal(goal) => {
             reach_goal(k, p, goal);
-            StepAnswer::Went
+            StepBrief::Went
         }
-        Next::Nothing => end_body(k, p),
+        Next::Nothing => end_body(k, p, said),
     }
 }

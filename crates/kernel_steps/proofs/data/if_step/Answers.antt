@@ -8,6 +8,7 @@ use Rattle.exec_channels.specs.SimModel.Storing.{do_if}
 use Rattle.kernel_steps.proofs.Answered.{plain_made}
 use Rattle.kernel_steps.proofs.Blocks.{is_first, is_other}
 use Rattle.kernel_steps.proofs.Takes.{plain_takes_none}
+use Rattle.kernel_steps.specs.StepAnswers.{whole_step}
 use Rattle.kernel_steps.proofs.data.if_step.Goals as goal
 
 pub if_then-requires-clause-plain : goal.if_then-requires-clause-plain
@@ -21,8 +22,8 @@ if_then-requires-clause-other c = subst (λ o. IfSome c.args.other (Contains (bl
 
 pub returns-clause-carries : goal.returns-clause-carries
 returns-clause-carries c =
-    plain_made c.args.k.now c.if_then.new.k c.args.p (λ d q i r. do_if d q r (here d q i r) (term_of c.args.e.now) c.args.b c.args.other) c.plain.result c.if_then.result c.plain.ensures
+    plain_made c.args.k.now c.if_then.new.k c.args.p (λ d q i r. do_if d q r (here d q i r) (term_of c.args.e.now) c.args.b c.args.other) (whole_step c.plain.result c.plain.new.said) c.if_then.result c.plain.ensures
     (c.if_then.ensures.does (term_of c.args.e.now) c.eval_at-value.ensures)
 
 pub returns-clause-takes_none : goal.returns-clause-takes_none
-returns-clause-takes_none c = plain_takes_none c.plain.result c.if_then.result c.plain.ensures
+returns-clause-takes_none c = plain_takes_none (whole_step c.plain.result c.plain.new.said) c.if_then.result c.plain.ensures

@@ -2,7 +2,7 @@ use Rattle.std.proofs.Common.{option_map, refl, sym, ap, ◌∙◌, subst}
 use Rattle.flat_design.specs.Code.{statement_of}
 use Rattle.exec_channels.specs.SimModel.Statements.{on_statement}
 use Rattle.kernel_steps.specs.Taking.{takes_memory_if}
-use Rattle.kernel_steps.specs.StepAnswers.{MakesAll}
+use Rattle.kernel_steps.specs.StepAnswers.{MakesAll, whole_step}
 use Rattle.kernel_steps.specs.declared.answers.StepAnswer.TheVariants as answer
 use Rattle.kernel_steps.proofs.Shows.{has_statement}
 use Rattle.kernel_steps.proofs.stepping.on_statement.Goals as goal
@@ -20,15 +20,15 @@ pub carry_out-requires-clause-free : goal.carry_out-requires-clause-free
 carry_out-requires-clause-free c = c.requires.free (statement_of c.in-Some.x.now) (carry_out-requires-clause-there c)
 
 pub returns-in-Some-clause-makes : goal.returns-in-Some-clause-makes
-returns-in-Some-clause-makes c = rw c.straight.ensures
-    (subst (λ o. MakesAll c.args.k.now c.carry_out.new.k c.carry_out.result c.args.p (λ d q i r. on_statement d q i r c.args.s o))
-    (sym (sym c.statement.ensures ∙ ap (option_map (λ z. statement_of z.now)) c.in-Some.is)) c.carry_out.ensures.carries)
+returns-in-Some-clause-makes c =
+    subst (λ o. MakesAll c.args.k.now c.carry_out.new.k (whole_step c.carry_out.result c.carry_out.new.said) c.args.p (λ d q i r. on_statement d q i r c.args.s o))
+    (sym (sym c.statement.ensures ∙ ap (option_map (λ z. statement_of z.now)) c.in-Some.is)) c.carry_out.ensures.carries
 
 pub returns-in-Some-clause-refused : goal.returns-in-Some-clause-refused
-returns-in-Some-clause-refused c = λ is. c.carry_out.ensures.refused (sym c.straight.ensures ∙ is)
+returns-in-Some-clause-refused c = c.carry_out.ensures.refused
 
 pub returns-in-Some-clause-faulted : goal.returns-in-Some-clause-faulted
-returns-in-Some-clause-faulted c = λ f is. c.carry_out.ensures.faulted f (sym c.straight.ensures ∙ is)
+returns-in-Some-clause-faulted c = c.carry_out.ensures.faulted
 
 pub pass-requires-clause-statement : goal.pass-requires-clause-statement
 pass-requires-clause-statement c = has_statement c.args.k.now c.args.p c.args.s c.requires.next
@@ -40,4 +40,4 @@ returns-in-None-clause-makes c =
     (λ d i h there. (c.pass.ensures.steps d i h there, refl))
 
 pub returns-in-Some-clause-memory : goal.returns-in-Some-clause-memory
-returns-in-Some-clause-memory c = λ e. ap takes_memory_if (sym c.statement.ensures ∙ ap (option_map (λ z. statement_of z.now)) c.in-Some.is) ∙ c.carry_out.ensures.memory (sym c.straight.ensures ∙ e)
+returns-in-Some-clause-memory c = λ e. ap takes_memory_if (sym c.statement.ensures ∙ ap (option_map (λ z. statement_of z.now)) c.in-Some.is) ∙ c.carry_out.ensures.memory e
