@@ -22,5 +22,5 @@ pub mod code_terms_api {
 
 /// What is passed on of laws_code.
 pub mod laws_code_api {
-    pub use laws_code::sound_models_have_code;
+    pub use laws_code::models_have_code;
 }

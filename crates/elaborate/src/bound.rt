@@ -11,7 +11,7 @@ use super::objects::objects_of_tree;
 use binding::bind;
 use binding::design_rules_api::Bindings;
 use flat_design::Objects;
-use laws_design::sound_models_are_formed;
+use laws_design::models_are_formed;
 use model_tree::{CheckStop, Tree};
 use std::alloc::Global;
 
@@ -40,7 +40,7 @@ pub fn bound_objects(alloc: Global, tree: &Tree) -> Result<BoundObjects, CheckSt
         Ok(objects) => objects,
         Err(stop) => return Err(stop),
     };
-    sound_models_are_formed();
+    models_are_formed();
     match bind(alloc, &objects) {
         Ok(bindings) => Ok(BoundObjects { objects, bindings }),
         Err(stop) => Err(stop),

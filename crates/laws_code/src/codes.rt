@@ -17,12 +17,12 @@ pub fn types_are_known()
 
 /// Where all declared types are known and the exceptions of a statement have numbers, it has code, and so have those in its
 /// blocks, where no construct of it breaks a rule: each of the actions and operations, with all that stands in them.
-pub fn sound_statements_have_code()
+pub fn statements_have_code()
     ensures { (h : Home) (s : Scope) (x : Statement) → TypesAreKnown s → AreNumbered h (exceptions_in x) → fault_of constructs (statement_sites x s) ≡ None → HasCode x h s }
 {}
 
 /// Where a model has no first fault, each statement of each body has code, at whatever depth it stands; types of local
 /// variables and of answers are known; and each clock has its signal.
-pub fn sound_models_have_code()
+pub fn models_have_code()
     ensures { (m : Model) → first_fault m ≡ None → ModelHasCode m }
 {}

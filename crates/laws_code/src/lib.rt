@@ -18,13 +18,13 @@ mod standing_statements;
 mod standing_terms;
 mod typed_bodies;
 
-pub use codes::{sound_models_have_code, sound_statements_have_code, types_are_known};
+pub use codes::{models_have_code, statements_have_code, types_are_known};
 pub use reached_bodies::{
     handlers_do_not_block, methods_do_not_block, threads_set_no_trigger, unwinding_is_plain,
 };
 pub use rules::{
-    first_fault_is_first, sound_expressions_have_types, typed_expressions_have_code, uses_are_met,
+    expressions_have_types, first_fault_is_first, typed_expressions_have_code, uses_are_met,
 };
-pub use standing_statements::sound_statements_are_typed;
-pub use standing_terms::sound_terms_are_typed;
-pub use typed_bodies::sound_code_is_typed;
+pub use standing_statements::statements_are_typed;
+pub use standing_terms::terms_are_typed;
+pub use typed_bodies::code_is_typed;

@@ -23,7 +23,7 @@ pub fn uses_are_met()
 {}
 
 /// Where all declared types are known, an expression no part of which has a fault has a type: what has none is told by a rule.
-pub fn sound_expressions_have_types()
+pub fn expressions_have_types()
     ensures { (s : Scope) (e : Expression) → TypesAreKnown s → fault_of constructs (expression_sites s e) ≡ None → is_some (type_of s e) ≡ true }
 {}
 

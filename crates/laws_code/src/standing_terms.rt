@@ -14,6 +14,6 @@ ghost use Rattle.laws_code.specs.Standing.{NamesStand};
 
 /// Where each name stands for what it is declared as, the code of an expression has the type of the expression: what is still
 /// free is signed.
-pub fn sound_terms_are_typed()
+pub fn terms_are_typed()
     ensures { (s : Scope) (c : Context) (e : Expression) (at : ℕ) (t : ExpressionType) (x : Term) → NamesStand s c → is_formed e at ≡ true → type_of s e ≡ Some t → term_of s e ≡ Some x → HasType c x (evaluated_as t) }
 {}

@@ -10,6 +10,6 @@ ghost use Rattle.laws_code.specs.TypedCode.{IsTypedCode};
 
 /// Where a model within the limits has no first fault and each name stands in each instance for what it is declared as, code
 /// that reads back as the model's is typed: each statement of each body, at any depth, in each instance of its module.
-pub fn sound_code_is_typed()
+pub fn code_is_typed()
     ensures { (m : Model) (d : Design) → first_fault m ≡ None → is_sound m ≡ true → DesignStands m d → IsCodeOf m d.code → IsTypedCode d }
 {}

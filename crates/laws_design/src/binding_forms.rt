@@ -14,6 +14,6 @@ pub fn bindings_have_forms()
 
 /// Where a model has no first fault, no module has itself among its instances, and the limits are kept, its objects are formed
 /// as bindings need it.
-pub fn sound_models_are_formed()
+pub fn models_are_formed()
     ensures { (m : Model) → first_fault m ≡ None → cycle_fault m ≡ None → limit_fault m ≡ None → AreFormed (objects_of m) }
 {}

@@ -38,7 +38,7 @@ mod sound_designs;
 mod standing_names;
 
 pub use accepted_models::{handlers_are_functions, names_stand, sockets_are_ends_of_hops};
-pub use binding_forms::{bindings_have_forms, sound_models_are_formed};
+pub use binding_forms::{bindings_have_forms, models_are_formed};
 pub use first_values::{fifos_have_room, first_values_have_their_types, objects_are_inside};
 pub use fitting_fields::{hops_fit, ports_fit, processes_fit};
 pub use formed_bindings::{

@@ -11,7 +11,7 @@ ghost use Rattle.model_check.specs.Parts.{AllStand, IsNestedCode};
 ghost use Rattle.code_blocks.specs.LawsCode.OwnBlocks.{HaveOwnBlocks};
 
 use crate::{code_of, judge_source};
-use code_blocks::laws_code_api::sound_models_have_code;
+use code_blocks::laws_code_api::models_have_code;
 use code_rules::{blocks_stay, bodies_stay, code_stays, raise_rooms};
 use flat_design::Code;
 use model_tree::{CheckStop, Tree};
@@ -55,7 +55,7 @@ fn sound_code(alloc: Global, tree: &Tree) -> Result<Code, AllocError>
     ensures stand { IfOk result (λ code. AllStand code) }
     ensures rooms { IfOk result (λ code. HasRooms (arena_of code)) }
 {
-    sound_models_have_code();
+    models_have_code();
     roomy_code(alloc, tree)
 }
 

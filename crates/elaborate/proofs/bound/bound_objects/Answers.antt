@@ -10,4 +10,4 @@ bind-requires c =
     let m = model_of c.args.tree.now in
     let none = c.in-Ok.ensures.accepted in
     subst AreFormed (sym c.in-Ok.ensures.objects)
-    (c.sound_models_are_formed.ensures m c.requires.rules (first_none (cycle_fault m) (limit_fault m) none) (second_none (cycle_fault m) (limit_fault m) none))
+    (c.models_are_formed.ensures m c.requires.rules (first_none (cycle_fault m) (limit_fault m) none) (second_none (cycle_fault m) (limit_fault m) none))

@@ -1,5 +1,5 @@
 use Rattle.laws_code.proofs.Actions.{var_fine, assign_fine, operate_fine, act_fine}
-use Rattle.laws_code.proofs.standing_statements.sound_statements_are_typed.Goals as goal
+use Rattle.laws_code.proofs.standing_statements.statements_are_typed.Goals as goal
 
 pub returns : goal.returns
 returns g =

@@ -3,7 +3,7 @@ use Rattle.code_rules.specs.FlatDesign.Typed.{HasType}
 use Rattle.code_rules.specs.ModelRules.Operators.{evaluated_as}
 use Rattle.laws_code.proofs.Coded.{same_some}
 use Rattle.laws_code.proofs.Terms.{term_typed}
-use Rattle.laws_code.proofs.standing_terms.sound_terms_are_typed.Goals as goal
+use Rattle.laws_code.proofs.standing_terms.terms_are_typed.Goals as goal
 
 pub returns : goal.returns
 returns g = λ s c e at t x names formed typed is.
