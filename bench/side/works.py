@@ -157,6 +157,19 @@ module Printer {
 top Printer m;
 """
 
+SPAWNED = """\
+module Spawned {
+  func work() { }
+  thread rounds {
+    var uint<32> i;
+    while i < %d { spawn work(); i = i + 1; if i %% 50 == 0 { wait for 1 ns; } }
+    print "processes" i;
+    stop;
+  }
+}
+top Spawned m;
+"""
+
 FORMS = [
     Form(
         work="a method that toggles its own signal",
@@ -229,6 +242,16 @@ FORMS = [
     ),
     sleepers(60_000, "methods"),
     sleepers(10_000, "threads"),
+    Form(
+        work="fifty threads spawned each nanosecond, each ending at once",
+        program="spawned",
+        word="threads",
+        unit="process",
+        processes=0,
+        model=lambda times: SPAWNED % times,
+        script=endless,
+        counted=r"\d+ m\.rounds processes (\d+)",
+    ),
 ]
 
 
