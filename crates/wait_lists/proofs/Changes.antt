@@ -6,7 +6,7 @@ use Rattle.std.specs.FinMap as maps
 use Rattle.event_core.specs.declared.event.Ev.{Ev}
 use Rattle.numbered_slots.specs.Updated.{updated}
 use Rattle.wait_lists.specs.Waits.{Wait, Waits, with_wait, with_mark, with_room, without_instance, room_for}
-use Rattle.wait_lists.specs.Shown.{Shown, listed, wait_of, mark_of, room_of, shown_at, told, waits_of}
+use Rattle.wait_lists.specs.Shown.{Shown, listed, unless, wait_of, mark_of, room_of, shown_at, told, waits_of}
 use Rattle.wait_lists.proofs.ByPlace.{get-room, with_wait-told, with_mark-told, with_room-told, without-told}
 use Rattle.numbered_slots.proofs.MapLemmas.{is_updated, get-updated_same, get-updated_other}
 use Rattle.wait_lists.proofs.Telling.{Placed, told-here, told-set_same, told-set_other}
@@ -23,22 +23,23 @@ module _ (es : List (ℕ × ℕ)) (ss : List Shown) (placed : Placed es ss) (p a
   pub told_before : {Y : Type 0} (f : Option Shown → Y) → f (told ss es p) ≡ f (Some s)
   told_before f = ap f (told-here ss es placed p at new s place here)
 
-  pub changed-wait : (for_all : Bool) (l : List Ev) → new ≡ record s { for_all = for_all; events = l } → waits_of (set ss at new) es ≡ with_wait (waits_of ss es) p (listed for_all l)
-  changed-wait for_all l is = with_wait-told ss (set ss at new) es es p there (listed for_all l)
-      (told_now wait_of ∙ ap (λ x. listed x.for_all x.events) is)
+  pub changed-wait : (for_all : Bool) (l : List Ev) (over : Bool) → new ≡ record s { for_all = for_all; events = l; over = over }
+      → waits_of (set ss at new) es ≡ with_wait (waits_of ss es) p (unless over (listed for_all l))
+  changed-wait for_all l over is = with_wait-told ss (set ss at new) es es p there (unless over (listed for_all l))
+      (told_now wait_of ∙ ap (λ x. unless x.over (listed x.for_all x.events)) is)
       (told_now mark_of ∙ ap (λ x. x.mark) is ∙ sym (told_before mark_of))
       (told_now room_of ∙ ap (λ x. Some x.room) is ∙ sym (told_before room_of))
 
   pub changed-mark : (on : Bool) → new ≡ record s { mark = on } → waits_of (set ss at new) es ≡ with_mark (waits_of ss es) p on
   changed-mark on is = with_mark-told ss (set ss at new) es es p there on
       (told_now mark_of ∙ ap (λ x. x.mark) is)
-      (told_now wait_of ∙ ap (λ x. listed x.for_all x.events) is ∙ sym (told_before wait_of))
+      (told_now wait_of ∙ ap (λ x. unless x.over (listed x.for_all x.events)) is ∙ sym (told_before wait_of))
       (told_now room_of ∙ ap (λ x. Some x.room) is ∙ sym (told_before room_of))
 
   pub changed-room : (n : ℕ) → new ≡ record s { room = n } → waits_of (set ss at new) es ≡ with_room (waits_of ss es) p n
   changed-room n is = with_room-told ss (set ss at new) es es p there n
       (told_now room_of ∙ ap (λ x. Some x.room) is)
-      (told_now wait_of ∙ ap (λ x. listed x.for_all x.events) is ∙ sym (told_before wait_of))
+      (told_now wait_of ∙ ap (λ x. unless x.over (listed x.for_all x.events)) is ∙ sym (told_before wait_of))
       (told_now mark_of ∙ ap (λ x. x.mark) is ∙ sym (told_before mark_of))
 
   pub room_for-told : room_for (waits_of ss es) p ≡ s.room
@@ -50,6 +51,10 @@ module _ (es : List (ℕ × ℕ)) (ss : List Shown) (placed : Placed es ss) (p a
 pub listed-empty : (for_all : Bool) → listed for_all [] ≡ None
 listed-empty true = refl
 listed-empty false = refl
+
+pub unless-none : (over : Bool) → unless over None ≡ None
+unless-none true = refl
+unless-none false = refl
 
 -- what is set again is as if it had been set once
 pub with_wait-again : (w : Waits) (p : ℕ) (a b : Option Wait) → with_wait (with_wait w p a) p b ≡ with_wait w p b

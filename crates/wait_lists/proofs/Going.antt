@@ -1,5 +1,5 @@
 -- An event goes along its list.
-use Rattle.std.proofs.Common.{◌≡◌, ℕ, ◌+◌, ◌<◌, ◌≤◌, ◌≢◌, Bool, true, false, true≢false, cond, List, [], ◌∷◌, ◌++◌, length, Option, Some, None, refl, sym, ap, ◌∙◌, subst, arith, ne_eqb, ⊎_elim, append-nil}
+use Rattle.std.proofs.Common.{◌≡◌, ℕ, ◌+◌, ◌<◌, ◌≤◌, ◌≢◌, Bool, true, false, true≢false, cond, not, ◌||◌, List, [], ◌∷◌, ◌++◌, length, Option, Some, None, refl, sym, ap, ◌∙◌, subst, arith, ne_eqb, ⊎_elim, append-nil}
 use Rattle.std.specs.Prelude.{slice_get, ◌==◌, is_none, is_some}
 use Rattle.std.specs.Ordering.{nat_cmp}
 use Rattle.std.specs.FinMap as maps
@@ -11,10 +11,10 @@ use Rattle.std.proofs.lemmas.List.Sums.{sum_by-append}
 use Rattle.event_core.specs.declared.event.Ev.{Ev}
 use Rattle.wait_lists.specs.declared.layout.Kept.{Kept}
 use Rattle.wait_lists.specs.Waits.{Wait, has, named_by, waits_for, waits_naming}
-use Rattle.wait_lists.specs.Shown.{Shown, wait_of, mark_of, shown_at, told, waits_of}
+use Rattle.wait_lists.specs.Shown.{Shown, listed, wait_of, passed_by, mark_of, shown_at, told, waits_of}
 use Rattle.wait_lists.specs.Chains.{none, Link, has_tag, walk}
 use Rattle.wait_lists.specs.Nodes.{code_of, event_of, by_event, by_wait, first_in, events_at, shown_of}
-use Rattle.wait_lists.specs.Layout.{IsSound, IsOf, IsUsed, IsNodes, IsCutAt, IsStruck, last_in, first_from, shown_by, waits_by}
+use Rattle.wait_lists.specs.Layout.{IsSound, IsOf, IsUsed, IsNodes, IsShorter, IsCutAt, IsOver, last_in, first_from, shown_by, waits_by}
 use Rattle.wait_lists.proofs.Counted.{times, times-same, times-other}
 use Rattle.wait_lists.proofs.Places.{slice_get-set_same, slice_get-set_other}
 use Rattle.wait_lists.proofs.Chains.{In, lives, in_list, walk-goes, few-below, once_in}
@@ -26,9 +26,9 @@ use Rattle.wait_lists.proofs.Rewritten.{used-of}
 use Rattle.wait_lists.proofs.Telling.{shown-serial}
 use Rattle.wait_lists.proofs.ByPlace.{get-waits, contains-marks}
 use Rattle.wait_lists.proofs.Passing.{Passed, passed_none, room-more, passed_more}
-use Rattle.wait_lists.proofs.Struck.{last-within, named-listed, starts, of-same, of-within, goes-split, last-next, waits-s, waits-struck, ends-same, none-left-is, wait-left}
+use Rattle.wait_lists.proofs.Struck.{last-within, named-listed, named-unless, neither, starts, of-same, of-within, goes-split, last-next, waits-s, waits-struck, ends-same, none-left-is, wait-left, waits-over, ends-over}
 
--- the event has gone over the nodes xs, which stay since their waiters are muted, and goes over ys yet
+-- the event has gone over the nodes xs, which stay since it passes their waiters by, and goes over ys yet
 pub record Going (first now : Kept) (e : Ev) (code : ℕ) (old new : List ℕ) (stays i : ℕ) : Type 0 where
   pub sound : IsSound now
   pub places : now.places ≡ first.places
@@ -38,7 +38,7 @@ pub record Going (first now : Kept) (e : Ev) (code : ℕ) (old new : List ℕ) (
   pub list : IsNodes now code (xs ++ ys)
   pub last : last_in none xs ≡ stays
   pub next : first_from ys ≡ i
-  pub muted : (j at : ℕ) (s : Shown) → 1 ≤ times j xs → IsOf now at j → slice_get (shown_by now) at ≡ Some s → s.mark ≡ true
+  pub by : (j at : ℕ) (s : Shown) → 1 ≤ times j xs → IsOf now at j → slice_get (shown_by now) at ≡ Some s → passed_by s ≡ true
   pub added : List ℕ
   pub behind : new ≡ old ++ added
   pub passed : Passed (waits_by first) (waits_by now) e added
@@ -128,87 +128,147 @@ module _ (first now : Kept) (e : Ev) (code : ℕ) (old new : List ℕ) (stays i 
         )
 
     -- one more that the event may add has room
-    pub room-next : (at : ℕ) (s : Shown) → IsOf now at i → slice_get (shown_by now) at ≡ Some s → length going.added + 1 ≤ maps.len (waits_naming (waits_by first) e)
-    room-next at s of here = room-more (waits_by first) (waits_by now) e going.added going.passed s.serial
-        (waits-s now going.sound e i at tagged of (of-within now going.sound i at used-next of) s here)
+    pub room-next : (at : ℕ) (s : Shown) → IsOf now at i → slice_get (shown_by now) at ≡ Some s → passed_by s ≡ false → length going.added + 1 ≤ maps.len (waits_naming (waits_by first) e)
+    room-next at s of here active = room-more (waits_by first) (waits_by now) e going.added going.passed s.serial
+        (waits-s now going.sound e i at tagged of (of-within now going.sound i at used-next of) s here active)
 
-    -- the node stays
-    pub going-muted : (at : ℕ) (s : Shown) → IsOf now at i → slice_get (shown_by now) at ≡ Some s → s.mark ≡ true → (n : ℕ) → ((xs ys : List ℕ) → IsNodes now code (xs ++ ys) → last_in none xs ≡ i → n ≡ first_from ys)
+    times-front : (j : ℕ) → j ≢ i → times j (going.xs ++ i ∷ []) ≡ times j going.xs
+    times-front j apart = omega (arith, sum_by-append (λ x. cond (x == j) 1 0) going.xs (i ∷ []), times-other j i [] (λ e. apart (sym e)))
+
+    -- the list, with the node among those that stay
+    list_on : IsNodes now code ((going.xs ++ i ∷ []) ++ rest.0)
+    list_on = let P : List ℕ → Type 0 = λ ns. IsNodes now code ns in subst P (sym (one_in going.xs i rest.0)) list_now
+
+    -- its waiter is passed by
+    pub going-by : (at : ℕ) (s : Shown) → IsOf now at i → slice_get (shown_by now) at ≡ Some s → passed_by s ≡ true → (n : ℕ) → ((xs ys : List ℕ) → IsNodes now code (xs ++ ys) → last_in none xs ≡ i → n ≡ first_from ys)
         → Going first now e code old new i n
-    going-muted at s of here mark n behind_it =
-        let xs = going.xs ++ i ∷ [] in
-        let P : List ℕ → Type 0 = λ ns. IsNodes now code ns in
-        let list : IsNodes now code (xs ++ rest.0) = subst P (sym (one_in going.xs i rest.0)) list_now in
-        record {
-          sound = going.sound;
-          places = going.places;
-          is_code = going.is_code;
-          xs = xs;
-          ys = rest.0;
-          list = list;
-          last = last-next none going.xs i;
-          next = sym (behind_it xs rest.0 list (last-next none going.xs i));
-          muted = λ j a t member is there. ⊎_elim
-              (λ (same : j ≡ i). same_mark a t (let Q : ℕ → Type 0 = λ x. IsOf now a x in subst Q same is) there)
-              (λ apart. going.muted j a t (omega (arith, member, times-front j apart)) is there)
-              (cases_eq j i);
-          added = going.added;
-          behind = going.behind;
-          passed = going.passed;
-        }
+    going-by at s of here mark n behind_it = record {
+      sound = going.sound;
+      places = going.places;
+      is_code = going.is_code;
+      xs = going.xs ++ i ∷ [];
+      ys = rest.0;
+      list = list_on;
+      last = last-next none going.xs i;
+      next = sym (behind_it (going.xs ++ i ∷ []) rest.0 list_on (last-next none going.xs i));
+      by = λ j a t member is there. ⊎_elim
+          (λ (same : j ≡ i). same_mark a t (let Q : ℕ → Type 0 = λ x. IsOf now a x in subst Q same is) there)
+          (λ apart. going.by j a t (omega (arith, member, times-front j apart)) is there)
+          (cases_eq j i);
+      added = going.added;
+      behind = going.behind;
+      passed = going.passed;
+    }
       where
-        times-front : (j : ℕ) → j ≢ i → times j (going.xs ++ i ∷ []) ≡ times j going.xs
-        times-front j apart = omega (arith, sum_by-append (λ x. cond (x == j) 1 0) going.xs (i ∷ []), times-other j i [] (λ e. apart (sym e)))
-
-        same_mark : (a : ℕ) (t : Shown) → IsOf now a i → slice_get (shown_by now) a ≡ Some t → t.mark ≡ true
+        same_mark : (a : ℕ) (t : Shown) → IsOf now a i → slice_get (shown_by now) a ≡ Some t → passed_by t ≡ true
         same_mark a t is there =
             let a_is : a ≡ at = of-same now i a at is of in
             let same : Some t ≡ Some s = sym there ∙ ap (slice_get (shown_by now)) a_is ∙ here in
-            let alike : t ≡ s = cc in ap (λ x. x.mark) alike ∙ mark
+            let alike : t ≡ s = cc in ap passed_by alike ∙ mark
 
-    pub muted-smaller : (at : ℕ) (s : Shown) (of : IsOf now at i) (here : slice_get (shown_by now) at ≡ Some s) (mark : s.mark ≡ true) (n : ℕ) (behind_it : (xs ys : List ℕ) → IsNodes now code (xs ++ ys) → last_in none xs ≡ i → n ≡ first_from ys)
+    pub by-smaller : (at : ℕ) (s : Shown) (of : IsOf now at i) (here : slice_get (shown_by now) at ≡ Some s) (mark : passed_by s ≡ true) (n : ℕ) (behind_it : (xs ys : List ℕ) → IsNodes now code (xs ++ ys) → last_in none xs ≡ i → n ≡ first_from ys)
         → to_go now n < to_go now i
-    unfolding going-muted
-    muted-smaller at s of here mark n behind_it =
-        smaller first now now e code old new new stays i i n going (going-muted at s of here mark n behind_it) (omega (arith, ap length rest.1))
+    unfolding going-by
+    by-smaller at s of here mark n behind_it =
+        smaller first now now e code old new new stays i i n going (going-by at s of here mark n behind_it) (omega (arith, ap length rest.1))
+
+    -- its waiter waited for any, and waits no more
+    module _ (at : ℕ) (s : Shown) (of : IsOf now at i) (here : slice_get (shown_by now) at ≡ Some s) (active : passed_by s ≡ false) (kind : s.for_all ≡ false) (after : Kept) (after_sound : IsSound after) (after_places : after.places ≡ now.places)
+        (over : IsOver now after at s) (more : List ℕ) (told_more : more ≡ new ++ s.serial ∷ []) (n : ℕ) (behind_it : (xs ys : List ℕ) → IsNodes after code (xs ++ ys) → last_in none xs ≡ i → n ≡ first_from ys) where
+      same_nodes : now ≡ record now { nodes = after.nodes; heads = after.heads }
+      same_nodes = λ x. record now { nodes = sym over.nodes x; heads = sym over.heads x }
+
+      list_after : IsNodes after code ((going.xs ++ i ∷ []) ++ rest.0)
+      list_after = let P : Kept → Type 0 = λ k. IsNodes k code ((going.xs ++ i ∷ []) ++ rest.0) in subst P same_nodes list_on
+
+      was_of : (a j : ℕ) → IsOf after a j → IsOf now a j
+      was_of a j is = let P : Kept → Type 0 = λ k. IsOf k a j in subst P (sym same_nodes) is
+
+      over_at : slice_get (shown_by after) at ≡ Some (record s { over = true })
+      over_at = ap (λ l. slice_get l at) over.is ∙ slice_get-set_same (shown_by now) at s (record s { over = true }) here
+
+      over_inside : at < length now.waiters.items
+      over_inside = of-within now going.sound i at used-next of
+
+      by_over : (j a : ℕ) (t : Shown) → 1 ≤ times j (going.xs ++ i ∷ []) → IsOf after a j → slice_get (shown_by after) a ≡ Some t → passed_by t ≡ true
+      by_over j a t member is there = ⊎_elim
+          (λ (same : a ≡ at).
+          let read : Some t ≡ Some (record s { over = true }) = sym there ∙ ap (slice_get (shown_by after)) same ∙ over_at in
+          let alike : t ≡ record s { over = true } = cc in
+          ap passed_by alike ∙ or_true s.mark)
+          (λ apart.
+          let old_is = was_of a j is in
+          let there_then : slice_get (shown_by now) a ≡ Some t = sym (ap (λ l. slice_get l a) over.is ∙ slice_get-set_other (shown_by now) at a (record s { over = true }) apart) ∙ there in ⊎_elim
+          (λ (same : j ≡ i). absurd (apart (of-same now i a at (let Q : ℕ → Type 0 = λ x. IsOf now a x in subst Q same old_is) of)))
+          (λ other. going.by j a t (omega (arith, member, times-front j other)) old_is there_then)
+          (cases_eq j i))
+          (cases_eq a at)
+        where
+          or_true : (b : Bool) → (b || true) ≡ true
+          or_true true = refl
+          or_true false = refl
+
+      pub going-over : Going first after e code old more i n
+      going-over = record {
+        sound = after_sound;
+        places = after_places ∙ going.places;
+        is_code = going.is_code;
+        xs = going.xs ++ i ∷ [];
+        ys = rest.0;
+        list = list_after;
+        last = last-next none going.xs i;
+        next = sym (behind_it (going.xs ++ i ∷ []) rest.0 list_after (last-next none going.xs i));
+        by = by_over;
+        added = going.added ++ s.serial ∷ [];
+        behind = told_more ∙ ap (λ l. l ++ s.serial ∷ []) going.behind ∙ assoc old going.added (s.serial ∷ []);
+        passed = passed_more (waits_by first) (waits_by now) e going.added going.passed (waits_by after) s.serial None
+            (ap (λ r. waits_of (shown_by after) r.entries) after_places ∙ waits-over now going.sound e i at tagged of over_inside s here active after kind over)
+            (waits-s now going.sound e i at tagged of over_inside s here active)
+            (ends-over now going.sound e i at tagged of over_inside s here active after kind over);
+      }
+
+      pub over-smaller : to_go after n < to_go now i
+      unfolding going-over
+      over-smaller = smaller first now after e code old new more stays i i n going going-over
+          (omega (arith, ap length rest.1, sum-set (shown_by now) (shown_by after) at s (record s { over = true }) here over.is (λ x. length x.events)))
 
     -- the last node that stays is there yet
-    pub stays-within : (at : ℕ) (s : Shown) → slice_get (shown_by now) at ≡ Some s → s.mark ≡ false → (after : Kept) → IsSound after → IsCutAt now after at → stays ≢ none → stays < length after.nodes.items
+    pub stays-within : (at : ℕ) (s : Shown) → slice_get (shown_by now) at ≡ Some s → passed_by s ≡ false → (after : Kept) → IsSound after → IsCutAt now after at → stays ≢ none → stays < length after.nodes.items
     stays-within at s here active after after_sound cut_at there =
         let left = cut_at.lists code going.xs going.ys (omega (arith, going.is_code, code_of-two e)) going.list (λ j member. by_test j member (has_tag at (by_wait now.nodes.items j)) refl) in
         let P : ℕ → Type 0 = λ n. n < length after.nodes.items in
         subst P going.last (last-within after after_sound code going.xs left.0 left.1 (λ e. there (sym going.last ∙ e)))
       where
         by_test : (j : ℕ) → In j going.xs → (b : Bool) → has_tag at (by_wait now.nodes.items j) ≡ b → b ≡ false
-        by_test j member true is = absurd (true≢false (sym (going.muted j at s member is here) ∙ active))
+        by_test j member true is = absurd (true≢false (sym (going.by j at s member is here) ∙ active))
         by_test j member false is = refl
 
-    -- a wait is struck, and the nodes of its waiter are gone, or one of them
-    module _ (at : ℕ) (s : Shown) (of : IsOf now at i) (here : slice_get (shown_by now) at ≡ Some s) (active : s.mark ≡ false) (after : Kept) (after_sound : IsSound after) (after_places : after.places ≡ now.places)
-        (struck : IsStruck now after i at s) (cut_at : IsCutAt now after at) (more : List ℕ)
+    -- a wait for all is struck, and the node is gone
+    module _ (at : ℕ) (s : Shown) (of : IsOf now at i) (here : slice_get (shown_by now) at ≡ Some s) (active : passed_by s ≡ false) (kind : s.for_all ≡ true) (after : Kept) (after_sound : IsSound after) (after_places : after.places ≡ now.places)
+        (less : IsShorter now after at i s) (cut_at : IsCutAt now after at) (more : List ℕ)
         (told_more : (t : Shown) → slice_get (shown_by after) at ≡ Some t → more ≡ new ++ cond (length t.events == 0) (s.serial ∷ []) [])
         (n : ℕ) (behind_it : (xs ys : List ℕ) → IsNodes after code (xs ++ ys) → last_in none xs ≡ stays → n ≡ first_from ys) where
       others : (j : ℕ) → In j going.xs → has_tag at (by_wait now.nodes.items j) ≡ false
       others j member = by_test (has_tag at (by_wait now.nodes.items j)) refl
         where
           by_test : (b : Bool) → has_tag at (by_wait now.nodes.items j) ≡ b → b ≡ false
-          by_test true is = absurd (true≢false (sym (going.muted j at s member is here) ∙ active))
+          by_test true is = absurd (true≢false (sym (going.by j at s member is here) ∙ active))
           by_test false is = refl
 
       left : (zs : List ℕ) × IsNodes after code (going.xs ++ zs) × (length zs ≤ length going.ys)
       left = cut_at.lists code going.xs going.ys (omega (arith, going.is_code, code_of-two e)) going.list others
 
-      now_at : slice_get (shown_by after) at ≡ Some (record s { events = struck.events })
-      now_at = ap (λ l. slice_get l at) struck.is ∙ slice_get-set_same (shown_by now) at s (record s { events = struck.events }) here
+      now_at : slice_get (shown_by after) at ≡ Some (record s { events = less.events })
+      now_at = ap (λ l. slice_get l at) less.is ∙ slice_get-set_same (shown_by now) at s (record s { events = less.events }) here
 
       now_other : (a : ℕ) → a ≢ at → slice_get (shown_by after) a ≡ slice_get (shown_by now) a
-      now_other a apart = ap (λ l. slice_get l a) struck.is ∙ slice_get-set_other (shown_by now) at a (record s { events = struck.events }) apart
+      now_other a apart = ap (λ l. slice_get l a) less.is ∙ slice_get-set_other (shown_by now) at a (record s { events = less.events }) apart
 
       inside : at < length now.waiters.items
       inside = of-within now going.sound i at used-next of
 
       wait : Option Wait
-      wait = wait-left now going.sound e i at tagged of inside s here after active struck
+      wait = wait-left now going.sound e i at tagged of inside s here active after kind less
 
       pub going-struck : Going first after e code old more stays n
       unfolding wait
@@ -221,23 +281,23 @@ module _ (first now : Kept) (e : Ev) (code : ℕ) (old new : List ℕ) (stays i 
         list = left.1;
         last = going.last;
         next = sym (behind_it going.xs left.0 left.1 going.last);
-        muted = λ j a t member is there.
+        by = λ j a t member is there.
             let old_is : IsOf now a j = sym (cut_at.tags a j (others j member)) ∙ is in
             let apart : a ≢ at = λ same. true≢false (sym old_is ∙ ap (λ x. has_tag x (by_wait now.nodes.items j)) same ∙ others j member) in
-            going.muted j a t member old_is (sym (now_other a apart) ∙ there);
+            going.by j a t member old_is (sym (now_other a apart) ∙ there);
         added = going.added ++ cond (is_none wait) (s.serial ∷ []) [];
-        behind = told_more (record s { events = struck.events }) now_at
-            ∙ ap (λ b. new ++ cond b (s.serial ∷ []) []) (sym (none-left-is now going.sound e i at tagged of inside s here after active struck))
+        behind = told_more (record s { events = less.events }) now_at
+            ∙ ap (λ b. new ++ cond b (s.serial ∷ []) []) (sym (none-left-is now going.sound e i at tagged of inside s here active after kind less))
             ∙ ap (λ l. l ++ cond (is_none wait) (s.serial ∷ []) []) going.behind
             ∙ assoc old going.added (cond (is_none wait) (s.serial ∷ []) []);
         passed = passed_more (waits_by first) (waits_by now) e going.added going.passed (waits_by after) s.serial wait
-            (ap (λ r. waits_of (shown_by after) r.entries) after_places ∙ waits-struck now going.sound e i at tagged of inside s here after active struck)
-            (waits-s now going.sound e i at tagged of inside s here)
-            (ends-same now going.sound e i at tagged of inside s here after active struck);
+            (ap (λ r. waits_of (shown_by after) r.entries) after_places ∙ waits-struck now going.sound e i at tagged of inside s here active after kind less)
+            (waits-s now going.sound e i at tagged of inside s here active)
+            (ends-same now going.sound e i at tagged of inside s here active after kind less);
       }
 
       pub fewer-used : sum_by (λ x. length x.events) (shown_by after) < sum_by (λ x. length x.events) (shown_by now)
-      fewer-used = omega (arith, sum-set (shown_by now) (shown_by after) at s (record s { events = struck.events }) here struck.is (λ x. length x.events), struck.fewer)
+      fewer-used = omega (arith, sum-set (shown_by now) (shown_by after) at s (record s { events = less.events }) here less.is (λ x. length x.events), less.one_less)
 
       pub struck-smaller : to_go after n < to_go now i
       unfolding going-struck
@@ -270,7 +330,8 @@ module _ (first now : Kept) (e : Ev) (code : ℕ) (old new : List ℕ) (stays i 
           let told_s : told (shown_by now) now.places.entries p ≡ Some s = ap (shown_at (shown_by now)) found ∙ one.1 in
           let w = waiter-of now.nodes.items now.waiters.items at s one.1 in
           let row = going.sound.0.rows at w.0 w.1 in
-          let named : has e s.events ≡ true = sym (named-listed e s.for_all s.events) ∙ sym (ap (named_by e) (get-waits (shown_by now) now.places.entries p ∙ ap wait_of told_s)) ∙ is in
+          let still = named-unless e s.over (listed s.for_all s.events) (sym (ap (named_by e) (get-waits (shown_by now) now.places.entries p ∙ ap wait_of told_s)) ∙ is) in
+          let named : has e s.events ≡ true = sym (named-listed e s.for_all s.events) ∙ still.1 in
           let in_row : has e (events_at (by_event now.nodes.items) row.0) ≡ true = sym (ap (has e) (ap (λ (x : Shown). x.events) w.2 ∙ events-row now.nodes.items at w.0.first row.0 going.sound.0.few_nodes row.1)) ∙ named in
           let node = has-node (by_event now.nodes.items) e row.0
           (λ j member.
@@ -281,7 +342,14 @@ module _ (first now : Kept) (e : Ev) (code : ℕ) (old new : List ℕ) (stays i 
           let P : List ℕ → Type 0 = λ l. In node.0 l in
           let stays_there : In node.0 going.xs = subst P (ap (λ l. going.xs ++ l) none-left ∙ append-nil going.xs) listed_there in
           contains-marks (shown_by now) now.places.entries p ∙ ap mark_of told_s
-          ∙ going.muted node.0 at s stays_there (lives (by_wait now.nodes.items) at w.0.first row.0 row.1 node.0 node.1) one.1
+          ∙ marked s still.0 (going.by node.0 at s stays_there (lives (by_wait now.nodes.items) at w.0.first row.0 row.1 node.0 node.1) one.1)
+        where
+          marked : (x : Shown) → x.over ≡ false → passed_by x ≡ true → x.mark ≡ true
+          marked x still by = by_mark x.mark (sym (ap (λ b. x.mark || b) still) ∙ by)
+            where
+              by_mark : (b : Bool) → (b || false) ≡ true → b ≡ true
+              by_mark true is = refl
+              by_mark false is = is
 
 -- before the event has gone over a node
 pub going-none : (k : Kept) → IsSound k → (e : Ev) (code : ℕ) (old : List ℕ) (i : ℕ) → code ≡ code_of e → i ≡ first_in k.heads.events k.heads.free code → Going k k e code old old none i
@@ -296,7 +364,7 @@ going-none k sound e code old i is_code begins =
       list = all.1;
       last = refl;
       next = sym (starts (by_event k.nodes.items) all.0 none (first_in k.heads.events k.heads.free code) all.1.goes) ∙ sym begins;
-      muted = λ j at s member is here. absurd (omega arith);
+      by = λ j at s member is here. absurd (omega arith);
       added = [];
       behind = sym (append-nil old);
       passed = passed_none (waits_by k) e;
@@ -310,28 +378,54 @@ node-owner k sound i used =
     let w = get-inside k.waiters.items m.0.tag (of-within k sound i m.0.tag used of) in
     (m.0.tag, shown_of k.nodes.items w.0, of, shown-at k.nodes.items k.waiters.items m.0.tag w.0 w.1)
 
-pub step-muted : (first now after : Kept) (e : Ev) (code : ℕ) (old new more : List ℕ) (stays i stands n : ℕ) (going : Going first now e code old new stays i) (some : i ≢ none)
-    → (at : ℕ) (s : Shown) → IsOf now at i → slice_get (shown_by now) at ≡ Some s → s.mark ≡ true → after ≡ now → more ≡ new → stands ≡ i
-    → ((xs ys : List ℕ) → IsNodes after code (xs ++ ys) → last_in none xs ≡ stands → n ≡ first_from ys) → Going first after e code old more stands n × (to_go after n < to_go now i)
-step-muted first now after e code old new more stays i stands n going some at s of here mark kept_is out_is stands_is behind_it =
-    let K : Kept → Type 0 = λ k. (xs ys : List ℕ) → IsNodes k code (xs ++ ys) → last_in none xs ≡ i → n ≡ first_from ys in
-    let S : ℕ → Type 0 = λ m. (xs ys : List ℕ) → IsNodes after code (xs ++ ys) → last_in none xs ≡ m → n ≡ first_from ys in
-    let behind : (xs ys : List ℕ) → IsNodes now code (xs ++ ys) → last_in none xs ≡ i → n ≡ first_from ys = subst K kept_is (subst S stands_is behind_it) in
-    let P : Kept → Type 0 = λ k. Going first k e code old more stands n × (to_go k n < to_go now i) in
-    let Q : List ℕ → Type 0 = λ l. Going first now e code old l stands n × (to_go now n < to_go now i) in
-    let R : ℕ → Type 0 = λ m. Going first now e code old new m n × (to_go now n < to_go now i) in
-    subst P (sym kept_is) (subst Q (sym out_is) (subst R (sym stands_is)
-    (going-muted first now e code old new stays i going some at s of here mark n behind, muted-smaller first now e code old new stays i going some at s of here mark n behind)))
+module _ (first now after : Kept) (e : Ev) (code : ℕ) (old new more : List ℕ) (stays i stands n : ℕ) (going : Going first now e code old new stays i) (some : i ≢ none)
+    (at : ℕ) (s : Shown) (of : IsOf now at i) (here : slice_get (shown_by now) at ≡ Some s)
+    (behind_it : (xs ys : List ℕ) → IsNodes after code (xs ++ ys) → last_in none xs ≡ stands → n ≡ first_from ys) where
+  behind_last : (l : ℕ) → stands ≡ l → (xs ys : List ℕ) → IsNodes after code (xs ++ ys) → last_in none xs ≡ l → n ≡ first_from ys
+  behind_last l is = let P : ℕ → Type 0 = λ m. (xs ys : List ℕ) → IsNodes after code (xs ++ ys) → last_in none xs ≡ m → n ≡ first_from ys in subst P is behind_it
 
-pub step-struck : (first now after : Kept) (e : Ev) (code : ℕ) (old new more : List ℕ) (stays i stands n : ℕ) (going : Going first now e code old new stays i) (some : i ≢ none)
-    → (at : ℕ) (s : Shown) → IsOf now at i → slice_get (shown_by now) at ≡ Some s → s.mark ≡ false → IsSound after → after.places ≡ now.places → IsStruck now after i at s → IsCutAt now after at
-    → ((t : Shown) → slice_get (shown_by after) at ≡ Some t → more ≡ new ++ cond (length t.events == 0) (s.serial ∷ []) []) → stands ≡ stays
-    → ((xs ys : List ℕ) → IsNodes after code (xs ++ ys) → last_in none xs ≡ stands → n ≡ first_from ys) → Going first after e code old more stands n × (to_go after n < to_go now i)
-step-struck first now after e code old new more stays i stands n going some at s of here active after_sound after_places struck cut_at told_more stands_is behind_it =
-    let S : ℕ → Type 0 = λ m. (xs ys : List ℕ) → IsNodes after code (xs ++ ys) → last_in none xs ≡ m → n ≡ first_from ys in
-    let behind : (xs ys : List ℕ) → IsNodes after code (xs ++ ys) → last_in none xs ≡ stays → n ≡ first_from ys = subst S stands_is behind_it in
-    let R : ℕ → Type 0 = λ m. Going first after e code old more m n × (to_go after n < to_go now i) in
-    subst R (sym stands_is) (
-      going-struck first now e code old new stays i going some at s of here active after after_sound after_places struck cut_at more told_more n behind,
-      struck-smaller first now e code old new stays i going some at s of here active after after_sound after_places struck cut_at more told_more n behind,
-    )
+  step-by : passed_by s ≡ true → after ≡ now → more ≡ new → stands ≡ i → Going first after e code old more stands n × (to_go after n < to_go now i)
+  step-by mark kept_is out_is stands_is =
+      let K : Kept → Type 0 = λ k. (xs ys : List ℕ) → IsNodes k code (xs ++ ys) → last_in none xs ≡ i → n ≡ first_from ys in
+      let behind : (xs ys : List ℕ) → IsNodes now code (xs ++ ys) → last_in none xs ≡ i → n ≡ first_from ys = subst K kept_is (behind_last i stands_is) in
+      let P : Kept → Type 0 = λ k. Going first k e code old more stands n × (to_go k n < to_go now i) in
+      let Q : List ℕ → Type 0 = λ l. Going first now e code old l stands n × (to_go now n < to_go now i) in
+      let R : ℕ → Type 0 = λ m. Going first now e code old new m n × (to_go now n < to_go now i) in
+      subst P (sym kept_is) (subst Q (sym out_is) (subst R (sym stands_is)
+      (going-by first now e code old new stays i going some at s of here mark n behind, by-smaller first now e code old new stays i going some at s of here mark n behind)))
+
+  -- the node stays
+  pub step-stays : (passed_by s || not s.for_all) ≡ true → IsSound after → after.places ≡ now.places → (passed_by s ≡ true → (after ≡ now) × (more ≡ new))
+      → (passed_by s ≡ false → s.for_all ≡ false → IsOver now after at s × (more ≡ new ++ s.serial ∷ [])) → stands ≡ i → Going first after e code old more stands n × (to_go after n < to_go now i)
+  step-stays stay after_sound after_places by ends stands_is = by_test (passed_by s) refl
+    where
+      any_kind : (b : Bool) → (false || not b) ≡ true → b ≡ false
+      any_kind true is = absurd (true≢false (sym is))
+      any_kind false is = refl
+
+      by_test : (b : Bool) → passed_by s ≡ b → Going first after e code old more stands n × (to_go after n < to_go now i)
+      by_test true mark = step-by mark (by mark).0 (by mark).1 stands_is
+      by_test false active =
+          let kind : s.for_all ≡ false = any_kind s.for_all (sym (ap (λ b. b || not s.for_all) active) ∙ stay) in
+          let over = ends active kind in
+          let R : ℕ → Type 0 = λ m. Going first after e code old more m n × (to_go after n < to_go now i) in
+          subst R (sym stands_is) (
+            going-over first now e code old new stays i going some at s of here active kind after after_sound after_places over.0 more over.1 n (behind_last i stands_is),
+            over-smaller first now e code old new stays i going some at s of here active kind after after_sound after_places over.0 more over.1 n (behind_last i stands_is),
+          )
+
+  -- the node goes
+  pub step-struck : (passed_by s || not s.for_all) ≡ false → IsSound after → after.places ≡ now.places → IsShorter now after at i s × IsCutAt now after at
+      → ((t : Shown) → slice_get (shown_by after) at ≡ Some t → more ≡ new ++ cond (length t.events == 0) (s.serial ∷ []) []) → stands ≡ stays → Going first after e code old more stands n × (to_go after n < to_go now i)
+  step-struck goes after_sound after_places less told_more stands_is =
+      let parts = neither (passed_by s) (not s.for_all) goes in
+      let kind = all_kind s.for_all parts.1 in
+      let R : ℕ → Type 0 = λ m. Going first after e code old more m n × (to_go after n < to_go now i) in
+      subst R (sym stands_is) (
+        going-struck first now e code old new stays i going some at s of here parts.0 kind after after_sound after_places less.0 less.1 more told_more n (behind_last stays stands_is),
+        struck-smaller first now e code old new stays i going some at s of here parts.0 kind after after_sound after_places less.0 less.1 more told_more n (behind_last stays stands_is),
+      )
+    where
+      all_kind : (b : Bool) → not b ≡ false → b ≡ true
+      all_kind true is = refl
+      all_kind false is = absurd (true≢false is)

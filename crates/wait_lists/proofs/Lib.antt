@@ -24,6 +24,7 @@ pub mod Listing
 pub mod Seated
 pub mod Passing
 pub mod Struck
+pub mod Reading
 pub mod Going
 pub mod Grown
 pub mod Risen

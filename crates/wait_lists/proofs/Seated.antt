@@ -12,7 +12,7 @@ use Rattle.numbered_slots.proofs.MapLemmas.{ties_itself, ties_no_other}
 use Rattle.room_map.specs.Entries.{without}
 use Rattle.wait_lists.specs.declared.layout.Kept.{Kept}
 use Rattle.wait_lists.specs.Waits.{without_instance, with_room}
-use Rattle.wait_lists.specs.Shown.{Shown, listed, wait_of, mark_of, room_of, shown_at, waits_of}
+use Rattle.wait_lists.specs.Shown.{Shown, listed, unless, wait_of, mark_of, room_of, shown_at, waits_of}
 use Rattle.wait_lists.specs.Layout.{IsSound, Seats, serial_of, shown_by}
 use Rattle.wait_lists.proofs.Counted.{times, times-same, times-other}
 use Rattle.wait_lists.proofs.Places.{slice_get-set_same, slice_get-set_other}
@@ -170,11 +170,11 @@ module _ (es fs : List (ℕ × ℕ)) (ss tt : List Shown) (vacant rest : List �
     apart = λ j. omega (arith, rest-of j, seats.apart j);
   }
 
-  pub waits-taken : (items : ℕ) → new.room ≡ items → new.events ≡ [] → new.mark ≡ false → new.for_all ≡ false → waits_of tt fs ≡ with_room (waits_of ss es) p items
-  waits-taken items room events mark kind = with_room-told ss tt es fs p
+  pub waits-taken : (items : ℕ) → new.room ≡ items → new.events ≡ [] → new.mark ≡ false → new.for_all ≡ false → new.over ≡ false → waits_of tt fs ≡ with_room (waits_of ss es) p items
+  waits-taken items room events mark kind over = with_room-told ss tt es fs p
       (λ q apart. ap (shown_at tt) (find_q q apart) ∙ by_place q (maps.find nat_cmp q es) refl) items
       (ap room_of told_new ∙ ap Some room)
-      (ap wait_of told_new ∙ (λ i. listed (kind i) (events i)) ∙ sym (ap wait_of told_old))
+      (ap wait_of told_new ∙ (λ i. unless (over i) (listed (kind i) (events i))) ∙ sym (ap wait_of told_old))
       (ap mark_of told_new ∙ mark ∙ sym (ap mark_of told_old))
     where
       by_place : (q : ℕ) → (o : Option ℕ) → maps.find nat_cmp q es ≡ o → shown_at tt o ≡ shown_at ss o

@@ -11,10 +11,10 @@ use Rattle.event_core.specs.Ev.{same_event}
 use Rattle.wait_lists.specs.declared.waiter.Waiter.{Waiter}
 use Rattle.wait_lists.specs.declared.layout.Kept.{Kept}
 use Rattle.wait_lists.specs.Waits.{Wait, AnyOf, AllOf, has, without, any_of, all_of, after, named_by, waits_for, wait_after, with_wait}
-use Rattle.wait_lists.specs.Shown.{Shown, listed, wait_of, mark_of, told, waits_of}
+use Rattle.wait_lists.specs.Shown.{Shown, listed, unless, wait_of, passed_by, mark_of, told, waits_of}
 use Rattle.wait_lists.specs.Chains.{none, Link, Links, has_tag, next_of, Goes}
 use Rattle.wait_lists.specs.Nodes.{code_of, by_event, by_wait, first_in, event_at, events_at, shown_of}
-use Rattle.wait_lists.specs.Layout.{IsSound, IsOf, IsUsed, IsNodes, IsStruck, last_in, first_from, shown_by, waits_by}
+use Rattle.wait_lists.specs.Layout.{IsSound, IsOf, IsUsed, IsNodes, IsShorter, IsOver, last_in, first_from, shown_by, waits_by}
 use Rattle.wait_lists.proofs.Counted.{times-same, times-other}
 use Rattle.wait_lists.proofs.Chains.{In, in_list, lives}
 use Rattle.wait_lists.proofs.NodeLemmas.{outside-event, event-within}
@@ -162,11 +162,19 @@ after-all e (x ∷ xs) = by_test (has e (x ∷ xs)) refl
     by_test true named = refl
     by_test false apart = sym (ap all_of (without-absent e (x ∷ xs) apart))
 
-pub none-listed : (for_all : Bool) (events : List Ev) → is_none (listed for_all events) ≡ (length events == 0)
-none-listed true [] = refl
-none-listed false [] = refl
-none-listed true (x ∷ xs) = sym (ne_eqb (length (x ∷ xs)) 0 (λ e. absurd (omega arith)))
-none-listed false (x ∷ xs) = sym (ne_eqb (length (x ∷ xs)) 0 (λ e. absurd (omega arith)))
+none-listed : (events : List Ev) → is_none (all_of events) ≡ (length events == 0)
+none-listed [] = refl
+none-listed (x ∷ xs) = sym (ne_eqb (length (x ∷ xs)) 0 (λ e. absurd (omega arith)))
+
+-- neither of two is true
+pub neither : (a b : Bool) → (a || b) ≡ false → (a ≡ false) × (b ≡ false)
+neither true b is = absurd (true≢false is)
+neither false b is = (refl, is)
+
+-- what names an event is not over
+pub named-unless : (e : Ev) (over : Bool) (wait : Option Wait) → named_by e (unless over wait) ≡ true → (over ≡ false) × (named_by e wait ≡ true)
+named-unless e true wait is = absurd (true≢false (sym is))
+named-unless e false wait is = (refl, is)
 
 pub named-listed : (e : Ev) (for_all : Bool) (events : List Ev) → named_by e (listed for_all events) ≡ has e events
 named-listed e true [] = refl
@@ -200,35 +208,51 @@ module _ (k : Kept) (sound : IsSound k) (e : Ev) (i at : ℕ) (tagged : has_tag 
       ap (λ (x : Shown). has e x.events) w.2 ∙ ap (has e) (events-row k.nodes.items at w.0.first row.0 sound.0.few_nodes row.1)
       ∙ has-at (by_event k.nodes.items) e i row.0 tagged (in_list (by_wait k.nodes.items) at w.0.first row.0 row.1 i of)
 
-  get-s : maps.get (waits_by k).waits s.serial ≡ listed s.for_all s.events
+  get-s : maps.get (waits_by k).waits s.serial ≡ unless s.over (listed s.for_all s.events)
   get-s = get-waits (shown_by k) k.places.entries s.serial ∙ ap wait_of told-s
-
-  pub waits-s : waits_for (waits_by k) s.serial e ≡ true
-  waits-s = ap (named_by e) get-s ∙ named-listed e s.for_all s.events ∙ has-s
 
   pub muted-s : sets.contains (waits_by k).muted s.serial ≡ s.mark
   muted-s = contains-marks (shown_by k) k.places.entries s.serial ∙ ap mark_of told-s
 
-  module _ (new : Kept) (active : s.mark ≡ false) (struck : IsStruck k new i at s) where
-    pub wait-left : Option Wait
-    wait-left = listed s.for_all struck.events
+  -- one that events do not pass by
+  module _ (active : passed_by s ≡ false) where
+    still : s.over ≡ false
+    still = (neither s.mark s.over active).1
 
-    pub waits-struck : waits_of (shown_by new) k.places.entries ≡ with_wait (waits_by k) s.serial wait-left
-    unfolding wait-left
-    waits-struck = ap (λ l. waits_of l k.places.entries) struck.is
-        ∙ changed-wait k.places.entries (shown_by k) sound.0.seats.placed s.serial at s (record s { events = struck.events }) own-place here s.for_all struck.events refl
+    waits-is : maps.get (waits_by k).waits s.serial ≡ listed s.for_all s.events
+    waits-is = get-s ∙ ap (λ b. unless b (listed s.for_all s.events)) still
 
-    pub ends-same : after (sets.contains (waits_by k).muted s.serial) e wait-left ≡ wait_after (waits_by k) s.serial e
-    unfolding wait-left
-    ends-same = (λ x. after (mark_is x) e (listed s.for_all struck.events)) ∙ by_kind s.for_all refl ∙ sym (λ x. after (mark_is x) e (get-s x))
-      where
-        mark_is : sets.contains (waits_by k).muted s.serial ≡ false
-        mark_is = muted-s ∙ active
+    unmarked : sets.contains (waits_by k).muted s.serial ≡ false
+    unmarked = muted-s ∙ (neither s.mark s.over active).0
 
-        by_kind : (b : Bool) → s.for_all ≡ b → after false e (listed s.for_all struck.events) ≡ after false e (listed s.for_all s.events)
-        by_kind true kind = ap (λ b. after false e (listed b struck.events)) kind ∙ after-all e struck.events ∙ ap all_of (struck.all kind e tagged) ∙ sym (after-all e s.events) ∙ sym (ap (λ b. after false e (listed b s.events)) kind)
-        by_kind false kind = (λ x. after false e (listed (kind x) (struck.any kind x))) ∙ sym (ap (λ b. after false e (listed b s.events)) kind ∙ after-any e s.events has-s)
+    pub waits-s : waits_for (waits_by k) s.serial e ≡ true
+    waits-s = ap (named_by e) waits-is ∙ named-listed e s.for_all s.events ∙ has-s
 
-    pub none-left-is : is_none wait-left ≡ (length struck.events == 0)
-    unfolding wait-left
-    none-left-is = none-listed s.for_all struck.events
+    -- of a wait for all the event is struck
+    module _ (new : Kept) (kind : s.for_all ≡ true) (less : IsShorter k new at i s) where
+      pub wait-left : Option Wait
+      wait-left = listed true less.events
+
+      pub waits-struck : waits_of (shown_by new) k.places.entries ≡ with_wait (waits_by k) s.serial wait-left
+      unfolding wait-left
+      waits-struck = ap (λ l. waits_of l k.places.entries) less.is
+          ∙ changed-wait k.places.entries (shown_by k) sound.0.seats.placed s.serial at s (record s { events = less.events }) own-place here s.for_all less.events s.over refl
+          ∙ (λ x. with_wait (waits_by k) s.serial (unless (still x) (listed (kind x) less.events)))
+
+      pub ends-same : after (sets.contains (waits_by k).muted s.serial) e wait-left ≡ wait_after (waits_by k) s.serial e
+      unfolding wait-left
+      ends-same = (λ x. after (unmarked x) e (all_of less.events)) ∙ after-all e less.events ∙ ap all_of (less.left e tagged) ∙ sym (after-all e s.events)
+          ∙ sym ((λ x. after (unmarked x) e (waits-is x)) ∙ ap (λ b. after false e (listed b s.events)) kind)
+
+      pub none-left-is : is_none wait-left ≡ (length less.events == 0)
+      unfolding wait-left
+      none-left-is = none-listed less.events
+
+    -- a wait for any is over
+    module _ (new : Kept) (kind : s.for_all ≡ false) (over : IsOver k new at s) where
+      pub waits-over : waits_of (shown_by new) k.places.entries ≡ with_wait (waits_by k) s.serial None
+      waits-over = ap (λ l. waits_of l k.places.entries) over.is
+          ∙ changed-wait k.places.entries (shown_by k) sound.0.seats.placed s.serial at s (record s { over = true }) own-place here s.for_all s.events true refl
+
+      pub ends-over : after (sets.contains (waits_by k).muted s.serial) e None ≡ wait_after (waits_by k) s.serial e
+      ends-over = (λ x. after (unmarked x) e None) ∙ sym ((λ x. after (unmarked x) e (waits-is x)) ∙ ap (λ b. after false e (listed b s.events)) kind ∙ after-any e s.events has-s)

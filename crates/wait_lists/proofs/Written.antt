@@ -1,14 +1,17 @@
 -- A waiter is marked, or waits for all or for any, and its list stays.
-use Rattle.std.proofs.Common.{◌≡◌, ℕ, ◌<◌, ◌≤◌, List, length, set, Some, refl, sym, ap, ◌∙◌, arith}
+use Rattle.std.proofs.Common.{◌≡◌, ℕ, ◌<◌, ◌≤◌, Bool, List, length, set, Some, refl, sym, ap, ◌∙◌, arith}
 use Rattle.std.specs.Prelude.{slice_get}
 use Rattle.std.specs.Ordering.{nat_cmp}
 use Rattle.std.specs.FinMap as maps
+use Rattle.std.proofs.lemmas.List.{length-set}
 use Rattle.wait_lists.specs.declared.heads.Firsts.{Firsts}
 use Rattle.wait_lists.specs.declared.nodes.Node.{Node}
 use Rattle.wait_lists.specs.declared.waiter.Waiter.{Waiter}
+use Rattle.wait_lists.specs.declared.layout.Kept.{Kept}
+use Rattle.wait_lists.specs.Shown.{Shown}
 use Rattle.wait_lists.specs.Nodes.{events_from, shown_of, shown}
-use Rattle.wait_lists.specs.Layout.{Fit}
-use Rattle.wait_lists.proofs.Refit.{shown-at, seats-set}
+use Rattle.wait_lists.specs.Layout.{Fit, IsSound, shown_by}
+use Rattle.wait_lists.proofs.Refit.{get-inside, shown-at, seats-set}
 use Rattle.wait_lists.proofs.Rewritten.{shown-set, refit-waiter}
 
 pub fit-kind : (es : List (ℕ × ℕ)) (ws vs : List Waiter) (vacant : List ℕ) (nodes : List Node) (heads : Firsts) (fr total : ℕ) → Fit es ws vacant nodes heads fr total
@@ -25,3 +28,21 @@ fit-kind es ws vs vacant nodes heads fr total fit at own new owner is first seri
 
 pub shown-kind : (ws vs : List Waiter) (nodes : List Node) (at : ℕ) (new : Waiter) → vs ≡ set ws at new → shown nodes vs ≡ set (shown nodes ws) at (shown_of nodes new)
 shown-kind ws vs nodes at new is = ap (shown nodes) is ∙ shown-set nodes ws at new
+
+-- the wait of a waiter is over, or is not over any more
+module _ (k : Kept) (sound : IsSound k) (at : ℕ) (inside : at < length k.waiters.items) (over : Bool) (vs : List Waiter)
+    (is : (w : Waiter) → slice_get k.waiters.items at ≡ Some w → vs ≡ set k.waiters.items at (record w { is_over = over })) where
+  own : (w : Waiter) × (slice_get k.waiters.items at ≡ Some w)
+  own = get-inside k.waiters.items at inside
+
+  pub over-fit : Fit k.places.entries vs k.vacant.items k.nodes.items k.heads.events k.heads.free k.total
+  over-fit = fit-kind k.places.entries k.waiters.items vs k.vacant.items k.nodes.items k.heads.events k.heads.free k.total sound.0 at own.0 (record own.0 { is_over = over }) own.1 (is own.0 own.1) refl refl refl
+
+  pub over-few : length vs ≡ length k.waiters.items
+  over-few = ap length (is own.0 own.1) ∙ length-set k.waiters.items at (record own.0 { is_over = over })
+
+  pub over-shown : (s : Shown) → slice_get (shown_by k) at ≡ Some s → shown k.nodes.items vs ≡ set (shown_by k) at (record s { over = over })
+  over-shown s here =
+      let same : Some (shown_of k.nodes.items own.0) ≡ Some s = sym (shown-at k.nodes.items k.waiters.items at own.0 own.1) ∙ here in
+      let alike : shown_of k.nodes.items own.0 ≡ s = cc in
+      shown-kind k.waiters.items vs k.nodes.items at (record own.0 { is_over = over }) (is own.0 own.1) ∙ ap (λ (y : Shown). set (shown_by k) at (record y { over = over })) alike

@@ -86,14 +86,11 @@ pub record IsCutAt (old new : Kept) (at : ℕ) : Type 0 where
       → (zs : List ℕ) × IsNodes new c (xs ++ zs) × (length zs ≤ length ys)
   pub tags : (a j : ℕ) → has_tag at (by_wait old.nodes.items j) ≡ false → has_tag a (by_wait new.nodes.items j) ≡ has_tag a (by_wait old.nodes.items j)
 
--- an event struck the wait of the waiter at this place, by the node i
-pub record IsStruck (old new : Kept) (i at : ℕ) (s : Shown) : Type 0 where
-  pub events : List Ev
-  pub is : shown_by new ≡ slice_set (shown_by old) at (record s { events = events })
-  pub fewer : length events + 1 ≤ length s.events
-  -- of a wait for any nothing is left, and of a wait for all the other events
-  pub any : s.for_all ≡ false → events ≡ []
-  pub all : s.for_all ≡ true → (e : Ev) → has_tag (code_of e) (by_event old.nodes.items i) ≡ true → without e events ≡ without e s.events
+-- the wait of the waiter at this place is over, and all nodes stand as they stood
+pub record IsOver (old new : Kept) (at : ℕ) (s : Shown) : Type 0 where
+  pub nodes : new.nodes ≡ old.nodes
+  pub heads : new.heads ≡ old.heads
+  pub is : shown_by new ≡ slice_set (shown_by old) at (record s { over = true })
 
 -- the last of these nodes, or d where there is none
 abbrev pub last_in : ℕ → List ℕ → ℕ

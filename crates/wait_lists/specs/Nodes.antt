@@ -106,7 +106,7 @@ abbrev pub events_from : List Node → ℕ → List Ev
 events_from nodes first = events_at (by_event nodes) (walk (length nodes) (by_wait nodes) first)
 
 abbrev pub shown_of : List Node → Waiter → Shown
-shown_of nodes w = record { serial = w.serial; for_all = w.for_all; events = events_from nodes w.first; mark = w.is_muted; room = w.room }
+shown_of nodes w = record { serial = w.serial; for_all = w.for_all; events = events_from nodes w.first; over = w.is_over; mark = w.is_muted; room = w.room }
 
 -- what is kept of the instances
 abbrev pub shown : List Node → List Waiter → List Shown

@@ -1,14 +1,14 @@
 //! An event goes along its list.
-ghost use Rattle.std.specs.Prelude.{◌≡◌, ◌≢◌, ℕ, ◌+◌, ◌<◌, ◌≤◌, ◌++◌, ◌∷◌, [], ◌==◌, true, false, Some, List, length, drop, slice_get, vec_len, vec_capacity, if◌then◌else◌};
+ghost use Rattle.std.specs.Prelude.{◌≡◌, ◌≢◌, ℕ, ◌+◌, ◌<◌, ◌≤◌, ◌++◌, ◌∷◌, [], ◌==◌, true, false, ◌||◌, not, Some, List, length, drop, slice_get, vec_len, vec_capacity, if◌then◌else◌};
 ghost use Rattle.std.specs.List.Sorted.{IsStrictlyIncreasing, IsPermutation, IsSorted};
 ghost use Rattle.std.specs.Ordering.{nat_cmp};
 ghost use Rattle.std.specs.FinMap as map;
 ghost use Rattle.wait_lists.specs.Waits.{waits_naming, wait_after, is_met_by, AddsEach};
-ghost use Rattle.wait_lists.specs.Shown.{Shown};
+ghost use Rattle.wait_lists.specs.Shown.{Shown, passed_by};
 ghost use Rattle.wait_lists.specs.Chains.{none};
-ghost use Rattle.wait_lists.specs.Layout.{IsSound, IsUsed, IsOf, IsNodes, IsCutAt, IsStruck, last_in, first_from, shown_by, waits_by};
+ghost use Rattle.wait_lists.specs.Layout.{IsSound, IsUsed, IsOf, IsNodes, IsShorter, IsCutAt, IsOver, last_in, first_from, shown_by, waits_by};
 
-use crate::layout::{Kept, clear_wait, drop_node, event_code, first_node};
+use crate::layout::{Kept, drop_node, end_at, event_code, first_node};
 use crate::nodes::NONE;
 use crate::waiter::Waiter;
 use event_core::Ev;
@@ -30,53 +30,79 @@ fn waiter_at(kept: &Kept, at: u32) -> Waiter
     kept.waiters[at as usize]
 }
 
-// Takes from the wait of the waiter at this place what its event strikes: the node alone where it waits for all, and else all.
+// Whether events pass the waiter by: it is muted, or its wait is over.
 #[inline(always)]
-fn strike_wait(kept: &mut Kept, i: u32, at: u32, for_all: bool)
+fn is_passed(waiter: Waiter) -> bool
+    ensures { result ≡ (waiter.is_muted || waiter.is_over) }
+{
+    waiter.is_muted | waiter.is_over
+}
+
+// Takes the node from the wait for all of the waiter at this place, and adds the serial if it was the last.
+#[inline(never)]
+fn strike_one(kept: &mut Kept, i: u32, at: u32, serial: u32, out: &mut Vec<u32>)
     requires sound { IsSound kept.old }
     requires used { IsUsed kept.old i }
     requires of { IsOf kept.old at i }
     requires inside { at < length kept.old.waiters.items }
-    requires kind { (s : Shown) → slice_get (shown_by kept.old) at ≡ Some s → s.for_all ≡ for_all }
+    requires room { vec_len out.old < vec_capacity out.old }
     ensures sound { IsSound kept.new }
     ensures places { kept.new.places ≡ kept.old.places }
-    ensures len { length kept.new.waiters.items ≡ length kept.old.waiters.items }
-    ensures struck { (s : Shown) → slice_get (shown_by kept.old) at ≡ Some s → IsStruck kept.old kept.new i at s }
+    ensures shorter { (s : Shown) → slice_get (shown_by kept.old) at ≡ Some s → IsShorter kept.old kept.new at i s }
     ensures cut { IsCutAt kept.old kept.new at }
+    ensures told { (t : Shown) → slice_get (shown_by kept.new) at ≡ Some t → out.new.items ≡ out.old.items ++ (if length t.events == 0 then serial ∷ [] else []) }
+    ensures capacity { vec_capacity out.new ≡ vec_capacity out.old }
 {
-    if for_all {
-        drop_node(kept, i);
-    } else {
-        clear_wait(kept, at);
+    drop_node(kept, i);
+    if first_node(kept, at) == NONE {
+        out.push_reserved(serial);
     }
 }
 
+// Ends the wait for any of the waiter at this place, and adds the serial.
+#[inline(always)]
+fn strike_any(kept: &mut Kept, at: u32, serial: u32, out: &mut Vec<u32>)
+    requires sound { IsSound kept.old }
+    requires inside { at < length kept.old.waiters.items }
+    requires room { vec_len out.old < vec_capacity out.old }
+    ensures sound { IsSound kept.new }
+    ensures places { kept.new.places ≡ kept.old.places }
+    ensures over { (s : Shown) → slice_get (shown_by kept.old) at ≡ Some s → IsOver kept.old kept.new at s }
+    ensures told { out.new.items ≡ out.old.items ++ serial ∷ [] }
+    ensures capacity { vec_capacity out.new ≡ vec_capacity out.old }
+{
+    end_at(kept, at);
+    out.push_reserved(serial);
+}
+
 // Takes from the wait in which the node stands what its event strikes, and adds the serial if that was all. It answers whether
-// the node stays, as that of a waiter that is muted does.
+// the node stays: it goes where its waiter waits for all.
 #[inline(always)]
 fn strike(kept: &mut Kept, i: u32, out: &mut Vec<u32>) -> bool
     requires sound { IsSound kept.old }
     requires used { IsUsed kept.old i }
-    requires room { (at : ℕ) (s : Shown) → IsOf kept.old at i → slice_get (shown_by kept.old) at ≡ Some s → s.mark ≡ false → vec_len out.old < vec_capacity out.old }
+    requires room { (at : ℕ) (s : Shown) → IsOf kept.old at i → slice_get (shown_by kept.old) at ≡ Some s → passed_by s ≡ false → vec_len out.old < vec_capacity out.old }
     ensures sound { IsSound kept.new }
     ensures places { kept.new.places ≡ kept.old.places }
-    ensures stays { (at : ℕ) (s : Shown) → IsOf kept.old at i → slice_get (shown_by kept.old) at ≡ Some s → result ≡ s.mark }
-    ensures muted { result ≡ true → (kept.new ≡ kept.old) × (out.new.items ≡ out.old.items) }
-    ensures struck { (at : ℕ) (s : Shown) → IsOf kept.old at i → slice_get (shown_by kept.old) at ≡ Some s → s.mark ≡ false → IsStruck kept.old kept.new i at s }
-    ensures cut { (at : ℕ) → IsOf kept.old at i → IsCutAt kept.old kept.new at }
-    ensures told { (at : ℕ) (s t : Shown) → IsOf kept.old at i → slice_get (shown_by kept.old) at ≡ Some s → s.mark ≡ false → slice_get (shown_by kept.new) at ≡ Some t → out.new.items ≡ out.old.items ++ (if length t.events == 0 then s.serial ∷ [] else []) }
+    ensures stays { (at : ℕ) (s : Shown) → IsOf kept.old at i → slice_get (shown_by kept.old) at ≡ Some s → result ≡ (passed_by s || not s.for_all) }
+    ensures whole { result ≡ true → length kept.new.nodes.items ≡ length kept.old.nodes.items }
+    ensures passed { (at : ℕ) (s : Shown) → IsOf kept.old at i → slice_get (shown_by kept.old) at ≡ Some s → passed_by s ≡ true → (kept.new ≡ kept.old) × (out.new.items ≡ out.old.items) }
+    ensures over { (at : ℕ) (s : Shown) → IsOf kept.old at i → slice_get (shown_by kept.old) at ≡ Some s → passed_by s ≡ false → s.for_all ≡ false → IsOver kept.old kept.new at s × (out.new.items ≡ out.old.items ++ s.serial ∷ []) }
+    ensures shorter { (at : ℕ) (s : Shown) → IsOf kept.old at i → slice_get (shown_by kept.old) at ≡ Some s → result ≡ false → IsShorter kept.old kept.new at i s × IsCutAt kept.old kept.new at }
+    ensures told { (at : ℕ) (s t : Shown) → IsOf kept.old at i → slice_get (shown_by kept.old) at ≡ Some s → result ≡ false → slice_get (shown_by kept.new) at ≡ Some t → out.new.items ≡ out.old.items ++ (if length t.events == 0 then s.serial ∷ [] else []) }
     ensures capacity { vec_capacity out.new ≡ vec_capacity out.old }
 {
     let at = owner(kept, i);
     let waiter = waiter_at(kept, at);
-    if waiter.is_muted {
+    if is_passed(waiter) {
         return true;
     }
-    strike_wait(kept, i, at, waiter.for_all);
-    if first_node(kept, at) == NONE {
-        out.push_reserved(waiter.serial);
+    if waiter.for_all {
+        strike_one(kept, i, at, waiter.serial, out);
+        return false;
     }
-    false
+    strike_any(kept, at, waiter.serial, out);
+    true
 }
 
 // The node behind one of this code that stays, or the first one where none stays yet.

@@ -1,6 +1,6 @@
 //! The waits as they are kept: a place for each instance that has room, at the place its waiter, and a node for each event of
 //! each wait, in the list of the event and in that of the waiter.
-ghost use Rattle.std.specs.Prelude.{◌≡◌, ◌≢◌, ℕ, ◌+◌, ◌^◌, ◌<◌, ◌≤◌, [], ◌∷◌, ◌++◌, true, Some, None, IfSome, length, drop, slice_get, slice_set, vec_capacity};
+ghost use Rattle.std.specs.Prelude.{◌≡◌, ◌≢◌, ℕ, ◌+◌, ◌^◌, ◌<◌, ◌≤◌, [], ◌∷◌, ◌++◌, true, false, Some, None, IfSome, length, drop, slice_get, slice_set, vec_capacity};
 ghost use Rattle.std.specs.Ordering.{nat_cmp};
 ghost use Rattle.std.specs.FinMap as map;
 ghost use Rattle.wait_lists.specs.Waits.{no_waits, with_wait, with_mark, without_instance, room_for};
@@ -8,12 +8,12 @@ ghost use Rattle.wait_lists.specs.Shown.{Shown, listed};
 ghost use Rattle.wait_lists.specs.Chains.{none};
 ghost use Rattle.wait_lists.specs.declared.waiter.Waiter.{Waiter};
 ghost use Rattle.wait_lists.specs.Nodes.{code_of, event_of};
-ghost use Rattle.wait_lists.specs.Layout.{IsSound, IsUsed, IsOf, IsShorter, IsCutAt, shown_by, waits_by};
+ghost use Rattle.wait_lists.specs.Layout.{IsSound, IsUsed, IsOf, IsShorter, IsCutAt, IsOver, shown_by, waits_by};
 
 use crate::heads::Heads;
 use crate::linking::{cut_event, cut_wait, put_event, put_wait};
 use crate::nodes::{FREE, NONE, Node};
-use crate::waiter::{Waiter, set_kind, set_muted, set_room};
+use crate::waiter::{Waiter, set_kind, set_muted, set_over, set_room};
 use event_core::Ev;
 use room_map::RoomMap;
 use std::alloc::{AllocError, Global};
@@ -132,6 +132,63 @@ pub(crate) fn clear_wait(kept: &mut Kept, at: u32)
     }
 }
 
+// Ends the wait of the waiter at this place. Its nodes stay.
+#[inline(always)]
+pub(crate) fn end_at(kept: &mut Kept, at: u32)
+    requires sound { IsSound kept.old }
+    requires inside { at < length kept.old.waiters.items }
+    ensures sound { IsSound kept.new }
+    ensures places { kept.new.places ≡ kept.old.places }
+    ensures over { (s : Shown) → slice_get (shown_by kept.old) at ≡ Some s → IsOver kept.old kept.new at s }
+{
+    set_over(&mut kept.waiters, at, true);
+}
+
+// Lets the waiter at this place wait again for the events of its nodes.
+#[inline(always)]
+fn resume(kept: &mut Kept, at: u32)
+    requires sound { IsSound kept.old }
+    requires inside { at < length kept.old.waiters.items }
+    ensures sound { IsSound kept.new }
+    ensures places { kept.new.places ≡ kept.old.places }
+    ensures resumed { (s : Shown) → slice_get (shown_by kept.old) at ≡ Some s → shown_by kept.new ≡ slice_set (shown_by kept.old) at (record s { over = false }) }
+{
+    set_over(&mut kept.waiters, at, false);
+}
+
+// Whether these events are those of the nodes of the waiter at this place, in the order of its list.
+#[inline(always)]
+fn has_nodes_for(kept: &Kept, at: u32, list: &[Ev]) -> bool
+    requires sound { IsSound kept.now }
+    requires inside { at < length kept.now.waiters.items }
+    ensures { (s : Shown) → slice_get (shown_by kept.now) at ≡ Some s → result ≡ true → s.events ≡ list.now }
+{
+    let mut i = first_node(kept, at);
+    let mut k = 0;
+    while k < list.len() {
+        if i == NONE {
+            return false;
+        }
+        let node = kept.nodes[i as usize];
+        if node.code != event_code(list[k]) {
+            return false;
+        }
+        i = node.after;
+        k += 1;
+    }
+    i == NONE
+}
+
+// Whether the nodes of the waiter at this place are those of such a wait.
+#[inline(always)]
+fn is_linked(kept: &Kept, at: u32, for_all: bool, list: &[Ev]) -> bool
+    requires sound { IsSound kept.now }
+    requires inside { at < length kept.now.waiters.items }
+    ensures { (s : Shown) → slice_get (shown_by kept.now) at ≡ Some s → result ≡ true → (s.for_all ≡ for_all) × (s.events ≡ list.now) }
+{
+    kept.waiters[at as usize].for_all == for_all && has_nodes_for(kept, at, list)
+}
+
 // Lets a waiter that waits for nothing wait for these events, for which it has room.
 #[inline(always)]
 fn begin_wait(kept: &mut Kept, at: u32, for_all: bool, list: &[Ev])
@@ -140,7 +197,7 @@ fn begin_wait(kept: &mut Kept, at: u32, for_all: bool, list: &[Ev])
     requires free { (s : Shown) → slice_get (shown_by kept.old) at ≡ Some s → (s.events ≡ []) × (length list.now ≤ s.room) }
     ensures sound { IsSound kept.new }
     ensures places { kept.new.places ≡ kept.old.places }
-    ensures begun { (s : Shown) → slice_get (shown_by kept.old) at ≡ Some s → shown_by kept.new ≡ slice_set (shown_by kept.old) at (record s { for_all = for_all; events = list.now }) }
+    ensures begun { (s : Shown) → slice_get (shown_by kept.old) at ≡ Some s → shown_by kept.new ≡ slice_set (shown_by kept.old) at (record s { for_all = for_all; events = list.now; over = false }) }
 {
     set_kind(&mut kept.waiters, at, for_all);
     list_events(kept, at, list);
@@ -187,8 +244,50 @@ pub(crate) fn set_wait(kept: &mut Kept, p: u32, for_all: bool, list: &[Ev])
     ensures waits { waits_by kept.new ≡ with_wait (waits_by kept.old) p (listed for_all list.now) }
 {
     if let Some(at) = place_of(kept, p) {
-        clear_wait(kept, at);
-        begin_wait(kept, at, for_all, list);
+        wait_at(kept, at, for_all, list);
+    }
+}
+
+// Lets the waiter at this place wait for any or for all of these events, for which it has room, in place of what it waited for.
+#[inline(always)]
+fn wait_at(kept: &mut Kept, at: u32, for_all: bool, list: &[Ev])
+    requires sound { IsSound kept.old }
+    requires inside { at < length kept.old.waiters.items }
+    requires room { (s : Shown) → slice_get (shown_by kept.old) at ≡ Some s → length list.now ≤ s.room }
+    ensures sound { IsSound kept.new }
+    ensures places { kept.new.places ≡ kept.old.places }
+    ensures begun { (s : Shown) → slice_get (shown_by kept.old) at ≡ Some s → shown_by kept.new ≡ slice_set (shown_by kept.old) at (record s { for_all = for_all; events = list.now; over = false }) }
+{
+    if is_linked(kept, at, for_all, list) {
+        resume(kept, at);
+    } else {
+        relink(kept, at, for_all, list);
+    }
+}
+
+// Links nodes for these events, for which the waiter at this place has room, in place of its own.
+#[inline(never)]
+fn relink(kept: &mut Kept, at: u32, for_all: bool, list: &[Ev])
+    requires sound { IsSound kept.old }
+    requires inside { at < length kept.old.waiters.items }
+    requires room { (s : Shown) → slice_get (shown_by kept.old) at ≡ Some s → length list.now ≤ s.room }
+    ensures sound { IsSound kept.new }
+    ensures places { kept.new.places ≡ kept.old.places }
+    ensures begun { (s : Shown) → slice_get (shown_by kept.old) at ≡ Some s → shown_by kept.new ≡ slice_set (shown_by kept.old) at (record s { for_all = for_all; events = list.now; over = false }) }
+{
+    clear_wait(kept, at);
+    begin_wait(kept, at, for_all, list);
+}
+
+// Ends the wait of the instance.
+#[inline(always)]
+pub(crate) fn end_wait(kept: &mut Kept, p: u32)
+    requires { IsSound kept.old }
+    ensures sound { IsSound kept.new }
+    ensures waits { waits_by kept.new ≡ with_wait (waits_by kept.old) p None }
+{
+    if let Some(at) = place_of(kept, p) {
+        end_at(kept, at);
     }
 }
 

@@ -1,7 +1,8 @@
 //! Who waits for which event: for each instance the events that it waits for, and whether any or all of them must come (IEEE 1666-2011, 5.2.18 and 5.8).
 //!
-//! An event looks only at those who wait for it, and an instance that leaves only at what it waits for: a call takes time in
-//! the logarithm of the number of instances and events that are waited for, times those that it looks at.
+//! An event looks only at those who wait for it or did so last, and an instance that waits for others only at what it waited
+//! for: a call takes time in the logarithm of the number of instances and events that are waited for, times those that it looks
+//! at. One that waits again for the same events is linked already.
 #![tactic(auto)]
 
 ghost use Rattle.std.specs.Prelude.{◌≡◌, ℕ, ◌≢◌, ◌+◌, ◌≤◌, None, IsTrue, OnOk, OnErr, length, vec_len, vec_capacity, drop};
@@ -24,7 +25,7 @@ use growing::make_room;
 pub use laws::{
     as_many_as_have_room, as_many_as_serials, as_many_as_wait_for_it, who_waits_has_room,
 };
-use layout::{Kept, nothing_kept, put_out, set_mark, set_wait};
+use layout::{Kept, end_wait, nothing_kept, put_out, set_mark, set_wait};
 use std::alloc::{AllocError, Global};
 use std::marker::Model;
 
@@ -103,7 +104,7 @@ impl WaitLists {
     pub fn leave(&mut self, p: u32)
         ensures { self.new ≡ with_wait self.old p None }
     {
-        set_wait(&mut self.kept, p, false, &[]);
+        end_wait(&mut self.kept, p);
     }
 
     /// Mutes `p` or ends that: while it is muted, events pass it by.

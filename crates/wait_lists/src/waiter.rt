@@ -14,11 +14,13 @@ pub(crate) struct Waiter {
     pub(crate) room: u32,
     pub(crate) for_all: bool,
     pub(crate) is_muted: bool,
+    // Whether its wait is over. Its nodes stay until it waits for other events, or is put out.
+    pub(crate) is_over: bool,
 }
 
 // An instance that waits for nothing, with room for so many events.
 pub(crate) fn idle_waiter(serial: u32, room: u32) -> Waiter
-    ensures { result ≡ record { serial = serial; first = none; room = room; for_all = false; is_muted = false } }
+    ensures { result ≡ record { serial = serial; first = none; room = room; for_all = false; is_muted = false; is_over = false } }
 {
     Waiter {
         serial,
@@ -26,16 +28,31 @@ pub(crate) fn idle_waiter(serial: u32, room: u32) -> Waiter
         room,
         for_all: false,
         is_muted: false,
+        is_over: false,
     }
 }
 
-// Lets the waiter at this place wait for all of its events, or for any.
+// Lets the waiter at this place wait for all of the events of its nodes, or for any.
 #[inline(always)]
 pub(crate) fn set_kind(waiters: &mut Vec<Waiter>, at: u32, for_all: bool)
     requires { at < length waiters.old.items }
-    ensures { (w : Waiter) → slice_get waiters.old.items at ≡ Some w → waiters.new.items ≡ slice_set waiters.old.items at (record w { for_all = for_all }) }
+    ensures { (w : Waiter) → slice_get waiters.old.items at ≡ Some w → waiters.new.items ≡ slice_set waiters.old.items at (record w { for_all = for_all; is_over = false }) }
 {
-    waiters[at as usize].for_all = for_all;
+    let waiter = waiters[at as usize];
+    waiters[at as usize] = Waiter {
+        for_all,
+        is_over: false,
+        ..waiter
+    };
+}
+
+// Ends the wait of the waiter at this place, or lets it wait as its nodes say.
+#[inline(always)]
+pub(crate) fn set_over(waiters: &mut Vec<Waiter>, at: u32, is_over: bool)
+    requires { at < length waiters.old.items }
+    ensures { (w : Waiter) → slice_get waiters.old.items at ≡ Some w → waiters.new.items ≡ slice_set waiters.old.items at (record w { is_over = is_over }) }
+{
+    waiters[at as usize].is_over = is_over;
 }
 
 // Mutes the waiter at this place, or ends that.

@@ -47,4 +47,4 @@ returns-in-Some-clause-waits c =
     waits-taken k.places.entries c.insert.new.self.entries (shown_by k) (shown k.nodes.items c.put_waiter.new.waiters.items) k.vacant.items c.pop.new.self.items c.requires.sound.0.seats c.args.p at c.requires.absent (omega arith)
     c.in-Some.ensures.items (shown_of k.nodes.items own.0) (shown_of k.nodes.items new) here (shown-kind k.waiters.items c.put_waiter.new.waiters.items k.nodes.items at new c.put_waiter.ensures) c.insert.ensures.entries serial
     c.args.items room (ap (events_from k.nodes.items) first ∙ no-first k c.requires.sound.0 at own.0 own.1 own.3)
-    (ap (λ (w : Waiter). w.is_muted) c.idle_waiter.ensures) (ap (λ (w : Waiter). w.for_all) c.idle_waiter.ensures)
+    (ap (λ (w : Waiter). w.is_muted) c.idle_waiter.ensures) (ap (λ (w : Waiter). w.for_all) c.idle_waiter.ensures) (ap (λ (w : Waiter). w.is_over) c.idle_waiter.ensures)

@@ -1,4 +1,4 @@
-use Rattle.std.proofs.Common.{◌≡◌, ap, ◌∙◌, sym, refl, arith, length, Some, set}
+use Rattle.std.proofs.Common.{◌≡◌, false, ap, ◌∙◌, sym, refl, arith, length, Some, set}
 use Rattle.std.specs.Prelude.{slice_get}
 use Rattle.std.proofs.lemmas.List.{length-set}
 use Rattle.wait_lists.specs.declared.waiter.Waiter.{Waiter}
@@ -16,7 +16,7 @@ pub list_events-requires-clause-sound : goal.list_events-requires-clause-sound
 list_events-requires-clause-sound c =
     let k = c.args.kept.now in
     let own = get-inside k.waiters.items c.args.at c.requires.inside in
-    let new : Waiter = record own.0 { for_all = c.args.for_all } in
+    let new : Waiter = record own.0 { for_all = c.args.for_all; is_over = false } in
     let is = c.set_kind.ensures own.0 own.1 in (
       fit-kind k.places.entries k.waiters.items c.set_kind.new.waiters.items k.vacant.items k.nodes.items k.heads.events k.heads.free k.total c.requires.sound.0 c.args.at own.0 new own.1 is refl refl refl,
       omega (arith, c.requires.sound.1, ap length is, length-set k.waiters.items c.args.at new),
@@ -26,13 +26,13 @@ pub list_events-requires-clause-inside : goal.list_events-requires-clause-inside
 list_events-requires-clause-inside c =
     let k = c.args.kept.now in
     let own = get-inside k.waiters.items c.args.at c.requires.inside in
-    omega (arith, c.requires.inside, ap length (c.set_kind.ensures own.0 own.1), length-set k.waiters.items c.args.at (record own.0 { for_all = c.args.for_all }))
+    omega (arith, c.requires.inside, ap length (c.set_kind.ensures own.0 own.1), length-set k.waiters.items c.args.at (record own.0 { for_all = c.args.for_all; is_over = false }))
 
 pub list_events-requires-clause-free : goal.list_events-requires-clause-free
 list_events-requires-clause-free c x found =
     let k = c.args.kept.now in
     let own = get-inside k.waiters.items c.args.at c.requires.inside in
-    let new : Waiter = record own.0 { for_all = c.args.for_all } in
+    let new : Waiter = record own.0 { for_all = c.args.for_all; is_over = false } in
     let here = shown-at k.nodes.items k.waiters.items c.args.at own.0 own.1 in
     let now = shown-kind k.waiters.items c.set_kind.new.waiters.items k.nodes.items c.args.at new (c.set_kind.ensures own.0 own.1) in
     let is = written_at (shown_by k) (shown_by (record k { waiters = c.set_kind.new.waiters })) c.args.at (shown_of k.nodes.items own.0) x (shown_of k.nodes.items new) here now found in
@@ -43,7 +43,7 @@ pub returns-clause-begun : goal.returns-clause-begun
 returns-clause-begun c s found =
     let k = c.args.kept.now in
     let own = get-inside k.waiters.items c.args.at c.requires.inside in
-    let new : Waiter = record own.0 { for_all = c.args.for_all } in
+    let new : Waiter = record own.0 { for_all = c.args.for_all; is_over = false } in
     let here = shown-at k.nodes.items k.waiters.items c.args.at own.0 own.1 in
     let now = shown-kind k.waiters.items c.set_kind.new.waiters.items k.nodes.items c.args.at new (c.set_kind.ensures own.0 own.1) in
     let same : Some (shown_of k.nodes.items own.0) ≡ Some s = sym here ∙ found in
@@ -52,4 +52,4 @@ returns-clause-begun c s found =
     c.list_events.ensures.begun (shown_of k.nodes.items new) read
     ∙ ap (λ l. set l c.args.at (record (shown_of k.nodes.items new) { events = c.args.list.now })) now
     ∙ set_twice (shown_by k) c.args.at (shown_of k.nodes.items new) (record (shown_of k.nodes.items new) { events = c.args.list.now })
-    ∙ ap (λ (y : Shown). set (shown_by k) c.args.at (record y { for_all = c.args.for_all; events = c.args.list.now })) alike
+    ∙ ap (λ (y : Shown). set (shown_by k) c.args.at (record y { for_all = c.args.for_all; events = c.args.list.now; over = false })) alike

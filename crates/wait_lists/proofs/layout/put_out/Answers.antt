@@ -3,10 +3,10 @@ use Rattle.std.specs.Prelude.{slice_get}
 use Rattle.std.specs.Ordering.{nat_cmp}
 use Rattle.std.specs.FinMap as map
 use Rattle.wait_lists.specs.Waits.{without_instance, with_wait}
-use Rattle.wait_lists.specs.Shown.{Shown, waits_of}
+use Rattle.wait_lists.specs.Shown.{Shown, unless, waits_of}
 use Rattle.wait_lists.specs.Layout.{shown_by, waits_by}
 use Rattle.wait_lists.proofs.Telling.{shown-serial, written_at, none_left}
-use Rattle.wait_lists.proofs.Changes.{absent-without, changed-wait, without-again, listed-empty}
+use Rattle.wait_lists.proofs.Changes.{absent-without, changed-wait, without-again, listed-empty, unless-none}
 use Rattle.wait_lists.proofs.Seated.{seat-within}
 use Rattle.wait_lists.proofs.layout.put_out.Goals as goal
 
@@ -31,8 +31,8 @@ returns-in-Some-clause-waits c =
     let one = shown-serial (slice_get ss c.in-Some.at) c.args.p (c.requires.0.seats.placed c.args.p c.in-Some.at place).0 in
     let cleared = ap (λ r. waits_of (shown_by c.clear_wait.new.kept) r.entries) c.clear_wait.ensures.places
     ∙ ap (λ l. waits_of l k.places.entries) (c.clear_wait.ensures.cleared one.0 one.1)
-    ∙ changed-wait k.places.entries ss c.requires.0.seats.placed c.args.p c.in-Some.at one.0 (record one.0 { events = [] }) place one.1 one.0.for_all [] refl
-    ∙ ap (with_wait (waits_by k) c.args.p) (listed-empty one.0.for_all) in
+    ∙ changed-wait k.places.entries ss c.requires.0.seats.placed c.args.p c.in-Some.at one.0 (record one.0 { events = [] }) place one.1 one.0.for_all [] one.0.over refl
+    ∙ ap (with_wait (waits_by k) c.args.p) (ap (unless one.0.over) (listed-empty one.0.for_all) ∙ unless-none one.0.over) in
     c.vacate.ensures.waits ∙ ap (λ w. without_instance w c.args.p) cleared ∙ without-again (waits_by k) c.args.p
 
 pub returns-in_default-clause-waits : goal.returns-in_default-clause-waits

@@ -1,30 +1,20 @@
-use Rattle.std.proofs.Common.{[], ◌<◌, length, refl, sym, ap, ◌∙◌, arith}
-use Rattle.std.specs.Prelude.{slice_get, slice_set}
+use Rattle.std.proofs.Common.{false, refl, sym, ap, ◌∙◌, arith}
+use Rattle.std.specs.Prelude.{slice_get}
 use Rattle.wait_lists.specs.Shown.{Shown, waits_of}
 use Rattle.wait_lists.specs.Layout.{shown_by}
-use Rattle.wait_lists.proofs.Telling.{shown-serial, written_at, none_left}
+use Rattle.wait_lists.proofs.Telling.{shown-serial, none_left}
 use Rattle.wait_lists.proofs.Changes.{room_for-told, absent-wait, changed-wait}
-use Rattle.wait_lists.proofs.Clearing.{set_twice, left-here}
 use Rattle.wait_lists.proofs.Seated.{seat-within}
 use Rattle.wait_lists.proofs.layout.set_wait.Goals as goal
 
-pub clear_wait-requires-clause-inside : goal.clear_wait-requires-clause-inside
-clear_wait-requires-clause-inside c =
+pub wait_at-requires-clause-inside : goal.wait_at-requires-clause-inside
+wait_at-requires-clause-inside c =
     seat-within c.args.kept.now c.requires.sound c.args.p c.in-Some.at (sym c.place_of.ensures ∙ c.in-Some.is)
 
-pub begin_wait-requires-clause-inside : goal.begin_wait-requires-clause-inside
-begin_wait-requires-clause-inside c =
-    let inside : c.in-Some.at < length c.args.kept.now.waiters.items = seat-within c.args.kept.now c.requires.sound c.args.p c.in-Some.at (sym c.place_of.ensures ∙ c.in-Some.is) in
-    omega (arith, c.clear_wait.ensures.len)
-
-pub begin_wait-requires-clause-free : goal.begin_wait-requires-clause-free
-begin_wait-requires-clause-free c x there =
+pub wait_at-requires-clause-room : goal.wait_at-requires-clause-room
+wait_at-requires-clause-room c s here =
     let k = c.args.kept.now in
-    let ss = shown_by k in
-    let place = sym c.place_of.ensures ∙ c.in-Some.is in
-    let one = shown-serial (slice_get ss c.in-Some.at) c.args.p (c.requires.sound.0.seats.placed c.args.p c.in-Some.at place).0 in
-    let is = written_at ss (shown_by c.clear_wait.new.kept) c.in-Some.at one.0 x (record one.0 { events = [] }) one.1 (c.clear_wait.ensures.cleared one.0 one.1) there in
-    (ap (λ (y : Shown). y.events) is, omega (arith, ap (λ (y : Shown). y.room) is, room_for-told k.places.entries ss c.requires.sound.0.seats.placed c.args.p c.in-Some.at one.0 one.0 place one.1, c.requires.room))
+    omega (arith, room_for-told k.places.entries (shown_by k) c.requires.sound.0.seats.placed c.args.p c.in-Some.at s s (sym c.place_of.ensures ∙ c.in-Some.is) here, c.requires.room)
 
 pub returns-in-Some-clause-waits : goal.returns-in-Some-clause-waits
 returns-in-Some-clause-waits c =
@@ -32,12 +22,10 @@ returns-in-Some-clause-waits c =
     let ss = shown_by k in
     let place = sym c.place_of.ensures ∙ c.in-Some.is in
     let one = shown-serial (slice_get ss c.in-Some.at) c.args.p (c.requires.sound.0.seats.placed c.args.p c.in-Some.at place).0 in
-    let new : Shown = record one.0 { for_all = c.args.for_all; events = c.args.list.now } in
-    let cleared = c.clear_wait.ensures.cleared one.0 one.1 in
-    let begun = c.begin_wait.ensures.begun (record one.0 { events = [] }) (left-here ss (shown_by c.clear_wait.new.kept) c.in-Some.at one.0 one.1 [] cleared) in
-    ap (λ r. waits_of (shown_by c.begin_wait.new.kept) r.entries) (c.begin_wait.ensures.places ∙ c.clear_wait.ensures.places)
-    ∙ ap (λ l. waits_of l k.places.entries) (begun ∙ ap (λ l. slice_set l c.in-Some.at new) cleared ∙ set_twice ss c.in-Some.at (record one.0 { events = [] }) new)
-    ∙ changed-wait k.places.entries ss c.requires.sound.0.seats.placed c.args.p c.in-Some.at one.0 new place one.1 c.args.for_all c.args.list.now refl
+    let new : Shown = record one.0 { for_all = c.args.for_all; events = c.args.list.now; over = false } in
+    ap (λ r. waits_of (shown_by c.wait_at.new.kept) r.entries) c.wait_at.ensures.places
+    ∙ ap (λ l. waits_of l k.places.entries) (c.wait_at.ensures.begun one.0 one.1)
+    ∙ changed-wait k.places.entries ss c.requires.sound.0.seats.placed c.args.p c.in-Some.at one.0 new place one.1 c.args.for_all c.args.list.now false refl
 
 pub returns-in_default-clause-waits : goal.returns-in_default-clause-waits
 returns-in_default-clause-waits c =
