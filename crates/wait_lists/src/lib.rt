@@ -85,6 +85,7 @@ impl WaitLists {
     }
 
     /// Lets `p` wait for any of these events, in place of what it waited for. With no event it waits for nothing.
+    #[inline(always)]
     pub fn wait_any(&mut self, p: u32, list: &[Ev])
         requires { length list.now ≤ room_for self.old p }
         ensures { self.new ≡ with_wait self.old p (any_of list.now) }
@@ -101,6 +102,7 @@ impl WaitLists {
     }
 
     /// Takes `p` out of all lists. Its mark and its room stay.
+    #[inline(always)]
     pub fn leave(&mut self, p: u32)
         ensures { self.new ≡ with_wait self.old p None }
     {
