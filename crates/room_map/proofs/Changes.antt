@@ -1,8 +1,8 @@
 -- What a change of one side is to the whole tree.
-use Rattle.std.proofs.Common.{◌≡◌, ℕ, ◌+◌, ◌<◌, ◌≤◌, List, ◌∷◌, ◌++◌, length, Some, ⊎_elim, refl, sym, ap, ◌∙◌, subst, arith}
+use Rattle.std.proofs.Common.{◌≡◌, ℕ, ◌+◌, ◌<◌, ◌≤◌, List, ◌∷◌, ◌++◌, length, Some, None, ⊎_elim, refl, sym, ap, ◌∙◌, subst, arith}
 use Rattle.std.specs.Prelude.{slice_get, max}
 use Rattle.std.proofs.lemmas.Bool.{cases_lt}
-use Rattle.std.proofs.lemmas.Option.{slice_get_within}
+use Rattle.std.proofs.lemmas.Option.{slice_get_past, slice_get_within}
 use Rattle.std.specs.declared.cmp.Ordering.{Ordering}
 use Rattle.std.specs.declared.cmp.Ordering.TheVariants.{Less, Greater}
 use Rattle.std.specs.Cmp.{IsTotalOrder}
@@ -10,7 +10,7 @@ use Rattle.room_map.specs.declared.nodes.Node.{Node}
 use Rattle.room_map.specs.Shape.{Shape, Bare, Fork, is_at, entries, height, times, IsBalanced}
 use Rattle.room_map.specs.Nodes.{Under, Changed, AreSides, AreNear, IsHighOver, IsEven, CanEnter, HasEntered}
 use Rattle.room_map.proofs.Sizes.{is_max}
-use Rattle.room_map.proofs.Held.{IsOver, under_kept, length-fork}
+use Rattle.room_map.proofs.Held.{IsOver, bare, under_kept, changed_more, length-fork}
 use Rattle.room_map.proofs.Maps.{length-put_new}
 use Rattle.room_map.proofs.Cuts.{cut_over, left_shorter, right_shorter, left_rises, right_rises, find_left, find_right, put_left, put_right}
 
@@ -154,14 +154,13 @@ no_entry_here R s key value =
     let m = is_max 0 0 in
     record { has = refl; places = λ q. omega arith; balanced = (tt, tt, omega arith, omega arith); low = omega arith; high = omega arith }
 
-pub no_entry_yet : {K V : Type 0} {R : K → K → Ordering} {s : ℕ} {key : K} {value : V} {t : Shape K V} → t ≡ Bare → HasEntered R t s key value (Fork s Bare key value Bare)
+no_entry_yet : {K V : Type 0} {R : K → K → Ordering} {s : ℕ} {key : K} {value : V} {t : Shape K V} → t ≡ Bare → HasEntered R t s key value (Fork s Bare key value Bare)
 no_entry_yet {R = R} {s} {key} {value} none = subst (λ t. HasEntered R t s key value (Fork s Bare key value Bare)) (sym none) (no_entry_here R s key value)
 
-pub bare_sides : {K V : Type 0} {R : K → K → Ordering} {ns : List (Node K V)} {i s : ℕ} {t : Shape K V} {key : K} → CanEnter R ns i key s t → AreSides {K = K} {V = V} ns 4294967295 Bare s 4294967295 Bare
-bare_sides e = record {
-  left = record { is_top = refl; held = tt; few = e.under.few };
-  right = record { is_top = refl; held = tt; few = e.under.few };
-  there = e.there;
-  apart = λ q. omega (arith, e.apart q);
-  small = omega arith;
-}
+-- an entry is alone where no node hung from the link
+pub alone_enters : {K V : Type 0} {R : K → K → Ordering} {ns ms : List (Node K V)} {i s j : ℕ} {key : K} {value : V} (t : Shape K V) → CanEnter R ns i key s t → slice_get ns i ≡ None
+    → Under ms j (Fork s Bare key value Bare) → Changed (is_at s) ns ms → (u : Shape K V) × Under ms j u × HasEntered R t s key value u × Changed (λ q. times q t + is_at s q) ns ms
+alone_enters {s = s} {key = key} {value = value} t e none under changed = (Fork s Bare key value Bare, under, no_entry_yet (bare t e.under none), changed_more changed (λ q. omega arith))
+
+pub nothing_there : {K V : Type 0} {ns : List (Node K V)} {i : ℕ} {t : Shape K V} → Under ns i t → i ≡ 4294967295 → slice_get ns i ≡ None
+nothing_there {ns = ns} {i} u none = slice_get_past ns i (omega (arith, u.few, none))

@@ -9,7 +9,7 @@ use Rattle.room_map.specs.declared.nodes.Node.{Node}
 use Rattle.room_map.specs.Shape.{Shape, entries}
 use Rattle.room_map.specs.Entries.{IsRising, first_not_below}
 use Rattle.room_map.specs.Nodes.{Under}
-use Rattle.room_map.proofs.Held.{IsOver, forked}
+use Rattle.room_map.proofs.Held.{IsOver, bare, forked}
 use Rattle.room_map.proofs.Places.{before_item, at_item, behind_item}
 use Rattle.room_map.proofs.Cuts.{cut_over, left_rises, right_rises, find_left, find_right, find_here, first_left, first_right, first_here}
 
@@ -94,3 +94,30 @@ module _ {K V : Type 0} {R : K → K → Ordering} (ord : IsTotalOrder R) {ns : 
     where
       over : IsOver ns i t n → Some e ≡ first_not_below R key (entries t)
       over o = let cut = cut_over R o rises in sym (first_left ord key e cut (sym (below o.l o.node.left (left_rises ord cut)) ∙ some))
+
+-- a tree hangs from the link in which the key is found as it is among these entries
+pub record IsSought {K V : Type 0} (R : K → K → Ordering) (ns : List (Node K V)) (i : ℕ) (key : K) (es : List (K × V)) : Type 0 where
+  pub tree : Shape K V
+  pub under : Under ns i tree
+  pub rises : IsRising R (entries tree)
+  pub same : find R key (entries tree) ≡ find R key es
+
+module _ {K V : Type 0} {R : K → K → Ordering} (ord : IsTotalOrder R) {ns : List (Node K V)} {i : ℕ} {n : Node K V} {key : K} {es : List (K × V)} where
+  pub sought_left : IsSought R ns i key es → slice_get ns i ≡ Some n → R key n.key ≡ Less → IsSought R ns n.left key es
+  sought_left s there less = over (forked s.tree s.under there)
+    where
+      over : IsOver ns i s.tree n → IsSought R ns n.left key es
+      over o = let cut = cut_over R o s.rises in record { tree = o.l; under = o.node.left; rises = left_rises ord cut; same = sym (find_left ord key cut less) ∙ s.same }
+
+  pub sought_right : IsSought R ns i key es → slice_get ns i ≡ Some n → R key n.key ≡ Greater → IsSought R ns n.right key es
+  sought_right s there more = over (forked s.tree s.under there)
+    where
+      over : IsOver ns i s.tree n → IsSought R ns n.right key es
+      over o = let cut = cut_over R o s.rises in record { tree = o.r; under = o.node.right; rises = right_rises ord cut; same = sym (find_right ord key cut more) ∙ s.same }
+
+  pub sought_here : IsSought R ns i key es → slice_get ns i ≡ Some n → R key n.key ≡ Equal → Some n.value ≡ find R key es
+  sought_here s there equal = find_at_node ord s.under s.rises there equal ∙ s.same
+
+module _ {K V : Type 0} {R : K → K → Ordering} {ns : List (Node K V)} {i : ℕ} {key : K} {es : List (K × V)} where
+  pub sought_nowhere : IsSought R ns i key es → slice_get ns i ≡ None → None ≡ find R key es
+  sought_nowhere s none = sym (ap (λ t. find R key (entries t)) (bare s.tree s.under none)) ∙ s.same

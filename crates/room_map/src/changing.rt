@@ -3,7 +3,7 @@ ghost use Rattle.std.specs.Prelude.{◌≡◌, ◌+◌};
 ghost use Rattle.room_map.specs.Shape.{Shape, is_at, times};
 ghost use Rattle.room_map.specs.Nodes.{Under, Changed, CanSplit, IsSplit, CanJoin, IsJoined, CanEnter, HasEntered, HasKey, HasValue, CanLeave, HasLeft};
 
-use crate::nodes::{NONE, Node, Spot, close, len, node_at, put};
+use crate::nodes::{NONE, Node, Spot, close_alone, len, node_at, put};
 use crate::turns::balance;
 use std::cmp::Ordering;
 
@@ -62,6 +62,7 @@ fn join<K: Copy, V: Copy>(nodes: &mut [Node<K, V>], left: u32, right: u32) -> u3
 }
 
 // The tree with an entry more, in the node at its place. The result is the link to it.
+#[inline(always)]
 pub(crate) fn with_entry<K: Ord + Copy, V: Copy>(
     nodes: &mut [Node<K, V>],
     at: u32,
@@ -70,8 +71,23 @@ pub(crate) fn with_entry<K: Ord + Copy, V: Copy>(
     requires { (t : Shape K V) × CanEnter K.cmp nodes.old at spot.key spot.place t }
     ensures { (t : Shape K V) → CanEnter K.cmp nodes.old at spot.key spot.place t → (u : Shape K V) × Under nodes.new result u × HasEntered K.cmp t spot.place spot.key spot.value u × Changed (λ q. times q t + is_at spot.place q) nodes.old nodes.new }
 {
+    if at == NONE {
+        return close_alone(nodes, spot);
+    }
+    with_entry_below(nodes, at, spot)
+}
+
+// The same, by the way down to where the key goes.
+fn with_entry_below<K: Ord + Copy, V: Copy>(
+    nodes: &mut [Node<K, V>],
+    at: u32,
+    spot: Spot<K, V>,
+) -> u32
+    requires { (t : Shape K V) × CanEnter K.cmp nodes.old at spot.key spot.place t }
+    ensures { (t : Shape K V) → CanEnter K.cmp nodes.old at spot.key spot.place t → (u : Shape K V) × Under nodes.new result u × HasEntered K.cmp t spot.place spot.key spot.value u × Changed (λ q. times q t + is_at spot.place q) nodes.old nodes.new }
+{
     match node_at(nodes, at) {
-        None => close(nodes, NONE, spot, NONE),
+        None => close_alone(nodes, spot),
         Some(node) => {
             let here = Spot {
                 place: at,
@@ -80,11 +96,11 @@ pub(crate) fn with_entry<K: Ord + Copy, V: Copy>(
             };
             match spot.key.cmp(&node.key) {
                 Ordering::Less => {
-                    let left = with_entry(nodes, node.left, spot);
+                    let left = with_entry_below(nodes, node.left, spot);
                     balance(nodes, left, here, node.right)
                 }
                 _ => {
-                    let right = with_entry(nodes, node.right, spot);
+                    let right = with_entry_below(nodes, node.right, spot);
                     balance(nodes, node.left, here, right)
                 }
             }

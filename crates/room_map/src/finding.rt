@@ -33,14 +33,15 @@ pub(crate) fn get<K: Ord + Copy, V: Copy>(nodes: &[Node<K, V>], at: u32, key: K)
     requires { (t : Shape K V) × Under nodes.now at t }
     ensures { (t : Shape K V) → Under nodes.now at t → IsRising K.cmp (entries t) → result ≡ map.find K.cmp key (entries t) }
 {
-    match node_at(nodes, at) {
-        None => None,
-        Some(node) => match key.cmp(&node.key) {
-            Ordering::Less => get(nodes, node.left, key),
-            Ordering::Equal => Some(node.value),
-            Ordering::Greater => get(nodes, node.right, key),
-        },
+    let mut link = at;
+    'descending: while let Some(node) = node_at(nodes, link) {
+        match key.cmp(&node.key) {
+            Ordering::Less => link = node.left,
+            Ordering::Equal => return Some(node.value),
+            Ordering::Greater => link = node.right,
+        }
     }
+    None
 }
 
 // The first entry whose key is not below this one.

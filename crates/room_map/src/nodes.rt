@@ -1,6 +1,6 @@
 //! The nodes, which stand in one vector and name each other by their places.
-ghost use Rattle.std.specs.Prelude.{◌≡◌, ◌<◌, Some, length, slice_get};
-ghost use Rattle.room_map.specs.Shape.{Shape, Fork, is_at, entries, height};
+ghost use Rattle.std.specs.Prelude.{◌≡◌, ◌<◌, ◌^◌, Some, length, slice_get};
+ghost use Rattle.room_map.specs.Shape.{Shape, Bare, Fork, is_at, entries, height};
 ghost use Rattle.room_map.specs.Nodes.{Under, Changed, AreSides};
 
 // The link that leads to no node.
@@ -94,6 +94,27 @@ pub(crate) fn close<K: Copy, V: Copy>(
         right,
         count,
         height,
+        key: spot.key,
+        value: spot.value,
+    };
+    put(nodes, spot.place, node);
+    spot.place
+}
+
+// Puts the entry at its place, over no sides, and gives the place.
+#[inline(always)]
+pub(crate) fn close_alone<K: Copy, V: Copy>(nodes: &mut [Node<K, V>], spot: Spot<K, V>) -> u32
+    requires there { spot.place < length nodes.old }
+    requires few { length nodes.old < 2 ^ 32 }
+    ensures place { result ≡ spot.place }
+    ensures under { Under nodes.new result (Fork spot.place Bare spot.key spot.value Bare) }
+    ensures changed { Changed (is_at spot.place) nodes.old nodes.new }
+{
+    let node = Node {
+        left: NONE,
+        right: NONE,
+        count: 1,
+        height: 1,
         key: spot.key,
         value: spot.value,
     };
