@@ -20,7 +20,7 @@ use Rattle.ready_set.proofs.Rising.{has, tied, above_all, has-placed, has-in_ord
 abbrev set_of : List ℕ → FinSet nat_cmp
 set_of xs = from_list xs
 
-same_members : (s t : FinSet nat_cmp) → ((q : ℕ) → contains s q ≡ contains t q) → s ≡ t
+pub same_members : (s t : FinSet nat_cmp) → ((q : ℕ) → contains s q ≡ contains t q) → s ≡ t
 same_members s t alike = set.same_set nat_cmp_total set.nat_cmp-IsAntisymmetric s t alike
 
 pub contains-set_of : (xs : List ℕ) (q : ℕ) → contains (set_of xs) q ≡ has q xs

@@ -1,19 +1,16 @@
-use Rattle.std.proofs.Common.{◌∙◌, ◌-◌, ap, sym, length}
-use Rattle.std.specs.Prelude.{option_map, slice_get}
-use Rattle.std.specs.Ordering.{nat_cmp}
+use Rattle.std.proofs.Common.{◌≡◌, ◌-◌, sym, ap, ◌∙◌}
+use Rattle.std.specs.Prelude.{slice_get}
 use Rattle.std.specs.FinSet as set
-use Rattle.std.proofs.lemmas.List.{length-map}
-use Rattle.std.proofs.lemmas.Option.{slice_get-map}
-use Rattle.ready_set.specs.Ready.{rising}
-use Rattle.ready_set.specs.Layout.{keys_of}
-use Rattle.ready_set.proofs.Shown.{rising-keys, len-set_of, rising-set_of}
+use Rattle.ready_set.specs.Ready.{Ready, rising, with_member}
+use Rattle.ready_set.specs.Alone.{IsAlone}
+use Rattle.ready_set.proofs.Alone.{is_alone, shown_alone, rising-alone, len-alone}
 use Rattle.ready_set.proofs.ReadySet.greatest.Goals as goal
 
-pub returns : goal.returns
-returns c =
-    let es = c.self.inside.kept.entries in
-    let rises = rising-keys es c.self.invariant in
-    c.key_of.ensures ∙ ap (option_map (λ e. e.0)) c.greatest.ensures ∙ sym (slice_get-map (λ e. e.0) es (length es - 1))
-    ∙ ap (λ n. slice_get (keys_of es) (n - 1)) (sym (length-map es (λ e. e.0)) ∙ sym (len-set_of (keys_of es) rises))
-    ∙ ap (λ xs. slice_get xs (set.len (set.from_list {R = nat_cmp} (keys_of es)) - 1)) (sym (rising-set_of (keys_of es) rises))
-    ∙ ap (λ r. slice_get (rising r.members) (set.len r.members - 1)) c.self.view_is
+pub returns-in-Some : goal.returns-in-Some
+returns-in-Some c =
+    let r = c.self.inside.members in
+    let alone : IsAlone c.in-Some.only r = is_alone r c.in-Some.is c.self.invariant in
+    let view : with_member r c.in-Some.only ≡ c.args.self.now = shown_alone r c.in-Some.is c.self.view_is in
+    let w = with_member r c.in-Some.only in
+    sym (ap (λ n. slice_get (rising w.members) (n - 1)) (len-alone c.in-Some.only r alone) ∙ ap (λ xs. slice_get xs 0) (rising-alone c.in-Some.only r alone))
+    ∙ ap (λ (w : Ready). slice_get (rising w.members) (set.len w.members - 1)) view

@@ -1,25 +1,17 @@
-use Rattle.std.proofs.Common.{◌≡◌, ◌∙◌, false, ap, sym, ⊎_elim, true≢false, ◌<◌, subst}
+use Rattle.std.proofs.Common.{◌≡◌, sym, ap, ◌∙◌}
 use Rattle.std.specs.FinSet as set
-use Rattle.ready_set.specs.Ready.{with_member}
-use Rattle.ready_set.specs.Layout.{keys_of}
-use Rattle.ready_set.proofs.Shown.{absent, shown-put, with_again}
+use Rattle.ready_set.specs.Ready.{Ready, with_member}
+use Rattle.ready_set.specs.Alone.{IsAlone}
+use Rattle.ready_set.proofs.Shown.{with_again}
+use Rattle.ready_set.proofs.Alone.{is_alone, shown_alone, becomes_alone, has_itself}
 use Rattle.ready_set.proofs.ReadySet.insert.Goals as goal
 
-pub returns-then-has : goal.returns-then-has
-returns-then-has c = with_again c.args.self.now c.args.p (sym c.has.ensures ∙ c.if-has.true)
+pub invariant_of-self : goal.invariant_of-self
+invariant_of-self c = becomes_alone c.self.inside.members c.in-None.is c.self.view_is (c.is_empty.ensures c.if-is_empty.true) c.requires.room c.requires.below
 
-pub insert-requires-clause-absent : goal.insert-requires-clause-absent
-insert-requires-clause-absent c = absent c.args.p c.self.inside.kept.entries (ap (λ r. set.contains r.members c.args.p) c.self.view_is ∙ sym c.has.ensures ∙ c.if-has.false)
-
-pub insert-requires-clause-room : goal.insert-requires-clause-room
-insert-requires-clause-room c = ⊎_elim
-    (λ there. absurd (true≢false (sym there ∙ sym c.has.ensures ∙ c.if-has.false)))
-    (λ room. subst (λ n. 0 < n) (sym (ap (λ r. r.spare) c.self.view_is)) room)
-    c.requires.room
-
-pub returns : goal.returns
-returns c =
-    let es = c.self.inside.kept.entries in
-    let none : set.contains (set.from_list (keys_of es)) c.args.p ≡ false = ap (λ r. set.contains r.members c.args.p) c.self.view_is ∙ sym c.has.ensures ∙ c.if-has.false in
-    shown-put c.args.p es c.insert.new.self.entries c.self.inside.kept.spare c.insert.new.self.spare c.insert.ensures.entries c.insert.ensures.takes_one none
-    ∙ ap (λ r. with_member r c.args.p) c.self.view_is
+pub returns-else-only-p : goal.returns-else-only-p
+returns-else-only-p c =
+    let r = c.self.inside.members in
+    let alone : IsAlone c.in-Some.only r = is_alone r c.in-Some.is c.self.invariant in
+    let view : with_member r c.in-Some.only ≡ c.args.self.now = shown_alone r c.in-Some.is c.self.view_is in
+    with_again c.args.self.now c.args.p (ap (λ (w : Ready). set.contains w.members c.args.p) (sym view) ∙ has_itself c.in-Some.only r alone c.args.p c.if-only-p.false)

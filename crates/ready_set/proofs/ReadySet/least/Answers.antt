@@ -1,14 +1,13 @@
-use Rattle.std.proofs.Common.{◌∙◌, ap, sym}
-use Rattle.std.specs.Prelude.{option_map, slice_get}
-use Rattle.std.proofs.lemmas.Option.{slice_get-map}
-use Rattle.ready_set.specs.Ready.{rising}
-use Rattle.ready_set.specs.Layout.{keys_of}
-use Rattle.ready_set.proofs.Shown.{rising-keys, rising-set_of}
+use Rattle.std.proofs.Common.{◌≡◌, sym, ap, ◌∙◌}
+use Rattle.std.specs.Prelude.{slice_get}
+use Rattle.ready_set.specs.Ready.{Ready, rising, with_member}
+use Rattle.ready_set.specs.Alone.{IsAlone}
+use Rattle.ready_set.proofs.Alone.{is_alone, shown_alone, rising-alone}
 use Rattle.ready_set.proofs.ReadySet.least.Goals as goal
 
-pub returns : goal.returns
-returns c =
-    let es = c.self.inside.kept.entries in
-    c.key_of.ensures ∙ ap (option_map (λ e. e.0)) c.least.ensures ∙ sym (slice_get-map (λ e. e.0) es 0)
-    ∙ ap (λ xs. slice_get xs 0) (sym (rising-set_of (keys_of es) (rising-keys es c.self.invariant)))
-    ∙ ap (λ r. slice_get (rising r.members) 0) c.self.view_is
+pub returns-in-Some : goal.returns-in-Some
+returns-in-Some c =
+    let r = c.self.inside.members in
+    let alone : IsAlone c.in-Some.only r = is_alone r c.in-Some.is c.self.invariant in
+    let view : with_member r c.in-Some.only ≡ c.args.self.now = shown_alone r c.in-Some.is c.self.view_is in
+    sym (ap (λ xs. slice_get xs 0) (rising-alone c.in-Some.only r alone)) ∙ ap (λ (w : Ready). slice_get (rising w.members) 0) view

@@ -3,7 +3,7 @@ use Rattle.std.specs.Ordering.{nat_cmp}
 use Rattle.std.specs.FinSet as set
 use Rattle.room_map.specs.Entries.{IsRising}
 use Rattle.ready_set.specs.Layout.{keys_of}
-use Rattle.ready_set.proofs.ReadySet.new.Goals as goal
+use Rattle.ready_set.proofs.members.Members.new.Goals as goal
 
 pub invariant_of-result : goal.invariant_of-result
 invariant_of-result c = subst (IsRising nat_cmp) (sym c.new.ensures.empty) tt
