@@ -13,3 +13,4 @@ pub mod QueueLaws
 pub mod Due
 pub mod RoomLaws
 pub mod SortLaws
+pub mod Alone

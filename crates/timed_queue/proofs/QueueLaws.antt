@@ -1,7 +1,7 @@
 -- What the nodes of the names show, and that names and nodes agree after each change.
 use Rattle.std.proofs.Common.{◌≡◌, ◌≢◌, ℕ, ◌≤◌, ◌<◌, Bool, true, false, cond, List, [], ◌∷◌, length, Option, Some, None, refl, sym, ap, ◌∙◌, subst, ⊎_elim, arith, eq-eqb, ne_eqb}
 use Rattle.std.specs.Prelude.{is_some, ◌==◌, option_map}
-use Rattle.std.proofs.lemmas.Bool.{cases_eq, cases_lt}
+use Rattle.std.proofs.lemmas.Bool.{cases_eq, cases_lt, eqb-true}
 use Rattle.std.proofs.lemmas.List.{length-map}
 use Rattle.std.specs.Ordering.{nat_cmp, eq_by_cmp}
 use Rattle.std.specs.Cmp.{nat_cmp_total, unsigned_tied}
@@ -223,6 +223,14 @@ module _ (es : List (ℕ × ℕ)) (w : Wheel) (queue : IsQueue es w) where
       by_case : (q : ℕ) (o : Option ℕ) → find nat_cmp q es ≡ o → maps.get times q ≡ maps.get no_times q
       by_case q None h = get-times_of es w.nodes.items q ∙ ap (option_map (time_at w.nodes.items)) h ∙ sym (maps.get-empty nat_cmp q)
       by_case q (Some i) h = absurd (none i (queue.found q i h).0)
+
+  -- no node holds an entry where no name has one
+  pub nothing_held : (length es == 0) ≡ true → (i : ℕ) → IsEntry w.nodes.items i → ⊥
+  nothing_held none i e = by_case es none (queue.named i e)
+    where
+      by_case : (es : List (ℕ × ℕ)) → (length es == 0) ≡ true → find nat_cmp (name_of w.nodes.items i) es ≡ Some i → ⊥
+      by_case [] t found = let no : None ≡ Some i = found in cc
+      by_case (x ∷ xs) t found = omega (arith, eqb-true (length (x ∷ xs)) 0 t)
 
   pub entry_time : (i : ℕ) → IsEntry w.nodes.items i → maps.get times (name_of w.nodes.items i) ≡ Some (time_at w.nodes.items i)
   entry_time i e = time_found es w.nodes.items (name_of w.nodes.items i) i (queue.named i e)

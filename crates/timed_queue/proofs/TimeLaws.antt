@@ -5,7 +5,7 @@ use Rattle.timed_queue.specs.declared.chains.Node.{Node}
 use Rattle.timed_queue.specs.Nodes.{IsEntry, IsAt, IsLeastFrom, next_of, place_of, time_of}
 use Rattle.timed_queue.specs.Marked.{mark_of, IsFirstMark}
 use Rattle.timed_queue.specs.Placing.{place_at, start_at}
-use Rattle.timed_queue.specs.Sound.{IsWhole, ArePlaced, IsLeastTime, IsBound, IsDueNode}
+use Rattle.timed_queue.specs.Sound.{IsWhole, ArePlaced, AreFrom, IsLeastTime, IsBound, IsDueNode}
 use Rattle.timed_queue.proofs.PlaceLaws.{Fits, fits_word, place_order, start-le}
 
 module _ (ns : List Node) (words : List ℕ) (free room origin : ℕ) (is : IsWhole ns words free room) (placed : ArePlaced ns origin) where
@@ -72,6 +72,13 @@ module _ (ns : List Node) (words : List ℕ) (free room origin : ℕ) (is : IsWh
 
     pub is_bound : IsBound ns (start_at 10 p origin)
     is_bound = record { some = (next_of ns p, first_entry); below = start_below }
+
+    -- no entry is before a time that stands in a place before the first one
+    pub all_later : (t : ℕ) → t < 2 ^ 64 → origin ≤ t → place_at 10 t origin < p → AreFrom ns t
+    all_later t fits late less i e =
+        let pi = placed i e in let at = pi.at in let most = first-le i e in
+        let after : t < time_of ns i = place_order 10 t (time_of ns i) origin (fits_word t fits) (fits_time i e) (fits_origin i e) late pi.late (omega (arith, at, most, less)) in
+        omega (arith, after)
 
     pub there_is_one : ((j : ℕ) → IsAt ns p j → time_of ns j < 0) → ⊥
     there_is_one none = let a = none (next_of ns p) (record { within = first_entry.within; entry = first_entry.entry; at = next_at }) in omega (arith, a)

@@ -6,3 +6,4 @@ pub mod Nearer
 pub mod Sound
 pub mod Layout
 pub mod SimTime
+pub mod Alone

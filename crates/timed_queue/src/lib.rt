@@ -1,10 +1,8 @@
 //! A queue of names by time: each name has at most one time, and the earliest time comes first (IEEE 1666-2011, 4.2.1.5).
 #![tactic(auto)]
 
-ghost use Rattle.std.specs.Prelude.{◌≡◌, ℕ, ◌⊎◌, ◌↔◌, ◌+◌, ◌++◌, ◌<◌, ◌≤◌, false, true, take, drop, length, IsTrue, IsNone, IfNone, IfSome, OnOk, OnErr, vec_len, vec_capacity};
+ghost use Rattle.std.specs.Prelude.{◌≡◌, ℕ, ◌⊎◌, ◌↔◌, ◌+◌, ◌++◌, ◌<◌, ◌≤◌, Some, IsTrue, IsNone, IfNone, IfSome, OnOk, OnErr, vec_len, vec_capacity};
 ghost use Rattle.std.specs.FinMap as map;
-ghost use Rattle.std.specs.Ordering.{nat_cmp};
-ghost use Rattle.std.specs.List.Sorted.{IsSorted, IsPermutation};
 
 mod chains;
 mod entries;
@@ -12,29 +10,37 @@ mod laws;
 mod marks;
 mod moving;
 mod placing;
+mod queue;
 mod room;
 mod walking;
 mod wheel;
 
-use chains::name_of;
 pub use laws::due_names_are_held;
-use room_map::RoomMap;
+use queue::Queue;
 use sim_time::Time;
 use std::alloc::{AllocError, Global};
 use std::marker::Model;
-use wheel::Wheel;
 
 /// A map from names to times, with room for some names more.
 ///
 /// A wheel of 11 levels of 64 places: a time stands on the level of the highest digit to the base 64 in which it differs from
 /// the origin, a time that no name is before. A call takes the time of one or two look-ups of a name, but for `reserve`, which takes
 /// time in the room that it makes; `earliest`, which looks at all names of one place; `take_due`, which looks up each name
-/// that it gives, and brings the origin to its time; and a `set` before the origin, which moves all names.
+/// that it gives, and brings the origin to its time; and a `set` before the origin, which moves all names. A name that comes where
+/// there is none is kept beside the wheel until another one comes: a call takes the time of a few tests as long as it is the only one.
 #[derive(Drop)]
 pub struct TimedQueue {
-    // The node of each name.
-    index: RoomMap<u32, u32>,
-    wheel: Wheel,
+    // The only name with its time, while no other has come since there was none.
+    only: Option<Only>,
+    // All of them, else.
+    queue: Queue,
+}
+
+// A name with its time.
+#[derive(Clone, Copy)]
+struct Only {
+    name: u32,
+    time: Time,
 }
 
 impl Model for TimedQueue {
@@ -44,15 +50,11 @@ impl Model for TimedQueue {
 
     ghost coded = { timed_code };
 
-    ghost use Rattle.std.specs.Prelude.{length};
-    ghost use Rattle.timed_queue.specs.Layout.{times_of, IsQueue, HasRoom};
+    ghost use Rattle.timed_queue.specs.Alone.{with_only, MayBeAlone};
 
-    ghost view = { λ q. record {
-      times = times_of q.index.entries q.wheel.nodes.items;
-      spare = q.wheel.room;
-    } };
+    ghost view = { λ q. with_only q.only q.queue };
 
-    ghost invariant = { λ q. IsQueue q.index.entries q.wheel × HasRoom q.wheel.room q.index.spare (length q.index.entries) };
+    ghost invariant = { λ q. MayBeAlone q.only q.queue };
 }
 
 impl TimedQueue {
@@ -63,8 +65,8 @@ impl TimedQueue {
         ensures { result.times ≡ map.empty }
     {
         TimedQueue {
-            index: RoomMap::new(alloc),
-            wheel: Wheel::new(alloc),
+            only: None,
+            queue: Queue::new(alloc),
         }
     }
 
@@ -73,7 +75,10 @@ impl TimedQueue {
     pub fn len(&self) -> u32
         ensures { result ≡ map.len self.now.times }
     {
-        self.index.len()
+        match self.only {
+            None => self.queue.len(),
+            Some(_) => 1,
+        }
     }
 
     /// Whether there is no name.
@@ -84,24 +89,6 @@ impl TimedQueue {
         self.len() == 0
     }
 
-    // Makes room where there is less than for `n` names more.
-    #[inline(never)]
-    fn make_room(&mut self, n: u32) -> Result<(), AllocError>
-        ensures ok { OnOk result (n ≤ self.new.spare) }
-        ensures grows { self.old.spare ≤ self.new.spare }
-        ensures kept { self.new.times ≡ self.old.times }
-        ensures err { OnErr result (self.new ≡ self.old) }
-    {
-        match self.index.reserve(n) {
-            Ok(()) => {
-                // It tells that there are less than 2^32 names and places.
-                let _names = self.index.len();
-                self.wheel.reserve(n)
-            }
-            Err(error) => Err(error),
-        }
-    }
-
     /// Makes room for at least `n` names more.
     #[inline(always)]
     pub fn reserve(&mut self, n: u32) -> Result<(), AllocError>
@@ -110,23 +97,37 @@ impl TimedQueue {
         ensures kept { self.new.times ≡ self.old.times }
         ensures err { OnErr result (self.new ≡ self.old) }
     {
-        if n <= self.wheel.room {
-            return Ok(());
+        match self.only {
+            None => self.queue.reserve(n),
+            Some(_) => match n.checked_add(1) {
+                Some(all) => self.queue.reserve(all),
+                None => Err(AllocError),
+            },
         }
-        self.make_room(n)
     }
 
     /// Gives the name this time, in place of the one that it had.
+    #[inline(always)]
     pub fn set(&mut self, name: u32, t: Time)
         requires { IsTrue (map.contains_key self.old.times name) ⊎ (0 < self.old.spare) }
         ensures { self.new ≡ with_time self.old name t }
     {
-        self.wheel.lower(t.0);
-        match self.index.get(name) {
-            Some(i) => self.wheel.renew(i, name, t.0),
+        match self.only {
             None => {
-                let i = self.wheel.add(name, t.0);
-                self.index.insert(name, i);
+                if self.queue.is_empty() {
+                    self.only = Some(Only { name, time: t });
+                } else {
+                    self.queue.set(name, t);
+                }
+            }
+            Some(only) => {
+                if only.name == name {
+                    self.only = Some(Only { name, time: t });
+                } else {
+                    self.only = None;
+                    self.queue.set(only.name, only.time);
+                    self.queue.set(name, t);
+                }
             }
         }
     }
@@ -136,66 +137,42 @@ impl TimedQueue {
     pub fn clear(&mut self, name: u32)
         ensures { self.new ≡ without self.old name }
     {
-        match self.index.remove(name) {
-            Some(i) => self.wheel.remove(i),
-            None => {}
+        match self.only {
+            None => self.queue.clear(name),
+            Some(only) => {
+                if only.name == name {
+                    self.only = None;
+                }
+            }
         }
     }
 
     /// The earliest time that a name has.
+    #[inline(always)]
     pub fn earliest(&self) -> Option<Time>
         ensures empty { IsNone result ↔ (self.now.times ≡ map.empty) }
         ensures least { IfSome result (IsEarliest self.now.times) }
     {
-        match self.wheel.least() {
-            Some(t) => Some(Time(t)),
-            None => None,
+        match self.only {
+            None => self.queue.earliest(),
+            Some(only) => Some(only.time),
         }
     }
 
     /// A time that no name's time is before, in the time of a few tests: the first time of the first place that holds a name.
+    #[inline(always)]
     pub fn not_before(&self) -> Option<Time>
         ensures none { IsNone result ↔ (self.now.times ≡ map.empty) }
         ensures bound { IfSome result (λ t. (name : ℕ) (other : Time) → map.get self.now.times name ≡ Some other → t.0 ≤ other.0) }
     {
-        match self.wheel.bound() {
-            Some(t) => Some(Time(t)),
-            None => None,
-        }
-    }
-
-    // A name with this very time.
-    fn due_name(&self, t: Time) -> Option<u32>
-        ensures none { IfNone result ((p : ℕ) → is_due self.now.times t p ≡ false) }
-        ensures some { IfSome result (λ name. is_due self.now.times t name ≡ true) }
-    {
-        match self.wheel.due_node(t.0) {
-            Some(i) => Some(name_of(&self.wheel.nodes, i)),
-            None => None,
-        }
-    }
-
-    // Brings the origin to this time, where no earlier one is held.
-    fn follow(&mut self, t: Time)
-        ensures { self.new ≡ self.old }
-    {
-        self.wheel.follow(t.0);
-    }
-
-    // Moves each name with this very time out of the queue and behind what `out` has.
-    fn move_due(&mut self, t: Time, out: &mut Vec<u32>)
-        requires { vec_len out.old + map.len (due_at self.old.times t) ≤ vec_capacity out.old }
-        ensures left { self.new ≡ without_due self.old t }
-        ensures taken { AddsEach out.old.items out.new.items (is_due self.old.times t) }
-        ensures capacity { vec_capacity out.new ≡ vec_capacity out.old }
-    {
-        'taking: while let Some(name) = self.due_name(t) {
-            self.clear(name);
-            out.push_reserved(name);
+        match self.only {
+            None => self.queue.not_before(),
+            Some(only) => Some(only.time),
         }
     }
 
     /// Moves each name with this very time out of the queue and behind what `out` has, in rising order of the names.
+    #[inline(always)]
     pub fn take_due(&mut self, t: Time, out: &mut Vec<u32>)
         requires { vec_len out.old + map.len (due_at self.old.times t) ≤ vec_capacity out.old }
         ensures left { self.new ≡ without_due self.old t }
@@ -203,25 +180,16 @@ impl TimedQueue {
         ensures order { out.new.items ≡ out.old.items ++ map.keys (due_at self.old.times t) }
         ensures capacity { vec_capacity out.new ≡ vec_capacity out.old }
     {
-        if self.is_empty() {
-            return;
+        match self.only {
+            None => self.queue.take_due(t, out),
+            Some(only) => {
+                if only.time.0 == t.0 {
+                    self.only = None;
+                    out.push_reserved(only.name);
+                }
+            }
         }
-        let had = out.len();
-        self.follow(t);
-        self.move_due(t, out);
-        sort_from(out, had);
     }
-}
-
-// Sorts the numbers from this place on.
-fn sort_from(out: &mut Vec<u32>, from: usize)
-    requires { from ≤ vec_len out.old }
-    ensures front { take from out.new.items ≡ take from out.old.items }
-    ensures permuted { IsPermutation (drop from out.old.items) (drop from out.new.items) }
-    ensures sorted { IsSorted nat_cmp (drop from out.new.items) }
-    ensures capacity { vec_capacity out.new ≡ vec_capacity out.old }
-{
-    out[from..].sort_unstable();
 }
 
 /// What is passed on of sim_time.

@@ -64,14 +64,21 @@ impl Wheel {
         }
     }
 
-    // Whether an entry is before t.
-    fn holds_before(&self, t: u64) -> bool
+    // Whether an entry is before t, which stands in this place.
+    fn holds_before(&self, place: u32, t: u64) -> bool
         requires sound { IsWheel self.now }
         requires settled { IsSettled self.now }
+        requires late { self.now.origin ≤ t }
+        requires is_place { place ≡ place_at 10 t self.now.origin }
         ensures { result ≡ false → AreFrom self.now.nodes.items t }
     {
-        match self.bound() {
-            Some(bound) => bound < t && self.is_before(t),
+        match self.marks.first() {
+            Some(first) => {
+                if place < first {
+                    return false;
+                }
+                self.is_before(t)
+            }
             None => false,
         }
     }
@@ -125,13 +132,26 @@ impl Wheel {
         if self.nodes.is_empty() {
             return;
         }
-        if self.holds_before(t) {
+        let place = place_of(t, self.origin);
+        if self.holds_before(place, t) {
             return;
         }
-        let place = place_of(t, self.origin);
         if place >= 64 {
             self.spread(place, t);
         }
+        self.origin = t;
+    }
+
+    // Begins anew at t, where there is no entry.
+    #[inline(always)]
+    pub(crate) fn begin_at(&mut self, t: u64)
+        requires sound { IsWheel self.old }
+        requires none { (i : ℕ) → IsEntry self.old.nodes.items i → ⊥ }
+        ensures sound { IsWheel self.new }
+        ensures settled { IsSettled self.new }
+        ensures same { Same self.old.nodes.items self.new.nodes.items }
+        ensures room { self.new.room ≡ self.old.room }
+    {
         self.origin = t;
     }
 

@@ -1,14 +1,21 @@
-use Rattle.std.proofs.Common.{refl, sym, ap, ◌∙◌, subst, true≢false}
-use Rattle.timed_queue.specs.Timed.{Timed, IsEarliest}
-use Rattle.timed_queue.proofs.QueueLaws.{none_held, some_held, earliest_is}
+use Rattle.std.proofs.Common.{◌≡◌, ap, ◌∙◌, subst, true≢false}
+use Rattle.timed_queue.specs.Timed.{Timed, with_time, IsEarliest}
+use Rattle.timed_queue.specs.Alone.{IsAlone}
+use Rattle.timed_queue.proofs.Alone.{is_alone, shown_alone, some_there, earliest-alone}
 use Rattle.timed_queue.proofs.TimedQueue.earliest.Goals as goal
 
 pub returns-in-Some-clause-empty : goal.returns-in-Some-clause-empty
 returns-in-Some-clause-empty c =
-    (λ e. absurd (true≢false e), λ none. absurd (some_held c.self.inside.index.entries c.self.inside.wheel c.self.invariant.0 c.in-Some.ensures.some.held.0 c.in-Some.ensures.some.held.1 (ap (λ (q : Timed). q.times) c.self.view_is ∙ none)))
-
-pub returns-in-None-clause-empty : goal.returns-in-None-clause-empty
-returns-in-None-clause-empty c = (λ _. ap (λ (q : Timed). q.times) (sym c.self.view_is) ∙ none_held c.self.inside.index.entries c.self.inside.wheel c.self.invariant.0 c.in-None.ensures.none, λ _. refl)
+    let q = c.self.inside.queue in
+    let e = c.in-Some.only in
+    let alone : IsAlone q = is_alone q c.in-Some.is c.self.invariant in
+    let view : with_time q e.name e.time ≡ c.args.self.now = shown_alone q c.in-Some.is c.self.view_is in
+    (λ none. absurd (true≢false none), λ none. absurd (some_there q alone e.name e.time (ap (λ (w : Timed). w.times) view ∙ none)))
 
 pub returns-in-Some-clause-least : goal.returns-in-Some-clause-least
-returns-in-Some-clause-least c = subst (λ (q : Timed). IsEarliest q.times (record { 0 = c.in-Some.t })) c.self.view_is (earliest_is c.self.inside.index.entries c.self.inside.wheel c.self.invariant.0 c.in-Some.t c.in-Some.ensures.some)
+returns-in-Some-clause-least c =
+    let q = c.self.inside.queue in
+    let e = c.in-Some.only in
+    let alone : IsAlone q = is_alone q c.in-Some.is c.self.invariant in
+    let view : with_time q e.name e.time ≡ c.args.self.now = shown_alone q c.in-Some.is c.self.view_is in
+    subst (λ (w : Timed). IsEarliest w.times e.time) view (earliest-alone q alone e.name e.time)

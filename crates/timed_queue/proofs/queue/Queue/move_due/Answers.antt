@@ -6,7 +6,7 @@ use Rattle.std.proofs.lemmas.List.Sums.{sum_by-append, sum_by-cons}
 use Rattle.std.specs.FinMap as map
 use Rattle.timed_queue.specs.Timed.{Timed, due_at, is_due, without_due}
 use Rattle.timed_queue.proofs.Due.{len-due_at, due-removed, left_one, left_none}
-use Rattle.timed_queue.proofs.TimedQueue.move_due.Goals as goal
+use Rattle.timed_queue.proofs.queue.Queue.move_due.Goals as goal
 
 abbrev bit : Bool → ℕ
 bit b = cond b 1 0
@@ -30,7 +30,7 @@ push_reserved-requires c =
 pub taking-smaller : goal.taking-smaller
 taking-smaller c =
     let less = len-due_at c.taking.self.times c.args.t c.in-Some.name c.in-Some.ensures.some in
-    omega (arith, ap (λ q. map.len (due_at q.times c.args.t)) c.clear.ensures, less)
+    omega (arith, ap (λ q. map.len (due_at q.times c.args.t)) (c.follow.ensures ∙ c.clear.ensures), less)
 
 pub taking-preserved : goal.taking-preserved
 taking-preserved c =
@@ -42,21 +42,21 @@ taking-preserved c =
       once = λ p.
           let counted : count_by (λ x. x == p) (inv.added ++ name ∷ []) ≡ count_by (λ x. x == p) inv.added + cond (name == p) 1 0 =
           sum_by-append (λ x. cond (x == p) 1 0) inv.added (name ∷ []) ∙ ap (λ n. count_by (λ x. x == p) inv.added + n) (sum_by-cons (λ x. cond (x == p) 1 0) name [] ∙ omega arith) in
-          let now : is_due c.clear.new.self.times t p ≡ cond (p == name) false (is_due m t p) = ap (λ (q : Timed). is_due q.times t p) c.clear.ensures ∙ due-removed m t name c.in-Some.ensures.some p in
+          let now : is_due c.follow.new.self.times t p ≡ cond (p == name) false (is_due m t p) = ap (λ (q : Timed). is_due q.times t p) (c.follow.ensures ∙ c.clear.ensures) ∙ due-removed m t name c.in-Some.ensures.some p in
           let before = inv.once p in ⊎_elim
           (λ (same : p ≡ name).
           let a : cond (name == p) 1 0 ≡ 1 = ap bit (eq-eqb name p (sym same)) in
-          let b : cond (is_due c.clear.new.self.times t p) 1 0 ≡ 0 = ap bit (now ∙ ap (λ b. cond b false (is_due m t p)) (eq-eqb p name same)) in
+          let b : cond (is_due c.follow.new.self.times t p) 1 0 ≡ 0 = ap bit (now ∙ ap (λ b. cond b false (is_due m t p)) (eq-eqb p name same)) in
           let d : cond (is_due m t p) 1 0 ≡ 1 = ap bit (ap (is_due m t) same ∙ c.in-Some.ensures.some) in
           omega (arith, counted, a, b, d, before))
           (λ (apart : p ≢ name).
           let a : cond (name == p) 1 0 ≡ 0 = ap bit (ne_eqb name p (λ e. apart (sym e))) in
-          let b : cond (is_due c.clear.new.self.times t p) 1 0 ≡ cond (is_due m t p) 1 0 = ap bit (now ∙ ap (λ b. cond b false (is_due m t p)) (ne_eqb p name apart)) in
+          let b : cond (is_due c.follow.new.self.times t p) 1 0 ≡ cond (is_due m t p) 1 0 = ap bit (now ∙ ap (λ b. cond b false (is_due m t p)) (ne_eqb p name apart)) in
           omega (arith, counted, a, b, before))
           (cases_eq p name);
-      left = ap (λ q. without_due q t) c.clear.ensures ∙ left_one c.taking.self t name c.in-Some.ensures.some ∙ inv.left;
+      left = ap (λ q. without_due q t) (c.follow.ensures ∙ c.clear.ensures) ∙ left_one c.taking.self t name c.in-Some.ensures.some ∙ inv.left;
       size = let e : length c.push_reserved.new.self.items ≡ length c.taking.out.items + 1 = ap length c.push_reserved.ensures.items ∙ length-append c.taking.out.items (name ∷ []) in
-          let f = ap (λ q. map.len (due_at q.times t)) c.clear.ensures in omega (arith, e, f, less, inv.size);
+          let f = ap (λ q. map.len (due_at q.times t)) (c.follow.ensures ∙ c.clear.ensures) in omega (arith, e, f, less, inv.size);
       room = c.push_reserved.ensures.capacity ∙ inv.room;
     }
 

@@ -2,7 +2,7 @@ use Rattle.std.proofs.Common.{◌≡◌, ℕ, ◌+◌, cond, List, ◌++◌, len
 use Rattle.std.specs.Prelude.{count_by, ◌==◌}
 use Rattle.std.specs.FinMap as map
 use Rattle.timed_queue.specs.Timed.{due_at, is_due, without_due}
-use Rattle.timed_queue.proofs.TimedQueue.move_due.Given as goal
+use Rattle.timed_queue.proofs.queue.Queue.move_due.Given as goal
 
 abbrev pub invariant-taking : goal.invariant-taking
 invariant-taking l = record {

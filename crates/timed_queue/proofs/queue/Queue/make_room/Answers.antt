@@ -2,7 +2,7 @@ use Rattle.std.proofs.Common.{◌≡◌, ◌⊎◌, ℕ, max, List, Result, Ok, 
 use Rattle.timed_queue.specs.Timed.{Timed}
 use Rattle.timed_queue.specs.Layout.{times_of, IsQueue}
 use Rattle.timed_queue.proofs.QueueLaws.{queue_grown, times_grown}
-use Rattle.timed_queue.proofs.TimedQueue.make_room.Goals as goal
+use Rattle.timed_queue.proofs.queue.Queue.make_room.Goals as goal
 
 either : {X E : Type 0} (r : Result X E) (A B : Type 0) → OnOk r A → OnErr r B → A ⊎ B
 either (Ok x) A B a b = inl a
