@@ -8,7 +8,7 @@ use Rattle.std.specs.declared.cmp.Ordering.TheVariants.{Less, Greater}
 use Rattle.std.specs.Cmp.{IsTotalOrder}
 use Rattle.room_map.specs.declared.nodes.Node.{Node}
 use Rattle.room_map.specs.Shape.{Shape, Bare, Fork, is_at, entries, height, times, IsBalanced}
-use Rattle.room_map.specs.Nodes.{Under, Changed, AreSides, AreNear, IsHighOver, IsEven, CanEnter, HasEntered}
+use Rattle.room_map.specs.Nodes.{Under, Changed, AreNear, IsHighOver, IsEven, CanEnter, HasEntered}
 use Rattle.room_map.proofs.Sizes.{is_max}
 use Rattle.room_map.proofs.Held.{IsOver, bare, under_kept, changed_more, length-fork}
 use Rattle.room_map.proofs.Maps.{length-put_new}

@@ -1,12 +1,11 @@
 -- The only entry of a tree leaves it.
-use Rattle.std.proofs.Common.{◌≡◌, ℕ, ◌+◌, ◌≤◌, Bool, true, false, cond, List, [], ◌∷◌, length, length-append, Some, None, refl, sym, ap, ◌∙◌, arith, true≢false}
+use Rattle.std.proofs.Common.{◌≡◌, ℕ, Bool, true, false, cond, List, [], ◌∷◌, length, Some, None, refl, sym, ap, arith, true≢false}
 use Rattle.std.specs.Prelude.{is_some}
 use Rattle.std.specs.declared.cmp.Ordering.{Ordering}
 use Rattle.std.specs.Ordering.{is_eq}
 use Rattle.room_map.specs.declared.nodes.Node.{Node}
-use Rattle.room_map.specs.Shape.{Shape, Bare, Fork, is_at, entries, height, times}
+use Rattle.room_map.specs.Shape.{Shape, Bare, Fork, is_at, entries, times}
 use Rattle.room_map.specs.Nodes.{Under, Changed, CanLeave, HasLeft}
-use Rattle.room_map.specs.Entries.{without}
 use Rattle.room_map.proofs.Sizes.{is_max}
 use Rattle.room_map.proofs.Held.{unchanged, length-fork}
 

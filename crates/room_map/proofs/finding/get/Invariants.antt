@@ -1,4 +1,3 @@
-use Rattle.std.proofs.Common.{◌≡◌}
 use Rattle.room_map.specs.Shape.{Shape, entries}
 use Rattle.room_map.specs.Nodes.{Under, height_at}
 use Rattle.room_map.specs.Entries.{IsRising}
