@@ -14,3 +14,4 @@ pub mod Due
 pub mod RoomLaws
 pub mod SortLaws
 pub mod Alone
+pub mod Notes

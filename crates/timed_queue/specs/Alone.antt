@@ -1,5 +1,6 @@
--- A queue of which the only name may be kept beside the others, of which there is none then. No public clause cites this module.
-use Rattle.std.specs.Prelude.{◌≡◌, ⊤, ◌<◌, Option, None, Some}
+-- A queue of which the only name may be kept beside the others, of which there is none then, and flags for names that may be there.
+-- No public clause cites this module.
+use Rattle.std.specs.Prelude.{◌≡◌, ⊤, ℕ, ◌<◌, Bool, true, false, List, length, get_or, Option, None, Some}
 use Rattle.std.specs.FinMap as map
 use Rattle.timed_queue.specs.declared.Only.{Only}
 use Rattle.timed_queue.specs.Timed.{Timed, with_time}
@@ -17,3 +18,7 @@ pub record IsAlone (q : Timed) : Type 0 where
 abbrev pub MayBeAlone : Option Only → Timed → Type 0
 MayBeAlone None q = ⊤
 MayBeAlone (Some e) q = IsAlone q
+
+-- the flag of each name that is there, where it has one, is set
+pub record IsNoted (flags : List Bool) (there : ℕ → Bool) : Type 0 where
+  pub noted : (p : ℕ) → there p ≡ true → p < length flags → get_or flags p false ≡ true

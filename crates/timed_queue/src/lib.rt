@@ -9,6 +9,7 @@ mod entries;
 mod laws;
 mod marks;
 mod moving;
+mod noted;
 mod placing;
 mod queue;
 mod room;
@@ -16,7 +17,7 @@ mod walking;
 mod wheel;
 
 pub use laws::due_names_are_held;
-use queue::Queue;
+use noted::Noted;
 use sim_time::Time;
 use std::alloc::{AllocError, Global};
 use std::marker::Model;
@@ -33,7 +34,7 @@ pub struct TimedQueue {
     // The only name with its time, while no other has come since there was none.
     only: Option<Only>,
     // All of them, else.
-    queue: Queue,
+    queue: Noted,
 }
 
 // A name with its time.
@@ -66,7 +67,7 @@ impl TimedQueue {
     {
         TimedQueue {
             only: None,
-            queue: Queue::new(alloc),
+            queue: Noted::new(alloc),
         }
     }
 

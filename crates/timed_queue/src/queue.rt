@@ -66,6 +66,14 @@ impl Queue {
         self.index.is_empty()
     }
 
+    // For how many names more there is room.
+    #[inline(always)]
+    pub(crate) fn spare(&self) -> u32
+        ensures { result ≡ self.now.spare }
+    {
+        self.wheel.room
+    }
+
     // Makes room where there is less than for `n` names more.
     #[inline(never)]
     fn make_room(&mut self, n: u32) -> Result<(), AllocError>
