@@ -1,15 +1,15 @@
 -- What a set shows whose only member is kept beside the others, and what each change makes of it.
-use Rattle.std.proofs.Common.{◌≡◌, ◌≢◌, ◌⊎◌, ℕ, zero, suc, ◌+◌, ◌-◌, ◌^◌, ◌<◌, Bool, true, false, cond, not, ◌&&◌, ◌||◌, List, [], ◌∷◌, Option, None, Some, refl, sym, ap, ◌∙◌, subst, ⊎_elim, arith, eq-eqb, ne_eqb, true≢false}
+use Rattle.std.proofs.Common.{◌≡◌, ◌≢◌, ◌⊎◌, ℕ, zero, suc, ◌+◌, ◌-◌, ◌^◌, ◌<◌, Bool, true, false, cond, not, ◌&&◌, ◌||◌, [], ◌∷◌, Option, None, Some, refl, sym, ap, ◌∙◌, subst, ⊎_elim, arith, eq-eqb, ne_eqb, true≢false}
 use Rattle.std.specs.Prelude.{slice_get, ◌==◌}
 use Rattle.std.proofs.lemmas.Bool.{cases_eq}
 use Rattle.std.specs.Ordering.{nat_cmp, eq_by_cmp}
 use Rattle.std.specs.Cmp.{nat_cmp_total}
 use Rattle.std.specs.FinSet as set
-use Rattle.std.specs.FinSet.{FinSet, contains, insert, remove, len, from_list}
+use Rattle.std.specs.FinSet.{contains, insert, remove, len, from_list}
 use Rattle.ready_set.specs.Ready.{Ready, rising, with_member, without_member}
 use Rattle.ready_set.specs.Alone.{with_only, IsAlone, MayBeAlone}
 use Rattle.ready_set.proofs.Rising.{tied, same_ties, other_ties_not}
-use Rattle.ready_set.proofs.Shown.{same_members, set-placed, rising-set_of, len-set_of, with_again}
+use Rattle.ready_set.proofs.Shown.{same_members, set-placed, rising-set_of, len-set_of}
 
 or_false : (b : Bool) → (b || false) ≡ b
 or_false true = refl
