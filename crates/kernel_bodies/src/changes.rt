@@ -20,6 +20,7 @@ use sim_model::flat_design_api::{BlockId, StmtId};
 use sim_model::logic_values_api::Value;
 
 /// Lets a frame go. If it is the body's own call, its vectors are kept.
+#[inline(always)]
 fn put_by(saved: Saved, spare: &mut Spare)
     ensures locals { vec_capacity spare.new.locals ≡ room_of_own saved.frame.call (vec_capacity saved.frame.locals) (vec_capacity spare.old.locals) }
     ensures blocks { vec_capacity spare.new.blocks ≡ room_of_own saved.frame.call (vec_capacity saved.blocks) (vec_capacity spare.old.blocks) }
@@ -55,9 +56,9 @@ fn drop_frame(frames: &mut Vec<Saved>, spare: &mut Spare)
     }
 }
 
-/// Pops all but the outermost frames.
-#[inline(always)]
-pub fn keep_frames(frames: &mut Vec<Saved>, spare: &mut Spare, many: usize)
+/// Pops frames till there are no more than so many.
+#[inline(never)]
+fn drop_frames(frames: &mut Vec<Saved>, spare: &mut Spare, many: usize)
     requires { many ≤ vec_len frames.old }
     ensures items { frames.new.items ≡ take many frames.old.items }
     ensures capacity { vec_capacity frames.new ≡ vec_capacity frames.old }
@@ -68,7 +69,21 @@ pub fn keep_frames(frames: &mut Vec<Saved>, spare: &mut Spare, many: usize)
     }
 }
 
+/// Pops all but the outermost frames.
+#[inline(always)]
+pub fn keep_frames(frames: &mut Vec<Saved>, spare: &mut Spare, many: usize)
+    requires { many ≤ vec_len frames.old }
+    ensures items { frames.new.items ≡ take many frames.old.items }
+    ensures capacity { vec_capacity frames.new ≡ vec_capacity frames.old }
+    ensures own { KeepsOwn spare.old spare.new frames.old.items frames.new.items }
+{
+    if frames.len() > many {
+        drop_frames(frames, spare, many);
+    }
+}
+
 /// Pops all but the outermost blocks of a frame, adds those that come inside them, and gives the statement that comes.
+#[inline(always)]
 pub fn fill(saved: &mut Saved, blocks: usize, comes: Comes) -> Option<StmtId>
     requires { length (take blocks saved.old.blocks.items) + length (layers_of comes) ≤ vec_capacity saved.old.blocks }
     ensures same { SameCall saved.old saved.new }

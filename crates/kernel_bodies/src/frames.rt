@@ -21,7 +21,7 @@ pub fn place<T: Drop>(items: &mut Vec<T>, value: T)
     ensures items { items.new.items ≡ items.old.items ++ value ∷ [] }
     ensures capacity { vec_capacity items.old ≤ vec_capacity items.new }
 {
-    let _ = items.push(value);
+    items.push_reserved(value);
 }
 
 /// The parameters and the local variables of a body; none of one that there is not.
@@ -34,8 +34,9 @@ pub fn locals_in(program: &Program, function: CodeId) -> &[Local]
     }
 }
 
-/// Adds the first values of the local variables that are no parameters.
-pub fn add_locals(values: &mut Vec<Value>, locals: &[Local])
+/// Adds the first values of the local variables from that on whose number is how many values there are.
+#[inline(never)]
+fn add_defaults(values: &mut Vec<Value>, locals: &[Local])
     requires { length (first_locals values.old.items locals.now) ≤ vec_capacity values.old }
     ensures items { values.new.items ≡ first_locals values.old.items locals.now }
     ensures capacity { vec_capacity values.old ≤ vec_capacity values.new }
@@ -43,6 +44,18 @@ pub fn add_locals(values: &mut Vec<Value>, locals: &[Local])
     while values.len() < locals.len() {
         let first = default_value(locals[values.len()].value_type);
         place(values, first);
+    }
+}
+
+/// Adds the first values of the local variables that are no parameters.
+#[inline(always)]
+pub fn add_locals(values: &mut Vec<Value>, locals: &[Local])
+    requires { length (first_locals values.old.items locals.now) ≤ vec_capacity values.old }
+    ensures items { values.new.items ≡ first_locals values.old.items locals.now }
+    ensures capacity { vec_capacity values.old ≤ vec_capacity values.new }
+{
+    if values.len() < locals.len() {
+        add_defaults(values, locals);
     }
 }
 

@@ -1,7 +1,7 @@
 use Rattle.std.proofs.Common.{◌≡◌, ◌≤◌, take, vec_len}
 use Rattle.std.specs.Vec.{vec_capacity}
 use Rattle.kernel_bodies.specs.Room.{KeepsOwn}
-use Rattle.kernel_bodies.proofs.changes.keep_frames.Given as goal
+use Rattle.kernel_bodies.proofs.changes.drop_frames.Given as goal
 
 abbrev pub invariant-loop-frames : goal.invariant-loop-frames
 invariant-loop-frames l = record {

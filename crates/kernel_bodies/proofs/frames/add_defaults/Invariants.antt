@@ -1,7 +1,7 @@
 use Rattle.std.proofs.Common.{◌≡◌, ◌-◌, ◌≤◌, length, vec_len}
 use Rattle.std.specs.Vec.{vec_capacity}
 use Rattle.sim_model.specs.Residual.{first_locals}
-use Rattle.kernel_bodies.proofs.frames.add_locals.Given as goal
+use Rattle.kernel_bodies.proofs.frames.add_defaults.Given as goal
 
 abbrev pub invariant-loop-values : goal.invariant-loop-values
 invariant-loop-values l = record {
