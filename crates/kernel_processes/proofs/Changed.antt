@@ -1,5 +1,5 @@
 -- What one part's change is, told serial by serial.
-use Rattle.std.proofs.Common.{◌≡◌, ◌≢◌, ◌<◌, ◌+◌, ◌-◌, ℕ, zero, suc, Bool, true, false, not, ◌&&◌, ◌||◌, Option, Some, None, refl, sym, ap, ◌∙◌, arith, true≢false, subst}
+use Rattle.std.proofs.Common.{◌≡◌, ◌≢◌, ◌+◌, ◌-◌, ℕ, zero, suc, Bool, true, false, not, ◌&&◌, ◌||◌, Option, Some, None, refl, sym, ap, ◌∙◌, arith, true≢false}
 use Rattle.std.specs.Prelude.{is_some, option_map, if◌then◌else◌}
 use Rattle.instance_table.specs.NumberedSlots.Numbered.{with_value}
 use Rattle.instance_table.specs.declared.instances.Instance.{Instance as Entry}
@@ -15,8 +15,9 @@ use Rattle.timed_queue.specs.Timed.{Timed}
 use Rattle.ready_set.specs.Ready.{Ready, with_member, without_member}
 use Rattle.wait_lists.specs.Waits as lists
 use Rattle.kernel_processes.specs.InstanceViews.{Seen, seen}
-use Rattle.kernel_processes.specs.Moves.{with_entry, Changes}
+use Rattle.kernel_processes.specs.Moves.{with_entry, waiting_by, HasNoTimeOut, Changes}
 use Rattle.kernel_processes.specs.declared.parts.Schedule.{Schedule}
+use Rattle.kernel_processes.specs.declared.parts.Trigger.{Trigger}
 
 -- sets
 pub member_here : (s : set.FinSet nat_cmp) (p : ℕ) → set.contains (set.insert s p) p ≡ true
@@ -188,22 +189,6 @@ told_as p f g s t a same = record {
   places = a.places;
 }
 
--- what is taken out leaves its place
-module _ {B : Type 0} (s : Schedule B) (p : ℕ) where
-  pub more_zero : (z : Ready) → z ≡ without_member s.zero p → 0 < s.zero.spare → 0 < z.spare
-  more_zero z is some = subst (λ r. 0 < r.spare) (sym is) (by (set.contains s.zero.members p))
-    where
-      by : (b : Bool) → 0 < (if b then s.zero.spare + 1 else s.zero.spare)
-      by true = omega arith
-      by false = some
-
-  pub more_times : (d : Timed) → d ≡ timed.without s.deadlines p → 0 < s.deadlines.spare → 0 < d.spare
-  more_times d is some = subst (λ r. 0 < r.spare) (sym is) (by (map.contains_key s.deadlines.times p))
-    where
-      by : (b : Bool) → 0 < (if b then s.deadlines.spare + 1 else s.deadlines.spare)
-      by true = omega arith
-      by false = some
-
 -- one change after another
 module _ {B : Type 0} (p : ℕ) (f g : Seen B → Seen B) (s t u : Schedule B) where
   pub then_changes : Changes p f s t → Changes p g t u → Changes p (λ x. g (f x)) s u
@@ -217,3 +202,32 @@ module _ {B : Type 0} (p : ℕ) (f g : Seen B → Seen B) (s t u : Schedule B) w
     count = b.count ∙ a.count;
     places = b.places ∙ a.places;
   }
+
+-- a time-out, or none, of one that has none
+module _ {B : Type 0} (s : Schedule B) (p : ℕ) (n : HasNoTimeOut p s) where
+  unchanged : Changes p (λ x. x) s s
+  unchanged = record {
+    here = refl;
+    others = λ q apart. refl;
+    stack = refl;
+    woken = refl;
+    due = refl;
+    next = refl;
+    count = refl;
+    places = refl;
+  }
+
+  pub still_untimed : Changes p (λ x. record x { time = None; zero = false }) s s
+  still_untimed = told_as p (λ x. x) _ s s unchanged (ap (λ o. record (seen s p) { time = o }) n.time ∙ ap (λ b. record (seen s p) { time = None; zero = b }) n.zero)
+
+  pub gets_zero : (z : Ready) → z ≡ with_member s.zero p → Changes p (λ x. record x { time = None; zero = true }) s (record s { zero = z })
+  gets_zero z is = told_as p _ _ s _ (put_zero s p z is) (ap (λ o. record (seen s p) { time = o; zero = true }) n.time)
+
+  pub gets_time : (d : Timed) (u : Time) → d ≡ timed.with_time s.deadlines p u → Changes p (λ x. record x { time = Some u; zero = false }) s (record s { deadlines = d })
+  gets_time d u is = told_as p _ _ s _ (put_deadline s p d u is) (ap (λ b. record (seen s p) { time = Some u; zero = b }) n.zero)
+
+-- how it waits, and that its body has not begun, noted at once
+pub rests_at_once : {B : Type 0} (t : Trigger) (o : Option (Entry (Process B))) → option_map (λ (x : Entry (Process B)). record x { wait = waiting_by t.wait; deadline = t.deadline; started = false }) o
+    ≡ option_map (λ (x : Entry (Process B)). record x { started = false }) (option_map (λ (x : Entry (Process B)). record x { wait = waiting_by t.wait; deadline = t.deadline }) o)
+rests_at_once t None = refl
+rests_at_once t (Some x) = refl

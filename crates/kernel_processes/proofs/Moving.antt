@@ -8,8 +8,8 @@ use Rattle.instance_table.specs.declared.instances.Instance.{Instance as Entry}
 use Rattle.sim_model.specs.Configuration.{Instance, waits_statically}
 use Rattle.sim_model.specs.Waits.{freed}
 use Rattle.kernel_processes.specs.InstanceViews.{Seen, seen, is_on}
-use Rattle.kernel_processes.specs.Sound.{IsFree, IsKept, IsBusy, IsSound}
-use Rattle.kernel_processes.specs.Moves.{with_entry, listed_as, sensitive_of, is_kept, Changes, MovesOne}
+use Rattle.kernel_processes.specs.Sound.{IsFree, IsKept, IsBusy, IsSound, time_of, is_zero}
+use Rattle.kernel_processes.specs.Moves.{with_entry, listed_as, sensitive_of, is_kept, HasNoTimeOut, Changes, MovesOne}
 use Rattle.kernel_processes.specs.declared.parts.Process.{Process}
 use Rattle.kernel_processes.specs.declared.parts.Schedule.{Schedule}
 use Rattle.kernel_processes.specs.declared.parts.Trigger.{Trigger}
@@ -216,6 +216,17 @@ module _ {B : Type 0} (s u : Schedule B) (p : ℕ) (sound : IsSound s) (left : L
 
   pub unkept_after : is_kept (map.get u.table.live p) ≡ false
   unkept_after = let e = entry_there (seen u p).entry lives_after in ap is_kept e.1 ∙ (busy_before e.0 e.1).kept
+
+  -- what was active has no time-out
+  pub untimed_after : HasNoTimeOut p u
+  untimed_after =
+      let e = entry_there (seen u p).entry lives_after in
+      let kept = kept_of (seen s p) e.0 (ap (λ x. x.entry) (sym same_seen) ∙ e.1) (sound.each p) in
+      let free = (busy_before e.0 e.1).free in
+      record {
+        time = ap (λ x. x.time) same_seen ∙ kept.time ∙ ap time_of free.deadline;
+        zero = ap (λ x. x.zero) same_seen ∙ kept.zero ∙ ap is_zero free.deadline;
+      }
 
   off_result_after : (t : Schedule B) (g : Instance → Instance) → Result p g false u t → OffResult p g s t
   off_result_after t g r = record { moves = after_leaving s u t p g false left r.moves; sound = r.sound }

@@ -95,6 +95,11 @@ module _ {B : Type 0} where
   abbrev pub with_entry : (Entry (Process B) → Entry (Process B)) → Seen B → Seen B
   with_entry f x = record x { entry = option_map f x.entry }
 
+  -- no time ends its wait
+  pub record HasNoTimeOut (p : ℕ) (s : Schedule B) : Type 0 where
+    pub time : map.get s.deadlines.times p ≡ None
+    pub zero : set.contains s.zero.members p ≡ false
+
   -- ---- changes
 
   -- at one serial alone something changes, as f says; the stack, the serials and the room in all stay

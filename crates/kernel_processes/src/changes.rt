@@ -6,7 +6,7 @@ ghost use Rattle.instance_table.specs.declared.instances.Waiting.TheVariants as 
 ghost use Rattle.instance_table.specs.declared.instances.Deadline.TheVariants as due;
 ghost use Rattle.wait_lists.specs.Waits.{room_for};
 ghost use Rattle.kernel_processes.specs.Sound.{time_of, is_zero};
-ghost use Rattle.kernel_processes.specs.Moves.{Changes, with_entry, listed_as, events_of, sensitive_of, waiting_by, is_kept};
+ghost use Rattle.kernel_processes.specs.Moves.{Changes, with_entry, listed_as, events_of, sensitive_of, waiting_by, is_kept, HasNoTimeOut};
 
 use super::parts::{Schedule, Trigger, Wait};
 use instance_table::{Deadline, Waiting};
@@ -52,18 +52,17 @@ pub(crate) fn mute<B>(s: &mut Schedule<B>, p: u32, on: bool)
     s.lists.mute(p, on);
 }
 
-/// Gives an instance this time-out, in place of the one that it had.
+/// Gives this time-out to an instance that has none.
 #[inline(always)]
 pub(crate) fn put_time<B>(s: &mut Schedule<B>, p: u32, d: Deadline)
     requires below { p < 2 ^ 32 - 1 }
     requires times { 0 < s.old.deadlines.spare }
     requires zeros { 0 < s.old.zero.spare }
+    requires untimed { HasNoTimeOut p s.old }
     ensures changes { Changes p (λ x. record x { time = time_of d; zero = is_zero d }) s.old s.new }
     ensures lists { s.new.lists ≡ s.old.lists }
     ensures table { s.new.table ≡ s.old.table }
 {
-    s.deadlines.clear(p);
-    s.zero.remove(p);
     match d {
         Deadline::None => {}
         Deadline::Delta => s.zero.insert(p),
@@ -80,14 +79,14 @@ pub(crate) fn unready<B>(s: &mut Schedule<B>, p: u32) -> bool
     s.ready.remove(p)
 }
 
-/// The events of a wait, of an instance with this static sensitivity.
+/// The static sensitivity of an instance; none where there is no such live one.
 #[inline(always)]
-fn events_of<'a>(wait: &'a Wait, sensitive: &'a [Ev]) -> &'a [Ev]
-    ensures { result.now ≡ events_of wait.now sensitive.now }
+fn sensitive_of<B>(s: &Schedule<B>, p: u32) -> &[Ev]
+    ensures { result.now ≡ sensitive_of (map.get s.now.table.live p) }
 {
-    match wait {
-        Wait::Static => sensitive,
-        Wait::Any(events) | Wait::All(events) => events.as_slice(),
+    match s.table.get(p) {
+        Some(x) => x.body.sensitive.as_slice(),
+        None => &[],
     }
 }
 
@@ -97,9 +96,9 @@ pub fn count_events<B>(s: &Schedule<B>, p: u32, wait: &Wait) -> Option<u32>
     ensures counted { IfSome result (λ n. n ≡ length (events_of wait.now (sensitive_of (map.get s.now.table.live p)))) }
     ensures few { length (events_of wait.now (sensitive_of (map.get s.now.table.live p))) < 2 ^ 32 → IsSome result }
 {
-    match s.table.get(p) {
-        Some(x) => u32::try_from(events_of(wait, x.body.sensitive.as_slice()).len()).ok(),
-        None => u32::try_from(events_of(wait, &[]).len()).ok(),
+    match wait {
+        Wait::Static => u32::try_from(sensitive_of(s, p).len()).ok(),
+        Wait::Any(events) | Wait::All(events) => u32::try_from(events.as_slice().len()).ok(),
     }
 }
 
@@ -138,6 +137,18 @@ pub(crate) fn mark_wait<B>(s: &mut Schedule<B>, p: u32, t: &Trigger)
     if let Some(x) = s.table.get_mut(p) {
         x.wait = waiting_by(&t.wait);
         x.deadline = t.deadline;
+    }
+}
+
+/// Notes how an instance waits whose body has not begun.
+#[inline(always)]
+pub(crate) fn mark_rest<B>(s: &mut Schedule<B>, p: u32, t: &Trigger)
+    ensures { Changes p (with_entry (λ x. record x { wait = waiting_by t.now.wait; deadline = t.now.deadline; started = false })) s.old s.new }
+{
+    if let Some(x) = s.table.get_mut(p) {
+        x.wait = waiting_by(&t.wait);
+        x.deadline = t.deadline;
+        x.started = false;
     }
 }
 

@@ -3,10 +3,10 @@ ghost use Rattle.std.specs.Prelude.{◌≡◌, ◌≤◌, ◌<◌, ◌-◌, ◌^
 ghost use Rattle.std.specs.FinMap as map;
 ghost use Rattle.wait_lists.specs.Waits.{room_for};
 ghost use Rattle.kernel_processes.specs.Sound.{IsSound};
-ghost use Rattle.kernel_processes.specs.Moves.{events_of, sensitive_of, Changes, MovesOne};
+ghost use Rattle.kernel_processes.specs.Moves.{events_of, sensitive_of, with_entry, HasNoTimeOut, Changes, MovesOne};
 ghost use Rattle.kernel_processes.specs.Moved.{HasRoom, IsTop, Stays, leaves_top, waits_as, rests_as, waiting_seen};
 
-use super::changes::{hold_room, mark_started, mark_wait, put_time, put_wait};
+use super::changes::{hold_room, mark_rest, mark_wait, put_time, put_wait};
 use super::turns::leave_stack;
 use crate::{Schedule, Trigger, count_events};
 use std::alloc::AllocError;
@@ -27,18 +27,34 @@ fn make_room<B>(s: &mut Schedule<B>, p: u32, t: &Trigger) -> Result<(), AllocErr
     }
 }
 
-/// Puts the instance into the wait lists and the queues of time-outs.
+/// Puts an instance that has no time-out into the wait lists and the queues of time-outs.
 #[inline(always)]
 fn put<B>(s: &mut Schedule<B>, p: u32, t: &Trigger)
     requires below { p < 2 ^ 32 - 1 }
     requires events { length (events_of t.now.wait (sensitive_of (map.get s.old.table.live p))) ≤ room_for s.old.lists p }
     requires times { 0 < s.old.deadlines.spare }
     requires zeros { 0 < s.old.zero.spare }
+    requires untimed { HasNoTimeOut p s.old }
     ensures { Changes p (waiting_seen t.now) s.old s.new }
 {
     put_time(s, p, t.deadline);
     put_wait(s, p, &t.wait);
     mark_wait(s, p, t);
+}
+
+/// The same of an instance whose body has not begun.
+#[inline(always)]
+fn put_resting<B>(s: &mut Schedule<B>, p: u32, t: &Trigger)
+    requires below { p < 2 ^ 32 - 1 }
+    requires events { length (events_of t.now.wait (sensitive_of (map.get s.old.table.live p))) ≤ room_for s.old.lists p }
+    requires times { 0 < s.old.deadlines.spare }
+    requires zeros { 0 < s.old.zero.spare }
+    requires untimed { HasNoTimeOut p s.old }
+    ensures { Changes p (λ v. with_entry (λ x. record x { started = false }) (waiting_seen t.now v)) s.old s.new }
+{
+    put_time(s, p, t.deadline);
+    put_wait(s, p, &t.wait);
+    mark_rest(s, p, t);
 }
 
 /// The instance on top leaves the stack and waits so (IEEE 1666-2011, 5.2.18). Where memory is refused nothing changes.
@@ -85,6 +101,5 @@ pub fn rest_ready<B>(s: &mut Schedule<B>, p: u32, t: &Trigger)
     ensures sound { IsSound s.new }
 {
     leave_stack(s, p);
-    put(s, p, t);
-    mark_started(s, p, false);
+    put_resting(s, p, t);
 }
