@@ -41,13 +41,22 @@ pub struct Body {
     pub(crate) owed: Option<Owed>,
 }
 
+/// Nothing is owed from now on.
+#[cold]
+#[inline(never)]
+fn drop_owed(owed: &mut Option<Owed>)
+    ensures { owed.new ≡ None }
+{
+    *owed = None;
+}
+
 /// Nothing is owed from now on. Where nothing was, nothing is written.
 #[inline(always)]
 pub(crate) fn let_go(owed: &mut Option<Owed>)
     ensures { owed.new ≡ None }
 {
     match owed {
-        Some(_) => *owed = None,
+        Some(_) => drop_owed(owed),
         None => {}
     }
 }
@@ -78,6 +87,7 @@ impl Body {
     }
 
     /// The statement in place is past.
+    #[inline(always)]
     pub fn past(&mut self, program: &Program)
         requires sound { IsSound program.now self.old }
         requires statement { IsStatement (next_in program.now self.old) }
