@@ -1,24 +1,22 @@
 -- The innermost of saved frames, changed: what is left then, and the room that it has.
-use Rattle.std.proofs.Common.{◌≡◌, ℕ, ◌+◌, ◌<◌, ◌≤◌, zero, suc, Bool, true, false, List, [], ◌∷◌, ◌++◌, Option, Some, None, length, take, drop, get_or, set, inl, inr, refl, sym, ap, ◌∙◌, subst, arith, length-append}
+use Rattle.std.proofs.Common.{◌≡◌, ℕ, ◌<◌, ◌≤◌, zero, suc, List, [], ◌∷◌, ◌++◌, Option, Some, None, length, take, get_or, set, inr, refl, sym, ap, ◌∙◌, subst, arith, length-append}
 use Rattle.std.proofs.Math.Seq.{take-length}
 use Rattle.std.specs.Vec.{vec_capacity}
 use Rattle.kernel_bodies.specs.FlatDesign.Code.{Arena}
-use Rattle.kernel_bodies.specs.SimModel.Residual as residual
-use Rattle.kernel_bodies.specs.SimModel.Residual.{Residual, Frame, skip, one, put, settle, next_of}
+use Rattle.kernel_bodies.specs.SimModel.Residual.{Residual, skip, one, put}
 use Rattle.kernel_bodies.specs.SimModel.declared.plain.Goal.{Goal}
 use Rattle.kernel_bodies.specs.declared.layers.Frame.{Frame as Kept}
 use Rattle.kernel_bodies.specs.declared.layers.Saved.{Saved}
 use Rattle.kernel_bodies.specs.declared.layers.Open.{Open}
-use Rattle.kernel_bodies.specs.declared.layers.Open.TheVariants as layer
 use Rattle.kernel_bodies.specs.declared.layers.Comes.{Comes}
 use Rattle.kernel_bodies.specs.declared.layers.Comes.TheVariants as comes
-use Rattle.kernel_bodies.specs.Layers.{call_of, inside, wrapped, whole, cut, inside_frames, under, held, standing, landed, layers_of, statement_of, frame_ends, EndsFrame, EndsWithGoal}
-use Rattle.kernel_bodies.specs.Room.{Fits, FitsIn, EachFitsIn, FitsLast, FitsFrames, room_of_own, own_locals, own_blocks, SameCall, SameRoom}
+use Rattle.kernel_bodies.specs.Layers.{call_of, inside, wrapped, whole, cut, inside_frames, under, held, standing, landed, layers_of, statement_of, frame_ends, EndsFrame}
+use Rattle.kernel_bodies.specs.Room.{FitsIn, EachFitsIn, FitsLast, FitsFrames, room_of_own, own_locals, own_blocks, SameCall, SameRoom}
 use Rattle.kernel_bodies.proofs.Settling.{IsLeft, inside_append, frames_append}
-use Rattle.kernel_bodies.proofs.Passing.{Passes, through_frames, through_goal, through_both}
+use Rattle.kernel_bodies.proofs.Passing.{through_frames, through_goal, through_both}
 use Rattle.kernel_bodies.proofs.Lands.{held_none, held_some}
 use Rattle.kernel_bodies.proofs.Rooms.{fits_none}
-use Rattle.process_state.specs.Bodies.{EndsIn, EndsWith}
+use Rattle.process_state.specs.Bodies.{EndsIn}
 
 pub le_to : (n x y : ℕ) → x ≡ y → n ≤ y → n ≤ x
 le_to n x y e h = let P : ℕ → Type 0 = λ m. n ≤ m in subst P (sym e) h

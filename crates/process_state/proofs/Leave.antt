@@ -1,7 +1,5 @@
 -- A call that ends, and a goal that is reached.
-use Rattle.std.proofs.Common.{◌≡◌, ℕ, ◌+◌, ◌-◌, ◌<◌, ◌≤◌, zero, suc, Bool, true, false, List, [], ◌∷◌, ◌++◌, Option, Some, None, length, take, get_or, set, refl, sym, ap, ◌∙◌, subst, arith, length-append, inl, inr, ⊎_elim}
-use Rattle.std.specs.Prelude.{◌⊎◌}
-use Rattle.std.specs.Vec.{vec_capacity}
+use Rattle.std.proofs.Common.{◌≡◌, ℕ, ◌-◌, ◌<◌, suc, List, [], ◌∷◌, ◌++◌, Option, Some, None, length, take, get_or, set, refl, sym, ap, ◌∙◌, subst, arith, length-append, inl, inr}
 use Rattle.kernel_bodies.specs.FlatDesign.Code.{Arena}
 use Rattle.kernel_bodies.specs.SimModel.Residual as residual
 use Rattle.kernel_bodies.specs.SimModel.Residual.{Residual, Frame, skip, frame, put, next_of, frame_end}
@@ -10,13 +8,12 @@ use Rattle.kernel_bodies.specs.declared.layers.Saved.{Saved}
 use Rattle.kernel_bodies.specs.declared.layers.Open.{Open}
 use Rattle.kernel_bodies.specs.declared.layers.Open.TheVariants as layer
 use Rattle.kernel_bodies.specs.declared.layers.Frame.{Frame as Kept}
-use Rattle.kernel_bodies.specs.declared.layers.Comes.{Comes}
 use Rattle.kernel_bodies.specs.declared.layers.Comes.TheVariants as comes
-use Rattle.kernel_bodies.specs.Layers.{call_of, inside, wrapped, whole, inside_frames, under, held, standing, frame_ends, IsComing, EndsFrame, EndsWithGoal}
+use Rattle.kernel_bodies.specs.Layers.{call_of, inside, wrapped, inside_frames, under, held, standing, frame_ends, IsComing, EndsFrame, EndsWithGoal}
 use Rattle.kernel_bodies.specs.Room.{EachFitsIn, own_locals, own_blocks, SameCall}
 use Rattle.kernel_bodies.proofs.Passing.{Passes, through_frames, through_goal, through_both, through_blocks, through_call}
 use Rattle.kernel_bodies.proofs.Settling.{inside_append}
-use Rattle.process_state.specs.Bodies.{EndsIn, EndsWith}
+use Rattle.process_state.specs.Bodies.{EndsIn}
 use Rattle.process_state.proofs.Frames.{frames_last, inside_some, left_nothing, each_front, own_of_call, put_in, last_is, last_set}
 
 last_or : Saved → List Saved → Saved

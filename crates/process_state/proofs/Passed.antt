@@ -1,7 +1,8 @@
 -- A statement inside a call stands, and then it is past.
-use Rattle.std.proofs.Common.{◌≡◌, ℕ, zero, suc, Bool, true, false, List, [], ◌∷◌, ◌++◌, Option, Some, None, length, take, get_or, set, refl, sym, ap, subst, ◌∙◌, arith}
-use Rattle.std.specs.Prelude.{is_some}
-use Rattle.kernel_bodies.specs.FlatDesign.Code.{Arena}
+use Rattle.std.proofs.Common.{◌≡◌, ◌+◌, ◌<◌, ℕ, zero, suc, Bool, true, false, List, [], ◌∷◌, ◌++◌, Option, Some, None, length, take, get_or, set, refl, sym, ap, subst, ◌∙◌, arith}
+use Rattle.std.specs.Prelude.{is_some, slice_get, IfSome}
+use Rattle.kernel_bodies.specs.FlatDesign.Code.{Arena, block_at}
+use Rattle.kernel_bodies.specs.SimModel.Residual as residual
 use Rattle.kernel_bodies.specs.SimModel.Residual.{Residual, skip, one, put, settle, next_of, then_on}
 use Rattle.kernel_bodies.specs.SimModel.declared.plain.Goal.{Goal}
 use Rattle.kernel_bodies.specs.declared.layers.Saved.{Saved}
@@ -9,13 +10,15 @@ use Rattle.kernel_bodies.specs.declared.layers.Frame.{Frame as Kept}
 use Rattle.kernel_bodies.specs.declared.layers.Open.{Open}
 use Rattle.kernel_bodies.specs.declared.layers.Open.TheVariants as layer
 use Rattle.kernel_bodies.specs.declared.around.Cursor.{Cursor}
-use Rattle.kernel_bodies.specs.Layers.{call_of, around, inside, wrapped, inside_frames, under, held, standing, shown, rest_at}
+use Rattle.kernel_bodies.specs.Layers.{call_of, around, inside, wrapped, inside_frames, under, held, standing, shown, rest_at, IsComing}
 use Rattle.kernel_bodies.specs.Depths.{depth_of}
 use Rattle.kernel_bodies.specs.Room.{Fits, FitsLayer, SameCall, kept_along}
 use Rattle.kernel_bodies.proofs.Passing.{Passes, through_frames, through_goal, through_both, through_call, through_blocks}
+use Rattle.kernel_bodies.proofs.Blocks.{rest_some}
+use Rattle.kernel_bodies.proofs.Lands.{held_some}
 use Rattle.kernel_bodies.proofs.Rooms.{fits_less, fits_more}
 use Rattle.kernel_bodies.proofs.Settling.{IsLeft, inside_append, settle_followed}
-use Rattle.process_state.specs.Bodies.{IsStatement, IsBehindFirst}
+use Rattle.process_state.specs.Bodies.{IsStatement, IsBehindFirst, IsFirstOf, ComesIn}
 use Rattle.process_state.proofs.Frames.{put_statement, left_nothing, frames_last, last_is, last_set}
 
 pub through_all : (a : Arena) (g : Option Goal) (xs : List Saved) → Passes a (λ r. under g (inside_frames a xs r))
@@ -105,3 +108,42 @@ module _ (a : Arena) (g : Option Goal) (xs zs : List Saved) (o : Option ℕ) (i 
 pub none_is : (o : Option ℕ) (b : Bool) → b ≡ is_some o → b ≡ false → o ≡ None
 none_is None b e h = refl
 none_is (Some s) b e h = cc
+
+-- the statement that comes where nothing falls away before it
+
+pub statement_shows : (a : Arena) (g : Option Goal) (xs : List Saved) (o : Option ℕ) (s : ℕ) → o ≡ Some s → 0 < length xs → next_of (settle a (under g (inside_frames a xs (standing (held xs o))))) ≡ residual.statement s
+statement_shows a g xs o s is some =
+    ap (λ p. next_of (settle a (under g (inside_frames a xs (standing p))))) (held_some xs o some ∙ is) ∙ ap next_of (stands_settled a g xs s) ∙ (through_all a g xs).comes (one s) tt
+
+pub first_if : (a : Arena) (l : Open) (c : Cursor) → l ≡ layer.Rest c → (o : Option ℕ) → o ≡ slice_get (block_at a c.block) c.place → IfSome o (IsFirstOf a l)
+first_if a l c is None found = tt
+first_if a l c is (Some s) found = record {
+  cursor = record { block = c.block; place = c.place + 1 };
+  behind = record { at = c; first = s; rest = is; block = refl; behind = rest_some (block_at a c.block) c.place s (sym found) };
+  is = refl;
+}
+
+pub comes_if : (a : Arena) (ls : List Open) (i : ℕ) (l : Open) → suc i ≡ length ls → l ≡ get_or ls i l → (o : Option ℕ) → IfSome o (IsFirstOf a l) → IfSome o (ComesIn a ls)
+comes_if a ls i l last at None h = tt
+comes_if a ls i l last at (Some s) h =
+    record { blocks = set ls i (layer.Rest h.cursor); settles = blocks_passed a ls i l h.cursor last at h.behind ∙ ap (λ n. inside a (set ls i (layer.Rest h.cursor)) (one n)) h.is }
+
+module _ (a : Arena) (g : Option Goal) (xs : List Saved) (o : Option ℕ) (i : ℕ) (d : Saved) (none : o ≡ None) (last : suc i ≡ length xs) (at : d ≡ get_or xs i d) where
+  first_shows : (s : ℕ) → ComesIn a d.blocks.items s → next_of (settle a (under g (inside_frames a xs (standing (held xs o))))) ≡ residual.statement s
+  first_shows s w =
+      let C : Residual → Residual = λ r. under g (inside_frames a (take i xs) (wrapped d.shell (call_of d.frame) r)) in
+      let through : Passes a C =
+      through_both a (under g) (λ r. inside_frames a (take i xs) (wrapped d.shell (call_of d.frame) r)) (through_goal a g)
+      (through_both a (inside_frames a (take i xs)) (wrapped d.shell (call_of d.frame)) (through_frames a (take i xs)) (through_call a d.shell (call_of d.frame))) in
+      let q : Residual = inside a w.blocks (one s) in
+      let left : IsLeft q = (through_blocks a w.blocks).left (one s) tt in
+      let inner : next_of q ≡ residual.statement s = (through_blocks a w.blocks).comes (one s) tt in
+      ap (λ p. next_of (settle a (under g (inside_frames a xs (standing (held xs p)))))) none
+      ∙ ap (λ r. next_of (settle a r)) (left_nothing a g xs ∙ ap (under g) (frames_last a xs (take i xs) d skip (last_is xs i d last at)))
+      ∙ ap next_of (through.settles (inside a d.blocks.items skip) q w.settles left)
+      ∙ through.comes q (subst IsComing (sym inner) tt)
+      ∙ inner
+
+  pub first_shows_if : (q : Option ℕ) → IfSome q (ComesIn a d.blocks.items) → IfSome q (λ s. next_of (settle a (under g (inside_frames a xs (standing (held xs o))))) ≡ residual.statement s)
+  first_shows_if None h = tt
+  first_shows_if (Some s) h = first_shows s h

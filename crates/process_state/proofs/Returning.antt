@@ -1,18 +1,17 @@
 -- A return, and a local variable that is set, inside saved frames.
-use Rattle.std.proofs.Common.{◌≡◌, ℕ, ◌<◌, zero, suc, Bool, true, false, List, [], ◌∷◌, ◌++◌, Option, Some, None, length, take, get_or, refl, sym, ap, ◌∙◌, subst, arith}
+use Rattle.std.proofs.Common.{◌≡◌, ℕ, zero, suc, Bool, true, false, List, [], ◌∷◌, ◌++◌, Option, Some, None, take, get_or, refl, ap, ◌∙◌, subst}
 use Rattle.std.specs.Prelude.{◌||◌, not, is_some}
 use Rattle.kernel_bodies.specs.LogicValues.declared.kinds.Value.{Value}
 use Rattle.kernel_bodies.specs.FlatDesign.Code.{Arena}
 use Rattle.kernel_bodies.specs.SimModel.Residual.{Residual, Frame, skip, shell, followed, innermost, in_innermost, or_frame}
 use Rattle.kernel_bodies.specs.SimModel.declared.plain.Goal.{Goal}
 use Rattle.kernel_bodies.specs.SimModel.Unwinding.{has_exit, returned}
-use Rattle.kernel_bodies.specs.SimModel.Storing.{with_local}
 use Rattle.kernel_bodies.specs.declared.layers.Saved.{Saved}
 use Rattle.kernel_bodies.specs.declared.layers.Open.{Open}
 use Rattle.kernel_bodies.specs.declared.layers.Open.TheVariants as layer
 use Rattle.kernel_bodies.specs.Layers.{call_of, around, inside, wrapped, whole, inside_frames, under, rest_at}
 use Rattle.kernel_bodies.specs.Sought.{NoneIs, LastIs, among, is_run, is_exit}
-use Rattle.kernel_bodies.proofs.Passing.{Passes, through_frame, through_frames}
+use Rattle.kernel_bodies.proofs.Passing.{through_frame}
 use Rattle.kernel_bodies.proofs.Seeking.{among_none, among_last, none_is, exit_frames, set_here, set_outside, innermost_whole}
 
 pub returned_under : (v : Option Value) (g : Option Goal) (r : Residual) → returned v (under g r) ≡ under g (returned v r)

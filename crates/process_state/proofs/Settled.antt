@@ -1,22 +1,20 @@
 -- A body that has settled: the frames that stand, with what has begun in the innermost of them.
-use Rattle.std.proofs.Common.{◌≡◌, ℕ, ◌+◌, ◌<◌, ◌≤◌, zero, suc, List, [], ◌∷◌, ◌++◌, Option, Some, None, length, take, get_or, set, refl, sym, ap, ◌∙◌, subst, arith, length-append, inl}
+use Rattle.std.proofs.Common.{◌≡◌, ℕ, ◌+◌, ◌≤◌, suc, List, [], ◌∷◌, ◌++◌, Option, Some, None, length, take, get_or, set, refl, sym, ap, ◌∙◌, subst, arith, length-append, inl}
 use Rattle.std.specs.Vec.{vec_capacity}
 use Rattle.kernel_bodies.specs.FlatDesign.Code.{Arena}
-use Rattle.kernel_bodies.specs.SimModel.Residual as residual
 use Rattle.kernel_bodies.specs.SimModel.Residual.{Residual, skip, settle, next_of}
 use Rattle.kernel_bodies.specs.SimModel.declared.plain.Goal.{Goal}
 use Rattle.kernel_bodies.specs.declared.layers.Saved.{Saved}
-use Rattle.kernel_bodies.specs.declared.layers.Spare.{Spare}
 use Rattle.kernel_bodies.specs.declared.layers.Landing.{Landing}
 use Rattle.kernel_bodies.specs.declared.layers.Comes.{Comes}
 use Rattle.kernel_bodies.specs.declared.layers.Comes.TheVariants as comes
 use Rattle.kernel_bodies.specs.Landings.{Lands}
-use Rattle.kernel_bodies.specs.Layers.{call_of, inside, whole, cut, inside_frames, under, held, standing, landed, layers_of, statement_of, shown, shown_by, under_goal, Settled, EndsFrame}
-use Rattle.kernel_bodies.specs.Room.{Fits, FitsIn, FitsFrames, KeepsOwn, SameCall, own_locals, own_blocks}
-use Rattle.kernel_bodies.proofs.Passing.{through_frames, through_goal, settled_through}
+use Rattle.kernel_bodies.specs.Layers.{cut, inside_frames, under, held, standing, landed, layers_of, statement_of, shown, shown_by, under_goal, Settled, EndsFrame}
+use Rattle.kernel_bodies.specs.Room.{Fits, FitsFrames, SameCall, own_locals, own_blocks}
+use Rattle.kernel_bodies.proofs.Passing.{through_goal, settled_through}
 use Rattle.kernel_bodies.proofs.Rooms.{fits_at_cap, fits_length}
 use Rattle.process_state.specs.Bodies.{EndsIn}
-use Rattle.process_state.proofs.Frames.{le_to, same_there, front_at, front_set, front_is, frames_last, held_last, whole_cut, ends_in, each_take, fits_join, same_room, own_changed, blocks_changed}
+use Rattle.process_state.proofs.Frames.{same_there, front_at, front_set, front_is, frames_last, held_last, whole_cut, ends_in, each_take, fits_join, same_room, own_changed, blocks_changed}
 use Rattle.process_state.proofs.Stepping.{under_nothing}
 
 pub one_more : (i : ℕ) → i + 1 ≡ suc i

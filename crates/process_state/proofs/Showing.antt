@@ -1,14 +1,14 @@
 -- What a body shows of what is left.
-use Rattle.std.proofs.Common.{◌≡◌, ℕ, ◌+◌, ◌<◌, zero, suc, Bool, true, false, List, [], ◌∷◌, ◌++◌, Option, Some, None, length, take, get_or, refl, sym, ap, ◌∙◌, subst, arith}
+use Rattle.std.proofs.Common.{◌≡◌, ℕ, ◌+◌, suc, Bool, true, false, List, [], ◌∷◌, Option, Some, None, take, refl, sym, ap, ◌∙◌}
 use Rattle.std.specs.Prelude.{◌||◌, is_some}
 use Rattle.kernel_bodies.specs.FlatDesign.Code.{Arena}
-use Rattle.kernel_bodies.specs.SimModel.Residual.{Residual, Frame, skip, innermost, or_frame, within, or_via, in_nb, has_goal, open_frames, counted_call, settle}
+use Rattle.kernel_bodies.specs.SimModel.Residual.{Residual, innermost, or_frame, within, or_via, in_nb, has_goal, open_frames, counted_call, settle}
 use Rattle.kernel_bodies.specs.SimModel.declared.plain.Goal.{Goal}
 use Rattle.kernel_bodies.specs.SimModel.Unwinding.{catches}
 use Rattle.kernel_bodies.specs.declared.layers.Saved.{Saved}
 use Rattle.kernel_bodies.specs.declared.layers.Landing.{Landing}
 use Rattle.kernel_bodies.specs.Landings.{Lands}
-use Rattle.kernel_bodies.specs.Layers.{call_of, inside, wrapped, whole, cut, inside_frames, under, standing, landed}
+use Rattle.kernel_bodies.specs.Layers.{call_of, inside, whole, cut, inside_frames, under, standing, landed}
 use Rattle.kernel_bodies.specs.Sought.{among, has_handler, is_handling, unwinds, is_open_nonblocking, last_call, last_via, many_calls}
 use Rattle.kernel_bodies.proofs.Seeking.{innermost_cut, innermost_whole, innermost_frames, within_cut, within_whole, within_frames, calls_cut, calls_whole, calls_frames, nb_frames, goal_frames, catches_inside, catches_wrapped, catches_whole}
 use Rattle.process_state.proofs.Frames.{frames_last, front_is}

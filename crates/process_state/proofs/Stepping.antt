@@ -1,9 +1,8 @@
 -- One step of a body: what comes, and what shows of it.
-use Rattle.std.proofs.Common.{◌≡◌, ℕ, true, false, Bool, List, [], ◌∷◌, Option, Some, None, refl, sym, ap, ◌∙◌, subst}
-use Rattle.std.specs.Prelude.{◌||◌}
+use Rattle.std.proofs.Common.{◌≡◌, ℕ, false, List, [], ◌∷◌, Option, Some, None, refl, ap, ◌∙◌}
 use Rattle.kernel_bodies.specs.FlatDesign.Code.{Arena}
 use Rattle.kernel_bodies.specs.SimModel.Residual as residual
-use Rattle.kernel_bodies.specs.SimModel.Residual.{Residual, Frame, skip, one, followed, settle, next_of, frame_end, innermost, in_innermost, within, in_nb, has_goal, open_frames}
+use Rattle.kernel_bodies.specs.SimModel.Residual.{Residual, Frame, skip, one, followed, settle, next_of, innermost, in_innermost, within, in_nb, has_goal, open_frames}
 use Rattle.kernel_bodies.specs.SimModel.Unwinding.{has_exit, returned, catches, left_by_unw, left_by_raise, unw}
 use Rattle.kernel_bodies.specs.SimModel.declared.plain.Goal.{Goal}
 use Rattle.kernel_bodies.specs.Strip.{strip}
@@ -12,7 +11,7 @@ use Rattle.kernel_bodies.specs.declared.around.Around.TheVariants as enclosing
 use Rattle.kernel_bodies.specs.declared.layers.Next.TheVariants as next
 use Rattle.kernel_bodies.specs.declared.layers.Comes.{Comes}
 use Rattle.kernel_bodies.specs.declared.layers.Comes.TheVariants as comes
-use Rattle.kernel_bodies.specs.Layers.{inside, under, standing, landed, rest_at, shown, shown_by, statement_of, layers_around, frame_ends, under_goal}
+use Rattle.kernel_bodies.specs.Layers.{inside, under, standing, landed, rest_at, shown, shown_by, statement_of, layers_around, under_goal}
 use Rattle.process_state.specs.Bodies.{IsStatement, IsGoal, enclosed}
 
 -- what comes, by what shows

@@ -1,23 +1,22 @@
 -- Saved frames that are unwound, and an exception that is raised inside them.
-use Rattle.std.proofs.Common.{◌≡◌, ℕ, ◌+◌, ◌<◌, ◌≤◌, zero, suc, Bool, true, false, List, [], ◌∷◌, ◌++◌, Option, Some, None, length, drop, get_or, set, refl, sym, ap, ◌∙◌, subst, arith}
+use Rattle.std.proofs.Common.{◌≡◌, ℕ, ◌<◌, ◌≤◌, zero, suc, Bool, true, false, List, [], ◌∷◌, Option, Some, None, length, drop, get_or, set, refl, sym, ap, ◌∙◌, subst, arith}
 use Rattle.std.specs.Vec.{vec_capacity}
-use Rattle.std.specs.Prelude.{◌||◌, if◌then◌else◌}
+use Rattle.std.specs.Prelude.{◌||◌}
 use Rattle.kernel_bodies.specs.FlatDesign.Code.{Arena}
-use Rattle.kernel_bodies.specs.SimModel.Residual.{Residual, Frame, skip, shell, followed, has_goal}
+use Rattle.kernel_bodies.specs.SimModel.Residual.{Residual, Frame, shell, followed, has_goal}
 use Rattle.kernel_bodies.specs.SimModel.declared.plain.Goal.{Goal}
-use Rattle.kernel_bodies.specs.SimModel.declared.plain.Via.{Via}
 use Rattle.kernel_bodies.specs.SimModel.Unwinding.{unw, catches, handles, raise, left_by_unw, left_by_raise}
 use Rattle.kernel_bodies.specs.Depths.{handlers_of}
 use Rattle.kernel_bodies.specs.declared.layers.Saved.{Saved}
 use Rattle.kernel_bodies.specs.declared.layers.Open.{Open}
 use Rattle.kernel_bodies.specs.declared.layers.Open.TheVariants as layer
 use Rattle.kernel_bodies.specs.declared.layers.Frame.{Frame as Kept}
-use Rattle.kernel_bodies.specs.Layers.{call_of, around, inside, wrapped, whole, inside_frames, under, standing, rest_at}
+use Rattle.kernel_bodies.specs.Layers.{call_of, around, inside, wrapped, whole, inside_frames, under, rest_at}
 use Rattle.kernel_bodies.specs.Sought.{NoneIs, LastIs, among, is_handling, has_handler, unwinds}
 use Rattle.kernel_bodies.specs.Unwound.{unwound_all, IsUnwound, AreUnwound, left_all}
 use Rattle.kernel_bodies.specs.Room.{FitsIn, EachFitsIn, room_of_own, own_locals, own_blocks, SameCall, SameRoom}
-use Rattle.kernel_bodies.proofs.Passing.{Passes, through_block, through_frame, if_true, if_false}
-use Rattle.kernel_bodies.proofs.Seeking.{among_none, among_last, none_is, last_true, catches_inside, catches_frames, goal_frames, left_frames, left_inside}
+use Rattle.kernel_bodies.proofs.Passing.{through_block, through_frame, if_true, if_false}
+use Rattle.kernel_bodies.proofs.Seeking.{among_none, among_last, none_is, catches_inside, catches_frames, goal_frames, left_frames, left_inside}
 use Rattle.kernel_bodies.proofs.Unwinds.{unw_inside, fits_unwound}
 use Rattle.kernel_bodies.proofs.Rooms.{fits_at_cap}
 

@@ -1,5 +1,5 @@
 -- What a body stands for, and what is true of each body.
-use Rattle.std.specs.Prelude.{◌≡◌, ℕ, ◌+◌, ◌≤◌, ◌++◌, ◌∷◌, ◌⊎◌, [], List, length, Bool, true, false, Option, Some, None}
+use Rattle.std.specs.Prelude.{◌≡◌, ℕ, ◌+◌, ◌≤◌, ◌++◌, ◌∷◌, ◌⊎◌, [], List, length, true, false, Option, Some, None}
 use Rattle.std.specs.Vec.{vec_capacity}
 use Rattle.kernel_bodies.specs.LogicValues.declared.kinds.Value.{Value}
 use Rattle.kernel_bodies.specs.SimModel.declared.plain.Goal.{Goal}
@@ -21,7 +21,7 @@ use Rattle.kernel_bodies.specs.declared.layers.Comes.{Comes}
 use Rattle.kernel_bodies.specs.declared.layers.Comes.TheVariants as comes
 use Rattle.kernel_bodies.specs.declared.layers.Next.{Next}
 use Rattle.kernel_bodies.specs.declared.layers.Next.TheVariants as next
-use Rattle.kernel_bodies.specs.Layers.{call_of, rest_at, whole, inside_frames, held, under, standing, shown, EndsFrame, EndsWithGoal}
+use Rattle.kernel_bodies.specs.Layers.{call_of, rest_at, inside, whole, inside_frames, held, under, standing, shown, EndsFrame, EndsWithGoal}
 use Rattle.kernel_bodies.specs.Room.{FitsIn, FitsFrames, own_locals, own_blocks, locals_with, body_depth, begun_in}
 
 -- A residual that saved frames and the place inside them stand for, read from the innermost frame outwards: r is what is left
@@ -156,3 +156,14 @@ pub record IsBehindFirst (a : Arena) (l : Open) (c : Cursor) : Type 0 where
   pub rest : l ≡ layer.Rest at
   pub block : c.block ≡ at.block
   pub behind : rest_at a at ≡ first ∷ rest_at a c
+
+-- s is the first statement of the rest of a block that l is
+pub record IsFirstOf (a : Arena) (l : Open) (s : ℕ) : Type 0 where
+  pub cursor : Cursor
+  pub behind : IsBehindFirst a l cursor
+  pub is : behind.first ≡ s
+
+-- inside these blocks, with nothing left inside the innermost, s comes first
+pub record ComesIn (a : Arena) (ls : List Open) (s : ℕ) : Type 0 where
+  pub blocks : List Open
+  pub settles : settle a (inside a ls residual.skip) ≡ inside a blocks (residual.one s)

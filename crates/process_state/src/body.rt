@@ -11,7 +11,7 @@ ghost use Rattle.kernel_bodies.specs.SimModel.declared.plain.Goal.{Goal as Aim};
 ghost use Rattle.kernel_bodies.specs.declared.program.Program.{Program as Whole};
 ghost use Rattle.kernel_bodies.specs.Layers.{call_of, inside, shown_by, statement_of};
 ghost use Rattle.kernel_bodies.specs.Room.{FitsIn, SameCall};
-ghost use Rattle.process_state.specs.Bodies.{left_of, left_in, settled_in, next_in, IsSound, Keeps, IsStatement, IsGoal, IsBehindFirst, EndsIn, enclosed};
+ghost use Rattle.process_state.specs.Bodies.{left_of, left_in, settled_in, next_in, IsSound, Keeps, IsStatement, IsGoal, IsBehindFirst, IsFirstOf, ComesIn, EndsIn, enclosed};
 
 use kernel_bodies::flat_design_api::{BlockId, CodeId, StmtId};
 use kernel_bodies::logic_values_api::Value;
@@ -61,6 +61,34 @@ fn behind_first(program: &Program, block: &Open) -> Option<Cursor>
         Open::Run => None,
         Open::Goal(_) => None,
     }
+}
+
+/// The first statement of the rest of a block, where this is one with a statement in it.
+#[inline(always)]
+fn first_of(program: &Program, block: &Open) -> Option<StmtId>
+    ensures { IfSome result (IsFirstOf (arena_of program.now.code) block.now) }
+{
+    match block {
+        Open::Rest(cursor) => program.statement_at(*cursor),
+        Open::Again(_) => None,
+        Open::Owed(_) => None,
+        Open::Guard(_) => None,
+        Open::Try(_) => None,
+        Open::Run => None,
+        Open::Goal(_) => None,
+    }
+}
+
+/// Where the rest of a block stands innermost in a call, and has a statement in it, that statement.
+#[inline(always)]
+fn first_in(program: &Program, saved: &Saved) -> Option<StmtId>
+    ensures { IfSome result (λ s. ComesIn (arena_of program.now.code) saved.now.blocks.items s) }
+{
+    let many = saved.blocks.len();
+    if many == 0 {
+        return None;
+    }
+    first_of(program, &saved.blocks[many - 1])
 }
 
 /// Where the rest of a block stands innermost in a call, and has a statement in it, that statement is past. The answer is
@@ -127,7 +155,39 @@ impl Body {
     }
 
     /// What comes next once finished parts have fallen away. The body is not changed.
+    #[inline(always)]
     pub fn next(&self, program: &Program) -> Next
+        ensures value { result ≡ next_in program.now self.now }
+        ensures statement { (s : ℕ) → result ≡ Next.Statement s → next_of (settled_in program.now self.now) ≡ residual.statement s }
+        ensures goal { (k : Aim) → result ≡ Next.Goal k → next_of (settled_in program.now self.now) ≡ residual.reaches k }
+        ensures done { result ≡ Next.Done → next_of (settled_in program.now self.now) ≡ residual.done }
+        ensures nothing { result ≡ Next.Nothing → next_of (settled_in program.now self.now) ≡ residual.nothing }
+        ensures alone { (s q : ℕ) → result ≡ Next.Batch s q → ⊥ }
+    {
+        match self.next_in_place(program) {
+            Some(statement) => Next::Statement(statement),
+            None => self.next_landed(program),
+        }
+    }
+
+    /// The statement that comes next, where nothing falls away before it.
+    #[inline(always)]
+    fn next_in_place(&self, program: &Program) -> Option<StmtId>
+        ensures { IfSome result (λ s. next_of (settled_in program.now self.now) ≡ residual.statement s) }
+    {
+        let many = self.frames.len();
+        if many == 0 {
+            return None;
+        }
+        match self.statement {
+            Some(statement) => Some(statement),
+            None => first_in(program, &self.frames[many - 1]),
+        }
+    }
+
+    /// What comes next once finished parts have fallen away, wherever it is.
+    #[inline(never)]
+    fn next_landed(&self, program: &Program) -> Next
         ensures value { result ≡ next_in program.now self.now }
         ensures statement { (s : ℕ) → result ≡ Next.Statement s → next_of (settled_in program.now self.now) ≡ residual.statement s }
         ensures goal { (k : Aim) → result ≡ Next.Goal k → next_of (settled_in program.now self.now) ≡ residual.reaches k }
@@ -142,6 +202,7 @@ impl Body {
     }
 
     /// The statement in place is past.
+    #[inline(always)]
     pub fn past(&mut self, program: &Program)
         requires sound { IsSound program.now self.old }
         requires statement { IsStatement (next_in program.now self.old) }
@@ -153,9 +214,33 @@ impl Body {
             self.statement = None;
             return;
         }
-        if self.pass_first(program) {
-            return;
+        self.past_inside(program);
+    }
+
+    /// The same where no statement stands inside all frames.
+    #[inline(never)]
+    fn past_inside(&mut self, program: &Program)
+        requires sound { IsSound program.now self.old }
+        requires none { self.old.statement ≡ None }
+        requires statement { IsStatement (next_in program.now self.old) }
+        ensures left { left_in program.now self.new ≡ put (settled_in program.now self.old) skip }
+        ensures sound { IsSound program.now self.new }
+        ensures kept { Keeps self.old self.new }
+    {
+        if !self.pass_first(program) {
+            self.past_landed(program);
         }
+    }
+
+    /// The same once finished parts have fallen away, wherever the statement is.
+    #[inline(never)]
+    fn past_landed(&mut self, program: &Program)
+        requires sound { IsSound program.now self.old }
+        requires statement { IsStatement (next_in program.now self.old) }
+        ensures left { left_in program.now self.new ≡ put (settled_in program.now self.old) skip }
+        ensures sound { IsSound program.now self.new }
+        ensures kept { Keeps self.old self.new }
+    {
         let _ = self.settle_to(program);
         self.statement = None;
     }

@@ -62,6 +62,16 @@ fn begin_call(
     first
 }
 
+/// Adds some arguments of a call, for which there is room.
+#[inline(never)]
+fn add_some(values: &mut Vec<Value>, arguments: &[Value])
+    requires { vec_len values.old + length arguments.now ≤ vec_capacity values.old }
+    ensures items { values.new.items ≡ values.old.items ++ arguments.now }
+    ensures capacity { vec_capacity values.old ≤ vec_capacity values.new }
+{
+    let _ = values.extend_from_slice(arguments);
+}
+
 /// Adds the arguments of a call, for which there is room.
 #[inline(always)]
 fn add_arguments(values: &mut Vec<Value>, arguments: &[Value])
@@ -69,13 +79,13 @@ fn add_arguments(values: &mut Vec<Value>, arguments: &[Value])
     ensures items { values.new.items ≡ values.old.items ++ arguments.now }
     ensures capacity { vec_capacity values.old ≤ vec_capacity values.new }
 {
-    if arguments.is_empty() {
-        return;
+    if !arguments.is_empty() {
+        add_some(values, arguments);
     }
-    let _ = values.extend_from_slice(arguments);
 }
 
 /// The first values of the local variables of a call, in a vector that has room for them.
+#[inline(always)]
 fn begin_locals(values: &mut Vec<Value>, arguments: &[Value], locals: &[Local])
     requires { length (first_locals arguments.now locals.now) ≤ vec_capacity values.old }
     ensures items { values.new.items ≡ first_locals arguments.now locals.now }

@@ -1,4 +1,4 @@
-use Rattle.std.proofs.Common.{◌≡◌, ◌+◌, ◌<◌, ◌≤◌, ◌∷◌, ◌++◌, [], suc, List, None, length, take, get_or, set, refl, subst, sym, ap, ◌∙◌, arith}
+use Rattle.std.proofs.Common.{◌≡◌, ◌<◌, ◌∷◌, ◌++◌, [], suc, List, None, length, take, get_or, set, subst, sym, ap, ◌∙◌, arith}
 use Rattle.std.specs.Vec.{vec_capacity}
 use Rattle.kernel_bodies.specs.FlatDesign.Code.{arena_of}
 use Rattle.kernel_bodies.specs.SimModel.Residual.{skip}
@@ -6,10 +6,9 @@ use Rattle.kernel_bodies.specs.SimModel.Unwinding.{returned}
 use Rattle.kernel_bodies.specs.declared.layers.Saved.{Saved}
 use Rattle.kernel_bodies.specs.Layers.{inside_frames, under, held, standing}
 use Rattle.kernel_bodies.specs.Sought.{is_exit, LastIs, NoneIs}
-use Rattle.kernel_bodies.specs.Room.{FitsIn}
 use Rattle.kernel_bodies.proofs.Rooms.{fits_there}
 use Rattle.kernel_bodies.proofs.Seeking.{last_true}
-use Rattle.process_state.proofs.Frames.{le_to, front_at, front_set, front_is, same_there, left_nothing, fits_join, each_take, own_changed, blocks_changed}
+use Rattle.process_state.proofs.Frames.{front_at, front_set, front_is, left_nothing, fits_join, each_take, own_changed, blocks_changed}
 use Rattle.process_state.proofs.Returning.{returned_under, returned_frames, returned_none}
 use Rattle.process_state.proofs.Settled.{one_more}
 use Rattle.process_state.proofs.Stepping.{exit_standing, returned_standing}

@@ -1,12 +1,11 @@
-use Rattle.std.proofs.Common.{◌≡◌, ℕ, ◌-◌, ◌<◌, ◌≤◌, suc, Some, Option, length, get_or, set, take, refl, subst, sym, ap, ◌∙◌, arith}
+use Rattle.std.proofs.Common.{◌≡◌, ℕ, ◌-◌, ◌<◌, suc, Some, Option, length, set, take, refl, subst, sym, ap, ◌∙◌, arith}
 use Rattle.std.specs.Vec.{vec_capacity}
 use Rattle.kernel_bodies.specs.FlatDesign.Code.{arena_of}
 use Rattle.kernel_bodies.specs.SimModel.Residual as residual
 use Rattle.kernel_bodies.specs.SimModel.Residual.{Residual, next_of, put, block}
 use Rattle.kernel_bodies.specs.Around.{around_at}
-use Rattle.kernel_bodies.specs.Layers.{inside, inside_frames, whole, held, under, shown, standing, layers_around}
+use Rattle.kernel_bodies.specs.Layers.{inside, inside_frames, under, shown, standing, layers_around}
 use Rattle.kernel_bodies.specs.Room.{FitsFrames}
-use Rattle.kernel_bodies.proofs.Lands.{held_some}
 use Rattle.kernel_bodies.proofs.Rooms.{fits_last}
 use Rattle.process_state.specs.Bodies.{settled_in, enclosed}
 use Rattle.process_state.proofs.Frames.{le_to, ends_inside, put_statement, changed_left, whole_same, last_set, last_is, fits_join, each_take, same_room, own_changed, blocks_changed, held_last}

@@ -1,12 +1,10 @@
-use Rattle.std.proofs.Common.{◌≡◌, ℕ, ◌≤◌, Option, List, length, take, get_or, subst, sym, ap, ◌∙◌, arith}
+use Rattle.std.proofs.Common.{◌≡◌, length, take, sym, ap, ◌∙◌, arith}
 use Rattle.kernel_bodies.specs.FlatDesign.Code.{arena_of}
 use Rattle.kernel_bodies.specs.declared.layers.Saved.{Saved}
-use Rattle.kernel_bodies.specs.declared.layers.Open.{Open}
-use Rattle.kernel_bodies.specs.Landings.{Lands}
 use Rattle.kernel_bodies.specs.SimModel.Residual.{settle}
 use Rattle.kernel_bodies.specs.SimModel.Unwinding.{catches}
 use Rattle.kernel_bodies.specs.Layers.{held, standing, inside_frames, under}
-use Rattle.kernel_bodies.specs.Sought.{among, is_handling, has_handler, IsLast}
+use Rattle.kernel_bodies.specs.Sought.{among, is_handling, has_handler}
 use Rattle.kernel_bodies.proofs.Seeking.{among_is}
 use Rattle.process_state.proofs.Frames.{same_there}
 use Rattle.process_state.proofs.Showing.{caught_stand, or_first, or_second}

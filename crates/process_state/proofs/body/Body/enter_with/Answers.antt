@@ -1,10 +1,10 @@
-use Rattle.std.proofs.Common.{◌≡◌, ℕ, ◌<◌, ◌≤◌, Option, Some, None, length, refl, sym, ap, ◌∙◌, arith}
+use Rattle.std.proofs.Common.{◌≡◌, ℕ, ◌<◌, Option, Some, None, length, sym, ap, ◌∙◌, arith}
 use Rattle.std.specs.Vec.{vec_capacity}
 use Rattle.kernel_bodies.specs.FlatDesign.Code.{arena_of, body_at}
 use Rattle.kernel_bodies.specs.SimModel.Residual as residual
-use Rattle.kernel_bodies.specs.SimModel.Residual.{Residual, next_of, put}
+use Rattle.kernel_bodies.specs.SimModel.Residual.{Residual, next_of}
 use Rattle.kernel_bodies.specs.declared.layers.Frame.{Frame as Kept}
-use Rattle.kernel_bodies.specs.Layers.{inside_frames, under, held, standing}
+use Rattle.kernel_bodies.specs.Layers.{inside_frames, under, standing}
 use Rattle.kernel_bodies.specs.Room.{begun_in}
 use Rattle.process_state.specs.Bodies.{settled_in}
 use Rattle.process_state.proofs.Frames.{ends_inside, put_statement, held_last, frames_last, fits_join, own_of_call}

@@ -1,4 +1,4 @@
-use Rattle.std.proofs.Common.{◌≡◌, ℕ, ◌-◌, ◌<◌, ◌≤◌, suc, List, Option, None, length, take, get_or, set, refl, subst, sym, ap, ◌∙◌, arith}
+use Rattle.std.proofs.Common.{◌≡◌, ℕ, ◌-◌, ◌<◌, suc, Option, None, length, take, set, refl, subst, sym, ap, ◌∙◌, arith}
 use Rattle.std.specs.Vec.{vec_capacity}
 use Rattle.kernel_bodies.specs.FlatDesign.Code.{arena_of}
 use Rattle.kernel_bodies.specs.SimModel.Residual.{next_of}

@@ -1,8 +1,7 @@
-use Rattle.std.proofs.Common.{◌≡◌, ℕ, ◌+◌, ◌<◌, ◌≤◌, suc, List, Option, Some, None, length, take, get_or, set, refl, subst, sym, ap, ◌∙◌, arith}
-use Rattle.std.proofs.Common.{◌∷◌, ◌++◌, []}
+use Rattle.std.proofs.Common.{◌≡◌, ℕ, Option, None, subst, sym, ap, ◌∙◌, arith}
 use Rattle.std.specs.Vec.{vec_capacity}
 use Rattle.kernel_bodies.specs.FlatDesign.Code.{arena_of}
-use Rattle.kernel_bodies.specs.Layers.{inside_frames, under, held, standing, statement_of}
+use Rattle.kernel_bodies.specs.Layers.{statement_of}
 use Rattle.kernel_bodies.specs.declared.layers.Comes.{Comes}
 use Rattle.kernel_bodies.specs.Room.{FitsFrames}
 use Rattle.process_state.specs.Bodies.{settled_in, EndsIn}

@@ -1,8 +1,7 @@
-use Rattle.std.proofs.Common.{◌≡◌, ◌+◌, ◌<◌, ◌≤◌, ℕ, suc, Bool, true, List, None, Some, length, get_or, set, refl, subst, sym, ap, ◌∙◌, arith}
+use Rattle.std.proofs.Common.{◌≡◌, ◌+◌, ◌<◌, ℕ, suc, true, List, None, length, set, subst, sym, ap, ◌∙◌, arith}
 use Rattle.std.specs.Vec.{vec_capacity}
 use Rattle.kernel_bodies.specs.FlatDesign.Code.{arena_of}
-use Rattle.kernel_bodies.specs.SimModel.Residual.{skip}
-use Rattle.kernel_bodies.specs.SimModel.Unwinding.{catches, raise}
+use Rattle.kernel_bodies.specs.SimModel.Unwinding.{catches}
 use Rattle.kernel_bodies.specs.declared.layers.Saved.{Saved}
 use Rattle.kernel_bodies.specs.Layers.{inside_frames, held, standing, under}
 use Rattle.kernel_bodies.specs.Sought.{has_handler, unwinds, NoneIs, LastIs}

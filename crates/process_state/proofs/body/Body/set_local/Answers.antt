@@ -1,9 +1,9 @@
-use Rattle.std.proofs.Common.{◌≡◌, ◌-◌, ◌<◌, ◌≤◌, ◌∷◌, ◌++◌, [], suc, List, Option, length, take, get_or, set, refl, sym, ap, ◌∙◌, arith}
+use Rattle.std.proofs.Common.{◌≡◌, ◌-◌, ◌∷◌, ◌++◌, [], suc, length, take, set, refl, sym, ap, ◌∙◌, arith}
 use Rattle.std.specs.Vec.{vec_capacity}
 use Rattle.kernel_bodies.specs.FlatDesign.Code.{arena_of}
 use Rattle.kernel_bodies.specs.SimModel.Storing.{with_local}
 use Rattle.kernel_bodies.specs.SimModel.Residual.{Frame, in_innermost}
-use Rattle.kernel_bodies.specs.Layers.{call_of, inside, inside_frames, under, held, standing, wrapped}
+use Rattle.kernel_bodies.specs.Layers.{call_of, inside, inside_frames, under, standing, wrapped}
 use Rattle.kernel_bodies.specs.Room.{SameRoom}
 use Rattle.kernel_bodies.proofs.Rooms.{fits_at_cap, fits_last}
 use Rattle.process_state.proofs.Frames.{le_to, last_set, last_is, held_last, fits_join, each_take, own_changed, blocks_changed}

@@ -1,4 +1,4 @@
-use Rattle.std.proofs.Common.{◌≡◌, ◌+◌, suc, List, take, subst, ap, ◌∙◌}
+use Rattle.std.proofs.Common.{◌+◌, List, take, subst, ap, ◌∙◌}
 use Rattle.kernel_bodies.specs.FlatDesign.Code.{arena_of}
 use Rattle.kernel_bodies.specs.declared.layers.Saved.{Saved}
 use Rattle.kernel_bodies.specs.Landings.{Lands}

@@ -1,9 +1,7 @@
-use Rattle.std.proofs.Common.{◌≡◌, ℕ, ◌≤◌, None, refl, sym, ap, ◌∙◌, arith}
+use Rattle.std.proofs.Common.{sym, ap, ◌∙◌, arith}
 use Rattle.std.specs.Vec.{vec_capacity}
 use Rattle.kernel_bodies.specs.FlatDesign.Code.{arena_of}
 use Rattle.kernel_bodies.specs.SimModel.Residual as residual
-use Rattle.kernel_bodies.specs.SimModel.Residual.{skip}
-use Rattle.kernel_bodies.specs.SimModel.Unwinding.{unw}
 use Rattle.kernel_bodies.specs.Layers.{inside_frames, held, standing}
 use Rattle.kernel_bodies.proofs.Lands.{held_none}
 use Rattle.process_state.proofs.Frames.{le_to, fits_nothing}
