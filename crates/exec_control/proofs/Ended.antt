@@ -18,12 +18,15 @@ use Rattle.exec_data.specs.KernelProcesses.Sound as schedules
 use Rattle.exec_data.specs.KernelProcesses.declared.parts.Process.{Process}
 use Rattle.exec_data.specs.KernelProcesses.declared.parts.Schedule.{Schedule}
 use Rattle.exec_data.specs.KernelProcesses.Moved.{Ends}
-use Rattle.exec_data.specs.KernelState.Kernel.{Shows, StandsFor, IsSound, whole_design}
-use Rattle.exec_data.specs.KernelState.Moves.{Steps}
+use Rattle.exec_data.specs.KernelProcesses.declared.parts.Trigger.{Trigger}
+use Rattle.exec_data.specs.KernelState.Kernel.{Shows, StandsFor, IsSound, whole_design, trigger_of}
+use Rattle.exec_data.specs.KernelState.Moves.{Moves, MovesAt, Steps, Lives}
 use Rattle.exec_data.specs.KernelState.declared.kernel.Kept.{Kept}
 use Rattle.exec_data.specs.KernelState.declared.kernel.Kernel.{Kernel}
 use Rattle.exec_data.proofs.KernelState.ProcessFrames.{ended_stands}
 use Rattle.exec_data.proofs.KernelState.Frames.{change-twice, processes_move, trace_moves, lives_by_kept}
+use Rattle.exec_control.specs.Resting.{next_kept, rests_next, rests_again}
+use Rattle.exec_control.proofs.OneInstance.{shows_at, change_same}
 
 -- ---- an instance ends
 
@@ -78,6 +81,23 @@ module _ (l : Kernel) (c : Config) (p : ℕ) (i : Instance) (t : Option model.Tr
       (subst (λ is. StandsFor l (record c { processes = record c.processes { instances = is; stack = drop 1 c.processes.stack }; trace = (settled_in c p i.residual).trace }))
       (all_at_once ∙ sym (change-twice c.processes.instances p (λ j. record j { residual = settle (arena c) i.residual }) (idle_as t)))
       (trace_moves l (with_residual (leaves_stack (change_instance (change_instance c p untriggered) p (next_of_trigger t))) p skip) h (settled_in c p i.residual).trace))
+
+pub none_kept : (o : Option Trigger) → is_some o ≡ false → o ≡ None
+none_kept None is = refl
+none_kept (Some t) is = absurd (true≢false is)
+
+-- by its static sensitivity, where no next trigger is kept of it
+module _ (k l : Kernel) (p : ℕ) (unset : is_some (next_kept (map.get k.schedule.table.live p)) ≡ false) (moves : Moves k l (λ c. leaves_stack (change_instance c p (rests_next None)))) where
+  pub rests_statically : Lives k p → MovesAt k l p (λ c i. rests_again c p i)
+  rests_statically lives c i h there = by (map.get k.schedule.table.live p) refl lives
+    where
+      by : (o : Option (Entry (Process Kept))) → map.get k.schedule.table.live p ≡ o → is_some o ≡ true → StandsFor l (rests_again c p i)
+      by None at is = absurd (true≢false (sym is))
+      by (Some x) at is =
+          let t : i.trigger ≡ None = (shows_at k p x at c i h there).trigger ∙ ap (option_map trigger_of) (sym (ap next_kept at) ∙ none_kept (next_kept (map.get k.schedule.table.live p)) unset) in
+          subst (λ u. StandsFor l (leaves_stack (change_instance (change_instance c p untriggered) p (next_of_trigger u)))) (sym t)
+          (subst (λ is. StandsFor l (leaves_stack (record c { processes = record c.processes { instances = change is p (next_of_trigger None) } })))
+          (sym (change_same c.processes.instances p untriggered i there (ap (λ u. record i { trigger = u }) (sym t)))) (moves c h))
 
 -- ---- by the kind of the instance
 

@@ -3,7 +3,8 @@ use Rattle.std.specs.Prelude.{ℕ, false, length, Option, Some, None, option_map
 use Rattle.std.specs.FinMap as map
 use Rattle.exec_data.specs.InstanceTable.declared.instances.Instance.{Instance as Entry}
 use Rattle.exec_data.specs.InstanceTable.declared.instances.Deadline.TheVariants as due
-use Rattle.exec_data.specs.SimModel.Configuration.{Instance}
+use Rattle.exec_data.specs.SimModel.Configuration.{Config, Instance, change_instance}
+use Rattle.exec_data.specs.SimModel.Waits.{leaves_stack}
 use Rattle.exec_data.specs.SimModel.Control.{next_wait}
 use Rattle.exec_data.specs.KernelProcesses.Moves.{events_of, sensitive_of}
 use Rattle.exec_data.specs.KernelProcesses.Moved.{HasRoom}
@@ -17,6 +18,11 @@ use Rattle.exec_data.specs.KernelState.declared.kernel.Kernel.{Kernel}
 -- by this next trigger, or by its static sensitivity; its body has not begun
 abbrev pub rests_next : Option Trigger → Instance → Instance
 rests_next t i = record i { started = false; wait = (next_wait (option_map trigger_of t)).wait; deadline = (next_wait (option_map trigger_of t)).deadline }
+
+-- a method that has returned leaves the stack and waits again: its next trigger is used, and its body has not begun
+abbrev pub rests_again : Config → ℕ → Instance → Config
+rests_again c p i =
+    leaves_stack (change_instance (change_instance c p (λ j. record j { trigger = None })) p (λ j. record j { started = false; wait = (next_wait i.trigger).wait; deadline = (next_wait i.trigger).deadline }))
 
 -- this next trigger, or that of its static sensitivity
 abbrev pub rest_of : Option Trigger → Trigger

@@ -1,5 +1,5 @@
 //! Bodies that have ended.
-ghost use Rattle.std.specs.Prelude.{◌≡◌, None, Some, option_map, length, OnOk, OnErr, IsOk, IfSome};
+ghost use Rattle.std.specs.Prelude.{◌≡◌, None, Some, option_map, is_some, length, OnOk, OnErr, IsOk, IfSome};
 ghost use Rattle.std.specs.FinMap as map;
 ghost use Rattle.exec_data.specs.ModelTree.declared.items.ProcessKind.TheVariants as process;
 ghost use Rattle.exec_data.specs.SimModel.Configuration.{Config, Instance, instance_at, change_instance};
@@ -8,8 +8,8 @@ ghost use Rattle.exec_data.specs.SimModel.Control.{ended_instance, ends, idles, 
 ghost use Rattle.exec_data.specs.KernelProcesses.Moves.{events_of, sensitive_of};
 ghost use Rattle.exec_data.specs.KernelProcesses.Moved.{HasRoom, rests_as};
 ghost use Rattle.exec_data.specs.KernelState.Kernel.{StandsFor, IsSound, trigger_of};
-ghost use Rattle.exec_data.specs.KernelState.Moves.{Moves, Steps, Lives, IsOnTop};
-ghost use Rattle.exec_control.specs.Resting.{CanRest, next_kept, rest_count, rests_next};
+ghost use Rattle.exec_data.specs.KernelState.Moves.{Moves, MovesAt, Steps, Lives, IsOnTop};
+ghost use Rattle.exec_control.specs.Resting.{CanRest, next_kept, rest_count, rests_next, rests_again};
 
 use crate::instances::{clear_body, is_thread};
 use exec_data::event_core_api::Ev;
@@ -115,7 +115,19 @@ fn take_trigger(k: &mut Kernel, p: u32) -> Option<Trigger>
     }
 }
 
+/// Whether a next trigger is kept of an instance.
+#[inline(always)]
+fn has_next(k: &Kernel, p: u32) -> bool
+    ensures { result ≡ is_some (next_kept (map.get k.now.schedule.table.live p)) }
+{
+    match k.schedule.table.get(p) {
+        Some(x) => x.body.body.trigger.is_some(),
+        None => false,
+    }
+}
+
 /// The method on top leaves the stack and waits so, and its body has not begun. There is room for the wait.
+#[inline(always)]
 fn rest(k: &mut Kernel, p: u32, t: &Trigger)
     requires sound { IsSound k.old }
     requires top { IsOnTop k.old p }
@@ -126,6 +138,27 @@ fn rest(k: &mut Kernel, p: u32, t: &Trigger)
     ensures made { k.new.made ≡ k.old.made }
 {
     rest_ready(&mut k.schedule, p, t);
+}
+
+/// The method on top waits by its static sensitivity. There is room for the wait.
+#[inline(always)]
+fn rest_statically(k: &mut Kernel, p: u32)
+    requires sound { IsSound k.old }
+    requires top { IsOnTop k.old p }
+    requires room { CanRest k.old p None }
+    ensures moves { Moves k.old k.new (λ c. leaves_stack (change_instance c p (rests_next None))) }
+    ensures lives { Lives k.new p }
+    ensures sound { IsSound k.new }
+    ensures made { k.new.made ≡ k.old.made }
+{
+    rest(
+        k,
+        p,
+        &Trigger {
+            wait: Wait::Static,
+            deadline: Deadline::None,
+        },
+    );
 }
 
 /// The method on top waits by a next trigger that it was set, or by its static sensitivity. There is room for the wait.
@@ -140,14 +173,42 @@ fn rest_by(k: &mut Kernel, p: u32, t: &Option<Trigger>)
 {
     match t {
         Some(t) => rest(k, p, t),
-        None => rest(
-            k,
-            p,
-            &Trigger {
-                wait: Wait::Static,
-                deadline: Deadline::None,
-            },
-        ),
+        None => rest_statically(k, p),
+    }
+}
+
+/// The method on top waits by the next trigger that is kept of it, which is taken from it. There is room for the wait.
+#[inline(never)]
+fn rest_by_next(k: &mut Kernel, p: u32)
+    requires sound { IsSound k.old }
+    requires lives { Lives k.old p }
+    requires top { IsOnTop k.old p }
+    requires room { CanRest k.old p (next_kept (map.get k.old.schedule.table.live p)) }
+    ensures moves { MovesAt k.old k.new p (λ c i. rests_again c p i) }
+    ensures lives { Lives k.new p }
+    ensures sound { IsSound k.new }
+    ensures made { k.new.made ≡ k.old.made }
+{
+    let t = take_trigger(k, p);
+    rest_by(k, p, &t);
+}
+
+/// The method on top waits by its next trigger, or by its static sensitivity. There is room for the wait.
+#[inline(always)]
+fn rest_again(k: &mut Kernel, p: u32)
+    requires sound { IsSound k.old }
+    requires lives { Lives k.old p }
+    requires top { IsOnTop k.old p }
+    requires room { CanRest k.old p (next_kept (map.get k.old.schedule.table.live p)) }
+    ensures moves { MovesAt k.old k.new p (λ c i. rests_again c p i) }
+    ensures lives { Lives k.new p }
+    ensures sound { IsSound k.new }
+    ensures made { k.new.made ≡ k.old.made }
+{
+    if has_next(k, p) {
+        rest_by_next(k, p);
+    } else {
+        rest_statically(k, p);
     }
 }
 
@@ -165,8 +226,7 @@ fn idle(k: &mut Kernel, p: u32) -> Result<(), AllocError>
         Ok(()) => {}
         Err(_) => return Err(AllocError),
     }
-    let t = take_trigger(k, p);
-    rest_by(k, p, &t);
+    rest_again(k, p);
     clear_body(k, p);
     Ok(())
 }
