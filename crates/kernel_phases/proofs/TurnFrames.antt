@@ -4,14 +4,14 @@ use Rattle.std.specs.Prelude.{is_some, reverse, unwrap_or, if◌then◌else◌}
 use Rattle.std.specs.FinMap as map
 use Rattle.std.specs.FinSet as set
 use Rattle.kernel_state.specs.InstanceTable.declared.instances.Instance.{Instance as Entry}
+use Rattle.kernel_state.specs.KernelBodies.Strip.{strip}
 use Rattle.kernel_state.specs.FlatDesign.Code.{arena_of}
 use Rattle.kernel_state.specs.SimModel.Residual.{begun}
-use Rattle.kernel_state.specs.SimModel.Configuration.{Config, Instance, turn, change, changed_at, change_instance, instance_at, with_residual, with_stack, with_runnable, with_told, arena}
+use Rattle.kernel_state.specs.SimModel.Configuration.{Config, Instance, turn, change, changed_at, change_instance, instance_at, with_stack, with_runnable, with_told, arena}
 use Rattle.kernel_state.specs.SimModel.Waits.{holds, without}
 use Rattle.kernel_state.specs.SimModel.Control.{begins}
 use Rattle.kernel_state.specs.SimModel.Steps.{turn_line, instance_taken}
 use Rattle.kernel_state.proofs.KernelBodies.Strips.{strip-entered}
-use Rattle.kernel_state.proofs.KernelProcesses.Wakes.{change-here}
 use Rattle.kernel_state.specs.ProcessBodies.Bodies as bodies
 use Rattle.kernel_state.specs.ProcessBodies.Bodies.{left_in}
 use Rattle.kernel_state.specs.ProcessBodies.declared.body.Body.{Body}
@@ -21,16 +21,17 @@ use Rattle.kernel_state.specs.KernelProcesses.Sound as schedules
 use Rattle.kernel_state.specs.KernelProcesses.Moves.{MovesOne}
 use Rattle.kernel_state.specs.KernelProcesses.declared.parts.Process.{Process}
 use Rattle.kernel_state.specs.KernelProcesses.declared.parts.Schedule.{Schedule}
-use Rattle.kernel_state.specs.KernelProcesses.Moved.{joins_top, same_stack, started_as}
-use Rattle.kernel_state.proofs.KernelProcesses.OtherBody.{puts_body}
+use Rattle.kernel_state.specs.KernelProcesses.declared.parts.Trigger.{Trigger}
+use Rattle.kernel_state.specs.KernelProcesses.Moved.{PutsBody, joins_top, same_stack, started_as}
+use Rattle.kernel_state.proofs.KernelProcesses.OtherBody.{puts_body, puts_sound}
 use Rattle.kernel_state.specs.Processes.{beside, TellsBy, Tells}
-use Rattle.kernel_state.specs.Kernel.{Shows, StandsFor, IsSound, whole_design}
+use Rattle.kernel_state.specs.Kernel.{Shows, StandsFor, IsSound, whole_design, path_in, trigger_of}
 use Rattle.kernel_state.specs.Moves.{Moves, MovesAt, Lives}
 use Rattle.kernel_state.specs.declared.kernel.Kept.{Kept}
 use Rattle.kernel_state.specs.declared.kernel.Kernel.{Kernel}
-use Rattle.kernel_state.proofs.ProcessFrames.{moved_with, stack_same, stack_joined}
-use Rattle.kernel_state.proofs.Frames.{change-twice, processes_move, trace_moves, schedule_sound, shown_where_lives, residual_moves, with_body}
-use Rattle.kernel_phases.specs.Turns.{is_begun}
+use Rattle.kernel_state.proofs.ProcessFrames.{moved_with, stack_same, stack_joined, put_stands}
+use Rattle.kernel_state.proofs.Frames.{change-twice, processes_move, trace_moves, schedule_sound, shown_where_lives, kept_sound, lives_by_kept}
+use Rattle.kernel_phases.specs.Turns.{is_begun, restarted, begins_first}
 
 -- ---- what is shown of a live instance
 
@@ -61,13 +62,39 @@ module _ (k : Kernel) (p : ℕ) (x : Entry (Process Kept)) (at : map.get k.sched
 
 -- ---- the body
 
-module _ (k : Kernel) (p : ℕ) (x : Entry (Process Kept)) (b : Body) (at : map.get k.schedule.table.live p ≡ Some x) (keeps : bodies.Keeps x.body.body.body b) where
-  pub restarts_at : left_in k.program.now b ≡ begun (arena_of k.program.now.code) x.body.body.body.calls.code x.body.body.body.calls.arguments.items
-      → MovesAt k (record k { schedule = with_body k p x b at keeps }) p (λ c i. with_residual c p (begun (arena c) i.code i.arguments))
-  restarts_at left c i h there =
+module _ (k : Kernel) (p : ℕ) (x : Entry (Process Kept)) (b : Body) (t : Option Trigger) (at : map.get k.schedule.table.live p ≡ Some x) (keeps : bodies.Keeps x.body.body.body b) where
+  abbrev first : Kept
+  first = record x.body.body { body = b; trigger = t }
+
+  abbrev pub with_first : Schedule Kept
+  with_first = record k.schedule { table = record k.schedule.table { live = map.insert k.schedule.table.live p (record x { body = record x.body { body = first } }) } }
+
+  puts_first : PutsBody p first k.schedule with_first
+  puts_first = puts_body k.schedule p x first at
+
+  pub first_there : Lives (record k { schedule = with_first }) p
+  first_there = lives_by_kept with_first p first puts_first.body
+
+  pub first_sound : IsSound k → bodies.IsSound k.program.now b → IsSound (record k { schedule = with_first })
+  first_sound sound fine = kept_sound k p first with_first puts_first sound (puts_sound k.schedule p x first at sound.schedule) fine
+
+  pub restarts_at : left_in k.program.now b ≡ begun (arena_of k.program.now.code) x.body.body.body.calls.code x.body.body.body.calls.arguments.items → t ≡ None → MovesAt k (record k { schedule = with_first }) p (λ c i. restarted c p i)
+  restarts_at left none c i h there =
       let s = shows_at k p x at c h i there in
-      residual_moves k p x.body.body b (kept k p x at) (with_body k p x b at keeps) (puts_body k.schedule p x (record x.body.body { body = b }) at) keeps c h (begun (arena c) i.code i.arguments)
-      (strip-entered (arena c) i.code i.arguments None None ∙ ap (λ d. begun (arena_of d.code) i.code i.arguments) h.design ∙ ap (λ n. begun (arena_of k.program.now.code) n i.arguments) s.code ∙ ap (begun (arena_of k.program.now.code) x.body.body.body.calls.code) s.arguments ∙ sym left)
+      let is : strip (begun (arena c) i.code i.arguments) ≡ left_in k.program.now b =
+      strip-entered (arena c) i.code i.arguments None None ∙ ap (λ d. begun (arena_of d.code) i.code i.arguments) h.design ∙ ap (λ n. begun (arena_of k.program.now.code) n i.arguments) s.code ∙ ap (begun (arena_of k.program.now.code) x.body.body.body.calls.code) s.arguments ∙ sym left in
+      processes_move k c h with_first (record c.processes { instances = change c.processes.instances p (λ j. record j { residual = begun (arena c) i.code i.arguments; trigger = None }) })
+      (put_stands (Shows (whole_design k) k.program.now) k.schedule with_first c.processes h.processes p first (λ j. record j { residual = begun (arena c) i.code i.arguments; trigger = None }) puts_first (λ j. refl) (λ j. refl) (λ j none. none)
+      (λ a j found here old.
+      let o = subst (λ w. Shows (whole_design k) k.program.now w (beside j)) (ap (λ o. unwrap_or o x.body.body) (sym found ∙ kept k p x at)) old in
+      record {
+        home = o.home;
+        path = subst (λ f. j.path ≡ path_in (whole_design k) x.body.body.home f x.body.body.path) (sym keeps.code) o.path;
+        code = o.code ∙ sym keeps.code;
+        arguments = o.arguments ∙ sym keeps.arguments;
+        residual = is;
+        trigger = ap (option_map trigger_of) (sym none);
+      }))
 
 -- and it has begun
 module _ (k : Kernel) (p : ℕ) (s : Schedule Kept) (m : MovesOne p (started_as true) (set.contains k.schedule.ready.members p) same_stack k.schedule s) (lives : Lives k p) where
@@ -78,10 +105,11 @@ module _ (k : Kernel) (p : ℕ) (s : Schedule Kept) (m : MovesOne p (started_as 
       (record c.processes { instances = change c.processes.instances p (started_as true) }) refl (sym (h.processes.ready p)) (λ q apart. refl)
       (stack_same (Shows (whole_design k) k.program.now) k.schedule s c.processes h.processes m.stack))
 
-pub begins_at : (k j l : Kernel) (p : ℕ) → MovesAt k j p (λ c i. with_residual c p (begun (arena c) i.code i.arguments)) → Moves j l (λ c. change_instance c p (λ i. record i { started = true })) → MovesAt k l p (λ c i. begins c p i)
+pub begins_at : (k j l : Kernel) (p : ℕ) → MovesAt k j p (λ c i. restarted c p i) → Moves j l (λ c. change_instance c p (λ i. record i { started = true })) → MovesAt k l p (λ c i. begins_first c p i)
 begins_at k j l p first next c i h there = subst (λ is. StandsFor l (record c { processes = record c.processes { instances = is } }))
-    (change-twice c.processes.instances p (λ z. record z { residual = begun (arena c) i.code i.arguments }) (λ z. record z { started = true }))
-    (next (with_residual c p (begun (arena c) i.code i.arguments)) (first c i h there))
+    (change-twice c.processes.instances p (λ z. record z { residual = begun (arena c) i.code i.arguments; trigger = None }) (λ z. record z { started = true })
+    ∙ sym (change-twice c.processes.instances p (λ z. record z { trigger = None }) (λ z. record z { residual = begun (arena c) i.code i.arguments; started = true })))
+    (next (restarted c p i) (first c i h there))
 
 -- ---- the taking
 
@@ -185,12 +213,10 @@ module _ (k j : Kernel) (p : ℕ) (taken : Moves k j (λ c. with_stack (with_run
         (sym (begun_as c h ∙ is)) (told c i.0 h))
 
     -- or begins now
-    pub goes_first : is_begun (map.get j.schedule.table.live p) ≡ false → (m n : Kernel) → Moves j m (λ c. change_instance c p (λ i. record i { trigger = None })) → MovesAt m n p (λ c i. begins c p i) → Moves k n (λ c. instance_taken c p (instance_at c p))
-    goes_first is m n cleared begun c h =
+    pub goes_first : is_begun (map.get j.schedule.table.live p) ≡ false → (n : Kernel) → MovesAt j n p (λ c i. begins_first c p i) → Moves k n (λ c. instance_taken c p (instance_at c p))
+    goes_first is n begun c h =
         let i = in_place c h in
-        let d = change_instance (told_turn c p i.0) p (λ z. record z { trigger = None }) in
         subst (λ o. StandsFor n (instance_taken c p o)) (sym i.1)
-        (subst (λ b. StandsFor n (if b then told_turn c p i.0 else begins d p i.0))
+        (subst (λ b. StandsFor n (if b then told_turn c p i.0 else begins_first (told_turn c p i.0) p i.0))
         (sym (begun_as c h ∙ is))
-        (begun d (record i.0 { trigger = None }) (cleared (told_turn c p i.0) (told c i.0 h))
-        (change-here c.processes.instances p (λ z. record z { trigger = None }) ∙ ap (option_map (λ (z : Instance). record z { trigger = None })) i.1)))
+        (begun (told_turn c p i.0) i.0 (told c i.0 h) i.1))

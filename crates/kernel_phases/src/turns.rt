@@ -1,17 +1,15 @@
 //! The turns of processes.
-ghost use Rattle.std.specs.Prelude.{◌≡◌, [], true, IfSome, IfNone, is_some};
+ghost use Rattle.std.specs.Prelude.{◌≡◌, [], true, None, IfSome, IfNone, is_some};
 ghost use Rattle.std.specs.FinMap as map;
 ghost use Rattle.std.specs.FinSet as set;
-ghost use Rattle.kernel_state.specs.SimModel.Configuration.{change_instance, with_residual, instance_at, arena};
-ghost use Rattle.kernel_state.specs.SimModel.Control as control;
-ghost use Rattle.kernel_state.specs.SimModel.Residual.{begun};
+ghost use Rattle.kernel_state.specs.SimModel.Configuration.{instance_at};
 ghost use Rattle.kernel_state.specs.SimModel.Steps.{instance_taken};
 ghost use Rattle.kernel_state.specs.Kernel.{IsSound};
 ghost use Rattle.kernel_state.specs.Moves.{Moves, MovesAt, Lives};
-ghost use Rattle.kernel_phases.specs.Turns.{is_begun};
+ghost use Rattle.kernel_phases.specs.Turns.{is_begun, restarted, begins_first};
 
 use kernel_state::Kernel;
-use kernel_state::kernel_processes_api::{begin, take};
+use kernel_state::kernel_processes_api::{Trigger, begin, take};
 
 /// Whether the body of an instance has begun.
 fn is_begun(k: &Kernel, p: u32) -> bool
@@ -23,41 +21,51 @@ fn is_begun(k: &Kernel, p: u32) -> bool
     }
 }
 
-/// No next trigger is set for an instance.
-fn clear_trigger(k: &mut Kernel, p: u32)
-    requires sound { IsSound k.old }
-    requires lives { Lives k.old p }
-    ensures moves { Moves k.old k.new (λ c. change_instance c p (λ i. record i { trigger = None })) }
-    ensures lives { Lives k.new p }
-    ensures sound { IsSound k.new }
-    ensures made { k.new.made ≡ k.old.made }
+/// What stands in a place is let go of.
+#[cold]
+#[inline(never)]
+fn drop_trigger(place: &mut Option<Trigger>)
+    ensures { place.new ≡ None }
 {
-    match k.schedule.table.get_mut(p) {
-        Some(x) => x.body.body.trigger = None,
+    *place = None;
+}
+
+/// Nothing stands in a place. Where nothing stood, nothing is written.
+#[inline(always)]
+fn clear(place: &mut Option<Trigger>)
+    ensures { place.new ≡ None }
+{
+    match place {
+        Some(_) => drop_trigger(place),
         None => {}
     }
 }
 
-/// The body of an instance is at its first statement.
+/// The body of an instance is at its first statement, and no next trigger is set for it.
+#[inline(always)]
 fn restart_body(k: &mut Kernel, p: u32)
     requires sound { IsSound k.old }
     requires lives { Lives k.old p }
-    ensures moves { MovesAt k.old k.new p (λ c i. with_residual c p (begun (arena c) i.code i.arguments)) }
+    ensures moves { MovesAt k.old k.new p (λ c i. restarted c p i) }
     ensures lives { Lives k.new p }
     ensures sound { IsSound k.new }
     ensures made { k.new.made ≡ k.old.made }
 {
     match k.schedule.table.get_mut(p) {
-        Some(x) => x.body.body.body.restart(k.program),
+        Some(x) => {
+            clear(&mut x.body.body.trigger);
+            x.body.body.body.restart(k.program);
+        }
         None => {}
     }
 }
 
-/// The body of an instance begins.
+/// The body of an instance begins, and no next trigger is set for it.
+#[inline(always)]
 fn begin_body(k: &mut Kernel, p: u32)
     requires sound { IsSound k.old }
     requires lives { Lives k.old p }
-    ensures moves { MovesAt k.old k.new p (λ c i. control.begins c p i) }
+    ensures moves { MovesAt k.old k.new p (λ c i. begins_first c p i) }
     ensures sound { IsSound k.new }
     ensures made { k.new.made ≡ k.old.made }
 {
@@ -77,7 +85,6 @@ pub fn turn(k: &mut Kernel, p: u32)
 {
     take(&mut k.schedule, p);
     if !is_begun(k, p) {
-        clear_trigger(k, p);
         begin_body(k, p);
     }
 }
