@@ -102,6 +102,19 @@ module _ {B : Type 0} (s : Schedule B) (p : ℕ) where
     places = refl;
   }
 
+  -- none of the next delta notification phase
+  pub ended_zero : (z : Ready) → z ≡ without_member s.zero p → Changes p (λ x. record x { zero = false }) s (record s { zero = z })
+  ended_zero z is = record {
+    here = ap (λ e. record (seen s p) { zero = set.contains e.members p }) is ∙ ap (λ b. record (seen s p) { zero = b }) (gone_here s.zero.members p);
+    others = λ q apart. ap (λ e. record (seen s q) { zero = set.contains e.members q }) is ∙ ap (λ b. record (seen s q) { zero = b }) (gone_other s.zero.members p q apart);
+    stack = refl;
+    woken = refl;
+    due = refl;
+    next = refl;
+    count = refl;
+    places = refl;
+  }
+
   pub put_deadline : (d : Timed) (u : Time) → d ≡ timed.with_time s.deadlines p u → Changes p (λ x. record x { time = Some u }) s (record s { deadlines = d })
   put_deadline d u is = record {
     here = ap (λ e. record (seen s p) { time = map.get e.times p }) is ∙ ap (λ o. record (seen s p) { time = o }) (get-insert_same s.deadlines.times p u p refl);

@@ -1,5 +1,5 @@
 -- Waits that end by time, told by what is seen of each serial.
-use Rattle.std.proofs.Common.{◌≡◌, ◌≤◌, ◌<◌, ◌-◌, ◌+◌, ◌^◌, ◌==◌, ◌||◌, ℕ, Bool, true, false, List, [], ◌∷◌, ◌++◌, Option, Some, None, option_map, refl, sym, ap, ◌∙◌, arith, true≢false, ⊎_elim, subst, ne_eqb}
+use Rattle.std.proofs.Common.{◌≡◌, ◌≤◌, ◌<◌, ◌-◌, ◌+◌, ◌^◌, ◌==◌, ◌||◌, ℕ, Bool, true, false, List, [], ◌∷◌, ◌++◌, Option, Some, None, take, option_map, refl, sym, ap, ◌∙◌, arith, true≢false, ⊎_elim, subst, ne_eqb}
 use Rattle.std.specs.Prelude.{is_some, vec_capacity, if◌then◌else◌, unwrap_or}
 use Rattle.std.proofs.lemmas.Bool.{cases_eq}
 use Rattle.std.specs.FinMap as map
@@ -18,7 +18,7 @@ use Rattle.instance_table.specs.declared.TheConstants.{MAX_LIVE}
 use Rattle.kernel_processes.proofs.Sounding.{on_last, on_top}
 use Rattle.kernel_processes.specs.declared.parts.Process.{Process}
 use Rattle.kernel_processes.specs.declared.parts.Schedule.{Schedule}
-use Rattle.kernel_processes.specs.Times.{over_entry, over, over_if, TakesDue}
+use Rattle.kernel_processes.specs.Times.{over_entry, over, over_if, PutsSomeOver, TakesDue}
 use Rattle.kernel_processes.proofs.Single.{at_entry, kept_of, IsBusyAt}
 
 module _ {B : Type 0} where
@@ -164,6 +164,14 @@ module _ {B : Type 0} where
     }
 
   -- ---- one after another
+
+  time_over : (b : Bool) (x : Seen B) → x.time ≡ None → (over_if b x).time ≡ None
+  time_over true x none = refl
+  time_over false x none = none
+
+  -- who had left the queue of times still has
+  pub still_left : (s t : Schedule B) (n : ℕ) → PutsSomeOver n s t → (q : ℕ) → map.get s.deadlines.times q ≡ None → map.get t.deadlines.times q ≡ None
+  still_left s t n some q none = ap (λ x. x.time) (some.each q) ∙ time_over (is_on (take n s.due.items) q) (seen s q) none
 
   pub over_twice : (b : Bool) (x : Seen B) → over (over_if b x) ≡ over x
   over_twice false x = refl

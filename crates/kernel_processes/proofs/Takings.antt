@@ -134,8 +134,7 @@ module _ {B : Type 0} where
     same_test None = refl
     same_test (Some u) = refl
 
-    module _ (d : Timed) (v : Vec ℕ) (nobody : s.due.items ≡ []) (left : d ≡ timed.without_due s.deadlines t) (taken : timed.AddsEach s.due.items v.items (timed.is_due s.deadlines.times t)) (capacity : vec_capacity v ≡ vec_capacity s.due)
-        (u : Schedule B) (puts : PutsAllOver (record s { deadlines = d; due = v }) u) where
+    module _ (d : Timed) (v : Vec ℕ) (nobody : s.due.items ≡ []) (left : d ≡ timed.without_due s.deadlines t) (taken : timed.AddsEach s.due.items v.items (timed.is_due s.deadlines.times t)) (capacity : vec_capacity v ≡ vec_capacity s.due) where
       on_time : (q : ℕ) → is_on v.items q ≡ is_time t.0 (seen s q).time
       on_time q = ap (λ xs. is_on xs q) (taken.behind ∙ ap (λ xs. xs ++ taken.added) nobody) ∙ on_counted q taken.added (timed.is_due s.deadlines.times t q) (taken.once q) ∙ same_test (map.get s.deadlines.times q)
 
@@ -148,17 +147,24 @@ module _ {B : Type 0} where
           tied : (a b : ℕ) → nat_cmp a b ≡ Equal → a ≡ b
           tied a b ties = map.nat_cmp-IsAntisymmetric a b ties
 
-      each_time : (q : ℕ) → seen u q ≡ over_if (is_time t.0 (seen s q).time) (seen s q)
-      each_time q = puts.each q ∙ ap (λ b. over_if b (seen (record s { deadlines = d; due = v }) q)) (on_time q) ∙ time_left q (is_time t.0 (seen s q).time) refl
+      -- they have left the queue
+      pub due_left : (q : ℕ) → is_on v.items q ≡ true → map.get d.times q ≡ None
+      due_left q on = ap (λ e. map.get e.times q) left
+          ∙ map.get-retain_keys s.deadlines.times (λ n. not (timed.is_due s.deadlines.times t n)) q (λ n ties. ap (λ k. not (timed.is_due s.deadlines.times t k)) (sym (map.nat_cmp-IsAntisymmetric q n ties)))
+          ∙ ap (λ b. cond (not b) (map.get s.deadlines.times q) None) (same_test (map.get s.deadlines.times q) ∙ sym (on_time q) ∙ on)
 
-      on_after : (q : ℕ) → is_on u.due.items q ≡ is_time t.0 (seen s q).time
-      on_after q = ap (λ w. is_on w.items q) puts.due ∙ on_time q
+      module _ (u : Schedule B) (puts : PutsAllOver (record s { deadlines = d; due = v }) u) where
+        each_time : (q : ℕ) → seen u q ≡ over_if (is_time t.0 (seen s q).time) (seen s q)
+        each_time q = puts.each q ∙ ap (λ b. over_if b (seen (record s { deadlines = d; due = v }) q)) (on_time q) ∙ time_left q (is_time t.0 (seen s q).time) refl
 
-      pub takes_times : TakesDue (is_due_at t.0) s u
-      takes_times = takes_due (is_due_at t.0) (λ x. is_time t.0 x.time) (picks_time t.0) s u sound each_time on_after puts.stack puts.woken puts.next (ap vec_capacity puts.due ∙ capacity) puts.count puts.places
+        on_after : (q : ℕ) → is_on u.due.items q ≡ is_time t.0 (seen s q).time
+        on_after q = ap (λ w. is_on w.items q) puts.due ∙ on_time q
 
-      pub takes_times_sound : IsSound u
-      takes_times_sound = takes_sound (is_due_at t.0) (λ x. is_time t.0 x.time) (picks_time t.0) s u sound each_time on_after puts.stack puts.woken puts.next (ap vec_capacity puts.due ∙ capacity) puts.count puts.places
+        pub takes_times : TakesDue (is_due_at t.0) s u
+        takes_times = takes_due (is_due_at t.0) (λ x. is_time t.0 x.time) (picks_time t.0) s u sound each_time on_after puts.stack puts.woken puts.next (ap vec_capacity puts.due ∙ capacity) puts.count puts.places
+
+        pub takes_times_sound : IsSound u
+        takes_times_sound = takes_sound (is_due_at t.0) (λ x. is_time t.0 x.time) (picks_time t.0) s u sound each_time on_after puts.stack puts.woken puts.next (ap vec_capacity puts.due ∙ capacity) puts.count puts.places
 
   -- ---- the earliest
 

@@ -1,5 +1,5 @@
 //! Waits that end by time.
-ghost use Rattle.std.specs.Prelude.{◌≡◌, ◌+◌, ◌≤◌, ◌<◌, [], IfNone, IfSome, IsNone, length, option_map, vec_capacity};
+ghost use Rattle.std.specs.Prelude.{◌≡◌, ℕ, ◌+◌, ◌≤◌, ◌<◌, [], true, None, IfNone, IfSome, IsNone, length, option_map, vec_capacity};
 ghost use Rattle.std.specs.FinMap as map;
 ghost use Rattle.std.specs.FinSet as set;
 ghost use Rattle.sim_model.specs.Phases.{is_zero_timeout, is_due_at};
@@ -22,6 +22,16 @@ fn mark_over<B>(s: &mut Schedule<B>, p: u32)
     if let Some(x) = s.table.get_mut(p) {
         x.deadline = Deadline::None;
     }
+}
+
+/// No time ends the wait of an instance any more that has left the queue of times.
+#[inline(always)]
+fn put_left_over<B>(s: &mut Schedule<B>, p: u32)
+    requires { map.get s.old.deadlines.times p ≡ None }
+    ensures { Changes p over s.old s.new }
+{
+    s.zero.remove(p);
+    mark_over(s, p);
 }
 
 /// No time ends the wait of an instance any more.
@@ -48,14 +58,15 @@ pub fn take_zero<B>(s: &mut Schedule<B>)
     }
 }
 
-/// No time ends the waits of those that are due any more.
+/// No time ends the waits of those that are due any more, who have left the queue of times.
 fn put_all_over<B>(s: &mut Schedule<B>)
+    requires { (q : ℕ) → is_on s.old.due.items q ≡ true → map.get s.old.deadlines.times q ≡ None }
     ensures { PutsAllOver s.old s.new }
 {
     let mut place = 0;
     while place < s.due.len() {
         let p = s.due[place];
-        put_over(s, p);
+        put_left_over(s, p);
         place += 1;
     }
 }
