@@ -111,9 +111,11 @@ none_is (Some s) b e h = cc
 
 -- the statement that comes where nothing falls away before it
 
+pub statement_settles : (a : Arena) (g : Option Goal) (xs : List Saved) (o : Option ℕ) (s : ℕ) → o ≡ Some s → 0 < length xs → settle a (under g (inside_frames a xs (standing (held xs o)))) ≡ under g (inside_frames a xs (one s))
+statement_settles a g xs o s is some = ap (λ p. settle a (under g (inside_frames a xs (standing p)))) (held_some xs o some ∙ is) ∙ stands_settled a g xs s
+
 pub statement_shows : (a : Arena) (g : Option Goal) (xs : List Saved) (o : Option ℕ) (s : ℕ) → o ≡ Some s → 0 < length xs → next_of (settle a (under g (inside_frames a xs (standing (held xs o))))) ≡ residual.statement s
-statement_shows a g xs o s is some =
-    ap (λ p. next_of (settle a (under g (inside_frames a xs (standing p))))) (held_some xs o some ∙ is) ∙ ap next_of (stands_settled a g xs s) ∙ (through_all a g xs).comes (one s) tt
+statement_shows a g xs o s is some = ap next_of (statement_settles a g xs o s is some) ∙ (through_all a g xs).comes (one s) tt
 
 pub first_if : (a : Arena) (l : Open) (c : Cursor) → l ≡ layer.Rest c → (o : Option ℕ) → o ≡ slice_get (block_at a c.block) c.place → IfSome o (IsFirstOf a l)
 first_if a l c is None found = tt
@@ -129,6 +131,17 @@ comes_if a ls i l last at (Some s) h =
     record { blocks = set ls i (layer.Rest h.cursor); settles = blocks_passed a ls i l h.cursor last at h.behind ∙ ap (λ n. inside a (set ls i (layer.Rest h.cursor)) (one n)) h.is }
 
 module _ (a : Arena) (g : Option Goal) (xs : List Saved) (o : Option ℕ) (i : ℕ) (d : Saved) (none : o ≡ None) (last : suc i ≡ length xs) (at : d ≡ get_or xs i d) where
+  pub first_settles : (s : ℕ) (w : ComesIn a d.blocks.items s)
+      → settle a (under g (inside_frames a xs (standing (held xs o)))) ≡ under g (inside_frames a (take i xs) (wrapped d.shell (call_of d.frame) (inside a w.blocks (one s))))
+  first_settles s w =
+      let C : Residual → Residual = λ r. under g (inside_frames a (take i xs) (wrapped d.shell (call_of d.frame) r)) in
+      let through : Passes a C =
+      through_both a (under g) (λ r. inside_frames a (take i xs) (wrapped d.shell (call_of d.frame) r)) (through_goal a g)
+      (through_both a (inside_frames a (take i xs)) (wrapped d.shell (call_of d.frame)) (through_frames a (take i xs)) (through_call a d.shell (call_of d.frame))) in
+      ap (λ p. settle a (under g (inside_frames a xs (standing (held xs p))))) none
+      ∙ ap (settle a) (left_nothing a g xs ∙ ap (under g) (frames_last a xs (take i xs) d skip (last_is xs i d last at)))
+      ∙ through.settles (inside a d.blocks.items skip) (inside a w.blocks (one s)) w.settles ((through_blocks a w.blocks).left (one s) tt)
+
   first_shows : (s : ℕ) → ComesIn a d.blocks.items s → next_of (settle a (under g (inside_frames a xs (standing (held xs o))))) ≡ residual.statement s
   first_shows s w =
       let C : Residual → Residual = λ r. under g (inside_frames a (take i xs) (wrapped d.shell (call_of d.frame) r)) in
@@ -136,11 +149,8 @@ module _ (a : Arena) (g : Option Goal) (xs : List Saved) (o : Option ℕ) (i : �
       through_both a (under g) (λ r. inside_frames a (take i xs) (wrapped d.shell (call_of d.frame) r)) (through_goal a g)
       (through_both a (inside_frames a (take i xs)) (wrapped d.shell (call_of d.frame)) (through_frames a (take i xs)) (through_call a d.shell (call_of d.frame))) in
       let q : Residual = inside a w.blocks (one s) in
-      let left : IsLeft q = (through_blocks a w.blocks).left (one s) tt in
       let inner : next_of q ≡ residual.statement s = (through_blocks a w.blocks).comes (one s) tt in
-      ap (λ p. next_of (settle a (under g (inside_frames a xs (standing (held xs p)))))) none
-      ∙ ap (λ r. next_of (settle a r)) (left_nothing a g xs ∙ ap (under g) (frames_last a xs (take i xs) d skip (last_is xs i d last at)))
-      ∙ ap next_of (through.settles (inside a d.blocks.items skip) q w.settles left)
+      ap next_of (first_settles s w)
       ∙ through.comes q (subst IsComing (sym inner) tt)
       ∙ inner
 

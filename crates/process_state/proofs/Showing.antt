@@ -1,17 +1,19 @@
 -- What a body shows of what is left.
-use Rattle.std.proofs.Common.{◌≡◌, ℕ, ◌+◌, suc, Bool, true, false, List, [], ◌∷◌, Option, Some, None, take, refl, sym, ap, ◌∙◌}
-use Rattle.std.specs.Prelude.{◌||◌, is_some}
+use Rattle.std.proofs.Common.{◌≡◌, ℕ, ◌+◌, ◌<◌, suc, length, get_or, Bool, true, false, List, [], ◌∷◌, Option, Some, None, take, refl, sym, ap, ◌∙◌}
+use Rattle.std.specs.Prelude.{◌||◌, is_some, IfSome}
 use Rattle.kernel_bodies.specs.FlatDesign.Code.{Arena}
-use Rattle.kernel_bodies.specs.SimModel.Residual.{Residual, innermost, or_frame, within, or_via, in_nb, has_goal, open_frames, counted_call, settle}
+use Rattle.kernel_bodies.specs.SimModel.Residual.{Residual, Frame, skip, one, innermost, or_frame, within, or_via, in_nb, has_goal, open_frames, counted_call, settle}
 use Rattle.kernel_bodies.specs.SimModel.declared.plain.Goal.{Goal}
 use Rattle.kernel_bodies.specs.SimModel.Unwinding.{catches}
 use Rattle.kernel_bodies.specs.declared.layers.Saved.{Saved}
 use Rattle.kernel_bodies.specs.declared.layers.Landing.{Landing}
 use Rattle.kernel_bodies.specs.Landings.{Lands}
-use Rattle.kernel_bodies.specs.Layers.{call_of, inside, whole, cut, inside_frames, under, standing, landed}
+use Rattle.kernel_bodies.specs.Layers.{call_of, inside, wrapped, whole, cut, inside_frames, under, held, standing, landed}
 use Rattle.kernel_bodies.specs.Sought.{among, has_handler, is_handling, unwinds, is_open_nonblocking, last_call, last_via, many_calls}
-use Rattle.kernel_bodies.proofs.Seeking.{innermost_cut, innermost_whole, innermost_frames, within_cut, within_whole, within_frames, calls_cut, calls_whole, calls_frames, nb_frames, goal_frames, catches_inside, catches_wrapped, catches_whole}
-use Rattle.process_state.proofs.Frames.{frames_last, front_is}
+use Rattle.kernel_bodies.proofs.Seeking.{innermost_inside, innermost_cut, innermost_whole, innermost_frames, within_cut, within_whole, within_frames, calls_cut, calls_whole, calls_frames, nb_frames, goal_frames, catches_inside, catches_wrapped, catches_whole}
+use Rattle.process_state.specs.Bodies.{ComesIn}
+use Rattle.process_state.proofs.Frames.{frames_last, front_is, last_is}
+use Rattle.process_state.proofs.Passed.{statement_settles, first_settles}
 use Rattle.process_state.proofs.Settled.{under_settled}
 use Rattle.process_state.proofs.Stepping.{innermost_landed, within_landed, calls_landed, catches_landed, innermost_standing, within_standing, nb_standing, goal_standing}
 
@@ -125,6 +127,32 @@ module _ (a : Arena) (ds : List ℕ) (g : Option Goal) (xs : List Saved) (s : Op
       (catches_wrapped lands.inner.shell (call_of lands.inner.frame) (inside a (take l.blocks lands.inner.blocks.items) (landed a l.comes)) e
       ∙ catches_inside a e (take l.blocks lands.inner.blocks.items) (landed a l.comes)
       ∙ ap (λ b. b || among (is_handling a e) (take l.blocks lands.inner.blocks.items)) (catches_landed a l.comes e))
+
+-- where nothing falls away before the statement that comes
+
+pub statement_calls : (a : Arena) (g : Option Goal) (xs : List Saved) (o : Option ℕ) (s : ℕ) → o ≡ Some s → 0 < length xs → last_call xs ≡ innermost (settle a (under g (inside_frames a xs (standing (held xs o)))))
+statement_calls a g xs o s is some = sym (ap innermost (statement_settles a g xs o s is some) ∙ innermost_left a g xs (Some s))
+
+module _ (a : Arena) (g : Option Goal) (xs : List Saved) (o : Option ℕ) (i : ℕ) (d : Saved) (none : o ≡ None) (last : suc i ≡ length xs) (at : d ≡ get_or xs i d) where
+  of_call : (b : Bool) (f : Frame) (r : Residual) → innermost r ≡ None → innermost (wrapped b f r) ≡ Some f
+  of_call false f r e = ap (λ p. or_frame p f) e
+  of_call true f r e = ap (λ p. or_frame p f) e
+
+  first_calls : (s : ℕ) → ComesIn a d.blocks.items s → last_call xs ≡ innermost (settle a (under g (inside_frames a xs (standing (held xs o)))))
+  first_calls s w =
+      let p : Residual = wrapped d.shell (call_of d.frame) (inside a w.blocks (one s)) in
+      let same : innermost p ≡ innermost (whole a d skip) =
+      of_call d.shell (call_of d.frame) (inside a w.blocks (one s)) (innermost_inside a w.blocks (one s)) ∙ sym (of_call d.shell (call_of d.frame) (inside a d.blocks.items skip) (innermost_inside a d.blocks.items skip)) in
+      sym
+      (ap innermost (first_settles a g xs o i d none last at s w)
+      ∙ innermost_under g (inside_frames a (take i xs) p)
+      ∙ same_innermost a (take i xs) p (whole a d skip) same
+      ∙ ap innermost (sym (frames_last a xs (take i xs) d skip (last_is xs i d last at)))
+      ∙ innermost_frames a xs skip refl)
+
+  pub first_calls_if : (q : Option ℕ) → IfSome q (ComesIn a d.blocks.items) → IfSome q (λ _. last_call xs ≡ innermost (settle a (under g (inside_frames a xs (standing (held xs o))))))
+  first_calls_if None h = tt
+  first_calls_if (Some s) h = first_calls s h
 
 pub or_first : (x y z : Bool) → x ≡ true → x ≡ y → x ≡ (y || z)
 or_first x y z e is = e ∙ ap (λ b. b || z) (sym e ∙ is)

@@ -11,6 +11,7 @@ ghost use Rattle.kernel_bodies.specs.SimModel.declared.plain.Goal.{Goal as Aim};
 ghost use Rattle.kernel_bodies.specs.declared.program.Program.{Program as Whole};
 ghost use Rattle.kernel_bodies.specs.Layers.{call_of, inside, shown_by, statement_of};
 ghost use Rattle.kernel_bodies.specs.Room.{FitsIn, SameCall};
+ghost use Rattle.kernel_bodies.specs.Sought.{last_call};
 ghost use Rattle.process_state.specs.Bodies.{left_of, left_in, settled_in, next_in, IsSound, Keeps, IsStatement, IsGoal, IsBehindFirst, IsFirstOf, ComesIn, EndsIn, enclosed};
 
 use kernel_bodies::flat_design_api::{BlockId, CodeId, StmtId};
@@ -172,8 +173,9 @@ impl Body {
 
     /// The statement that comes next, where nothing falls away before it.
     #[inline(always)]
-    fn next_in_place(&self, program: &Program) -> Option<StmtId>
-        ensures { IfSome result (λ s. next_of (settled_in program.now self.now) ≡ residual.statement s) }
+    pub(crate) fn next_in_place(&self, program: &Program) -> Option<StmtId>
+        ensures shows { IfSome result (λ s. next_of (settled_in program.now self.now) ≡ residual.statement s) }
+        ensures calls { IfSome result (λ _. last_call self.now.frames.items ≡ residual.innermost (settled_in program.now self.now)) }
     {
         let many = self.frames.len();
         if many == 0 {

@@ -20,6 +20,7 @@ use kernel_bodies::{
 
 impl Body {
     /// The frames that stand once finished parts have fallen away.
+    #[inline(never)]
     fn standing(&self, program: &Program) -> &[Saved]
         ensures calls { last_call result.now ≡ residual.innermost (settled_in program.now self.now) }
         ensures transports { last_via result.now ≡ residual.within (settled_in program.now self.now) }
@@ -39,7 +40,7 @@ impl Body {
     pub fn local(&self, program: &Program, number: usize) -> Option<Value>
         ensures { result ≡ slice_get (locals_of (residual.innermost (settled_in program.now self.now))) number }
     {
-        match last_call(self.standing(program)) {
+        match self.innermost(program) {
             Some(frame) => frame.locals.as_slice().get(number).copied(),
             None => None,
         }
@@ -53,9 +54,13 @@ impl Body {
     }
 
     /// The innermost call, also one that is being unwound, once finished parts have fallen away.
+    #[inline(always)]
     pub fn innermost(&self, program: &Program) -> Option<&Frame>
         ensures { option_map (λ x. call_of x.now) result ≡ residual.innermost (settled_in program.now self.now) }
     {
+        if self.next_in_place(program).is_some() {
+            return last_call(self.frames.as_slice());
+        }
         last_call(self.standing(program))
     }
 
