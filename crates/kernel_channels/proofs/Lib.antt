@@ -3,3 +3,4 @@ pub mod Resting
 pub mod Telling
 pub mod Changing
 pub mod Updating
+pub mod Rounds

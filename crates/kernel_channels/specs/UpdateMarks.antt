@@ -1,6 +1,6 @@
--- How channels are kept: with marks of those that asked for an update, so that an update visits no others. No public clause
--- cites this module.
-use Rattle.std.specs.Prelude.{◌≡◌, ◌≤◌, ⊤, ℕ, Bool, true, false, List, [], ◌∷◌, Option, Some, None, length, slice_get, slice_set, vec_capacity}
+-- How channels are kept: with marks of those that asked for an update, so that an update visits no others, and of those that the
+-- last update changed. No public clause cites this module.
+use Rattle.std.specs.Prelude.{◌≡◌, ◌≤◌, ◌<◌, ◌==◌, ⊤, ℕ, Bool, true, false, List, [], ◌∷◌, Option, Some, None, length, map, get_or, slice_get, slice_set, vec_capacity}
 use Rattle.std.specs.Global.{Vec}
 use Rattle.kernel_events.specs.EventCore.declared.notifications.Pending.{Pending}
 use Rattle.kernel_events.specs.SignalChannel.Signals.{settled}
@@ -38,6 +38,19 @@ pub record IsWires (resolved : List Driven) (marks changes : List Bool) (visited
 pub record IsFifos (fifos : List Queued) (marks : List Bool) (visited : Vec ℕ) : Type 0 where
   pub rests : Rests after_update fifos marks
   pub visits : HasRoom (length fifos) visited
+
+-- marks that count in the present round alone, by the round in which each was set
+
+abbrev pub marked_in : ℕ → List ℕ → List Bool
+marked_in round rounds = map (λ r. r == round) rounds
+
+-- no round is past the present one, and none was marked in round 0
+pub record IsPresent (round : ℕ) (rounds : List ℕ) : Type 0 where
+  pub begun : 0 < round
+  pub past : (k : ℕ) → get_or rounds k 0 ≤ round
+
+abbrev pub AllZero : List ℕ → Type 0
+AllZero rounds = (k : ℕ) → get_or rounds k 0 ≡ 0
 
 -- what an update announces
 

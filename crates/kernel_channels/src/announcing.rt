@@ -1,11 +1,10 @@
 // What an update announces.
 ghost use Rattle.std.specs.Prelude.{◌≡◌, ◌+◌, IfOk};
 ghost use Rattle.kernel_channels.specs.Announced.{delta, delta_if, told};
-ghost use Rattle.kernel_channels.specs.UpdateMarks.{marked_if, nothing, told_at};
+ghost use Rattle.kernel_channels.specs.UpdateMarks.{nothing, told_at};
 
 use kernel_events::EventBoard;
 use kernel_events::event_core_api::When;
-use kernel_events::numbered_slots_api::Marks;
 use kernel_events::signal_channel_api::Changed;
 use std::alloc::AllocError;
 
@@ -21,15 +20,19 @@ pub(crate) fn no_change() -> Changed
 }
 
 // A delta notification of the event so far behind the first one, if there is an event of this number.
+#[inline(always)]
 fn notify_behind(events: &mut EventBoard, first: u32, offset: u32)
     ensures { events.new ≡ delta (first + offset) events.old }
 {
-    let left = events.len().saturating_sub(first);
-    if offset < left {
-        events.notify(first + offset, When::Delta);
+    let size = events.len();
+    if let Some(e) = first.checked_add(offset) {
+        if e < size {
+            events.notify(e, When::Delta);
+        }
     }
 }
 
+#[inline(always)]
 fn notify_if(events: &mut EventBoard, yes: bool, first: u32, offset: u32)
     ensures { events.new ≡ delta_if yes (first + offset) events.old }
 {
@@ -39,6 +42,7 @@ fn notify_if(events: &mut EventBoard, yes: bool, first: u32, offset: u32)
 }
 
 // The three events of a signal, of which this is the first.
+#[inline(always)]
 fn announce(events: &mut EventBoard, change: Changed, first: u32)
     ensures { events.new ≡ told change first events.old }
 {
@@ -55,15 +59,6 @@ pub(crate) fn announce_at(events: &mut EventBoard, change: Changed, first: Optio
     match first {
         Some(e) => announce(events, change, e),
         None => {}
-    }
-}
-
-// Marks the number, where it changed.
-pub(crate) fn mark_if(marks: &mut Marks, yes: bool, n: u32)
-    ensures { marks.new ≡ marked_if yes n marks.old }
-{
-    if yes {
-        marks.set(n);
     }
 }
 

@@ -27,8 +27,8 @@ use std::marker::Model;
 /// that there is not changes nothing.
 ///
 /// Memory is taken by `new` and, for a process that drives a resolved signal for the first time, by `drive`; no other call
-/// takes any. `update` takes time in how many channels asked for an update, times a logarithm, and `clear_changed` in how many
-/// the last update changed.
+/// takes any. `update` takes time in how many channels asked for an update, times a logarithm, and `clear_changed` that of a few
+/// tests.
 #[derive(Drop)]
 pub struct ChannelBoard {
     signals: SignalBank,
@@ -250,6 +250,7 @@ impl ChannelBoard {
 
     /// The update phase: updates each channel that asked for it, exactly once, and announces what that changed by delta
     /// notifications of the channels' events (IEEE 1666-2011, 4.2.1.3).
+    #[inline(always)]
     pub fn update(&mut self, design: &Design, events: &mut EventBoard)
         ensures left { self.new ≡ channels_updated self.old }
         ensures announced { events.new ≡ told_by design.now self.old events.old }

@@ -81,6 +81,7 @@ fn update_one(fifos: &mut [Fifo], n: u32) -> Changed
 }
 
 // Updates those of these numbers.
+#[inline(always)]
 fn update_each(fifos: &mut [Fifo], numbers: &[u32], parts: &[FifoPart], events: &mut EventBoard)
     ensures left { fifos.new ≡ items_after spec.after_update numbers.now fifos.old }
     ensures announced { events.new ≡ events_after spec.after_update fifo_change numbers.now (map (λ (p : Part). p.events) parts.now) fifos.old events.old }
@@ -150,6 +151,7 @@ impl FifoBank {
     }
 
     // Ends the evaluation phase of those that were written or read in it, and announces that.
+    #[inline(always)]
     pub(crate) fn update(&mut self, parts: &[FifoPart], events: &mut EventBoard)
         ensures left { self.new ≡ map spec.after_update self.old }
         ensures announced { events.new ≡ told_by_fifos parts.now self.old events.old }

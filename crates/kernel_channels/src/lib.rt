@@ -4,6 +4,7 @@
 
 mod announcing;
 mod board;
+mod changes;
 mod fifos;
 mod laws;
 mod signals;

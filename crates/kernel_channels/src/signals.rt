@@ -10,7 +10,8 @@ ghost use Rattle.kernel_channels.specs.Announced.{told_by_signals};
 ghost use Rattle.kernel_channels.specs.UpdateMarks.{change_at, items_after, marks_after, events_after};
 ghost use Rattle.kernel_channels.specs.Writers.{conflict_at, written_unless};
 
-use crate::announcing::{announce_at, mark_if, no_change, number_of};
+use crate::announcing::{announce_at, no_change, number_of};
+use crate::changes::{Changes, mark_if};
 use kernel_events::EventBoard;
 use kernel_events::flat_design_api::SignalPart;
 use kernel_events::logic_values_api::Value;
@@ -27,7 +28,7 @@ pub(crate) struct SignalBank {
     // Those that were written since the last update.
     asked: Marks,
     // Those that the last update changed.
-    changed: Marks,
+    changed: Changes,
     // Room for those that an update visits.
     visited: Vec<u32>,
 }
@@ -71,6 +72,7 @@ fn first_signals(alloc: Global, parts: &[SignalPart]) -> Result<Vec<Signal>, All
 }
 
 // The first event of a signal.
+#[inline(always)]
 fn first_event(parts: &[SignalPart], n: u32) -> Option<u32>
     ensures { result ≡ slice_get (map (λ (p : Part). p.events) parts.now) n }
 {
@@ -81,6 +83,7 @@ fn first_event(parts: &[SignalPart], n: u32) -> Option<u32>
 }
 
 // Updates one, and says what that announces.
+#[inline(always)]
 fn update_one(signals: &mut [Signal], n: u32) -> Changed
     ensures left { signals.new ≡ change signals.old n settled }
     ensures announced { result ≡ change_at change_of (slice_get signals.old n) }
@@ -93,9 +96,10 @@ fn update_one(signals: &mut [Signal], n: u32) -> Changed
 }
 
 // Updates those of these numbers.
+#[inline(always)]
 fn update_each(
     signals: &mut [Signal],
-    changed: &mut Marks,
+    changed: &mut Changes,
     numbers: &[u32],
     parts: &[SignalPart],
     events: &mut EventBoard,
@@ -119,7 +123,7 @@ impl SignalBank {
         let size = number_of(parts.len())?;
         let signals = first_signals(alloc, parts)?;
         let asked = Marks::new(alloc, size)?;
-        let changed = Marks::new(alloc, size)?;
+        let changed = Changes::new(alloc, size)?;
         let visited = Vec::with_capacity(alloc, parts.len())?;
         Ok(SignalBank {
             signals,
@@ -163,6 +167,7 @@ impl SignalBank {
     }
 
     // Updates those that asked, and announces what that changed.
+    #[inline(always)]
     pub(crate) fn update(&mut self, parts: &[SignalPart], events: &mut EventBoard)
         ensures left { self.new ≡ record { signals = map settled self.old.signals; changed = map (λ (s : Kept). (change_of s).changed) self.old.signals } }
         ensures announced { events.new ≡ told_by_signals parts.now self.old.signals events.old }

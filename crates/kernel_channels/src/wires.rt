@@ -8,7 +8,8 @@ ghost use Rattle.kernel_events.specs.SimModel.Reading.{resolved_value};
 ghost use Rattle.kernel_channels.specs.Announced.{told_by_resolved};
 ghost use Rattle.kernel_channels.specs.UpdateMarks.{wire_change, change_at, items_after, marks_after, events_after};
 
-use crate::announcing::{announce_at, mark_if, no_change, number_of};
+use crate::announcing::{announce_at, no_change, number_of};
+use crate::changes::{Changes, mark_if};
 use kernel_events::EventBoard;
 use kernel_events::flat_design_api::ResolvedPart;
 use kernel_events::logic_values_api::{Digit, Value};
@@ -24,7 +25,7 @@ pub(crate) struct WireBank {
     // Those that were written since the last update.
     asked: Marks,
     // Those that the last update changed.
-    changed: Marks,
+    changed: Changes,
     // Room for those that an update visits.
     visited: Vec<u32>,
 }
@@ -80,9 +81,10 @@ fn update_one(resolved: &mut [Resolved], n: u32) -> Changed
 }
 
 // Updates those of these numbers.
+#[inline(always)]
 fn update_each(
     resolved: &mut [Resolved],
-    changed: &mut Marks,
+    changed: &mut Changes,
     numbers: &[u32],
     parts: &[ResolvedPart],
     events: &mut EventBoard,
@@ -106,7 +108,7 @@ impl WireBank {
         let size = number_of(parts.len())?;
         let resolved = first_resolved(alloc, size)?;
         let asked = Marks::new(alloc, size)?;
-        let changed = Marks::new(alloc, size)?;
+        let changed = Changes::new(alloc, size)?;
         let visited = Vec::with_capacity(alloc, parts.len())?;
         Ok(WireBank {
             resolved,
@@ -149,6 +151,7 @@ impl WireBank {
     }
 
     // Updates those that asked, and announces what that changed.
+    #[inline(always)]
     pub(crate) fn update(&mut self, parts: &[ResolvedPart], events: &mut EventBoard)
         ensures left { self.new ≡ record { resolved = resettled_all self.old.resolved self.old.asked; asked = map (λ (b : Bool). false) self.old.asked; changed = resolved_changes self.old.resolved self.old.asked } }
         ensures announced { events.new ≡ told_by_resolved parts.now self.old.resolved self.old.asked events.old }
