@@ -45,7 +45,7 @@ or-all : (b : Bool) → (b || true) ≡ true
 or-all true = refl
 or-all false = refl
 
-or-nothing : (b : Bool) → (b || false) ≡ b
+pub or-nothing : (b : Bool) → (b || false) ≡ b
 or-nothing true = refl
 or-nothing false = refl
 

@@ -45,6 +45,7 @@ fn put_over<B>(s: &mut Schedule<B>, p: u32)
 
 /// The waits that end in the next delta notification phase have ended by time: their instances are due (IEEE 1666-2011,
 /// 4.2.1.4).
+#[inline(always)]
 pub fn take_zero<B>(s: &mut Schedule<B>)
     requires sound { IsSound s.old }
     requires nobody { s.old.due.items ≡ [] }
@@ -84,7 +85,22 @@ pub fn take_due<B>(s: &mut Schedule<B>, t: Time)
 }
 
 /// Those that are due are woken, and none is due any more.
+#[inline(always)]
 pub fn wake_due<B>(s: &mut Schedule<B>)
+    requires { IsSound s.old }
+    ensures wakes { WakesThose s.old.due.items s.old s.new }
+    ensures nobody { s.new.due.items ≡ [] }
+    ensures sound { IsSound s.new }
+{
+    if s.due.is_empty() {
+        return;
+    }
+    wake_each(s);
+}
+
+/// The same, of as many as are due.
+#[inline(never)]
+fn wake_each<B>(s: &mut Schedule<B>)
     requires { IsSound s.old }
     ensures wakes { WakesThose s.old.due.items s.old s.new }
     ensures nobody { s.new.due.items ≡ [] }

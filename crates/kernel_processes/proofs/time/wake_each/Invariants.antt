@@ -1,7 +1,7 @@
 use Rattle.std.proofs.Common.{◌≡◌, ◌++◌, ℕ, List, length}
 use Rattle.kernel_processes.specs.Sound.{IsSound}
 use Rattle.kernel_processes.specs.Times.{WakesThose}
-use Rattle.kernel_processes.proofs.time.wake_due.Given as goal
+use Rattle.kernel_processes.proofs.time.wake_each.Given as goal
 
 -- those behind the ones that are still due met their wakes
 abbrev pub invariant-loop-p : goal.invariant-loop-p
