@@ -17,6 +17,7 @@ use kernel_state::ready_set_api::least_of_a_set;
 use kernel_state::sim_model_api::Phase;
 
 /// Fires events one after another.
+#[inline(always)]
 fn fire_events(k: &mut Kernel, events: &[u32])
     requires { IsBetween k.old }
     ensures moves { Moves k.old k.new (fire_all (fixed events.now)) }
@@ -32,6 +33,7 @@ fn fire_events(k: &mut Kernel, events: &[u32])
 }
 
 /// These events fire, and the instances that are due wake.
+#[inline(always)]
 pub(crate) fn set_off(k: &mut Kernel, events: &mut Vec<u32>)
     requires { IsBetween k.old }
     ensures moves { SetsOff events.old.items k.old k.new }
@@ -62,6 +64,7 @@ pub(crate) fn phase_after(k: &Kernel) -> Phase
 
 /// The pending delta notifications fire and the zero time-outs end. It takes no memory: `events` is a list without members
 /// that has room for all events.
+#[inline(always)]
 pub(crate) fn notify_deltas(k: &mut Kernel, events: &mut Vec<u32>)
     requires sound { IsSound k.old }
     requires room { HasRoom k.old events.old }

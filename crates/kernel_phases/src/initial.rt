@@ -33,6 +33,7 @@ fn make_all_runnable(k: &mut Kernel)
 
 /// Initialization: the update phase, every process that is not left out becomes runnable, and the delta notification phase
 /// (IEEE 1666-2011, 4.2.1.1). It takes no memory: `events` is a list without members that has room for all events.
+#[cold]
 pub fn initialize(k: &mut Kernel, events: &mut Vec<u32>)
     requires sound { IsSound k.old }
     requires fresh { IsFresh k.old }

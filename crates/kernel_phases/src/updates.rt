@@ -21,6 +21,7 @@ pub(crate) fn set_phase(k: &mut Kernel, x: Phase)
 }
 
 /// Updates each channel that asked for it, and notifies what that changed.
+#[inline(always)]
 pub(crate) fn update_channels(k: &mut Kernel)
     requires { IsSound k.old }
     ensures moves { Moves k.old k.new phases.update_phase }
