@@ -1,9 +1,12 @@
 -- What is kept stays tied where what is pending for one event changes.
-use Rattle.std.proofs.Common.{◌≡◌, ◌⊎◌, ◌<◌, ◌≤◌, ◌+◌, ◌-◌, inl, inr, ℕ, zero, suc, Bool, true, false, cond, List, ◌∷◌, length, get_or, set, refl, sym, ap, ◌∙◌, ⊎_elim, arith, Option, None, Some, true≢false}
-use Rattle.std.specs.Prelude.{◌==◌, is_some, count_by, IsTrue, map, replicate}
+use Rattle.std.proofs.Common.{◌≡◌, ◌⊎◌, ◌<◌, ◌≤◌, ◌+◌, ◌-◌, inl, inr, ℕ, zero, suc, Bool, true, false, cond, List, [], length, get_or, set, refl, sym, ap, ◌∙◌, subst, ⊎_elim, arith, Option, None, Some, true≢false}
+use Rattle.std.specs.Prelude.{◌==◌, is_some, count_by, IsTrue, replicate, vec_capacity}
+use Rattle.std.specs.Global.{Vec}
+use Rattle.std.specs.List.{All}
 use Rattle.std.specs.FinMap as maps
 use Rattle.std.proofs.lemmas.Bool.{cases_eq, eq-eqb, ne_eqb}
-use Rattle.std.proofs.lemmas.List.{map-set, length-set, get_or-set_same, get_or-set_other, length-replicate}
+use Rattle.std.proofs.lemmas.List.Elements.{All-same, All-nil}
+use Rattle.std.proofs.lemmas.List.{length-set, get_or-set_same, get_or-set_other, length-replicate}
 use Rattle.std.proofs.lemmas.List.Sums.{sum_by-set, count_by-le-length}
 use Rattle.std.proofs.lemmas.Option.{slice_get-get_or, slice_get_past}
 use Rattle.sim_model.specs.NumberedSlots.Updated.{updated}
@@ -16,8 +19,7 @@ use Rattle.sim_model.specs.EventCore.Notifications.{pending_at, notified, comes_
 use Rattle.timed_queue.specs.SimTime.declared.moments.Time.{Time}
 use Rattle.timed_queue.specs.Timed.{Timed, without}
 use Rattle.sim_model.specs.Configuration.{change, changed_at}
-use Rattle.sim_model.specs.Phases.{is_delta}
-use Rattle.kernel_events.specs.Layout.{time_of, is_timed, IsTied, with_pending}
+use Rattle.kernel_events.specs.Layout.{time_of, is_timed, HasOthers, IsListed, IsTied, with_pending}
 
 -- ---- a change at a number
 
@@ -55,7 +57,7 @@ spare_then q e (pending.At t) b is room = ap (λ c. cond c q.spare (q.spare - 1)
     by_test true some = omega arith
     by_test false some = let h = some refl in omega (arith, h)
 
-module _ (events : List Pending) (marks : List Bool) (timed : Timed) (n : ℕ) (tied : IsTied events marks timed n) (e : ℕ) (h : e < length events) where
+module _ (events : List Pending) (listed : Vec ℕ) (timed : Timed) (n : ℕ) (tied : IsTied events listed timed n) (e : ℕ) (h : e < length events) where
   pub has_time : maps.contains_key timed.times e ≡ is_timed (pending_at events e)
   has_time = ap is_some (tied.times e)
 
@@ -79,9 +81,25 @@ module _ (events : List Pending) (marks : List Bool) (timed : Timed) (n : ℕ) (
       by_test true room = inl refl
       by_test false room = let r = room refl in inr (omega (arith, r))
 
-  pub tied_changed : (p : Pending) (marks' : List Bool) (timed' : Timed) → marks' ≡ set marks e (is_delta p) → timed' ≡ with_pending timed e p → IsTied (set events e p) marks' timed' n
-  tied_changed p marks' timed' mark time = record {
-    deltas = mark ∙ ap (λ ds. set ds e (is_delta p)) tied.deltas ∙ sym (map-set is_delta events e p);
+  pub same_size : (p : Pending) → n ≡ length (set events e p)
+  same_size p = tied.size ∙ sym (length-set events e p)
+
+  -- what the list is to be once this is pending for the event
+  pub others_listed : (p : Pending) → HasOthers (set events e p) e listed.items
+  others_listed p q apart is = tied.deltas.each q (sym (get_or-set_other events e q p pending.Nothing apart) ∙ is)
+
+  pub below_still : (p : Pending) → All (λ q. q < length (set events e p)) listed.items
+  below_still p = subst (λ m. All (λ q. q < m) listed.items) (sym (length-set events e p)) tied.deltas.below
+
+  pub places_still : (p : Pending) → length (set events e p) ≤ vec_capacity listed
+  places_still p = let places = tied.deltas.places in omega (arith, places, length-set events e p)
+
+  pub pending_now : (p : Pending) → pending_at (set events e p) e ≡ p
+  pending_now p = get_or-set_same events e p pending.Nothing h
+
+  pub tied_changed : (p : Pending) (listed' : Vec ℕ) (timed' : Timed) → IsListed (set events e p) listed' → timed' ≡ with_pending timed e p → IsTied (set events e p) listed' timed' n
+  tied_changed p listed' timed' deltas time = record {
+    deltas = deltas;
     times = λ q. ap (λ x. maps.get x.times q) time ∙ ap (λ m. maps.get m q) (times-with_pending timed e p) ∙ at q;
     room =
         let spare = spare_then timed e p (maps.contains_key timed.times e) refl some_room in
@@ -129,19 +147,19 @@ kept w p is = ap (λ b. cond b (left_pending w) p) is
 
 -- ---- at the start
 
-pub tied_first : (n : ℕ) (marks : List Bool) (timed : Timed) → marks ≡ replicate n false → timed.times ≡ maps.empty → n ≤ timed.spare → IsTied (replicate n pending.Nothing) marks timed n
-tied_first n marks timed none empty room = record {
-  deltas = none ∙ all n;
-  times = λ e. ap (λ m. maps.get m e) empty ∙ maps.get-empty _ e ∙ ap time_of (sym (nothing n e));
+nothing_first : (k e : ℕ) → pending_at (replicate k pending.Nothing) e ≡ pending.Nothing
+nothing_first zero e = refl
+nothing_first (suc k) zero = refl
+nothing_first (suc k) (suc e) = nothing_first k e
+
+pub tied_first : (n : ℕ) (listed : Vec ℕ) (timed : Timed) → listed.items ≡ [] → n ≤ vec_capacity listed → timed.times ≡ maps.empty → n ≤ timed.spare → IsTied (replicate n pending.Nothing) listed timed n
+tied_first n listed timed none places empty room = record {
+  deltas = record {
+    each = λ q is. absurd (let h : pending.Nothing ≡ pending.Delta = sym (nothing_first n q) ∙ is in cc);
+    below = All-same (λ q. q < length (replicate n pending.Nothing)) listed.items [] none (All-nil (λ q. q < length (replicate n pending.Nothing)));
+    places = omega (arith, places, length-replicate n pending.Nothing);
+  };
+  times = λ e. ap (λ m. maps.get m e) empty ∙ maps.get-empty _ e ∙ ap time_of (sym (nothing_first n e));
   room = omega (arith, room, length-replicate n pending.Nothing);
   size = sym (length-replicate n pending.Nothing);
 }
-  where
-    all : (k : ℕ) → replicate k false ≡ map is_delta (replicate k pending.Nothing)
-    all zero = refl
-    all (suc k) = ap (λ bs. false ∷ bs) (all k)
-
-    nothing : (k e : ℕ) → pending_at (replicate k pending.Nothing) e ≡ pending.Nothing
-    nothing zero e = refl
-    nothing (suc k) zero = refl
-    nothing (suc k) (suc e) = nothing k e

@@ -1,7 +1,8 @@
 -- What is kept stays tied where all notifications of a kind are taken out.
 use Rattle.std.proofs.Common.{◌≡◌, ◌<◌, ◌≤◌, ◌+◌, ◌-◌, ℕ, zero, suc, Bool, true, false, cond, not, List, [], ◌∷◌, ◌++◌, Some, None, length, get_or, take, drop, slice_get, refl, sym, ap, ◌∙◌, subst, arith, append_assoc, true≢false}
-use Rattle.std.specs.Prelude.{is_some, ◌==◌, ◌&&◌, count_by, map, replicate, unwrap_or, T}
-use Rattle.std.specs.List.{list_any}
+use Rattle.std.specs.Prelude.{is_some, ◌==◌, ◌&&◌, count_by, map, unwrap_or, vec_capacity, T}
+use Rattle.std.specs.Global.{Vec}
+use Rattle.std.specs.List.{list_any, All}
 use Rattle.std.specs.List.Sorted.{IsStrictlyIncreasing}
 use Rattle.std.specs.declared.cmp.Ordering.{Ordering}
 use Rattle.std.specs.declared.cmp.Ordering.TheVariants.{Less, Equal, Greater}
@@ -10,6 +11,7 @@ use Rattle.std.specs.Cmp.{nat_cmp_total, unsigned_tied, ranked, eq_by_cmp_equiv}
 use Rattle.std.specs.FinMap as maps
 use Rattle.std.proofs.Math.ListN.{get_or-map}
 use Rattle.std.proofs.lemmas.List.{nil_from_length, length-map, length-append, map-append, set_at, drop_at, take_rest}
+use Rattle.std.proofs.lemmas.List.Elements.{All-same, All-nil}
 use Rattle.std.proofs.lemmas.List.Sums.{sum_by-cons}
 use Rattle.std.proofs.lemmas.Option.{unwrap_or-slice_get}
 use Rattle.timed_queue.proofs.MapLemmas.{same_gets}
@@ -23,7 +25,7 @@ use Rattle.timed_queue.specs.Timed as queue
 use Rattle.timed_queue.specs.Timed.{Timed, is_due, due_at, without_due}
 use Rattle.sim_model.specs.Phases.{is_delta, is_at, due_events, without_pending}
 use Rattle.kernel_events.specs.Numbered.{fixed}
-use Rattle.kernel_events.specs.Layout.{time_of, is_timed, IsTied, nothing_at, AreBelow}
+use Rattle.kernel_events.specs.Layout.{time_of, is_timed, IsListed, IsTied, nothing_at, AreBelow}
 
 -- ---- the numbers of those that are due, and what is left of them
 
@@ -89,11 +91,10 @@ module _ (test : Pending → Bool) where
 abbrev one_if : Bool → ℕ
 one_if b = cond b 1 0
 
-no_deltas : (events : List Pending) → replicate (length events) false ≡ map is_delta (map (without_pending is_delta) events)
-no_deltas [] = refl
-no_deltas (pending.Nothing ∷ events) = ap (λ bs. false ∷ bs) (no_deltas events)
-no_deltas (pending.Delta ∷ events) = ap (λ bs. false ∷ bs) (no_deltas events)
-no_deltas (pending.At t ∷ events) = ap (λ bs. false ∷ bs) (no_deltas events)
+none_then : (p : Pending) → without_pending is_delta p ≡ pending.Delta → ⊥
+none_then pending.Nothing is = let h : pending.Nothing ≡ pending.Delta = is in cc
+none_then pending.Delta is = let h : pending.Nothing ≡ pending.Delta = is in cc
+none_then (pending.At t) is = let h : pending.At t ≡ pending.Delta = is in cc
 
 same_time : (p : Pending) → time_of (without_pending is_delta p) ≡ time_of p
 same_time pending.Nothing = refl
@@ -106,10 +107,14 @@ same_count (e ∷ events) = sum_by-cons (λ x. one_if (is_timed x)) (without_pen
     ∙ ap (λ o. one_if (is_some o) + count_by is_timed (map (without_pending is_delta) events)) (same_time e)
     ∙ ap (λ k. one_if (is_timed e) + k) (same_count events) ∙ sym (sum_by-cons (λ x. one_if (is_timed x)) e events)
 
-pub tied_deltas : (events : List Pending) (marks : List Bool) (timed : Timed) (n : ℕ) → IsTied events marks timed n
-    → IsTied (map (without_pending is_delta) events) (replicate (length marks) false) timed n
-tied_deltas events marks timed n tied = record {
-  deltas = ap (λ k. replicate k false) (ap length tied.deltas ∙ length-map events is_delta) ∙ no_deltas events;
+pub tied_deltas : (events : List Pending) (listed : Vec ℕ) (timed : Timed) (n : ℕ) → IsTied events listed timed n → (listed' : Vec ℕ) → listed'.items ≡ [] → vec_capacity listed' ≡ vec_capacity listed
+    → IsTied (map (without_pending is_delta) events) listed' timed n
+tied_deltas events listed timed n tied listed' none same = record {
+  deltas = record {
+    each = λ q is. absurd (none_then (pending_at events q) (sym (get_or-map (without_pending is_delta) events q pending.Nothing) ∙ is));
+    below = All-same (λ q. q < length (map (without_pending is_delta) events)) listed'.items [] none (All-nil (λ q. q < length (map (without_pending is_delta) events)));
+    places = let places = tied.deltas.places in omega (arith, places, same, length-left is_delta events);
+  };
   times = λ e. tied.times e ∙ sym (same_time (pending_at events e)) ∙ ap time_of (sym (get_or-map (without_pending is_delta) events e pending.Nothing));
   room = let room = tied.room in omega (arith, room, same_count events, length-left is_delta events);
   size = tied.size ∙ sym (length-left is_delta events);
@@ -135,7 +140,7 @@ increasing_keys (e ∷ f ∷ es) h (suc k) less =
     subst (λ j. get_or (map (λ x. x.0) (f ∷ es)) k 0 < get_or (map (λ x. x.0) (e ∷ f ∷ es)) j 0) (sym same)
     (increasing_keys (f ∷ es) (both _ _ h).1 k (omega (arith, less)))
 
-length_from : (test : Pending → Bool) (n : ℕ) (events : List Pending) → length (places_from n (map test events)) ≡ count_by test events
+pub length_from : (test : Pending → Bool) (n : ℕ) (events : List Pending) → length (places_from n (map test events)) ≡ count_by test events
 length_from test n [] = refl
 length_from test n (e ∷ events) = by_test (test e) (length_from test (n + 1) events) ∙ sym (sum_by-cons (λ x. cond (test x) 1 0) e events)
   where
@@ -144,18 +149,21 @@ length_from test n (e ∷ events) = by_test (test e) (length_from test (n + 1) e
     by_test false rest = omega (arith, rest)
 
 module _ (m : ℕ) where
-  still_delta : (p : Pending) → is_delta p ≡ is_delta (without_pending (is_at m) p)
-  still_delta pending.Nothing = refl
-  still_delta pending.Delta = refl
-  still_delta (pending.At u) = by_test (u.0 == m)
+  was_delta : (p : Pending) → without_pending (is_at m) p ≡ pending.Delta → p ≡ pending.Delta
+  was_delta pending.Nothing is = is
+  was_delta pending.Delta is = refl
+  was_delta (pending.At u) is = absurd (by_test (u.0 == m) is)
     where
-      by_test : (b : Bool) → false ≡ is_delta (cond b pending.Nothing (pending.At u))
-      by_test true = refl
-      by_test false = refl
+      by_test : (b : Bool) → cond b pending.Nothing (pending.At u) ≡ pending.Delta → ⊥
+      by_test true is = let h : pending.Nothing ≡ pending.Delta = is in cc
+      by_test false is = let h : pending.At u ≡ pending.Delta = is in cc
 
-  same_deltas : (events : List Pending) → map is_delta events ≡ map is_delta (map (without_pending (is_at m)) events)
-  same_deltas [] = refl
-  same_deltas (e ∷ events) = λ i. still_delta e i ∷ same_deltas events i
+  still_listed : (events : List Pending) (listed : Vec ℕ) → IsListed events listed → IsListed (map (without_pending (is_at m)) events) listed
+  still_listed events listed deltas = record {
+    each = λ q is. deltas.each q (was_delta (pending_at events q) (sym (get_or-map (without_pending (is_at m)) events q pending.Nothing) ∙ is));
+    below = subst (λ n. All (λ q. q < n) listed.items) (sym (length-left (is_at m) events)) deltas.below;
+    places = let places = deltas.places in omega (arith, places, length-left (is_at m) events);
+  }
 
   one_left : (p : Pending) → one_if (is_timed (without_pending (is_at m) p)) + one_if (is_at m p) ≡ one_if (is_timed p)
   one_left pending.Nothing = refl
@@ -177,7 +185,7 @@ module _ (m : ℕ) where
     count_left events,
   )
 
-module _ (events : List Pending) (marks : List Bool) (timed : Timed) (n : ℕ) (tied : IsTied events marks timed n) (t : Time) where
+module _ (events : List Pending) (listed : Vec ℕ) (timed : Timed) (n : ℕ) (tied : IsTied events listed timed n) (t : Time) where
   get_retained : (p : ℕ → Bool) (q : ℕ) → maps.get (maps.retain_keys timed.times p) q ≡ cond (p q) (maps.get timed.times q) None
   get_retained p q = maps.get-retain_keys timed.times p q (λ x same. ap p (sym (maps.nat_cmp-IsAntisymmetric q x same)))
 
@@ -211,9 +219,9 @@ module _ (events : List Pending) (marks : List Bool) (timed : Timed) (n : ℕ) (
     pub len_due : maps.len (due_at timed.times t) ≡ count_by (is_at t.0) events
     len_due = maps.len-entries (due_at timed.times t) ∙ sym (length-map (maps.entries (due_at timed.times t)) (λ e. e.0)) ∙ ap length keys_due ∙ length_from (is_at t.0) 0 events
 
-    pub tied_at : IsTied (map (without_pending (is_at t.0)) events) marks (without_due timed t) n
+    pub tied_at : IsTied (map (without_pending (is_at t.0)) events) listed (without_due timed t) n
     tied_at = record {
-      deltas = tied.deltas ∙ same_deltas t.0 events;
+      deltas = still_listed t.0 events listed tied.deltas;
       times = λ q. get_retained (λ name. not (is_due timed.times t name)) q ∙ ap (λ o. cond (not (queue.is_at t o)) o None) (tied.times q)
           ∙ by_case (pending_at events q) ∙ ap time_of (sym (get_or-map (without_pending (is_at t.0)) events q pending.Nothing));
       room = let room = tied.room in omega (arith, room, len_due, count_left t.0 events, length-left (is_at t.0) events);
@@ -242,9 +250,9 @@ not_at m pending.Nothing h = refl
 not_at m pending.Delta h = refl
 not_at m (pending.At u) h = absurd (true≢false (sym (ap is_some h)))
 
-pub none_is_at : (events : List Pending) (marks : List Bool) (timed : Timed) (n : ℕ) → IsTied events marks timed n → maps.len timed.times ≡ 0
+pub none_is_at : (events : List Pending) (listed : Vec ℕ) (timed : Timed) (n : ℕ) → IsTied events listed timed n → maps.len timed.times ≡ 0
     → (m q : ℕ) → is_at m (pending_at events q) ≡ false
-none_is_at events marks timed n tied none m q = not_at m (pending_at events q) (sym (none_at timed.times none q) ∙ tied.times q)
+none_is_at events listed timed n tied none m q = not_at m (pending_at events q) (sym (none_at timed.times none q) ∙ tied.times q)
 
 module _ (test : Pending → Bool) where
   pub none_due : (n : ℕ) (events : List Pending) → ((q : ℕ) → test (pending_at events q) ≡ false) → due_events test n events ≡ []

@@ -1,6 +1,7 @@
 -- The earliest of the timed notifications.
 use Rattle.std.proofs.Common.{◌≡◌, ◌≤◌, ℕ, zero, suc, Bool, true, false, cond, List, [], ◌∷◌, Option, Some, None, ◌⊎◌, inl, inr, ⊎_elim, refl, sym, ap, ◌∙◌, arith, ltb-true, ltb-false}
 use Rattle.std.specs.Prelude.{nat_lt, IsNone, IfSome, ◌↔◌, option_map}
+use Rattle.std.specs.Global.{Vec}
 use Rattle.std.specs.Ordering.{nat_cmp}
 use Rattle.std.specs.FinMap as maps
 use Rattle.timed_queue.specs.SimTime.declared.moments.Time.{Time}
@@ -110,7 +111,7 @@ told_by (pending.At w ∷ events) (Some t) u is = by_test (nat_lt w.0 t) (λ b. 
         (told true is)
     by_test false told is = ⊎_elim (λ here. inl here) (λ rest. inr (suc rest.0, rest.1, rest.2, rest.3)) (told false is)
 
-module _ (events : List Pending) (marks : List Bool) (timed : Timed) (n : ℕ) (tied : IsTied events marks timed n) where
+module _ (events : List Pending) (listed : Vec ℕ) (timed : Timed) (n : ℕ) (tied : IsTied events listed timed n) where
   pub earliest_told : (answer : Option Time) → (IsNone answer ↔ (timed.times ≡ maps.empty)) → IfSome answer (IsEarliest timed.times) → option_map (λ t. t.0) answer ≡ earliest_event events None
   earliest_told None none least = sym (none_there events (λ e. sym (tied.times e) ∙ ap (λ m. maps.get m e) (none.0 refl) ∙ maps.get-empty nat_cmp e))
   earliest_told (Some t) none least = sym (earliest_is events t.0 None tt least.held.0 t (sym (tied.times least.held.0) ∙ least.held.1) refl

@@ -1,3 +1,4 @@
 pub mod Changed
 pub mod DueEvents
 pub mod Earliest
+pub mod ListedDeltas

@@ -1,13 +1,14 @@
--- How it is kept: which events have a delta notification, and the times of those that have a timed one. No public clause cites
--- this module.
-use Rattle.std.specs.Prelude.{◌≡◌, ◌≤◌, ◌<◌, ◌+◌, ⊤, ℕ, Bool, List, [], ◌∷◌, Option, Some, None, is_some, map, length, count_by, slice_set}
+-- How it is kept: which events may have a delta notification, and the times of those that have a timed one. No public clause
+-- cites this module.
+use Rattle.std.specs.Prelude.{◌≡◌, ◌≢◌, ◌≤◌, ◌<◌, ◌+◌, ⊤, ℕ, Bool, List, [], ◌∷◌, Option, Some, None, is_some, length, count_by, slice_set, vec_capacity}
+use Rattle.std.specs.Global.{Vec}
+use Rattle.std.specs.List.{All, Contains}
 use Rattle.std.specs.FinMap as maps
 use Rattle.timed_queue.specs.SimTime.declared.moments.Time.{Time}
 use Rattle.sim_model.specs.EventCore.declared.notifications.Pending.{Pending}
 use Rattle.sim_model.specs.EventCore.declared.notifications.Pending.TheVariants as pending
 use Rattle.sim_model.specs.EventCore.Notifications.{pending_at}
 use Rattle.timed_queue.specs.Timed.{Timed, with_time, without}
-use Rattle.sim_model.specs.Phases.{is_delta}
 
 abbrev pub time_of : Pending → Option Time
 time_of pending.Nothing = None
@@ -17,10 +18,23 @@ time_of (pending.At t) = Some t
 abbrev pub is_timed : Pending → Bool
 is_timed p = is_some (time_of p)
 
--- the marks are of the events with a delta notification, the times those of the events with a timed one, and there is room for
--- a timed one of each event
-pub record IsTied (events : List Pending) (marks : List Bool) (timed : Timed) (n : ℕ) : Type 0 where
-  pub deltas : marks ≡ map is_delta events
+-- each event with a delta notification is listed, and the same of all events but one
+abbrev pub HasDeltas : List Pending → List ℕ → Type 0
+HasDeltas events listed = (q : ℕ) → pending_at events q ≡ pending.Delta → Contains listed q
+
+abbrev pub HasOthers : List Pending → ℕ → List ℕ → Type 0
+HasOthers events e listed = (q : ℕ) → q ≢ e → pending_at events q ≡ pending.Delta → Contains listed q
+
+-- others may be listed, whose notification was taken back; and there is room for each event
+pub record IsListed (events : List Pending) (listed : Vec ℕ) : Type 0 where
+  pub each : HasDeltas events listed.items
+  pub below : All (λ q. q < length events) listed.items
+  pub places : length events ≤ vec_capacity listed
+
+-- the events with a delta notification are listed, the times are those of the events with a timed one, and there is room for a
+-- timed one of each event
+pub record IsTied (events : List Pending) (listed : Vec ℕ) (timed : Timed) (n : ℕ) : Type 0 where
+  pub deltas : IsListed events listed
   pub times : (e : ℕ) → maps.get timed.times e ≡ time_of (pending_at events e)
   pub room : length events ≤ count_by is_timed events + timed.spare
   pub size : n ≡ length events

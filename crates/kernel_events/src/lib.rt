@@ -4,10 +4,12 @@
 
 ghost use Rattle.std.specs.Prelude.{◌≡◌, ◌++◌, ◌+◌, ◌≤◌, ℕ, None, Some, IfNone, IfSome, IsNone, IfOk, count_by, length, map, option_map, replicate, vec_len, vec_capacity};
 
+mod deltas;
 mod timing;
 
+use deltas::{put_in_order, take_each};
 use sim_model::event_core_api::{Effect, Events, Pending, When};
-use sim_model::numbered_slots_api::{Marks, only_marked_places_rise};
+use sim_model::numbered_slots_api::only_marked_places_rise;
 use std::alloc::{AllocError, Global};
 use std::marker::Model;
 use timed_queue::TimedQueue;
@@ -16,14 +18,14 @@ use timing::{cancel_all, follow, has_time, left_by};
 
 /// What is pending for each event of the design, by the event's number.
 ///
-/// All memory is taken by `new`. A notification or a cancellation takes time in the logarithm of the number of timed
-/// notifications, and what takes notifications out takes time in how many it takes, times a logarithm.
+/// All memory is taken by `new`. A notification or a cancellation takes, one with another, time in the logarithm of the number of
+/// timed notifications, and what takes notifications out takes time in how many there were, times a logarithm.
 #[derive(Drop)]
 pub struct EventBoard {
     // What is pending for each event.
     events: Events,
-    // The events with a delta notification.
-    deltas: Marks,
+    // The events with a delta notification, and some whose delta notification was taken back, in any order.
+    deltas: Vec<u32>,
     // The events with a timed notification, by its time.
     times: TimedQueue,
     // How many events there are.
@@ -58,7 +60,7 @@ impl EventBoard {
         ensures { IfOk result (λ board. board ≡ replicate n Pending.Nothing) }
     {
         let events = Events::new(alloc, n)?;
-        let deltas = Marks::new(alloc, n)?;
+        let deltas = Vec::with_capacity(alloc, n as usize * 2)?;
         let mut times = TimedQueue::new(alloc);
         times.reserve(n)?;
         Ok(EventBoard {
@@ -89,7 +91,15 @@ impl EventBoard {
             Effect::Kept => {}
             Effect::Fire | Effect::Set => {
                 let left = left_by(w);
-                follow(&mut self.deltas, &mut self.times, e, left, had_time);
+                follow(
+                    &mut self.deltas,
+                    &mut self.times,
+                    &self.events,
+                    self.size,
+                    e,
+                    left,
+                    had_time,
+                );
             }
         }
     }
@@ -106,6 +116,8 @@ impl EventBoard {
         follow(
             &mut self.deltas,
             &mut self.times,
+            &self.events,
+            self.size,
             e,
             Pending::Nothing,
             had_time,
@@ -133,15 +145,16 @@ impl EventBoard {
 
     /// Takes all delta notifications out: their events, in rising order of the numbers, stand behind what `out` has. It
     /// takes no memory.
+    #[inline(always)]
     pub fn take_deltas(&mut self, out: &mut Vec<u32>)
         requires room { vec_len out.old + count_by is_delta self.old ≤ vec_capacity out.old }
         ensures taken { fixed out.new.items ≡ fixed out.old.items ++ due_events is_delta 0 self.old }
         ensures capacity { vec_capacity out.new ≡ vec_capacity out.old }
         ensures left { self.new ≡ map (without_pending is_delta) self.old }
     {
-        let before = out.len();
-        self.deltas.take_all(out);
-        cancel_all(&mut self.events, &out.as_slice()[before..]);
+        put_in_order(&mut self.deltas);
+        take_each(&mut self.events, self.deltas.as_slice(), out);
+        self.deltas.clear();
     }
 
     /// Takes all notifications at this very time out: their events, in rising order of the numbers, stand behind what `out`

@@ -1,13 +1,13 @@
 // What follows where the pending notification of an event changes.
-ghost use Rattle.std.specs.Prelude.{◌≡◌, ◌⊎◌, ◌<◌, IsTrue, length, slice_set};
+ghost use Rattle.std.specs.Prelude.{◌≡◌, ◌⊎◌, ◌<◌, ◌≤◌, IsTrue, length, vec_capacity};
 ghost use Rattle.std.specs.FinMap as map;
+ghost use Rattle.std.specs.List.{All};
 ghost use Rattle.sim_model.specs.EventCore.Notifications.{left_pending, pending_at};
-ghost use Rattle.sim_model.specs.Phases.{is_delta};
 ghost use Rattle.timed_queue.specs.Timed.{without};
-ghost use Rattle.kernel_events.specs.Layout.{is_timed, with_pending, nothing_at, AreBelow};
+ghost use Rattle.kernel_events.specs.Layout.{is_timed, with_pending, nothing_at, AreBelow, HasOthers, IsListed};
 
+use crate::deltas::list;
 use sim_model::event_core_api::{Events, Pending, When};
-use sim_model::numbered_slots_api::Marks;
 use timed_queue::TimedQueue;
 
 // What a notification leaves pending where it overrides.
@@ -52,27 +52,35 @@ fn clear_time(times: &mut TimedQueue, e: u32, has_time: bool)
     }
 }
 
-// The mark and the time of an event for which this is pending now, where it is said whether a time was before.
+// The place in the list and the time of an event for which this is pending now, where it is said whether a time was before.
 #[inline(always)]
-pub(super) fn follow(deltas: &mut Marks, times: &mut TimedQueue, e: u32, p: Pending, had_time: bool)
+pub(super) fn follow(
+    deltas: &mut Vec<u32>,
+    times: &mut TimedQueue,
+    events: &Events,
+    size: u32,
+    e: u32,
+    p: Pending,
+    had_time: bool,
+)
+    requires size { size ≡ length events.now }
+    requires inside { e < length events.now }
+    requires now { pending_at events.now e ≡ p }
+    requires others { HasOthers events.now e deltas.old.items }
+    requires below { All (λ q. q < length events.now) deltas.old.items }
+    requires places { length events.now ≤ vec_capacity deltas.old }
     requires room { IsTrue (map.contains_key times.old.times e) ⊎ (0 < times.old.spare) }
     requires had { map.contains_key times.old.times e ≡ had_time }
-    ensures mark { deltas.new ≡ slice_set deltas.old e (is_delta p) }
+    ensures listed { IsListed events.now deltas.new }
     ensures time { times.new ≡ with_pending times.old e p }
 {
     match p {
-        Pending::Nothing => {
-            deltas.clear(e);
-            clear_time(times, e, had_time);
-        }
+        Pending::Nothing => clear_time(times, e, had_time),
         Pending::Delta => {
-            deltas.set(e);
+            list(deltas, events, size, e);
             clear_time(times, e, had_time);
         }
-        Pending::At(t) => {
-            deltas.clear(e);
-            times.set(e, t);
-        }
+        Pending::At(t) => times.set(e, t),
     }
 }
 
