@@ -147,6 +147,7 @@ impl Signal {
     }
 
     /// Takes over the value that was written last, and says what that announces.
+    #[inline(always)]
     pub fn update(&mut self) -> Changed
         ensures announced { result ≡ spec.change_of self.old }
         ensures left { self.new ≡ spec.settled self.old }
