@@ -1,5 +1,5 @@
 //! Operators on values.
-ghost use Rattle.std.specs.Prelude.{◌≡◌, ◌&&◌, ◌||◌, IfSome, IfNone, Ok, Err, map, bit_and, bit_or, bit_xor};
+ghost use Rattle.std.specs.Prelude.{◌≡◌, ◌&&◌, ◌||◌, if◌then◌else◌, IfSome, IfNone, Ok, Err, map, bit_and, bit_or, bit_xor};
 ghost use Rattle.sim_model.specs.LogicValues.LogicTables.{and_of, or_of, xor_of, not_of};
 ghost use Rattle.sim_model.specs.LogicValues.Vectors.{digit_by_digit};
 ghost use Rattle.sim_model.specs.LogicValues.declared.kinds.Digit.{Digit};
@@ -101,6 +101,24 @@ pub(crate) fn binary(op: BinaryOp, t: ValueType, l: Value, r: Value) -> Result<V
             )
         }
     }
+}
+
+/// An operator between two numbers of 64 bits with this sign.
+#[inline(always)]
+pub(crate) fn of_numbers(
+    op: BinaryOp,
+    t: ValueType,
+    s: Sign,
+    l: u64,
+    r: u64,
+) -> Result<Value, RunFault>
+    ensures { result ≡ (if spec.decides op (spec.signed_as s l) then Ok (spec.bool_value (spec.truth (spec.signed_as s l))) else spec.binary op t (spec.signed_as s l) (spec.signed_as s r)) }
+{
+    let left = signed_as(s, l);
+    if decides(op, left) {
+        return Ok(Value::Bool(truth(left)));
+    }
+    operate(op, t, left, signed_as(s, r))
 }
 
 /// The same; the sum and the order of two unsigned numbers, which loops count with, are no call.

@@ -1,5 +1,5 @@
 //! A value as what an operation takes it for: a truth value, a number, digits, a time or a handle.
-ghost use Rattle.std.specs.Prelude.{◌≡◌};
+ghost use Rattle.std.specs.Prelude.{◌≡◌, IfSome};
 ghost use Rattle.sim_model.specs.LogicValues.Integers.{cut_of};
 ghost use Rattle.sim_model.specs.LogicValues.Planes.{lv_of};
 ghost use Rattle.sim_model.specs.Values as spec;
@@ -105,7 +105,14 @@ fn cut_bits(s: Sign, width: u8, n: u64) -> u64
     }
 }
 
+/// Whether values of this type are numbers.
+#[inline(always)]
+pub(crate) fn is_number(value_type: ValueType) -> bool {
+    matches!(value_type, ValueType::Int(_) | ValueType::Uint(_))
+}
+
 /// How the bits of a number of this type are read.
+#[inline(always)]
 pub(crate) fn sign_of(value_type: ValueType) -> Sign
     ensures { result ≡ spec.sign_of value_type }
 {
@@ -142,6 +149,18 @@ pub(crate) fn signed_as(s: Sign, bits: u64) -> Value
     match s {
         Sign::Signed => signed(bits),
         Sign::Unsigned => unsigned(bits),
+    }
+}
+
+/// The bits of a number of 64 bits with this sign; any other value has none.
+#[inline(always)]
+pub(crate) fn number_of(s: Sign, value: Value) -> Option<u64>
+    ensures { IfSome result (λ n. value ≡ spec.signed_as s n) }
+{
+    match (s, value) {
+        (Sign::Signed, Value::Int { width: 64, bits }) => Some(bits),
+        (Sign::Unsigned, Value::Uint { width: 64, bits }) => Some(bits),
+        _ => None,
     }
 }
 
