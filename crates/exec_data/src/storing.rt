@@ -11,7 +11,7 @@ ghost use Rattle.exec_data.specs.Variables.{number_of};
 use flat_design::{Denoted, NameUse, Store};
 use kernel_view::denoted_at;
 use kernel_view::expr_eval_api::cut_to;
-use kernel_view::kernel_state_api::{Kernel, pass, set_local, store_variable, top_lives};
+use kernel_view::kernel_state_api::{Kernel, pass, store_variable, top_lives};
 use kernel_view::logic_values_api::Value;
 
 /// A value is stored in a local variable of the innermost call.
@@ -25,8 +25,13 @@ pub(crate) fn store_local(k: &mut Kernel, p: u32, n: u32, v: Value)
     ensures made { k.new.made ≡ k.old.made }
 {
     top_lives(k, p);
-    pass(k, p);
-    set_local(k, p, n, v);
+    match k.schedule.table.get_mut(p) {
+        Some(x) => {
+            x.body.body.body.past(k.program);
+            x.body.body.body.set_local(n as usize, v);
+        }
+        None => {}
+    }
 }
 
 /// The variable that a name stands for.
@@ -77,6 +82,7 @@ fn store_declared(k: &mut Kernel, p: u32, n: u32, v: Value)
 }
 
 /// A value is stored in a variable.
+#[inline(always)]
 fn store_named(k: &mut Kernel, p: u32, n: NameUse, v: Value)
     requires sound { IsSound k.old }
     requires top { IsOnTop k.old p }
@@ -92,6 +98,7 @@ fn store_named(k: &mut Kernel, p: u32, n: NameUse, v: Value)
 }
 
 /// A value is stored in a variable, cut to its type.
+#[inline(always)]
 pub fn store(k: &mut Kernel, p: u32, target: Store, v: Value)
     requires sound { IsSound k.old }
     requires top { IsOnTop k.old p }
