@@ -40,6 +40,7 @@ impl<'a> View for Standing<'a> {
 ///
 /// # Errors
 /// The first fault of the expression.
+#[inline(always)]
 pub fn eval_at(k: &Kernel, p: u32, e: &Expr) -> Result<Value, RunFault>
     requires { Lives k.now p }
     ensures { Gives k.now p result (term_of e.now) }
@@ -58,6 +59,7 @@ pub fn eval_at(k: &Kernel, p: u32, e: &Expr) -> Result<Value, RunFault>
 ///
 /// # Errors
 /// The first fault of the expression.
+#[inline(always)]
 pub fn eval_if_at(k: &Kernel, p: u32, e: &Option<Expr>) -> Result<Option<Value>, RunFault>
     requires { Lives k.now p }
     ensures { GivesIf k.now p result (option_map term_of e.now) }
@@ -115,6 +117,7 @@ pub fn named_at(k: &Kernel, p: u32, n: NameUse) -> Result<Value, RunFault>
 }
 
 /// What a name that the module declares stands for, where the next statement of an instance stands.
+#[inline(always)]
 pub fn denoted_at(k: &Kernel, p: u32, n: u32) -> Denoted
     requires { Lives k.now p }
     ensures { Everywhere k.now p (λ h. result ≡ denotes h n) }
