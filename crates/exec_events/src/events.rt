@@ -140,6 +140,7 @@ fn process_at(k: &Kernel, p: u32, n: NameUse) -> Result<u32, RunFault>
 ///
 /// # Errors
 /// A place past the last channel of a port; a name that has no event; an empty handle.
+#[inline(always)]
 pub(crate) fn event_at(
     k: &Kernel,
     p: u32,

@@ -13,6 +13,7 @@ use kernel_view::kernel_processes_api::Trigger;
 use kernel_view::kernel_state_api::{Kernel, fire, notify as note, pass};
 
 /// An event of the design's objects is notified for the next delta or for a time (IEEE 1666-2011, 5.10.6).
+#[inline(always)]
 pub fn notify(k: &mut Kernel, p: u32, e: u32, w: When)
     requires sound { IsSound k.old }
     requires lives { Lives k.old p }

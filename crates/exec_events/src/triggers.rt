@@ -97,6 +97,7 @@ fn until(k: &Kernel, p: u32, events: &[EventUse], time: &Option<Expr>) -> Result
 ///
 /// # Errors
 /// The first fault of the time; a time past 2^64 - 1 ps.
+#[inline(always)]
 fn after(k: &Kernel, p: u32, time: &Expr) -> Result<Deadline, RunFault>
     requires { Lives k.now p }
     ensures { Everywhere k.now p (λ h. on_ok result (λ d. Ok (deadline_of d)) ≡ asked.ends (waiting.awaited h (code.for_ (term_of time.now)))) }
