@@ -103,7 +103,7 @@ pub(crate) fn binary(op: BinaryOp, t: ValueType, l: Value, r: Value) -> Result<V
     }
 }
 
-/// An operator between two numbers of 64 bits with this sign.
+/// An operator between two numbers of 64 bits with this sign. What loops count and compare with is no call.
 #[inline(always)]
 pub(crate) fn of_numbers(
     op: BinaryOp,
@@ -114,11 +114,32 @@ pub(crate) fn of_numbers(
 ) -> Result<Value, RunFault>
     ensures { result ≡ (if spec.decides op (spec.signed_as s l) then Ok (spec.bool_value (spec.truth (spec.signed_as s l))) else spec.binary op t (spec.signed_as s l) (spec.signed_as s r)) }
 {
+    match (op, t) {
+        (BinaryOp::Add, ValueType::Uint(_)) => {
+            Ok(unsigned(sim_model::logic_values_api::add(l, r)))
+        }
+        (BinaryOp::Subtract, ValueType::Uint(_)) => {
+            Ok(unsigned(sim_model::logic_values_api::sub(l, r)))
+        }
+        (BinaryOp::Less, ValueType::Uint(_)) => Ok(Value::Bool(sim_model::logic_values_api::lt(
+            Sign::Unsigned,
+            l,
+            r,
+        ))),
+        _ => of_any_numbers(op, t, s, l, r),
+    }
+}
+
+// The same of every operator.
+#[inline(never)]
+fn of_any_numbers(op: BinaryOp, t: ValueType, s: Sign, l: u64, r: u64) -> Result<Value, RunFault>
+    ensures { result ≡ (if spec.decides op (spec.signed_as s l) then Ok (spec.bool_value (spec.truth (spec.signed_as s l))) else spec.binary op t (spec.signed_as s l) (spec.signed_as s r)) }
+{
     let left = signed_as(s, l);
     if decides(op, left) {
         return Ok(Value::Bool(truth(left)));
     }
-    operate(op, t, left, signed_as(s, r))
+    binary(op, t, left, signed_as(s, r))
 }
 
 /// The same; the sum and the order of two unsigned numbers, which loops count with, are no call.
