@@ -43,3 +43,15 @@ path_grown objects most i text higher whole name up climbs above at adds named =
     (ap (λ (u : ℕ). below (path_up (most - 1) objects u) name) at
     ∙ ap (λ (n : List ℕ). below (path_up (most - 1) objects (parent_of (slice_get objects i))) n) named
     ∙ sym (path_above most objects i climbs))
+
+-- what is written, and the path before it: the name of an object and a dot come before, and then the path of what the object is in
+pub path_stepped : (objects : List Object) (most i up : ℕ) (name written named dotted : List ℕ) → (0 < most) × (is_own_parent i (slice_get objects i) ≡ false)
+    → name ≡ name_of (slice_get objects i) → up ≡ parent_of (slice_get objects i) → named ≡ name ++ written → dotted ≡ 46 ∷ named
+    → path_up most objects i ++ written ≡ path_up (most - 1) objects up ++ dotted
+path_stepped objects most i up name written named dotted climbs is at adds dots =
+    ap (λ (p : List ℕ). p ++ written)
+    (path_above most objects i climbs
+    ∙ ap (λ (n : List ℕ). below (path_up (most - 1) objects (parent_of (slice_get objects i))) n) (sym is)
+    ∙ ap (λ (u : ℕ). below (path_up (most - 1) objects u) name) (sym at))
+    ∙ append_assoc (path_up (most - 1) objects up) (46 ∷ name) written
+    ∙ ap (λ (t : List ℕ). path_up (most - 1) objects up ++ t) (sym (dots ∙ ap (λ (t : List ℕ). 46 ∷ t) adds))

@@ -1,3 +1,4 @@
 pub mod Climbs
 pub mod ReportViews
 pub mod Instances
+pub mod Rows

@@ -7,6 +7,7 @@ mod instances;
 mod paths;
 mod pieces;
 mod prints;
+mod rows;
 mod shows;
 
 pub use closings::closing;

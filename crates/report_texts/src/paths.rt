@@ -11,7 +11,8 @@ use std::alloc::{AllocError, Global};
 const NEAR: u32 = 16;
 
 /// The own name of an object.
-fn name_of(objects: &[Object], number: u32) -> &[u8]
+#[inline(always)]
+pub(crate) fn name_of(objects: &[Object], number: u32) -> &[u8]
     ensures { result.now ≡ name_of (slice_get objects.now number) }
 {
     match objects.get(number as usize) {
@@ -21,7 +22,8 @@ fn name_of(objects: &[Object], number: u32) -> &[u8]
 }
 
 /// The instance that an object is in.
-fn parent_of(objects: &[Object], number: u32) -> u32
+#[inline(always)]
+pub(crate) fn parent_of(objects: &[Object], number: u32) -> u32
     ensures { result ≡ parent_of (slice_get objects.now number) }
 {
     match objects.get(number as usize) {
@@ -31,6 +33,7 @@ fn parent_of(objects: &[Object], number: u32) -> u32
 }
 
 /// Whether an object is in itself.
+#[inline(always)]
 fn is_own_parent(objects: &[Object], number: u32) -> bool
     ensures { result ≡ is_own_parent number (slice_get objects.now number) }
 {
@@ -41,7 +44,8 @@ fn is_own_parent(objects: &[Object], number: u32) -> bool
 }
 
 /// Whether no step up is made from an object: it is in itself, or no more steps may be made.
-fn is_top(objects: &[Object], steps: u32, number: u32) -> bool
+#[inline(always)]
+pub(crate) fn is_top(objects: &[Object], steps: u32, number: u32) -> bool
     ensures top { IsTrue result → (steps ≡ 0) ⊎ (is_own_parent number (slice_get objects.now number) ≡ true) }
     ensures below { result ≡ false → (0 < steps) × (is_own_parent number (slice_get objects.now number) ≡ false) }
 {

@@ -8,6 +8,7 @@ ghost use Rattle.report_texts.specs.Instances.{path_at, end_of_print, IsPrintLin
 
 use crate::instances::push_path_at;
 use crate::pieces::{push_byte, push_number, push_value};
+use crate::rows::row_of_print;
 use flat_design::{Line, Statement, StmtId};
 use kernel_state::Kernel;
 use kernel_state::logic_values_api::Value;
@@ -15,6 +16,9 @@ use std::alloc::{AllocError, Global};
 
 /// So many bytes have room in a line from the first: the line of most prints and takings.
 const USUAL: usize = 64;
+
+/// So many bytes has the line of a print that is made in one piece, at most.
+const ROOM: usize = 128;
 
 /// The text of a statement that is a print.
 fn print_text(statement: &Statement) -> &[u8]
@@ -54,7 +58,9 @@ fn push_end_of_print(
     }
 }
 
-/// Adds the line of a print of this text, in terms of the kernel.
+/// Adds the line of a print of this text piece by piece, in terms of the kernel.
+#[cold]
+#[inline(never)]
 fn push_print(
     alloc: Global,
     line: &mut Vec<u8>,
@@ -71,6 +77,24 @@ fn push_print(
     push_byte(line, b' ')?;
     line.extend_from_slice(text)?;
     push_end_of_print(alloc, line, value)
+}
+
+/// Adds the line of a print of this text, in terms of the kernel: by way of a room for a usual one, where it has room there.
+fn push_row(
+    alloc: Global,
+    line: &mut Vec<u8>,
+    k: &Kernel,
+    p: u32,
+    text: &[u8],
+    value: Option<Value>,
+) -> Result<(), AllocError>
+    ensures { OnOk result (line.new.items ≡ line.old.items ++ print_line k.now.cycle.now.0 (path_at k.now p) text.now value) }
+{
+    let mut room = [0; ROOM];
+    match row_of_print(&mut room, k, p, text, value) {
+        Some(start) => line.extend_from_slice(&room[start..]),
+        None => push_print(alloc, line, k, p, text, value),
+    }
 }
 
 /// The line of a taking, in terms of the kernel.
@@ -104,7 +128,7 @@ pub fn print_in(
     ensures { OnOk result (IsPrintLine k.now p s value line.new.items) }
 {
     line.clear();
-    push_print(alloc, line, k, p, text_at(k, s), value)
+    push_row(alloc, line, k, p, text_at(k, s), value)
 }
 
 /// The line of a taking of an instance, which a report that tells the turns gets: the simulated time in picoseconds, the path
