@@ -10,13 +10,10 @@ use flat_design::logic_values_api::Value;
 use flat_design::{Line, StmtId};
 use kernel_runs::Telling;
 use kernel_start::kernel_state_api::Kernel;
-use report_texts::{closing, print_in, print_within, show, turn_text};
+use report_texts::{closing, print_in, show, turn_text};
 use sim_io::{Held, Sink, Trouble};
 use std::alloc::{AllocError, Global};
 use vcd_trace::sim_model_api::{Log, Stop};
-
-/// A line of so many bytes is made on the way.
-const USUAL: usize = 128;
 
 /// The text that a taking adds to a report, where it tells the turns, by the kernel after it.
 pub(crate) fn text_of_turn(
@@ -49,7 +46,7 @@ fn write_text<O: Sink>(held: &mut Held, out: &mut O, text: &Option<Line>) -> Res
 
 /// Gives the line of a print that shows this value, by the kernel after it. The line is made in `line`.
 #[inline(never)]
-fn tell_long_print<O: Sink>(
+fn tell_print<O: Sink>(
     alloc: Global,
     k: &Kernel,
     p: u32,
@@ -65,28 +62,6 @@ fn tell_long_print<O: Sink>(
     match print_in(alloc, line, k, p, s, value) {
         Ok(()) => held.put(out, line.as_slice()),
         Err(_) => Err(Trouble::NoMemory),
-    }
-}
-
-/// Gives the line of a print that shows this value, by the kernel after it. A line of no usual length is made in `line`.
-#[inline(never)]
-fn tell_print<O: Sink>(
-    alloc: Global,
-    k: &Kernel,
-    p: u32,
-    s: StmtId,
-    value: Option<Value>,
-    line: &mut Vec<u8>,
-    held: &mut Held,
-    out: &mut O,
-) -> Result<(), Trouble>
-    ensures tells { Into (TextOf k.now (Telling.Print p s value)) (Grew (O.holds out.old) (O.holds out.new)) held.old held.new result }
-    ensures cause { RoseIf (O.faults out.old) (O.faults out.new) (result ≡ Err Trouble.Failed) }
-{
-    let mut room = [0; USUAL];
-    match print_within(k, p, s, value, &mut room) {
-        Some(start) => held.put(out, &room[start..]),
-        None => tell_long_print(alloc, k, p, s, value, line, held, out),
     }
 }
 
