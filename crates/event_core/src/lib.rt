@@ -48,6 +48,7 @@ impl Events {
     }
 
     /// Notifies an event, and answers what that does.
+    #[inline(always)]
     pub fn notify(&mut self, e: u32, w: When) -> Effect
         requires { e < length self.old }
         ensures effect { result ≡ effect_of w (pending_at self.old e) }
@@ -60,6 +61,7 @@ impl Events {
     }
 
     /// Takes a pending notification of the event back.
+    #[inline(always)]
     pub fn cancel(&mut self, e: u32)
         requires { e < length self.old }
         ensures { self.new ≡ slice_set self.old e Pending.Nothing }
@@ -68,6 +70,7 @@ impl Events {
     }
 
     /// The pending notification of the event, if there is one. It is never an immediate one.
+    #[inline(always)]
     pub fn pending(&self, e: u32) -> Option<When>
         requires { e < length self.now }
         ensures { result ≡ when_of (pending_at self.now e) }

@@ -37,6 +37,7 @@ pub enum Pending {
     At(Time),
 }
 
+#[inline(always)]
 fn is_first(w: When, p: Pending) -> bool
     ensures { result ≡ comes_first w p }
 {
@@ -48,6 +49,7 @@ fn is_first(w: When, p: Pending) -> bool
     }
 }
 
+#[inline(always)]
 pub(crate) fn surviving(w: When, p: Pending) -> Pending
     ensures { result ≡ notified w p }
 {
@@ -61,6 +63,7 @@ pub(crate) fn surviving(w: When, p: Pending) -> Pending
     }
 }
 
+#[inline(always)]
 pub(crate) fn answer_to(w: When, p: Pending) -> Effect
     ensures { result ≡ effect_of w p }
 {
@@ -73,6 +76,7 @@ pub(crate) fn answer_to(w: When, p: Pending) -> Effect
 
 impl Pending {
     /// The pending notification, if there is one.
+    #[inline(always)]
     pub fn when(self) -> Option<When>
         ensures { result ≡ when_of self }
     {

@@ -8,7 +8,7 @@ use Rattle.exec_data.specs.ModelTree.declared.items.ProcessKind.{ProcessKind}
 use Rattle.exec_data.specs.ModelTree.declared.items.ProcessKind.TheVariants as process
 use Rattle.exec_data.specs.SimModel.Residual.{skip, settle}
 use Rattle.exec_data.specs.SimModel.Configuration as model
-use Rattle.exec_data.specs.SimModel.Configuration.{Config, Instance, change, change_instance, instance_at, with_residual, arena}
+use Rattle.exec_data.specs.SimModel.Configuration.{Config, Instance, change, change_instance, with_residual, arena}
 use Rattle.exec_data.specs.SimModel.Waits.{leaves_stack}
 use Rattle.exec_data.specs.SimModel.Statements.{settled_in}
 use Rattle.exec_data.specs.SimModel.Control.{is_thread, next_wait, ended_instance, ends, idles, done_by}

@@ -1,5 +1,5 @@
 -- How a method waits after its return.
-use Rattle.std.specs.Prelude.{ℕ, false, length, Option, Some, None, option_map}
+use Rattle.std.specs.Prelude.{ℕ, Bool, true, false, length, Option, Some, None, option_map}
 use Rattle.std.specs.FinMap as map
 use Rattle.exec_data.specs.InstanceTable.declared.instances.Instance.{Instance as Entry}
 use Rattle.exec_data.specs.InstanceTable.declared.instances.Deadline.TheVariants as due
@@ -14,6 +14,8 @@ use Rattle.exec_data.specs.KernelProcesses.declared.parts.Wait.TheVariants as ho
 use Rattle.exec_data.specs.KernelState.Kernel.{trigger_of}
 use Rattle.exec_data.specs.KernelState.declared.kernel.Kept.{Kept}
 use Rattle.exec_data.specs.KernelState.declared.kernel.Kernel.{Kernel}
+use Rattle.exec_control.specs.declared.endings.Ending.{Ending}
+use Rattle.exec_control.specs.declared.endings.Ending.TheVariants as ending
 
 -- by this next trigger, or by its static sensitivity; its body has not begun
 abbrev pub rests_next : Option Trigger → Instance → Instance
@@ -41,3 +43,9 @@ rest_count t x = length (events_of (rest_of t).wait (sensitive_of x))
 -- there is room for that wait
 abbrev pub CanRest : Kernel → ℕ → Option Trigger → Type 0
 CanRest k p t = HasRoom p (rest_count t (map.get k.schedule.table.live p)) k.schedule
+
+-- a body ends as that of a thread does
+abbrev pub ends_thread : Ending → Bool
+ends_thread ending.Thread = true
+ends_thread (ending.Static n) = false
+ends_thread ending.Other = false

@@ -1,17 +1,17 @@
 //! Bodies that have ended.
-ghost use Rattle.std.specs.Prelude.{◌≡◌, None, Some, option_map, is_some, length, OnOk, OnErr, IsOk, IfSome};
+ghost use Rattle.std.specs.Prelude.{◌≡◌, ℕ, false, None, Some, option_map, is_some, length, OnOk, OnErr, IsOk, IfSome};
 ghost use Rattle.std.specs.FinMap as map;
 ghost use Rattle.exec_data.specs.ModelTree.declared.items.ProcessKind.TheVariants as process;
 ghost use Rattle.exec_data.specs.SimModel.Configuration.{Config, Instance, instance_at, change_instance};
 ghost use Rattle.exec_data.specs.SimModel.Waits.{leaves_stack};
-ghost use Rattle.exec_data.specs.SimModel.Control.{ended_instance, ends, idles, done_by};
+ghost use Rattle.exec_data.specs.SimModel.Control.{is_thread, ended_instance, ends, idles, done_by};
 ghost use Rattle.exec_data.specs.KernelProcesses.Moves.{events_of, sensitive_of};
 ghost use Rattle.exec_data.specs.KernelProcesses.Moved.{HasRoom, rests_as};
 ghost use Rattle.exec_data.specs.KernelState.Kernel.{StandsFor, IsSound, trigger_of};
 ghost use Rattle.exec_data.specs.KernelState.Moves.{Moves, MovesAt, Steps, Lives, IsOnTop};
-ghost use Rattle.exec_control.specs.Resting.{CanRest, next_kept, rest_count, rests_next, rests_again};
+ghost use Rattle.exec_control.specs.Resting.{CanRest, next_kept, rest_count, rests_next, rests_again, ends_thread};
 
-use crate::instances::{clear_body, is_thread};
+use crate::instances::{clear_body, is_thread_kind};
 use exec_data::event_core_api::Ev;
 use exec_data::instance_table_api::Deadline;
 use exec_data::kernel_processes_api::{Trigger, Wait, count_events, hold, rest_ready};
@@ -31,6 +31,7 @@ fn leave_for_good(k: &mut Kernel, p: u32)
 }
 
 /// The instance on top ends, and its terminated event fires. It takes no memory.
+#[inline(never)]
 pub(crate) fn end(k: &mut Kernel, p: u32)
     requires sound { IsSound k.old }
     requires top { IsOnTop k.old p }
@@ -214,6 +215,7 @@ fn rest_again(k: &mut Kernel, p: u32)
 
 /// The method on top has returned: it waits by its next trigger, or by its static sensitivity (IEEE 1666-2011, 5.2.10 and
 /// 5.2.17). Room is made before anything changes: where memory is refused nothing does.
+#[inline(never)]
 fn idle(k: &mut Kernel, p: u32) -> Result<(), AllocError>
     requires sound { IsSound k.old }
     requires top { IsOnTop k.old p }
@@ -231,6 +233,113 @@ fn idle(k: &mut Kernel, p: u32) -> Result<(), AllocError>
     Ok(())
 }
 
+/// How the body of an instance ends.
+#[derive(Clone, Copy)]
+pub(crate) enum Ending {
+    /// It is that of a thread.
+    Thread,
+    /// It is that of a method for which no next trigger is set: it waits for any of so many events.
+    Static(u32),
+    /// It is that of another method.
+    Other,
+}
+
+/// How the body of an instance of this kind ends, whose static sensitivity are these events.
+#[inline(always)]
+fn ending_of(of_thread: bool, has_next: bool, events: &[Ev]) -> Ending
+    ensures thread { ends_thread result ≡ of_thread }
+    ensures unset { (n : ℕ) → result ≡ Ending.Static n → has_next ≡ false }
+    ensures counted { (n : ℕ) → result ≡ Ending.Static n → n ≡ length events.now }
+{
+    if of_thread {
+        return Ending::Thread;
+    }
+    if has_next {
+        return Ending::Other;
+    }
+    match count(events) {
+        Some(n) => Ending::Static(n),
+        None => Ending::Other,
+    }
+}
+
+/// How the body of an instance ends, in one look at it.
+#[inline(always)]
+fn ending_at(k: &Kernel, p: u32) -> Ending
+    requires { Lives k.now p }
+    ensures thread { (c : Config) (i : Instance) → StandsFor k.now c → instance_at c p ≡ Some i → ends_thread result ≡ is_thread i.kind }
+    ensures unset { (n : ℕ) → result ≡ Ending.Static n → next_kept (map.get k.now.schedule.table.live p) ≡ None }
+    ensures counted { (n : ℕ) → result ≡ Ending.Static n → n ≡ rest_count None (map.get k.now.schedule.table.live p) }
+{
+    match k.schedule.table.get(p) {
+        Some(x) => ending_of(
+            is_thread_kind(x.kind),
+            x.body.body.trigger.is_some(),
+            x.body.sensitive.as_slice(),
+        ),
+        None => Ending::Other,
+    }
+}
+
+/// Makes room for the wait of the method on top by its static sensitivity, which has so many events. Nothing else changes.
+#[inline(always)]
+fn hold_statically(k: &mut Kernel, p: u32, n: u32) -> Result<(), AllocError>
+    requires sound { IsSound k.old }
+    requires top { IsOnTop k.old p }
+    requires unset { next_kept (map.get k.old.schedule.table.live p) ≡ None }
+    requires counted { n ≡ rest_count None (map.get k.old.schedule.table.live p) }
+    ensures room { OnOk result (CanRest k.new p None) }
+    ensures unset { next_kept (map.get k.new.schedule.table.live p) ≡ None }
+    ensures stays { Moves k.old k.new (λ c. c) }
+    ensures top { IsOnTop k.new p }
+    ensures lives { Lives k.new p }
+    ensures sound { IsSound k.new }
+    ensures made { k.new.made ≡ k.old.made }
+{
+    match hold(&mut k.schedule, p, n) {
+        Ok(()) => Ok(()),
+        Err(_) => Err(AllocError),
+    }
+}
+
+/// The method on top, for which no next trigger is set, waits by its static sensitivity. There is room for the wait.
+#[inline(always)]
+fn rest_unset(k: &mut Kernel, p: u32)
+    requires sound { IsSound k.old }
+    requires lives { Lives k.old p }
+    requires top { IsOnTop k.old p }
+    requires unset { next_kept (map.get k.old.schedule.table.live p) ≡ None }
+    requires room { CanRest k.old p None }
+    ensures moves { MovesAt k.old k.new p (λ c i. rests_again c p i) }
+    ensures lives { Lives k.new p }
+    ensures sound { IsSound k.new }
+    ensures made { k.new.made ≡ k.old.made }
+{
+    rest_statically(k, p);
+}
+
+/// The method on top has returned, for which no next trigger is set: it waits by its static sensitivity, which has so many events
+/// (IEEE 1666-2011, 5.2.10).
+#[inline(always)]
+fn idle_statically(k: &mut Kernel, p: u32, n: u32) -> Result<(), AllocError>
+    requires sound { IsSound k.old }
+    requires top { IsOnTop k.old p }
+    requires unset { next_kept (map.get k.old.schedule.table.live p) ≡ None }
+    requires counted { n ≡ rest_count None (map.get k.old.schedule.table.live p) }
+    ensures steps { OnOk result (Steps k.old k.new p (λ c q i r. idles c q i)) }
+    ensures stays { OnErr result (Moves k.old k.new (λ c. c)) }
+    ensures sound { IsSound k.new }
+    ensures made { k.new.made ≡ k.old.made }
+{
+    match hold_statically(k, p, n) {
+        Ok(()) => {}
+        Err(_) => return Err(AllocError),
+    }
+    rest_unset(k, p);
+    clear_body(k, p);
+    Ok(())
+}
+
 /// The body of the instance on top has ended: a thread has ended, and its terminated event fires; a method waits by its next
 /// trigger, or by its static sensitivity. A thread takes no memory; where it is refused to a method nothing changes.
 pub fn body_ends(k: &mut Kernel, p: u32) -> Result<(), AllocError>
@@ -243,9 +352,12 @@ pub fn body_ends(k: &mut Kernel, p: u32) -> Result<(), AllocError>
     ensures made { k.new.made ≡ k.old.made }
 {
     top_lives(k, p);
-    if is_thread(k, p) {
-        end(k, p);
-        return Ok(());
+    match ending_at(k, p) {
+        Ending::Thread => {
+            end(k, p);
+            Ok(())
+        }
+        Ending::Static(n) => idle_statically(k, p, n),
+        Ending::Other => idle(k, p),
     }
-    idle(k, p)
 }

@@ -17,7 +17,8 @@ use exec_data::kernel_processes_api::{begin, fire};
 use exec_data::kernel_state_api::Kernel;
 
 /// A kind is that of threads.
-fn is_thread_kind(kind: ProcessKind) -> bool
+#[inline(always)]
+pub(crate) fn is_thread_kind(kind: ProcessKind) -> bool
     ensures { result ≡ control.is_thread (kind_of kind) }
 {
     match kind {

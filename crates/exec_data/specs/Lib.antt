@@ -2,6 +2,7 @@ pub mod PrintAnswers
 pub mod Variables
 pub mod Entered
 pub mod Written
+pub mod Assigned
 pub mod Answered
 pub mod LogicValues
 pub mod NumberedSlots

@@ -20,6 +20,7 @@ use kernel_view::payload_at;
 ///
 /// # Errors
 /// The fault of its expression, and then nothing changes.
+#[inline(always)]
 pub(crate) fn assign_name(
     k: &mut Kernel,
     p: u32,

@@ -19,6 +19,7 @@ use kernel_view::kernel_state_api::{Kernel, pass, top_lives};
 use kernel_view::logic_values_api::Value;
 
 /// A block of a statement comes in its place, where the statement puts nothing around it.
+#[inline(always)]
 fn enter(k: &mut Kernel, p: u32, s: StmtId, b: BlockId)
     requires sound { IsSound k.old }
     requires lives { Lives k.old p }
@@ -36,6 +37,7 @@ fn enter(k: &mut Kernel, p: u32, s: StmtId, b: BlockId)
 }
 
 /// The block of a loop comes in its place, and then the loop again.
+#[inline(always)]
 fn repeat(k: &mut Kernel, p: u32, s: StmtId, b: BlockId)
     requires sound { IsSound k.old }
     requires lives { Lives k.old p }
@@ -53,6 +55,7 @@ fn repeat(k: &mut Kernel, p: u32, s: StmtId, b: BlockId)
 }
 
 /// A loop goes round once more, or is past.
+#[inline(always)]
 fn go_round(k: &mut Kernel, p: u32, s: StmtId, b: BlockId, yes: bool)
     requires sound { IsSound k.old }
     requires lives { Lives k.old p }
@@ -72,6 +75,7 @@ fn go_round(k: &mut Kernel, p: u32, s: StmtId, b: BlockId, yes: bool)
 }
 
 /// One of two blocks comes in the place of a choice, or none.
+#[inline(always)]
 fn choose(k: &mut Kernel, p: u32, s: StmtId, b: BlockId, other: Option<BlockId>, yes: bool)
     requires sound { IsSound k.old }
     requires lives { Lives k.old p }
@@ -98,6 +102,7 @@ fn choose(k: &mut Kernel, p: u32, s: StmtId, b: BlockId, other: Option<BlockId>,
 ///
 /// # Errors
 /// The fault of its test, and then nothing changes.
+#[inline(always)]
 pub fn if_then(
     k: &mut Kernel,
     p: u32,
@@ -131,6 +136,7 @@ pub fn if_then(
 ///
 /// # Errors
 /// The fault of its test, and then nothing changes.
+#[inline(always)]
 pub fn while_do(
     k: &mut Kernel,
     p: u32,

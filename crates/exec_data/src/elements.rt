@@ -138,6 +138,7 @@ fn store_in(k: &mut Kernel, p: u32, memory: Option<u32>, i: u64, byte: u8) -> Re
 ///
 /// # Errors
 /// The fault of its index, and then that of its expression; an index past the last byte. Then nothing changes.
+#[inline(never)]
 pub(crate) fn assign_element(
     k: &mut Kernel,
     p: u32,

@@ -14,6 +14,7 @@ use kernel_view::logic_values_api::Value;
 ///
 /// # Errors
 /// The fault of its expression, and then nothing changes.
+#[inline(always)]
 pub fn print(
     k: &mut Kernel,
     p: u32,

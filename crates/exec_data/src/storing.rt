@@ -52,7 +52,8 @@ pub fn variable_number(d: Denoted) -> Option<u32>
 }
 
 /// A value is stored in the variable that a name stands for; where it stands for none nothing is.
-fn store_denoted(k: &mut Kernel, p: u32, d: Denoted, v: Value)
+#[inline(always)]
+pub(crate) fn store_denoted(k: &mut Kernel, p: u32, d: Denoted, v: Value)
     requires sound { IsSound k.old }
     requires top { IsOnTop k.old p }
     requires statement { HasStatement k.old p }

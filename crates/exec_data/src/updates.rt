@@ -16,6 +16,7 @@ use std::alloc::AllocError;
 ///
 /// # Errors
 /// Another process stands as its writer, and then nothing changes.
+#[inline(always)]
 pub(crate) fn write_signal(k: &mut Kernel, p: u32, n: u32, v: Value) -> Result<(), RunFault>
     requires sound { IsSound k.old }
     requires lives { Lives k.old p }
@@ -55,6 +56,7 @@ fn first_digit(v: Value) -> Digit
 
 /// A process drives a value on a resolved signal, which asks for an update (IEEE 1666-2011, 6.13). The first time it takes
 /// memory; where that is refused nothing changes.
+#[inline(never)]
 pub(crate) fn drive(k: &mut Kernel, p: u32, n: u32, v: Value) -> Result<(), AllocError>
     requires sound { IsSound k.old }
     requires lives { Lives k.old p }

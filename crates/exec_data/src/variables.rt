@@ -15,6 +15,7 @@ use kernel_view::kernel_state_api::Kernel;
 use kernel_view::logic_values_api::Value;
 
 /// The first value of a local variable: the default of its type where none is written.
+#[inline(always)]
 fn first_value(t: ValueType, v: Option<Value>) -> Value
     ensures { result ≡ storing.first_value t v }
 {
@@ -28,6 +29,7 @@ fn first_value(t: ValueType, v: Option<Value>) -> Value
 ///
 /// # Errors
 /// The fault of its expression, and then nothing changes.
+#[inline(always)]
 pub fn var(
     k: &mut Kernel,
     p: u32,

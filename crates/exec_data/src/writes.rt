@@ -33,6 +33,7 @@ pub(crate) struct Transfer {
 ///
 /// # Errors
 /// The fault of its place, and then that of its expression; a place past the last channel of a port.
+#[inline(always)]
 fn written_from(x: &Standing, to: &ChannelUse, t: ValueType, e: &Expr) -> Result<Transfer, RunFault>
     ensures { (h : Here) → ShowsHere x.now h → result ≡ to_write h (channel_term to.now) t (term_of e.now) }
 {
@@ -51,6 +52,7 @@ fn written_from(x: &Standing, to: &ChannelUse, t: ValueType, e: &Expr) -> Result
 ///
 /// # Errors
 /// The fault of its place, and then that of its expression; a place past the last channel of a port.
+#[inline(always)]
 fn what_is_written(
     k: &Kernel,
     p: u32,
@@ -69,6 +71,7 @@ fn what_is_written(
 
 /// A value is written to a fifo of the design, or the instance on top is blocked till one is read (IEEE 1666-2011, 6.23).
 /// Where memory is refused nothing changes.
+#[inline(never)]
 fn put_in_fifo(
     k: &mut Kernel,
     alloc: Global,
@@ -95,6 +98,7 @@ fn put_in_fifo(
 ///
 /// # Errors
 /// Another process stands as the writer of a signal; no memory. Then nothing changes.
+#[inline(always)]
 fn write_channel(
     k: &mut Kernel,
     alloc: Global,
@@ -138,6 +142,7 @@ fn write_channel(
 /// # Errors
 /// The fault of its place, then that of its expression, then a place past the last channel of a port; another process stands
 /// as the writer of a signal; no memory for a resolved signal or a fifo. Then nothing changes.
+#[inline(always)]
 pub fn write(
     k: &mut Kernel,
     alloc: Global,

@@ -63,7 +63,8 @@ pub(crate) fn first_event_fault(
 ///
 /// # Errors
 /// The fault of its place; its own.
-fn event_used(k: &Kernel, p: u32, event: &EventUse) -> Result<Ev, RunFault>
+#[inline(always)]
+pub(crate) fn event_used(k: &Kernel, p: u32, event: &EventUse) -> Result<Ev, RunFault>
     requires lives { Lives k.now p }
     requires numbers { NumbersEvents (whole_design k.now) }
     ensures { Everywhere k.now p (λ h. result ≡ on_ok (place_in h (option_map term_of event.now.place)) (λ n. event_of h event.now.name n event.now.event)) }

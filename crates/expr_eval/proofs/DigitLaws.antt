@@ -1,13 +1,13 @@
 -- Vectors at the widths that there are, and digits cut alike.
 use Rattle.std.proofs.Common.{ℕ, zero, suc, ◌≡◌, ◌+◌, ◌-◌, ◌/◌, ◌%◌, ◌<◌, ◌≤◌, List, [], ◌∷◌, ◌++◌, length, take, drop, min, refl, sym, ap, ◌∙◌, ⊎_elim, arith}
-use Rattle.std.specs.Prelude.{replicate, slice_get, slice_range, Option, Some, None}
+use Rattle.std.specs.Prelude.{replicate, slice_get, slice_range, Some, None}
 use Rattle.std.proofs.lemmas.Bool.{cases_lt}
 use Rattle.std.proofs.lemmas.List.{take_all, take_min, take-take, take-replicate, take-append-le, length-take, length-drop, append-nil}
 use Rattle.std.proofs.lemmas.Option.{slice_get_within, slice_get_past, get_or_from_slice_get}
 use Rattle.std.proofs.Math.ListN.{drop_of_length-le}
 use Rattle.std.proofs.Math.Seq.{take-append-add}
 use Rattle.sim_model.specs.LogicValues.declared.kinds.Digit.{Digit}
-use Rattle.sim_model.specs.LogicValues.declared.kinds.Digit.TheVariants.{Zero, One, Z, X}
+use Rattle.sim_model.specs.LogicValues.declared.kinds.Digit.TheVariants.{Zero}
 use Rattle.sim_model.specs.LogicValues.declared.planes.Lv.{Lv}
 use Rattle.sim_model.specs.LogicValues.Digits.{digits}
 use Rattle.sim_model.specs.LogicValues.Planes.{unknown_bit, one_bit, plane_of, clipped, lv_of}

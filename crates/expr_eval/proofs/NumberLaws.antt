@@ -4,7 +4,7 @@ use Rattle.std.proofs.Math.Nat.{pow-le-pow_right, mod-eq_of_lt, mod-one, div-le_
 use Rattle.std.proofs.lemmas.Bool.{cases_lt}
 use Rattle.sim_model.specs.LogicValues.declared.kinds.Sign.{Sign}
 use Rattle.sim_model.specs.LogicValues.declared.kinds.Sign.TheVariants.{Signed, Unsigned}
-use Rattle.sim_model.specs.LogicValues.Integers.{bits_of, twos_complement, cut_of}
+use Rattle.sim_model.specs.LogicValues.Integers.{twos_complement, cut_of}
 use Rattle.sim_model.specs.Values.{bits_between}
 
 -- nothing is left at width 0

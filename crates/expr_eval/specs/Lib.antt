@@ -1,5 +1,6 @@
 pub mod Readings
 pub mod Vectors
+pub mod Words
 pub mod SimTime
 pub mod LogicValues
 pub mod NumberedSlots

@@ -1,5 +1,5 @@
 -- What a reading answers where the expression stands.
-use Rattle.std.specs.Prelude.{ℕ, Option, Some, Result, Ok}
+use Rattle.std.specs.Prelude.{Some, Result, Ok}
 use Rattle.sim_model.specs.LogicValues.declared.kinds.Value.{Value}
 use Rattle.flat_design.specs.declared.faults.RunFault.{RunFault}
 use Rattle.sim_model.specs.Values.{on_ok}

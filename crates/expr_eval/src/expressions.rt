@@ -1,5 +1,5 @@
 //! The value of an expression.
-ghost use Rattle.std.specs.Prelude.{◌≡◌, IfSome, Ok, if◌then◌else◌, option_map};
+ghost use Rattle.std.specs.Prelude.{◌≡◌, Ok, Some, if◌then◌else◌, option_map};
 ghost use Rattle.flat_design.specs.Code as code;
 ghost use Rattle.flat_design.specs.Code.{term_of};
 ghost use Rattle.sim_model.specs.Reading.{Here, val, place_in};
@@ -9,11 +9,12 @@ ghost use Rattle.expr_eval.specs.Readings.{reading_value};
 
 use crate::conversions::converted;
 use crate::digits::{digit_at, digits_between, joined_digits};
-use crate::operators::{decides, of_numbers, operate, unary};
-use crate::values::{bits, is_number, number_of, sign_of, truth, widened};
+use crate::operators::{decides, of_any_numbers, operate, unary};
+use crate::values::{bits, sign_of, truth, widened};
 use crate::views::{Reading, View};
+use crate::words::{numbers, told};
 use flat_design::{Expr, Member, NameUse, PayloadBytes, RunFault, ValueType};
-use sim_model::logic_values_api::{Sign, Value};
+use sim_model::logic_values_api::Value;
 use sim_model::model_tree_api::{BinaryOp, UnaryOp};
 
 /// The value of the expression, or its first fault from left to right. It takes no memory.
@@ -26,11 +27,14 @@ use sim_model::model_tree_api::{BinaryOp, UnaryOp};
 pub fn eval<V: View>(view: &V, e: &Expr) -> Result<Value, RunFault>
     ensures { (h : Here) → V.Shows view.now h → result ≡ val h (term_of e.now) }
 {
-    // Most operands are literals or names.
+    // Most operands are literals or names, and most operators stand between two of these.
     match e {
         Expr::Literal(value) => Ok(*value),
         Expr::Name(n) => named(view, *n),
-        _ => composed(view, e),
+        _ => match told(view, e) {
+            Some(value) => Ok(value),
+            None => composed(view, e),
+        },
     }
 }
 
@@ -56,9 +60,9 @@ fn composed<V: View>(view: &V, e: &Expr) -> Result<Value, RunFault>
         Expr::Digits(t, of, high, low) => some_digits(view, *t, of, *high, *low),
         Expr::Unary(op, t, operand) => of_one(view, *op, *t, operand),
         Expr::Binary(op, t, left, right) => {
-            // Most operands are numbers, literals or names.
+            // Many operands are numbers, literals or names.
             if let Some((l, r)) = numbers(view, *t, left, right) {
-                return of_numbers(*op, *t, sign_of(*t), l, r);
+                return of_any_numbers(*op, *t, sign_of(*t), l, r);
             }
             let l = eval(view, left)?;
             of_two(view, *op, *t, l, right)
@@ -143,16 +147,11 @@ fn some_digits<V: View>(
     Ok(digits_between(t, v, high, low))
 }
 
-// A prefix operator with its operand. A truth value that is negated mostly has a name.
+// A prefix operator with its operand.
 #[cycle(parts)]
 fn of_one<V: View>(view: &V, op: UnaryOp, t: ValueType, operand: &Expr) -> Result<Value, RunFault>
     ensures { (h : Here) → V.Shows view.now h → result ≡ val h (code.unary op t (term_of operand.now)) }
 {
-    if let (UnaryOp::Not, Expr::Name(n)) = (op, operand) {
-        if let Some(b) = truth_named(view, *n) {
-            return Ok(Value::Bool(!b));
-        }
-    }
     let v = eval(view, operand)?;
     Ok(unary(op, t, v))
 }
@@ -197,60 +196,6 @@ fn join<V: View>(view: &V, upper: Value, lower: &Expr) -> Result<Value, RunFault
     Ok(joined_digits(upper, l))
 }
 
-// Whether an operand is a literal or a name.
-#[inline(always)]
-fn is_plain(e: &Expr) -> bool {
-    matches!(e, Expr::Literal(_) | Expr::Name(_))
-}
-
-// The bits of two operands of this type, where both are numbers of it that are literals or names.
-#[inline(always)]
-fn numbers<V: View>(view: &V, t: ValueType, left: &Expr, right: &Expr) -> Option<(u64, u64)>
-    ensures { (h : Here) → V.Shows view.now h → IfSome result (λ p. (val h (term_of left.now) ≡ Ok (spec.signed_as (spec.sign_of t) p.0)) × (val h (term_of right.now) ≡ Ok (spec.signed_as (spec.sign_of t) p.1))) }
-{
-    if !is_number(t) || !is_plain(right) {
-        return None;
-    }
-    let sign = sign_of(t);
-    let l = number(view, sign, left)?;
-    let r = number(view, sign, right)?;
-    Some((l, r))
-}
-
-// The bits of an operand that is a literal or a name, where it is a number with this sign.
-#[inline(always)]
-fn number<V: View>(view: &V, sign: Sign, e: &Expr) -> Option<u64>
-    ensures { (h : Here) → V.Shows view.now h → IfSome result (λ n. val h (term_of e.now) ≡ Ok (spec.signed_as sign n)) }
-{
-    match e {
-        Expr::Literal(value) => number_of(sign, *value),
-        Expr::Name(n) => number_named(view, sign, *n),
-        _ => None,
-    }
-}
-
-// The bits of what has a name, where it is a number with this sign.
-#[inline(never)]
-fn number_named<V: View>(view: &V, sign: Sign, n: NameUse) -> Option<u64>
-    ensures { (h : Here) → V.Shows view.now h → IfSome result (λ k. val h (code.name n) ≡ Ok (spec.signed_as sign k)) }
-{
-    match view.read(Reading::Name(n)) {
-        Ok(value) => number_of(sign, widened(value)),
-        Err(_) => None,
-    }
-}
-
-// What has a name, where it is a truth value.
-#[inline(never)]
-fn truth_named<V: View>(view: &V, n: NameUse) -> Option<bool>
-    ensures { (h : Here) → V.Shows view.now h → IfSome result (λ b. val h (code.name n) ≡ Ok (spec.bool_value b)) }
-{
-    match view.read(Reading::Name(n)) {
-        Ok(Value::Bool(b)) => Some(b),
-        _ => None,
-    }
-}
-
 // The value of a reading in an expression.
 #[inline(always)]
 fn read<V: View>(view: &V, reading: Reading) -> Result<Value, RunFault>
@@ -266,12 +211,21 @@ fn read<V: View>(view: &V, reading: Reading) -> Result<Value, RunFault>
     }
 }
 
+// The place of a port that is written.
+#[inline(never)]
+fn place_of<V: View>(view: &V, e: &Expr) -> Result<Option<u64>, RunFault>
+    ensures { (h : Here) → V.Shows view.now h → result ≡ place_in h (Some (term_of e.now)) }
+{
+    Ok(Some(bits(eval(view, e)?)))
+}
+
 /// The place of a port, where one is written, or the first fault of its expression.
+#[inline(always)]
 pub fn eval_place<V: View>(view: &V, e: &Option<Expr>) -> Result<Option<u64>, RunFault>
     ensures { (h : Here) → V.Shows view.now h → result ≡ place_in h (option_map term_of e.now) }
 {
     match e {
-        Some(e) => Ok(Some(bits(eval(view, e)?))),
+        Some(e) => place_of(view, e),
         None => Ok(None),
     }
 }

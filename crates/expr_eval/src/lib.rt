@@ -1,7 +1,8 @@
 //! The value of an expression of the code, or its first fault from left to right, over a view of what it reads.
 //!
 //! An expression takes no memory. It may be any expression: where an operand has another type than its operation says,
-//! it counts as 0, false, no digits or time 0. Each part of it is evaluated once at most.
+//! it counts as 0, false, no digits or time 0. Each part of it that is no literal and no name
+//! is evaluated once at most.
 #![tactic(auto)]
 
 mod conversions;
@@ -10,6 +11,7 @@ mod expressions;
 mod operators;
 mod values;
 mod views;
+mod words;
 
 pub use expressions::{eval, eval_place};
 pub use values::{bits, cut_to, moment, payload_handle, process_handle, truth, widened};

@@ -103,36 +103,15 @@ pub(crate) fn binary(op: BinaryOp, t: ValueType, l: Value, r: Value) -> Result<V
     }
 }
 
-/// An operator between two numbers of 64 bits with this sign. What loops count and compare with is no call.
-#[inline(always)]
-pub(crate) fn of_numbers(
+/// An operator between two numbers of 64 bits with this sign.
+#[inline(never)]
+pub(crate) fn of_any_numbers(
     op: BinaryOp,
     t: ValueType,
     s: Sign,
     l: u64,
     r: u64,
 ) -> Result<Value, RunFault>
-    ensures { result ≡ (if spec.decides op (spec.signed_as s l) then Ok (spec.bool_value (spec.truth (spec.signed_as s l))) else spec.binary op t (spec.signed_as s l) (spec.signed_as s r)) }
-{
-    match (op, t) {
-        (BinaryOp::Add, ValueType::Uint(_)) => {
-            Ok(unsigned(sim_model::logic_values_api::add(l, r)))
-        }
-        (BinaryOp::Subtract, ValueType::Uint(_)) => {
-            Ok(unsigned(sim_model::logic_values_api::sub(l, r)))
-        }
-        (BinaryOp::Less, ValueType::Uint(_)) => Ok(Value::Bool(sim_model::logic_values_api::lt(
-            Sign::Unsigned,
-            l,
-            r,
-        ))),
-        _ => of_any_numbers(op, t, s, l, r),
-    }
-}
-
-// The same of every operator.
-#[inline(never)]
-fn of_any_numbers(op: BinaryOp, t: ValueType, s: Sign, l: u64, r: u64) -> Result<Value, RunFault>
     ensures { result ≡ (if spec.decides op (spec.signed_as s l) then Ok (spec.bool_value (spec.truth (spec.signed_as s l))) else spec.binary op t (spec.signed_as s l) (spec.signed_as s r)) }
 {
     let left = signed_as(s, l);
@@ -142,7 +121,7 @@ fn of_any_numbers(op: BinaryOp, t: ValueType, s: Sign, l: u64, r: u64) -> Result
     binary(op, t, left, signed_as(s, r))
 }
 
-/// The same; the sum and the order of two unsigned numbers, which loops count with, are no call.
+/// A binary operator; the sum and the order of two unsigned numbers, which loops count with, are no call.
 #[inline(always)]
 pub(crate) fn operate(op: BinaryOp, t: ValueType, l: Value, r: Value) -> Result<Value, RunFault>
     ensures { result ≡ spec.binary op t l r }
@@ -243,8 +222,9 @@ fn bit_xor(t: ValueType, l: Value, r: Value) -> Value
     }
 }
 
-// Whether the left one is less.
-fn less(t: ValueType, l: Value, r: Value) -> bool
+/// Whether the left one is less.
+#[inline(always)]
+pub(crate) fn less(t: ValueType, l: Value, r: Value) -> bool
     ensures { result ≡ spec.less t l r }
 {
     match t {

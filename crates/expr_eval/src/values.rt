@@ -10,6 +10,7 @@ use sim_model::logic_values_api::{Digit, Lv, Sign, Value, cut, digit, vector_of_
 use sim_model::sim_time_api::Time;
 
 /// A truth value; any other counts as false.
+#[inline(always)]
 pub fn truth(value: Value) -> bool
     ensures { result ≡ spec.truth value }
 {
@@ -20,6 +21,7 @@ pub fn truth(value: Value) -> bool
 }
 
 /// The 64 bits of a number; any other value counts as 0.
+#[inline(always)]
 pub fn bits(value: Value) -> u64
     ensures { result ≡ spec.bits value }
 {
@@ -60,6 +62,7 @@ pub fn payload_handle(value: Value) -> Option<u32>
 }
 
 /// The value in an expression: a number has 64 bits there.
+#[inline(always)]
 pub fn widened(value: Value) -> Value
     ensures { result ≡ spec.widened value }
 {
@@ -71,6 +74,7 @@ pub fn widened(value: Value) -> Value
 }
 
 /// The value as a target of this type keeps it: a number is cut to the target's width, and extended by its sign.
+#[inline(always)]
 pub fn cut_to(target: ValueType, value: Value) -> Value
     ensures { result ≡ spec.cut_to target value }
 {
@@ -93,6 +97,7 @@ pub fn cut_to(target: ValueType, value: Value) -> Value
 }
 
 // The number of the lowest bits, at any width.
+#[inline(always)]
 fn cut_bits(s: Sign, width: u8, n: u64) -> u64
     ensures { result ≡ cut_of s width n }
 {
@@ -129,6 +134,7 @@ pub(crate) fn sign_of(value_type: ValueType) -> Sign
 }
 
 /// A signed number of 64 bits.
+#[inline(always)]
 pub(crate) fn signed(bits: u64) -> Value
     ensures { result ≡ spec.signed bits }
 {
@@ -136,6 +142,7 @@ pub(crate) fn signed(bits: u64) -> Value
 }
 
 /// An unsigned number of 64 bits.
+#[inline(always)]
 pub(crate) fn unsigned(bits: u64) -> Value
     ensures { result ≡ spec.unsigned bits }
 {
@@ -143,6 +150,7 @@ pub(crate) fn unsigned(bits: u64) -> Value
 }
 
 /// A number of 64 bits with this sign.
+#[inline(always)]
 pub(crate) fn signed_as(s: Sign, bits: u64) -> Value
     ensures { result ≡ spec.signed_as s bits }
 {

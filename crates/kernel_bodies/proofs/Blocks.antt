@@ -1,12 +1,13 @@
 -- The rest of a block, by a place in it.
-use Rattle.std.proofs.Common.{◌≡◌, ℕ, ◌+◌, List, [], ◌∷◌, Some, None, drop, sym, ap, ◌∙◌, ⊎_elim, arith}
-use Rattle.std.specs.Prelude.{slice_get, Contains}
+use Rattle.std.proofs.Common.{◌≡◌, ℕ, ◌+◌, List, [], ◌∷◌, Option, Some, None, drop, sym, ap, ◌∙◌, ⊎_elim, arith}
+use Rattle.std.specs.Prelude.{slice_get, Contains, IfSome}
 use Rattle.std.proofs.lemmas.Option.{slice_get_within, get_or_from_slice_get, slice_get_cases}
 use Rattle.std.proofs.lemmas.List.{drop_more, drop_all}
 use Rattle.sim_model.specs.FlatDesign.Code.{Arena, block_at}
 use Rattle.kernel_bodies.specs.Depths.{IsDeep, depth_of}
 use Rattle.kernel_bodies.specs.declared.around.Cursor.{Cursor}
 use Rattle.kernel_bodies.specs.declared.layers.Open.TheVariants as layer
+use Rattle.kernel_bodies.specs.Layers.{rest_if}
 use Rattle.kernel_bodies.specs.Room.{Fits, FitsLayer}
 
 pub rest_some : (xs : List ℕ) (i x : ℕ) → slice_get xs i ≡ Some x → drop i xs ≡ x ∷ drop (i + 1) xs
@@ -26,6 +27,13 @@ module _ (a : Arena) (depths : List ℕ) (deep : IsDeep a depths) (most t i : �
   in_block_fits c d s e there h =
       let same : depth_of depths d.block ≡ depth_of depths c.block = ap (depth_of depths) e in
       ((omega (arith, h, same), tt), (omega (arith, h), λ j q. omega (arith, h, deep c.block s j there q)))
+
+  pub rest_fits : (c d : Cursor) (o : Option Cursor) (s : ℕ) → IfSome o (λ f. f ≡ d) → d.block ≡ c.block → Contains (block_at a c.block) s → FitsLayer a depths most t i (layer.Rest c) → Fits a depths most t i (rest_if o) (Some s)
+  rest_fits c d None s same e there h = (tt, (omega (arith, h), λ j q. omega (arith, h, deep c.block s j there q)))
+  rest_fits c d (Some f) s same e there h = in_block_fits c f s (ap (λ (x : Cursor). x.block) same ∙ e) there h
+
+  pub again_fits : (s : ℕ) → FitsLayer a depths most t i (layer.Again s) → Fits a depths most t i [] (Some s)
+  again_fits s h = (tt, (omega (arith, h.0), λ j q. omega (arith, h.1 j q)))
 
   pub in_unwind_fits : (u : ℕ) (d : Cursor) (s : ℕ) → d.block ≡ u → Contains (block_at a u) s → FitsLayer a depths most t i (layer.Owed u) → Fits a depths most t i (layer.Run ∷ layer.Rest d ∷ []) (Some s)
   in_unwind_fits u d s e there h =

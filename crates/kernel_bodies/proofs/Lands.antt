@@ -19,7 +19,7 @@ use Rattle.kernel_bodies.specs.Landings.{Lands, LandsIn}
 use Rattle.kernel_bodies.specs.Room.{Fits, FitsIn, FitsFrames, FitsLayer, kept_along}
 use Rattle.std.proofs.lemmas.List.{get_or_default}
 use Rattle.kernel_bodies.proofs.Rooms.{fits_less}
-use Rattle.kernel_bodies.proofs.Settling.{settle_followed, in_run_left, inside_take, frames_take}
+use Rattle.kernel_bodies.proofs.Settling.{settle_followed, inside_take, frames_take}
 use Rattle.kernel_bodies.proofs.Passing.{through_blocks, through_call, through_frames, settled_through}
 
 pub rebased : (a : Arena) (r p q : Residual) (n : Next) → settle a r ≡ settle a p → Settled a p q n → Settled a r q n

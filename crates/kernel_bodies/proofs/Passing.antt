@@ -1,10 +1,9 @@
 -- What open blocks, frames and the goal of all leave of what is inside them: each definition on residuals goes through them.
 use Rattle.std.proofs.Common.{◌≡◌, ℕ, Bool, true, false, List, [], ◌∷◌, Option, Some, None, refl, sym, ap, ◌∙◌, subst}
-use Rattle.std.specs.Prelude.{◌||◌, is_some, if◌then◌else◌}
+use Rattle.std.specs.Prelude.{◌||◌, if◌then◌else◌}
 use Rattle.sim_model.specs.LogicValues.declared.kinds.Value.{Value}
 use Rattle.sim_model.specs.FlatDesign.Code.{Arena}
-use Rattle.sim_model.specs.Residual as residual
-use Rattle.sim_model.specs.Residual.{Residual, Frame, Next, skip, frame, shell, goal, followed, settle, next_of, in_shell, put, frame_or, goal_or, in_frame, before_goal}
+use Rattle.sim_model.specs.Residual.{Residual, Frame, Next, skip, frame, goal, followed, settle, next_of, in_shell, put, frame_or, goal_or}
 use Rattle.sim_model.specs.Unwinding.{catches, handles, raise, left_by_raise, has_exit, returned}
 use Rattle.sim_model.specs.declared.plain.Goal.{Goal}
 use Rattle.kernel_bodies.specs.Depths.{handlers_of}
@@ -13,8 +12,8 @@ use Rattle.kernel_bodies.specs.declared.layers.Saved.{Saved}
 use Rattle.kernel_bodies.specs.declared.layers.Open.{Open}
 use Rattle.kernel_bodies.specs.declared.layers.Open.TheVariants as layer
 use Rattle.kernel_bodies.specs.declared.layers.Next.{Next as Shown}
-use Rattle.kernel_bodies.specs.Layers.{call_of, around, inside, wrapped, whole, cut, inside_frames, under, rest_at, shown, IsComing, Settled}
-use Rattle.kernel_bodies.proofs.Settling.{IsLeft, settled_around, settle_around, settled_around_left, around_left, in_shell_left, next_around, in_frame_same, before_goal_same}
+use Rattle.kernel_bodies.specs.Layers.{call_of, around, inside, wrapped, whole, inside_frames, under, rest_at, shown, IsComing, Settled}
+use Rattle.kernel_bodies.proofs.Settling.{IsLeft, settled_around, settle_around, settled_around_left, around_left, in_shell_left, next_around, in_frame_same}
 
 pub record Passes (a : Arena) (C : Residual → Residual) : Type 0 where
   pub left : (r : Residual) → IsLeft r → IsLeft (C r)

@@ -1,21 +1,18 @@
 -- What saved frames tell of what is left, by the frames and blocks of a kind among them.
-use Rattle.std.proofs.Common.{◌≡◌, ℕ, ◌+◌, ◌<◌, zero, suc, Bool, true, false, List, [], ◌∷◌, ◌++◌, Option, Some, None, length, take, drop, get_or, refl, sym, ap, ◌∙◌, subst, arith, append_assoc}
+use Rattle.std.proofs.Common.{◌≡◌, ℕ, ◌+◌, ◌<◌, zero, suc, Bool, true, false, List, [], ◌∷◌, ◌++◌, Option, Some, None, length, take, drop, get_or, refl, sym, ap, ◌∙◌, subst, arith}
 use Rattle.std.proofs.lemmas.List.{append-nil}
 use Rattle.std.specs.Prelude.{◌||◌, not, is_some}
 use Rattle.sim_model.specs.LogicValues.declared.kinds.Value.{Value}
 use Rattle.sim_model.specs.FlatDesign.Code.{Arena}
-use Rattle.sim_model.specs.Residual.{Residual, Frame, followed, innermost, in_innermost, changed_if, or_frame, within, or_via, in_nb, has_goal, open_frames, counted_call, frame, shell, skip}
-use Rattle.sim_model.specs.Unwinding.{catches, handles, has_exit, returned, left_by_unw, left_via}
-use Rattle.sim_model.specs.declared.plain.Via.{Via}
-use Rattle.sim_model.specs.declared.plain.Goal.{Goal}
-use Rattle.kernel_bodies.specs.Depths.{handlers_of}
+use Rattle.sim_model.specs.Residual.{Residual, Frame, followed, innermost, in_innermost, changed_if, or_frame, within, or_via, in_nb, has_goal, open_frames, counted_call, skip}
+use Rattle.sim_model.specs.Unwinding.{catches, has_exit, returned, left_by_unw, left_via}
 use Rattle.kernel_bodies.specs.declared.layers.Saved.{Saved}
 use Rattle.kernel_bodies.specs.declared.layers.Open.{Open}
 use Rattle.kernel_bodies.specs.declared.layers.Open.TheVariants as layer
-use Rattle.kernel_bodies.specs.Layers.{call_of, around, inside, wrapped, whole, cut, inside_frames, under, rest_at}
+use Rattle.kernel_bodies.specs.Layers.{call_of, around, inside, wrapped, whole, cut, inside_frames, rest_at}
 use Rattle.kernel_bodies.specs.Sought.{NoneIs, LastIs, IsLast, among, is_run, is_goal, is_handling, has_handler, unwinds, is_exit, open_nonblocking, is_open_nonblocking, last_call, last_via, many_calls}
 use Rattle.kernel_bodies.specs.Unwound.{left_by_frame, left_at, left_all}
-use Rattle.kernel_bodies.proofs.Passing.{Passes, through_block, through_call, if_false}
+use Rattle.kernel_bodies.proofs.Passing.{through_block, through_call, if_false}
 
 -- the innermost of a kind
 

@@ -6,7 +6,7 @@ use Rattle.sim_model.specs.FlatDesign.Code as code
 use Rattle.sim_model.specs.FlatDesign.Code.{Arena, Statement, block_at, statement_at}
 use Rattle.sim_model.specs.FlatDesign.Reach.{inner_blocks}
 use Rattle.sim_model.specs.FlatDesign.declared.code.Handler.{Handler}
-use Rattle.sim_model.specs.Residual.{Residual, skip, goal, followed}
+use Rattle.sim_model.specs.Residual.{Residual, goal, followed}
 use Rattle.sim_model.specs.declared.plain.Goal.{Goal}
 use Rattle.sim_model.specs.Unwinding.{unw, catches, handles, handler_of, handler_block, raise}
 use Rattle.kernel_bodies.specs.Depths.{handlers_of, handlers_if, handlers_in, blocks_in, depth_of}
@@ -16,9 +16,9 @@ use Rattle.kernel_bodies.specs.Layers.{around, inside, rest_at}
 use Rattle.kernel_bodies.specs.Sought.{is_handling, is_goal, NoneIs, LastIs, among}
 use Rattle.kernel_bodies.specs.Unwound.{unwound, in_front, unwound_all, handler_in}
 use Rattle.kernel_bodies.specs.Room.{FitsLayer, FitsAll, Fits, kept_inside, kept_along}
-use Rattle.kernel_bodies.proofs.Passing.{Passes, through_block, if_true, if_false}
-use Rattle.kernel_bodies.proofs.Seeking.{among_none, among_last, catches_inside, none_is}
-use Rattle.kernel_bodies.proofs.Rooms.{all_split, kept_small, nothing_fits, fits_more}
+use Rattle.kernel_bodies.proofs.Passing.{through_block, if_true, if_false}
+use Rattle.kernel_bodies.proofs.Seeking.{among_none, among_last, catches_inside}
+use Rattle.kernel_bodies.proofs.Rooms.{all_split, kept_small, fits_more}
 
 -- all is unwound
 

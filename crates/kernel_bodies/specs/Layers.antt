@@ -1,5 +1,5 @@
 -- The residual that saved frames stand for, the outermost first. Guards have no numbers here: each is 0.
-use Rattle.std.specs.Prelude.{◌≡◌, ℕ, ◌<◌, List, [], ◌∷◌, ◌++◌, Bool, true, false, Option, Some, None, drop, take, length, slice_index_or}
+use Rattle.std.specs.Prelude.{◌≡◌, ℕ, List, [], ◌∷◌, ◌++◌, Bool, true, false, Option, Some, None, drop, take}
 use Rattle.sim_model.specs.FlatDesign.Code.{Arena, block_at}
 use Rattle.sim_model.specs.Residual as residual
 use Rattle.sim_model.specs.Residual.{Residual, Frame, skip, one, seq, owing, guard, try_, frame, shell, run, goal, followed, settle, next_of}
@@ -68,6 +68,11 @@ held (x ∷ xs) s = s
 abbrev pub standing : Option ℕ → Residual
 standing None = skip
 standing (Some s) = one s
+
+-- the rest of a block from a place on, where a statement is there
+abbrev pub rest_if : Option Cursor → List Open
+rest_if None = []
+rest_if (Some c) = layer.Rest c ∷ []
 
 -- what comes next
 abbrev pub shown : residual.Next → Next

@@ -95,6 +95,7 @@ pub fn fill(saved: &mut Saved, blocks: usize, comes: Comes) -> Option<StmtId>
 }
 
 /// A statement inside a frame goes on with one of its blocks, and with what it opens around that.
+#[inline(always)]
 pub fn begin_in(
     program: &Program,
     saved: &mut Saved,
@@ -113,6 +114,7 @@ pub fn begin_in(
 }
 
 /// Pops the innermost block of a frame.
+#[inline(always)]
 pub fn drop_block(saved: &mut Saved)
     ensures same { SameCall saved.old saved.new }
     ensures blocks { saved.new.blocks.items ≡ take (length saved.old.blocks.items - 1) saved.old.blocks.items }
@@ -137,6 +139,7 @@ pub fn end_in(saved: &mut Saved, answer: Option<Value>)
 }
 
 /// Another value for a local variable of a call.
+#[inline(always)]
 fn set_local_of(frame: &mut Frame, number: usize, value: Value)
     ensures { IsFrameSet number value frame.old frame.new }
 {
@@ -146,6 +149,7 @@ fn set_local_of(frame: &mut Frame, number: usize, value: Value)
 }
 
 /// Another value for a local variable of a frame.
+#[inline(always)]
 pub fn set_local_in(saved: &mut Saved, number: usize, value: Value)
     ensures set { IsFrameSet number value saved.old.frame saved.new.frame }
     ensures shell { saved.new.shell ≡ saved.old.shell }

@@ -8,7 +8,7 @@ ghost use Rattle.kernel_bodies.specs.Depths.{locals_at, depth_of};
 ghost use Rattle.kernel_bodies.specs.Layers.{landed, layers_around, layers_of, statement_of};
 ghost use Rattle.kernel_bodies.specs.Room.{Fits, body_depth, begun_in, locals_with};
 
-use crate::landing::first_of;
+use crate::landing::{first_of, in_block};
 use crate::layers::{Comes, Open};
 use crate::{Around, Cursor, Program};
 use sim_model::flat_design_api::{BlockId, CodeId, Local, StmtId, default_value};
@@ -25,6 +25,7 @@ pub fn place<T: Drop>(items: &mut Vec<T>, value: T)
 }
 
 /// The parameters and the local variables of a body; none of one that there is not.
+#[inline(always)]
 pub fn locals_in(program: &Program, function: CodeId) -> &[Local]
     ensures { result.now ≡ locals_at (arena_of program.now.code) function }
 {
@@ -66,19 +67,21 @@ pub fn many_locals(program: &Program, function: CodeId, arguments: &[Value]) -> 
     arguments.len().max(locals_in(program, function).len())
 }
 
-/// What a block begins with.
+/// What a block begins with: its first statement, and then the rest, where there is one.
+#[inline(always)]
 pub fn block_begins(program: &Program, block: BlockId) -> Comes
     ensures value { landed (arena_of program.now.code) result ≡ residual.block (arena_of program.now.code) block }
     ensures few { length (layers_of result) ≤ 1 }
     ensures room { (most t i : ℕ) → i + t + depth_of program.now.depths.items block + 1 ≤ most → Fits (arena_of program.now.code) program.now.depths.items most t i (layers_of result) (statement_of result) }
 {
     match first_of(program, Cursor { block, place: 0 }) {
-        Some((statement, rest)) => Comes::InBlock(statement, rest),
+        Some((statement, rest)) => in_block(program, statement, rest),
         None => Comes::Nothing,
     }
 }
 
 /// What the body of a call begins with.
+#[inline(always)]
 pub fn body_begins(program: &Program, function: CodeId) -> Comes
     ensures value { landed (arena_of program.now.code) result ≡ begun_in (arena_of program.now.code) (body_at (arena_of program.now.code) function) }
     ensures few { length (layers_of result) ≤ 1 }
@@ -136,6 +139,7 @@ pub fn add_layers(blocks: &mut Vec<Open>, comes: Comes) -> Option<StmtId>
 }
 
 /// Adds what a statement opens around its block.
+#[inline(always)]
 pub fn add_around(blocks: &mut Vec<Open>, around: Around, statement: StmtId)
     requires { vec_len blocks.old + length (layers_around around statement) ≤ vec_capacity blocks.old }
     ensures items { blocks.new.items ≡ blocks.old.items ++ layers_around around statement }

@@ -2,8 +2,10 @@
 ghost use Rattle.std.specs.Prelude.{◌≡◌, ℕ, ◌+◌, ◌-◌, ◌<◌, ◌≤◌, ◌++◌, List, [], length, take, None, Some, IfNone, IfSome, Contains};
 ghost use Rattle.sim_model.specs.FlatDesign.Code.{Arena, arena_of, block_at};
 ghost use Rattle.sim_model.specs.Residual as residual;
+ghost use Rattle.sim_model.specs.Residual.{Residual};
+ghost use Rattle.kernel_bodies.specs.declared.around.Cursor.{Cursor as Place};
 ghost use Rattle.kernel_bodies.specs.Landings.{Lands, LandsIn};
-ghost use Rattle.kernel_bodies.specs.Layers.{around, inside, inside_frames, whole, held, standing, landed, layers_of, statement_of, begins, shown_by, rest_at, first_then, frame_ends, end_shown, under_goal, IsBegun, Settled, EndsBlocks};
+ghost use Rattle.kernel_bodies.specs.Layers.{around, inside, inside_frames, whole, held, standing, landed, layers_of, statement_of, begins, shown_by, rest_at, rest_if, first_then, frame_ends, end_shown, under_goal, IsBegun, Settled, EndsBlocks};
 ghost use Rattle.kernel_bodies.specs.Room.{Fits, FitsIf, FitsLayer};
 
 use crate::layers::{Comes, Landing, Next, Open, Saved, Stand};
@@ -37,6 +39,7 @@ fn end_shown(block: &Open) -> Option<Comes>
 }
 
 /// The first statement of a block from a place on, and the place behind it.
+#[inline(always)]
 pub fn first_of(program: &Program, cursor: Cursor) -> Option<(StmtId, Cursor)>
     ensures value { residual.statements (rest_at (arena_of program.now.code) cursor) ≡ first_then (arena_of program.now.code) result }
     ensures of_block { IfSome result (λ p. (p.1.block ≡ cursor.block) × Contains (block_at (arena_of program.now.code) cursor.block) p.0) }
@@ -50,6 +53,52 @@ pub fn first_of(program: &Program, cursor: Cursor) -> Option<(StmtId, Cursor)>
             },
         )),
         None => None,
+    }
+}
+
+/// A place in a block, where a statement is there.
+#[inline(always)]
+fn rest_from(program: &Program, cursor: Cursor) -> Option<Cursor>
+    ensures value { (r : Residual) → inside (arena_of program.now.code) (rest_if result) r ≡ residual.followed r (rest_at (arena_of program.now.code) cursor) }
+    ensures same { IfSome result (λ c. c ≡ cursor) }
+{
+    match program.statement_at(cursor) {
+        Some(_) => Some(cursor),
+        None => None,
+    }
+}
+
+/// The statement that comes in a block with nothing left inside it, and the place behind it where another one is there: the first
+/// of the rest of a block, or a loop that follows. None where it is neither.
+#[inline(always)]
+pub fn comes_in(program: &Program, block: &Open) -> Option<(StmtId, Option<Cursor>)>
+    ensures settles { IfSome result (λ p. residual.settle (arena_of program.now.code) (around (arena_of program.now.code) block.now residual.skip) ≡ inside (arena_of program.now.code) (rest_if p.1) (residual.one p.0)) }
+    ensures room { IfSome result (λ p. (most t i : ℕ) → FitsLayer (arena_of program.now.code) program.now.depths.items most t i block.now → Fits (arena_of program.now.code) program.now.depths.items most t i (rest_if p.1) (Some p.0)) }
+{
+    match block {
+        Open::Rest(cursor) => match first_of(program, *cursor) {
+            Some((statement, rest)) => Some((statement, rest_from(program, rest))),
+            None => None,
+        },
+        Open::Again(statement) => Some((*statement, None)),
+        Open::Owed(_) => None,
+        Open::Guard(_) => None,
+        Open::Try(_) => None,
+        Open::Run => None,
+        Open::Goal(_) => None,
+    }
+}
+
+/// A statement of a block begins, and then what of the block stands behind it.
+#[inline(always)]
+pub(crate) fn in_block(program: &Program, statement: StmtId, rest: Cursor) -> Comes
+    ensures value { landed (arena_of program.now.code) result ≡ residual.followed (residual.one statement) (rest_at (arena_of program.now.code) rest) }
+    ensures few { length (layers_of result) ≤ 1 }
+    ensures room { (c : Place) (most t i : ℕ) → rest.block ≡ c.block → Contains (block_at (arena_of program.now.code) c.block) statement → FitsLayer (arena_of program.now.code) program.now.depths.items most t i (Open.Rest c) → Fits (arena_of program.now.code) program.now.depths.items most t i (layers_of result) (statement_of result) }
+{
+    match rest_from(program, rest) {
+        Some(rest) => Comes::InBlock(statement, rest),
+        None => Comes::Statement(statement),
     }
 }
 

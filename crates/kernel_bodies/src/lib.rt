@@ -22,7 +22,7 @@ mod unwinding;
 pub use around::{Around, Cursor};
 pub use changes::{begin_in, drop_block, end_in, fill, keep_frames, set_local_in, take_frame};
 pub use frames::{add_layers, add_locals, body_begins, depth_in, locals_in, many_locals, place};
-pub use landing::{land, next_shown, under_goal};
+pub use landing::{comes_in, land, next_shown, under_goal};
 pub use layers::{Comes, Frame, Landing, Next, Open, Saved, Spare, Stand};
 pub use program::Program;
 pub use sought::{

@@ -26,6 +26,7 @@ pub struct Program {
 }
 
 /// The statements of a block; none of a block that there is not.
+#[inline(always)]
 fn statements_of(code: &Code, block: BlockId) -> &[StmtId]
     ensures { result.now ≡ block_at (arena_of code.now) block }
 {
@@ -63,6 +64,7 @@ fn statement_depth(code: &Code, number: StmtId, depths: &[usize]) -> usize
 }
 
 /// The statement of this number, if there is one.
+#[inline(always)]
 fn find_statement(code: &Code, number: StmtId) -> Option<&Statement>
     ensures { option_map (λ s. statement_of s.now) result ≡ statement_at (arena_of code.now) number }
 {
@@ -104,6 +106,7 @@ impl Program {
     }
 
     /// The statement at a place of a block, if one is there.
+    #[inline(always)]
     pub fn statement_at(&self, cursor: Cursor) -> Option<StmtId>
         ensures found { result ≡ slice_get (block_at (arena_of self.now.code) cursor.block) cursor.place }
         ensures small { IfSome result (λ _. cursor.place < 2 ^ 63) }
@@ -121,6 +124,7 @@ impl Program {
     }
 
     /// The body of this number, if there is one.
+    #[inline(always)]
     pub fn body(&self, function: CodeId) -> Option<&CodeBody>
         ensures { option_map (λ b. b.now) result ≡ body_at (arena_of self.now.code) function }
     {
@@ -141,6 +145,7 @@ impl Program {
     }
 
     /// What the statement of this number puts around its block; nothing where there is no such statement.
+    #[inline(always)]
     pub fn around(&self, number: StmtId) -> Around
         ensures { result ≡ around_at (arena_of self.now.code) number }
     {

@@ -201,6 +201,7 @@ pub fn last_handler(program: &Program, frames: &[Saved], name: NameId) -> Option
 }
 
 /// The innermost call, also one that is being unwound.
+#[inline(always)]
 pub fn last_call(frames: &[Saved]) -> Option<&Frame>
     ensures { option_map (λ x. call_of x.now) result ≡ last_call frames.now }
 {
@@ -213,6 +214,7 @@ pub fn last_call(frames: &[Saved]) -> Option<&Frame>
 }
 
 /// The transport call that a frame serves.
+#[inline(always)]
 fn via_of(saved: &Saved) -> Option<Via>
     ensures { result ≡ saved.now.frame.via }
 {
@@ -220,6 +222,7 @@ fn via_of(saved: &Saved) -> Option<Via>
 }
 
 /// The innermost transport call, also one that is being unwound.
+#[inline(always)]
 pub fn last_via(frames: &[Saved]) -> Option<Via>
     ensures { result ≡ last_via frames.now }
 {

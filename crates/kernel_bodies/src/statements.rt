@@ -63,6 +63,7 @@ pub(crate) fn handlers_in(statement: &Statement) -> &[Handler]
 }
 
 /// What a statement puts around its block.
+#[inline(always)]
 pub(crate) fn around(statement: &Statement) -> Around
     ensures { result ≡ around_of (statement_of statement.now) }
 {

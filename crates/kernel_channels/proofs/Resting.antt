@@ -1,5 +1,6 @@
 -- Where the update leaves each without a mark as it is.
-use Rattle.std.proofs.Common.{◌≡◌, ℕ, zero, suc, Bool, true, false, cond, List, [], ◌∷◌, Option, None, map, length, set, replicate, refl, sym, ap, arith}
+use Rattle.std.proofs.Common.{◌≡◌, ◌+◌, ℕ, zero, suc, Bool, true, false, cond, List, [], ◌∷◌, Option, None, map, length, set, replicate, refl, sym, ap, arith, true≢false}
+use Rattle.std.specs.List.{list_any}
 use Rattle.kernel_events.specs.LogicValues.declared.kinds.Value.{Value}
 use Rattle.kernel_events.specs.SignalChannel.Signals.{settled, unwritten, is_many}
 use Rattle.kernel_events.specs.SignalChannel.declared.signal.Signal.{Signal}
@@ -8,6 +9,7 @@ use Rattle.kernel_events.specs.SignalChannel.declared.signal.Changed.{Changed}
 use Rattle.kernel_events.specs.FifoSync.Fifos.{after_update, nothing_in}
 use Rattle.kernel_events.specs.FlatDesign.declared.design.SignalPart.{SignalPart}
 use Rattle.kernel_events.specs.FlatDesign.declared.design.FifoPart.{FifoPart}
+use Rattle.kernel_events.specs.NumberedSlots.Places.{places_from}
 use Rattle.kernel_events.specs.SimModel.Configuration.{first_signal}
 use Rattle.kernel_channels.specs.UpdateMarks.{Rests, nothing}
 use Rattle.kernel_channels.proofs.Walked.{each_if, changes_if}
@@ -85,3 +87,13 @@ empty_rests (p ∷ ps) = (refl, empty_rests ps)
 pub all_false : {A : Type 0} (xs : List A) → map (λ (x : A). false) xs ≡ replicate (length xs) false
 all_false [] = refl
 all_false (x ∷ xs) = ap (λ bs. false ∷ bs) (all_false xs)
+
+pub none_placed : (b : ℕ) (marks : List Bool) → list_any (λ mark. mark) marks ≡ false → [] ≡ places_from b marks
+none_placed b [] none = refl
+none_placed b (true ∷ marks) none = absurd (true≢false none)
+none_placed b (false ∷ marks) none = none_placed (b + 1) marks none
+
+pub all_unmarked : (marks : List Bool) → list_any (λ mark. mark) marks ≡ false → marks ≡ map (λ (b : Bool). false) marks
+all_unmarked [] none = refl
+all_unmarked (true ∷ marks) none = absurd (true≢false none)
+all_unmarked (false ∷ marks) none = ap (λ bs. false ∷ bs) (all_unmarked marks none)

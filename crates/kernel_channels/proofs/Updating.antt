@@ -15,9 +15,10 @@ use Rattle.kernel_events.specs.FlatDesign.declared.design.ResolvedPart.{Resolved
 use Rattle.kernel_events.specs.FlatDesign.declared.design.FifoPart.{FifoPart}
 use Rattle.kernel_events.specs.SimModel.Phases.{resettled_all, resolved_changes}
 use Rattle.kernel_channels.specs.Announced.{told_by_signals, told_by_resolved, told_by_fifos}
-use Rattle.kernel_channels.specs.UpdateMarks.{Rests, HasRoom, IsSignals, IsWires, IsFifos, wire_change, fifo_change, items_after, marks_after, events_after}
+use Rattle.kernel_channels.specs.UpdateMarks.{Rests, HasRoom, ListsAsked, asked_of, IsSignals, IsWires, IsFifos, wire_change, fifo_change, items_after, marks_after, events_after}
 use Rattle.kernel_channels.proofs.Walked.{items_all, marks_all, events_all}
 use Rattle.kernel_channels.proofs.Resting.{as_many, rests_all, updated_all, changed_all, settled_again}
+use Rattle.kernel_channels.proofs.AskedLists.{lists_none, none_asked}
 use Rattle.kernel_channels.proofs.Telling.{signal_quiet, signals_told, fifos_told, wires_told, wires_updated, wires_changed}
 use Rattle.kernel_channels.proofs.Changing.{room_again}
 
@@ -28,26 +29,30 @@ visited_are visited n marks out ns has moved is = is ∙ moved ∙ ap (λ xs. xs
 
 -- ---- signals
 
-module _ (ss : List Signal) (bs cs : List Bool) (visited : Vec ℕ) (sound : IsSignals ss bs cs visited) (ns : List ℕ) (ss' : List Signal) (all : ns ≡ marked_places bs) (same : ss' ≡ ss) where
+module _ (ss : List Signal) (asked : Vec ℕ) (cs : List Bool) (sound : IsSignals ss asked cs) (ns : List ℕ) (ss' : List Signal) (all : ns ≡ marked_places (asked_of ss)) (same : ss' ≡ ss) where
+  many_asked : length (asked_of ss) ≡ length ss
+  many_asked = as_many settled ss (asked_of ss) sound.rests
+
   pub signals_left : (new : List Signal) → new ≡ items_after settled ns ss' → new ≡ map settled ss
-  signals_left new is = is ∙ (λ i. items_after settled (all i) (same i)) ∙ items_all settled ss bs (as_many settled ss bs sound.rests) ∙ updated_all settled ss bs sound.rests
+  signals_left new is = is ∙ (λ i. items_after settled (all i) (same i)) ∙ items_all settled ss (asked_of ss) many_asked ∙ updated_all settled ss (asked_of ss) sound.rests
 
   pub signals_marked : (clear new : List Bool) → clear ≡ replicate (length cs) false → new ≡ marks_after settled change_of ns ss' clear → new ≡ map (λ (s : Signal). (change_of s).changed) ss
   signals_marked clear new none is =
       is ∙ (λ i. marks_after settled change_of (all i) (same i) ((none ∙ ap (λ k. replicate k false) sound.changed) i))
-      ∙ marks_all settled change_of ss bs (as_many settled ss bs sound.rests) ∙ changed_all settled change_of signal_quiet ss bs sound.rests
+      ∙ marks_all settled change_of ss (asked_of ss) many_asked ∙ changed_all settled change_of signal_quiet ss (asked_of ss) sound.rests
 
   pub signals_announced : (ps : List SignalPart) (events new : List Pending) → new ≡ events_after settled change_of ns (map (λ (p : SignalPart). p.events) ps) ss' events → new ≡ told_by_signals ps ss events
   signals_announced ps events new is =
       is ∙ (λ i. events_after settled change_of (all i) (map (λ (p : SignalPart). p.events) ps) (same i) events)
-      ∙ events_all settled change_of ss bs (map (λ (p : SignalPart). p.events) ps) events (as_many settled ss bs sound.rests) ∙ signals_told ps ss bs events sound.rests
+      ∙ events_all settled change_of ss (asked_of ss) (map (λ (p : SignalPart). p.events) ps) events many_asked ∙ signals_told ps ss (asked_of ss) events sound.rests
 
-  pub signals_sound : (new : List Signal) (bs' cs' : List Bool) (visited' : Vec ℕ) → new ≡ map settled ss → bs' ≡ replicate (length bs) false → cs' ≡ map (λ (s : Signal). (change_of s).changed) ss
-      → visited'.items ≡ [] → vec_capacity visited' ≡ vec_capacity visited → IsSignals new bs' cs' visited'
-  signals_sound new bs' cs' visited' left none marked empty room = subst (λ xs. IsSignals xs bs' cs' visited') (sym left) (record {
-    rests = subst (λ ms. Rests settled (map settled ss) ms) (sym (none ∙ ap (λ k. replicate k false) (as_many settled ss bs sound.rests))) (rests_all settled ss settled_again);
+  pub signals_sound : (new : List Signal) (asked' : Vec ℕ) (cs' : List Bool) → new ≡ map settled ss → cs' ≡ map (λ (s : Signal). (change_of s).changed) ss
+      → asked'.items ≡ [] → vec_capacity asked' ≡ vec_capacity asked → IsSignals new asked' cs'
+  signals_sound new asked' cs' left marked empty room = subst (λ xs. IsSignals xs asked' cs') (sym left) (record {
+    rests = subst (λ ms. Rests settled (map settled ss) ms) (sym (none_asked ss)) (rests_all settled ss settled_again);
+    lists = subst (λ ms. ListsAsked ms asked') (sym (none_asked ss))
+        (lists_none (length ss) asked' empty (let enough = sound.lists.room in omega (arith, enough, room, many_asked)));
     changed = ap length marked ∙ length-map ss (λ (s : Signal). (change_of s).changed) ∙ sym (length-map ss settled);
-    visits = room_again (length ss) (length (map settled ss)) visited visited' sound.visits (length-map ss settled) empty room;
   })
 
 -- ---- resolved signals

@@ -1,6 +1,6 @@
--- How channels are kept: with marks of those that asked for an update, so that an update visits no others, and of those that the
--- last update changed. No public clause cites this module.
-use Rattle.std.specs.Prelude.{◌≡◌, ◌≤◌, ◌<◌, ◌==◌, ⊤, ℕ, Bool, true, false, List, [], ◌∷◌, Option, Some, None, length, map, get_or, slice_get, slice_set, vec_capacity}
+-- How channels are kept: with a list or marks of those that asked for an update, so that an update visits no others, and with
+-- marks of those that the last update changed. No public clause cites this module.
+use Rattle.std.specs.Prelude.{◌≡◌, ◌≤◌, ◌<◌, ◌==◌, ⊤, ℕ, Bool, true, false, List, [], ◌∷◌, ◌++◌, Option, Some, None, length, map, get_or, count_by, if◌then◌else◌, slice_get, slice_set, vec_capacity}
 use Rattle.std.specs.Global.{Vec}
 use Rattle.kernel_events.specs.EventCore.declared.notifications.Pending.{Pending}
 use Rattle.kernel_events.specs.SignalChannel.Signals.{settled}
@@ -25,10 +25,28 @@ pub record HasRoom (n : ℕ) (visited : Vec ℕ) : Type 0 where
   pub none : visited.items ≡ []
   pub room : n ≤ vec_capacity visited
 
-pub record IsSignals (signals : List Signal) (marks changes : List Bool) (visited : Vec ℕ) : Type 0 where
-  pub rests : Rests settled signals marks
+-- each signal says itself whether it asked, and those that did are listed, each once, with room for all
+
+abbrev pub asked_at : Option Signal → Bool
+asked_at None = false
+asked_at (Some s) = s.asked
+
+abbrev pub asked_of : List Signal → List Bool
+asked_of signals = map (λ (s : Signal). s.asked) signals
+
+abbrev pub listed_with : Bool → ℕ → List ℕ → List ℕ
+listed_with true n listed = listed
+listed_with false n listed = listed ++ n ∷ []
+
+pub record ListsAsked (marks : List Bool) (listed : Vec ℕ) : Type 0 where
+  pub once : (n : ℕ) → count_by (λ x. x == n) listed.items ≡ (if get_or marks n false then 1 else 0)
+  pub as_many : length listed.items ≡ count_by (λ mark. mark) marks
+  pub room : length marks ≤ vec_capacity listed
+
+pub record IsSignals (signals : List Signal) (asked : Vec ℕ) (changes : List Bool) : Type 0 where
+  pub rests : Rests settled signals (asked_of signals)
+  pub lists : ListsAsked (asked_of signals) asked
   pub changed : length changes ≡ length signals
-  pub visits : HasRoom (length signals) visited
 
 pub record IsWires (resolved : List Driven) (marks changes : List Bool) (visited : Vec ℕ) : Type 0 where
   pub asked : length marks ≡ length resolved

@@ -9,6 +9,7 @@ use kernel_events::signal_channel_api::Changed;
 use std::alloc::AllocError;
 
 // Nothing changed.
+#[inline(always)]
 pub(crate) fn no_change() -> Changed
     ensures { result ≡ nothing }
 {

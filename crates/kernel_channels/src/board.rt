@@ -99,6 +99,7 @@ impl ChannelBoard {
     }
 
     /// The value of a signal, a buffer or a clock.
+    #[inline(always)]
     pub fn signal(&self, n: u32) -> Value
         ensures { result ≡ signal_value (slice_get self.now.signals n) }
     {
@@ -113,6 +114,7 @@ impl ChannelBoard {
     }
 
     /// Whether the last update changed a signal, or a buffer was written before it.
+    #[inline(always)]
     pub fn signal_changed(&self, n: u32) -> bool
         ensures { result ≡ unwrap_or (slice_get self.now.changed n) false }
     {
@@ -152,6 +154,7 @@ impl ChannelBoard {
 
     /// Writes a signal or a buffer for the process of this serial: it asks for an update. Another writer than the one that
     /// stands is refused, and that changes nothing (IEEE 1666-2011, 6.4.4).
+    #[inline(always)]
     pub fn write_signal(&mut self, n: u32, v: Value, p: u32) -> Result<(), WriterConflict>
         ensures ok { OnOk result (conflict_at (Some p) (slice_get self.old.signals n) ≡ None) }
         ensures refused { IfErr result (λ conflict. conflict_at (Some p) (slice_get self.old.signals n) ≡ Some conflict) }
@@ -261,6 +264,7 @@ impl ChannelBoard {
     }
 
     /// Takes back that the last update changed any channel: so it is at another time.
+    #[inline(always)]
     pub fn clear_changed(&mut self)
         ensures { self.new ≡ unchanged self.old }
     {

@@ -46,6 +46,7 @@ impl Changes {
     }
 
     // Whether the number is marked. One from the size on is not.
+    #[inline(always)]
     pub(crate) fn has(&self, n: u32) -> bool
         ensures { result ≡ unwrap_or (slice_get self.now n) false }
     {

@@ -156,6 +156,18 @@ impl FifoBank {
         ensures left { self.new ≡ map spec.after_update self.old }
         ensures announced { events.new ≡ told_by_fifos parts.now self.old events.old }
     {
+        if self.asked.is_empty() {
+            return;
+        }
+        self.update_asked(parts, events);
+    }
+
+    // The same, where some were.
+    #[inline(never)]
+    fn update_asked(&mut self, parts: &[FifoPart], events: &mut EventBoard)
+        ensures left { self.new ≡ map spec.after_update self.old }
+        ensures announced { events.new ≡ told_by_fifos parts.now self.old events.old }
+    {
         self.asked.take_all(&mut self.visited);
         update_each(
             self.fifos.as_mut_slice(),

@@ -3,6 +3,7 @@
 #![tactic(auto)]
 
 mod announcing;
+mod asking;
 mod board;
 mod changes;
 mod fifos;

@@ -11,12 +11,12 @@ ghost use Rattle.kernel_channels.specs.UpdateMarks.{change_at, items_after, mark
 ghost use Rattle.kernel_channels.specs.Writers.{conflict_at, written_unless};
 
 use crate::announcing::{announce_at, no_change, number_of};
+use crate::asking::{has_asked, list_one, put_in_order};
 use crate::changes::{Changes, mark_if};
 use kernel_events::EventBoard;
 use kernel_events::flat_design_api::SignalPart;
 use kernel_events::logic_values_api::Value;
 use kernel_events::model_tree_api::SignalKind;
-use kernel_events::numbered_slots_api::Marks;
 use kernel_events::signal_channel_api::{Changed, Policy, Signal, WriterConflict};
 use std::alloc::{AllocError, Global};
 use std::marker::Model;
@@ -25,12 +25,10 @@ use std::marker::Model;
 #[derive(Drop)]
 pub(crate) struct SignalBank {
     signals: Vec<Signal>,
-    // Those that were written since the last update.
-    asked: Marks,
+    // Those that were written since the last update, each once, in any order. There is room for all.
+    asked: Vec<u32>,
     // Those that the last update changed.
     changed: Changes,
-    // Room for those that an update visits.
-    visited: Vec<u32>,
 }
 
 impl Model for SignalBank {
@@ -47,7 +45,7 @@ impl Model for SignalBank {
       changed = b.changed;
     } };
 
-    ghost invariant = { λ b. IsSignals b.signals.items b.asked b.changed b.visited };
+    ghost invariant = { λ b. IsSignals b.signals.items b.asked b.changed };
 }
 
 fn policy_of(kind: SignalKind, many: bool) -> Policy
@@ -122,17 +120,16 @@ impl SignalBank {
     {
         let size = number_of(parts.len())?;
         let signals = first_signals(alloc, parts)?;
-        let asked = Marks::new(alloc, size)?;
         let changed = Changes::new(alloc, size)?;
-        let visited = Vec::with_capacity(alloc, parts.len())?;
+        let asked = Vec::with_capacity(alloc, parts.len())?;
         Ok(SignalBank {
             signals,
             asked,
             changed,
-            visited,
         })
     }
 
+    #[inline(always)]
     pub(crate) fn value(&self, n: u32) -> Value
         ensures { result ≡ signal_value (slice_get self.now.signals n) }
     {
@@ -142,12 +139,14 @@ impl SignalBank {
         }
     }
 
+    #[inline(always)]
     pub(crate) fn has_changed(&self, n: u32) -> bool
         ensures { result ≡ unwrap_or (slice_get self.now.changed n) false }
     {
         self.changed.has(n)
     }
 
+    #[inline(always)]
     pub(crate) fn write(&mut self, n: u32, v: Value, p: Option<u32>) -> Result<(), WriterConflict>
         ensures ok { OnOk result (conflict_at p (slice_get self.old.signals n) ≡ None) }
         ensures refused { IfErr result (λ conflict. conflict_at p (slice_get self.old.signals n) ≡ Some conflict) }
@@ -157,9 +156,10 @@ impl SignalBank {
         if at >= self.signals.len() {
             return Ok(());
         }
+        let had = has_asked(self.signals.as_slice(), n);
         match self.signals[at].write(p, v) {
             Ok(()) => {
-                self.asked.set(n);
+                list_one(&mut self.asked, had, n);
                 Ok(())
             }
             Err(conflict) => Err(conflict),
@@ -173,18 +173,19 @@ impl SignalBank {
         ensures announced { events.new ≡ told_by_signals parts.now self.old.signals events.old }
     {
         self.changed.clear_all();
-        self.asked.take_all(&mut self.visited);
+        put_in_order(&mut self.asked);
         update_each(
             self.signals.as_mut_slice(),
             &mut self.changed,
-            self.visited.as_slice(),
+            self.asked.as_slice(),
             parts,
             events,
         );
-        self.visited.clear();
+        self.asked.clear();
     }
 
     // None is marked as changed any more.
+    #[inline(always)]
     pub(crate) fn clear_changed(&mut self)
         ensures { self.new ≡ record self.old { changed = map (λ (b : Bool). false) self.old.changed } }
     {

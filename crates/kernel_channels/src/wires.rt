@@ -156,6 +156,19 @@ impl WireBank {
         ensures left { self.new ≡ record { resolved = resettled_all self.old.resolved self.old.asked; asked = map (λ (b : Bool). false) self.old.asked; changed = resolved_changes self.old.resolved self.old.asked } }
         ensures announced { events.new ≡ told_by_resolved parts.now self.old.resolved self.old.asked events.old }
     {
+        if self.asked.is_empty() {
+            self.changed.clear_all();
+            return;
+        }
+        self.update_asked(parts, events);
+    }
+
+    // The same, where some asked.
+    #[inline(never)]
+    fn update_asked(&mut self, parts: &[ResolvedPart], events: &mut EventBoard)
+        ensures left { self.new ≡ record { resolved = resettled_all self.old.resolved self.old.asked; asked = map (λ (b : Bool). false) self.old.asked; changed = resolved_changes self.old.resolved self.old.asked } }
+        ensures announced { events.new ≡ told_by_resolved parts.now self.old.resolved self.old.asked events.old }
+    {
         self.changed.clear_all();
         self.asked.take_all(&mut self.visited);
         update_each(
@@ -169,6 +182,7 @@ impl WireBank {
     }
 
     // None is marked as changed any more.
+    #[inline(always)]
     pub(crate) fn clear_changed(&mut self)
         ensures { self.new ≡ record self.old { changed = map (λ (b : Bool). false) self.old.changed } }
     {

@@ -19,7 +19,7 @@ use Rattle.sim_model.specs.EventCore.Notifications.{pending_at, notified, comes_
 use Rattle.timed_queue.specs.SimTime.declared.moments.Time.{Time}
 use Rattle.timed_queue.specs.Timed.{Timed, without}
 use Rattle.sim_model.specs.Configuration.{change, changed_at}
-use Rattle.kernel_events.specs.Layout.{time_of, is_timed, HasOthers, IsListed, IsTied, with_pending}
+use Rattle.kernel_events.specs.Layout.{time_of, is_timed, is_nothing, HasOthers, IsListed, IsTied, with_pending}
 
 -- ---- a change at a number
 
@@ -144,6 +144,11 @@ overridden w p is = ap (λ b. cond b (left_pending w) p) is
 
 pub kept : (w : When) (p : Pending) → comes_first w p ≡ false → notified w p ≡ p
 kept w p is = ap (λ b. cond b (left_pending w) p) is
+
+pub nothing_is : (p : Pending) → is_nothing p ≡ true → p ≡ pending.Nothing
+nothing_is pending.Nothing is = refl
+nothing_is pending.Delta is = absurd (true≢false (sym is))
+nothing_is (pending.At t) is = absurd (true≢false (sym is))
 
 -- ---- at the start
 

@@ -1,6 +1,6 @@
 -- How it is kept: which events may have a delta notification, and the times of those that have a timed one. No public clause
 -- cites this module.
-use Rattle.std.specs.Prelude.{◌≡◌, ◌≢◌, ◌≤◌, ◌<◌, ◌+◌, ⊤, ℕ, Bool, List, [], ◌∷◌, Option, Some, None, is_some, length, count_by, slice_set, vec_capacity}
+use Rattle.std.specs.Prelude.{◌≡◌, ◌≢◌, ◌≤◌, ◌<◌, ◌+◌, ⊤, ℕ, Bool, true, false, List, [], ◌∷◌, Option, Some, None, is_some, length, count_by, slice_set, vec_capacity}
 use Rattle.std.specs.Global.{Vec}
 use Rattle.std.specs.List.{All, Contains}
 use Rattle.std.specs.FinMap as maps
@@ -17,6 +17,11 @@ time_of (pending.At t) = Some t
 
 abbrev pub is_timed : Pending → Bool
 is_timed p = is_some (time_of p)
+
+abbrev pub is_nothing : Pending → Bool
+is_nothing pending.Nothing = true
+is_nothing pending.Delta = false
+is_nothing (pending.At t) = false
 
 -- each event with a delta notification is listed, and the same of all events but one
 abbrev pub HasDeltas : List Pending → List ℕ → Type 0

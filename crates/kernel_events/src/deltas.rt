@@ -1,5 +1,5 @@
 // The list of the events with a delta notification.
-ghost use Rattle.std.specs.Prelude.{◌≡◌, ◌≤◌, ◌<◌, ◌+◌, ◌++◌, length, map, count_by, vec_len, vec_capacity};
+ghost use Rattle.std.specs.Prelude.{◌≡◌, ◌≤◌, ◌<◌, ◌+◌, ◌++◌, IsTrue, length, map, count_by, vec_len, vec_capacity};
 ghost use Rattle.std.specs.List.{All};
 ghost use Rattle.std.specs.List.Sorted.{IsNonDecreasing, IsPermutation};
 ghost use Rattle.sim_model.specs.EventCore.Notifications.{pending_at};
@@ -53,16 +53,42 @@ pub(super) fn list(deltas: &mut Vec<u32>, events: &Events, size: u32, e: u32)
     }
 }
 
-// Puts the numbers in rising order. A list of one stands so.
+// Whether the numbers stand in rising order.
+#[inline(always)]
+fn is_in_order(listed: &[u32]) -> bool
+    ensures { IsTrue result → IsNonDecreasing listed.now }
+{
+    for k in 1..listed.len() {
+        let before = listed[k - 1];
+        let here = listed[k];
+        if here < before {
+            return false;
+        }
+    }
+    true
+}
+
+// Puts the numbers in rising order, whatever order they stand in.
+#[inline(never)]
+fn sort_numbers(listed: &mut Vec<u32>)
+    ensures sorted { IsNonDecreasing listed.new.items }
+    ensures moved { IsPermutation listed.old.items listed.new.items }
+    ensures capacity { vec_capacity listed.new ≡ vec_capacity listed.old }
+{
+    listed.sort_unstable();
+}
+
+// The same. They mostly stand so: the events of a signal are notified one after another.
 #[inline(always)]
 pub(super) fn put_in_order(listed: &mut Vec<u32>)
     ensures sorted { IsNonDecreasing listed.new.items }
     ensures moved { IsPermutation listed.old.items listed.new.items }
     ensures capacity { vec_capacity listed.new ≡ vec_capacity listed.old }
 {
-    if listed.len() > 1 {
-        listed.sort_unstable();
+    if is_in_order(listed.as_slice()) {
+        return;
     }
+    sort_numbers(listed);
 }
 
 // Takes the delta notifications of all these events out: the events that had one stand behind what `out` has.

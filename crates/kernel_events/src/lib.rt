@@ -2,19 +2,19 @@
 //! (IEEE 1666-2011, 4.2.1.4, 4.2.1.5 and 5.10).
 #![tactic(auto)]
 
-ghost use Rattle.std.specs.Prelude.{◌≡◌, ◌++◌, ◌+◌, ◌≤◌, ℕ, None, Some, IfNone, IfSome, IsNone, IfOk, count_by, length, map, option_map, replicate, vec_len, vec_capacity};
+ghost use Rattle.std.specs.Prelude.{◌≡◌, ◌++◌, ◌+◌, ◌≤◌, ◌<◌, ℕ, true, None, Some, IfNone, IfSome, IsNone, IfOk, count_by, length, map, option_map, replicate, vec_len, vec_capacity};
 
 mod deltas;
 mod timing;
 
-use deltas::{put_in_order, take_each};
+use deltas::{list, put_in_order, take_each};
 use sim_model::event_core_api::{Effect, Events, Pending, When};
 use sim_model::numbered_slots_api::only_marked_places_rise;
 use std::alloc::{AllocError, Global};
 use std::marker::Model;
 use timed_queue::TimedQueue;
 use timed_queue::sim_time_api::Time;
-use timing::{cancel_all, follow, has_time, left_by};
+use timing::{cancel_all, follow, has_nothing, has_time, left_by};
 
 /// What is pending for each event of the design, by the event's number.
 ///
@@ -50,9 +50,10 @@ impl Model for EventBoard {
 }
 
 impl EventBoard {
-    ghost use Rattle.sim_model.specs.EventCore.Notifications.{notified};
+    ghost use Rattle.sim_model.specs.EventCore.Notifications.{notified, pending_at};
     ghost use Rattle.sim_model.specs.Configuration.{change};
     ghost use Rattle.sim_model.specs.Phases.{is_delta, is_at, due_events, without_pending, earliest_event};
+    ghost use Rattle.kernel_events.specs.Layout.{is_nothing};
     ghost use Rattle.kernel_events.specs.Numbered.{fixed};
 
     /// The events from 0 up to `n`, of which none is pending. All memory is taken here.
@@ -80,7 +81,45 @@ impl EventBoard {
 
     /// Notifies an event. An earlier pending notification stays, a later one is overridden, and after an immediate
     /// notification nothing is pending: the caller fires the event. Where there is no event of this number nothing changes.
+    #[inline(always)]
     pub fn notify(&mut self, e: u32, w: When)
+        ensures { self.new ≡ change self.old e (notified w) }
+    {
+        match w {
+            When::Delta => self.notify_delta(e),
+            When::Immediate | When::At(_) => self.notify_any(e, w),
+        }
+    }
+
+    // A delta notification of an event.
+    #[inline(always)]
+    fn notify_delta(&mut self, e: u32)
+        ensures { self.new ≡ change self.old e (notified When.Delta) }
+    {
+        if e >= self.size {
+            return;
+        }
+        if has_nothing(&self.events, e) {
+            self.set_delta(e);
+        } else {
+            self.notify_any(e, When::Delta);
+        }
+    }
+
+    // The same, of an event for which nothing is pending.
+    #[inline(always)]
+    fn set_delta(&mut self, e: u32)
+        requires inside { e < length self.old }
+        requires none { is_nothing (pending_at self.old e) ≡ true }
+        ensures { self.new ≡ change self.old e (notified When.Delta) }
+    {
+        let _ = self.events.notify(e, When::Delta);
+        list(&mut self.deltas, &self.events, self.size, e);
+    }
+
+    // Any notification of an event, whatever is pending for it.
+    #[inline(never)]
+    fn notify_any(&mut self, e: u32, w: When)
         ensures { self.new ≡ change self.old e (notified w) }
     {
         if e >= self.size {
@@ -125,6 +164,7 @@ impl EventBoard {
     }
 
     /// A time that no timed notification is before, in the time of a few tests; none where there is none.
+    #[inline(always)]
     pub fn not_before(&self) -> Option<Time>
         ensures none { IfNone result (earliest_event self.now None ≡ None) }
         ensures nothing { earliest_event self.now None ≡ None → IsNone result }
@@ -137,6 +177,7 @@ impl EventBoard {
     }
 
     /// The earliest time of a timed notification.
+    #[inline(always)]
     pub fn earliest(&self) -> Option<Time>
         ensures { option_map (λ t. t.0) result ≡ earliest_event self.now None }
     {
@@ -159,6 +200,7 @@ impl EventBoard {
 
     /// Takes all notifications at this very time out: their events, in rising order of the numbers, stand behind what `out`
     /// has. It takes no memory.
+    #[inline(always)]
     pub fn take_at(&mut self, t: Time, out: &mut Vec<u32>)
         requires room { vec_len out.old + count_by (is_at t.0) self.old ≤ vec_capacity out.old }
         ensures taken { fixed out.new.items ≡ fixed out.old.items ++ due_events (is_at t.0) 0 self.old }
@@ -168,6 +210,16 @@ impl EventBoard {
         if self.times.is_empty() {
             return;
         }
+        self.take_those_at(t, out);
+    }
+
+    // The same, where some event has a timed notification.
+    fn take_those_at(&mut self, t: Time, out: &mut Vec<u32>)
+        requires room { vec_len out.old + count_by (is_at t.0) self.old ≤ vec_capacity out.old }
+        ensures taken { fixed out.new.items ≡ fixed out.old.items ++ due_events (is_at t.0) 0 self.old }
+        ensures capacity { vec_capacity out.new ≡ vec_capacity out.old }
+        ensures left { self.new ≡ map (without_pending (is_at t.0)) self.old }
+    {
         only_marked_places_rise();
         let before = out.len();
         self.times.take_due(t, out);

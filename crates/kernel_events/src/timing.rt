@@ -4,7 +4,7 @@ ghost use Rattle.std.specs.FinMap as map;
 ghost use Rattle.std.specs.List.{All};
 ghost use Rattle.sim_model.specs.EventCore.Notifications.{left_pending, pending_at};
 ghost use Rattle.timed_queue.specs.Timed.{without};
-ghost use Rattle.kernel_events.specs.Layout.{is_timed, with_pending, nothing_at, AreBelow, HasOthers, IsListed};
+ghost use Rattle.kernel_events.specs.Layout.{is_nothing, is_timed, with_pending, nothing_at, AreBelow, HasOthers, IsListed};
 
 use crate::deltas::list;
 use sim_model::event_core_api::{Events, Pending, When};
@@ -18,6 +18,18 @@ pub(super) fn left_by(w: When) -> Pending
         When::Immediate => Pending::Nothing,
         When::Delta => Pending::Delta,
         When::At(t) => Pending::At(t),
+    }
+}
+
+// Whether nothing is pending for an event.
+#[inline(always)]
+pub(super) fn has_nothing(events: &Events, e: u32) -> bool
+    requires { e < length events.now }
+    ensures { result ≡ is_nothing (pending_at events.now e) }
+{
+    match events.pending(e) {
+        None => true,
+        Some(When::Immediate | When::Delta | When::At(_)) => false,
     }
 }
 

@@ -1,6 +1,9 @@
 -- A runnable instance is taken, and its body begins.
-use Rattle.std.proofs.Common.{◌≡◌, ◌≢◌, ◌==◌, ◌||◌, not, cond, ℕ, zero, suc, Bool, true, false, List, [], ◌∷◌, slice_get, slice_set, Option, Some, None, option_map, refl, sym, ap, ◌∙◌, subst, true≢false, eqb-true, ne_eqb}
+use Rattle.std.proofs.Common.{◌≡◌, ◌≢◌, ◌==◌, ◌||◌, not, cond, ℕ, zero, suc, Bool, true, false, List, [], ◌∷◌, slice_get, slice_set, Option, Some, None, option_map, refl, sym, ap, ◌∙◌, subst, true≢false, eqb-true, eq-eqb, ne_eqb, ⊎_elim, ◌+◌}
 use Rattle.std.specs.Prelude.{is_some, reverse, unwrap_or, if◌then◌else◌}
+use Rattle.std.specs.Ordering.{nat_cmp}
+use Rattle.std.specs.Cmp.{nat_cmp_total, unsigned_tied}
+use Rattle.std.proofs.lemmas.Bool.{cases_eq}
 use Rattle.std.specs.FinMap as map
 use Rattle.std.specs.FinSet as set
 use Rattle.kernel_state.specs.InstanceTable.declared.instances.Instance.{Instance as Entry}
@@ -15,15 +18,16 @@ use Rattle.kernel_state.proofs.KernelBodies.Strips.{strip-entered}
 use Rattle.kernel_state.specs.ProcessBodies.Bodies as bodies
 use Rattle.kernel_state.specs.ProcessBodies.Bodies.{left_in}
 use Rattle.kernel_state.specs.ProcessBodies.declared.body.Body.{Body}
-use Rattle.kernel_state.specs.KernelProcesses.InstanceViews.{seen, shown_at, as_instance}
+use Rattle.kernel_state.specs.KernelProcesses.InstanceViews.{Seen, seen, shown_at, as_instance}
 use Rattle.kernel_state.specs.KernelProcesses.InstanceViews.{body_at as kept_at}
 use Rattle.kernel_state.specs.KernelProcesses.Sound as schedules
-use Rattle.kernel_state.specs.KernelProcesses.Moves.{MovesOne}
+use Rattle.kernel_state.specs.KernelProcesses.Moves.{with_entry, Changes, MovesOne}
 use Rattle.kernel_state.specs.KernelProcesses.declared.parts.Process.{Process}
 use Rattle.kernel_state.specs.KernelProcesses.declared.parts.Schedule.{Schedule}
 use Rattle.kernel_state.specs.KernelProcesses.declared.parts.Trigger.{Trigger}
 use Rattle.kernel_state.specs.KernelProcesses.Moved.{PutsBody, joins_top, same_stack, started_as}
 use Rattle.kernel_state.proofs.KernelProcesses.OtherBody.{puts_body, puts_sound}
+use Rattle.kernel_state.proofs.KernelProcesses.Sounding.{moves_one, sound_still}
 use Rattle.kernel_state.specs.Processes.{beside, TellsBy, Tells}
 use Rattle.kernel_state.specs.Kernel.{Shows, StandsFor, IsSound, whole_design, path_in, trigger_of}
 use Rattle.kernel_state.specs.Moves.{Moves, MovesAt, Lives}
@@ -59,6 +63,104 @@ module _ (k : Kernel) (p : ℕ) (x : Entry (Process Kept)) (at : map.get k.sched
 
     pub started_at : i.started ≡ x.started
     started_at = started_by i i.ended tells
+
+-- ---- the entry of an instance, written at once
+
+module _ {X : Type 0} (m : map.FinMap nat_cmp X) (p : ℕ) (v : X) where
+  get_here : (q : ℕ) → q ≡ p → map.get (map.insert m p v) q ≡ Some v
+  get_here q same = map.get-insert nat_cmp_total m p v q ∙ ap (λ b. cond b (Some v) (map.get m q)) (unsigned_tied q p ∙ eq-eqb q p same)
+
+  get_there : (q : ℕ) → q ≢ p → map.get (map.insert m p v) q ≡ map.get m q
+  get_there q apart = map.get-insert nat_cmp_total m p v q ∙ ap (λ b. cond b (Some v) (map.get m q)) (unsigned_tied q p ∙ ne_eqb q p apart)
+
+  count_same : is_some (map.get m p) ≡ true → map.len (map.insert m p v) ≡ map.len m
+  count_same there = map.len-insert nat_cmp_total m p v ∙ ap (λ b. cond b (map.len m) (map.len m + 1)) there
+
+  -- what stood there is written again
+  insert_same : map.get m p ≡ Some v → map.insert m p v ≡ m
+  insert_same at = map.same_map nat_cmp_total map.nat_cmp-IsAntisymmetric (map.insert m p v) m
+      (λ q. ⊎_elim (λ same. get_here q same ∙ sym at ∙ ap (map.get m) (sym same)) (λ apart. get_there q apart) (cases_eq q p))
+
+abbrev begun_mark : Entry (Process Kept) → Entry (Process Kept)
+begun_mark e = record e { started = true }
+
+abbrev marked : Seen Kept → Seen Kept
+marked = with_entry begun_mark
+
+free_marked : (z : Entry (Process Kept)) → schedules.IsFree z → schedules.IsFree (begun_mark z)
+free_marked z free = record { wait = free.wait; deadline = free.deadline }
+
+fits_marked : (o : Option (Entry (Process Kept))) (v : Seen Kept) → schedules.FitsAs o v → schedules.FitsAs (option_map begun_mark o) (marked v)
+fits_marked None v nobody = record { wait = nobody.wait; muted = nobody.muted; has_room = nobody.has_room; time = nobody.time; zero = nobody.zero; ready = nobody.ready }
+fits_marked (Some z) v kept = record {
+  wait = kept.wait;
+  muted = kept.muted;
+  has_room = kept.has_room;
+  time = kept.time;
+  zero = kept.zero;
+  runs = λ is. (free_marked z (kept.runs is).0, (kept.runs is).1);
+  kept = λ is. (free_marked z (kept.kept is).0, (kept.kept is).1);
+}
+
+busy_marked : (z : Entry (Process Kept)) (v : Seen Kept) → schedules.IsBusy z v → schedules.IsBusy (begun_mark z) (marked v)
+busy_marked z v busy = record { free = free_marked z busy.free; ready = busy.ready; kept = busy.kept }
+
+there_marked : (o : Option (Entry (Process Kept))) → is_some (option_map begun_mark o) ≡ is_some o
+there_marked None = refl
+there_marked (Some z) = refl
+
+body_marked : (o : Option (Entry (Process Kept))) → option_map (λ (z : Entry (Process Kept)). z.body.body) (option_map begun_mark o) ≡ option_map (λ (z : Entry (Process Kept)). z.body.body) o
+body_marked None = refl
+body_marked (Some z) = refl
+
+shown_marked : (o : Option (Entry (Process Kept))) (v : Seen Kept) → option_map (λ (z : Entry (Process Kept)). as_instance z v.wait) (option_map begun_mark o) ≡ option_map (started_as true) (option_map (λ (z : Entry (Process Kept)). as_instance z v.wait) o)
+shown_marked None v = refl
+shown_marked (Some z) v = refl
+
+same_entry : (y z : Entry (Process Kept)) (o : Option (Entry (Process Kept))) → o ≡ Some y → option_map begun_mark o ≡ Some z → begun_mark y ≡ z
+same_entry y z o is marked_is = ap (λ o. unwrap_or o (begun_mark y)) (sym (ap (option_map begun_mark) is) ∙ marked_is)
+
+-- the entry y in place of another, and that its body has begun
+module _ (s : Schedule Kept) (p : ℕ) (x y : Entry (Process Kept)) (at : map.get s.table.live p ≡ Some x) where
+  abbrev pub with_it : Entry (Process Kept) → Schedule Kept
+  with_it z = record s { table = record s.table { live = map.insert s.table.live p z } }
+
+  marks : Changes p marked (with_it y) (with_it (begun_mark y))
+  marks = record {
+    here = ap (λ o. record (seen s p) { entry = o }) (get_here s.table.live p (begun_mark y) p refl ∙ sym (ap (option_map begun_mark) (get_here s.table.live p y p refl)));
+    others = λ q apart. ap (λ o. record (seen s q) { entry = o }) (get_there s.table.live p (begun_mark y) q apart ∙ sym (get_there s.table.live p y q apart));
+    stack = refl;
+    woken = refl;
+    due = refl;
+    next = refl;
+    count = count_same s.table.live p (begun_mark y) (ap is_some at) ∙ sym (count_same s.table.live p y (ap is_some at));
+    places = refl;
+  }
+
+  pub marks_one : MovesOne p (started_as true) (set.contains s.ready.members p) same_stack (with_it y) (with_it (begun_mark y))
+  marks_one = moves_one (with_it y) (with_it (begun_mark y)) p marked marks (started_as true) (set.contains s.ready.members p)
+      (shown_marked (seen (with_it y) p).entry (seen (with_it y) p)) refl (body_marked (seen (with_it y) p).entry)
+
+  pub marks_sound : schedules.IsSound (with_it y) → schedules.IsSound (with_it (begun_mark y))
+  marks_sound sound = sound_still (with_it y) (with_it (begun_mark y)) p marked marks sound
+      (fits_marked (seen (with_it y) p).entry (seen (with_it y) p) (sound.each p))
+      (there_marked (seen (with_it y) p).entry)
+      (λ z on some. subst (λ e. schedules.IsBusy e (marked (seen (with_it y) p))) (same_entry y z (seen (with_it y) p).entry (get_here s.table.live p y p refl) some)
+      (busy_marked y (seen (with_it y) p) (sound.busy p y on (get_here s.table.live p y p refl))))
+
+-- an entry that is written as it was
+module _ (k : Kernel) (p : ℕ) (x : Entry (Process Kept)) (at : map.get k.schedule.table.live p ≡ Some x) where
+  abbrev pub with_same : Kernel
+  with_same = record k { schedule = record k.schedule { table = record k.schedule.table { live = map.insert k.schedule.table.live p x } } }
+
+  as_it_was : with_same ≡ k
+  as_it_was = ap (λ m. record k { schedule = record k.schedule { table = record k.schedule.table { live = m } } }) (insert_same k.schedule.table.live p x at)
+
+  pub same_moves : Moves k with_same (λ c. c)
+  same_moves c h = subst (λ j. StandsFor j c) (sym as_it_was) h
+
+  pub same_sound : IsSound k → IsSound with_same
+  same_sound sound = subst (λ j. IsSound j) (sym as_it_was) sound
 
 -- ---- the body
 
@@ -110,6 +212,24 @@ begins_at k j l p first next c i h there = subst (λ is. StandsFor l (record c {
     (change-twice c.processes.instances p (λ z. record z { residual = begun (arena c) i.code i.arguments; trigger = None }) (λ z. record z { started = true })
     ∙ sym (change-twice c.processes.instances p (λ z. record z { trigger = None }) (λ z. record z { residual = begun (arena c) i.code i.arguments; started = true })))
     (next (restarted c p i) (first c i h there))
+
+-- both at once
+module _ (k : Kernel) (p : ℕ) (x : Entry (Process Kept)) (b : Body) (t : Option Trigger) (at : map.get k.schedule.table.live p ≡ Some x) (keeps : bodies.Keeps x.body.body.body b) where
+  abbrev restarted_entry : Entry (Process Kept)
+  restarted_entry = record x { body = record x.body { body = record x.body.body { body = b; trigger = t } } }
+
+  abbrev pub with_begun : Schedule Kept
+  with_begun = record k.schedule { table = record k.schedule.table { live = map.insert k.schedule.table.live p (record restarted_entry { started = true }) } }
+
+  pub begun_moves : left_in k.program.now b ≡ begun (arena_of k.program.now.code) x.body.body.body.calls.code x.body.body.body.calls.arguments.items → t ≡ None → MovesAt k (record k { schedule = with_begun }) p (λ c i. begins_first c p i)
+  begun_moves left none = begins_at k (record k { schedule = with_first k p x b t at keeps }) (record k { schedule = with_begun }) p (restarts_at k p x b t at keeps left none)
+      (starts (record k { schedule = with_first k p x b t at keeps }) p with_begun (marks_one k.schedule p x restarted_entry at) (first_there k p x b t at keeps))
+
+  pub begun_sound : IsSound k → bodies.IsSound k.program.now b → IsSound (record k { schedule = with_begun })
+  begun_sound sound fine =
+      let first = first_sound k p x b t at keeps sound fine in
+      let m = marks_one k.schedule p x restarted_entry at in
+      schedule_sound (record k { schedule = with_first k p x b t at keeps }) first with_begun (marks_sound k.schedule p x restarted_entry at first.schedule) m.bodies (ap (λ v. v.items) m.due) m.next
 
 -- ---- the taking
 

@@ -1,25 +1,15 @@
 //! The turns of processes.
-ghost use Rattle.std.specs.Prelude.{◌≡◌, [], true, None, IfSome, IfNone, is_some};
+ghost use Rattle.std.specs.Prelude.{◌≡◌, [], true, false, None, IfSome, IfNone, is_some};
 ghost use Rattle.std.specs.FinMap as map;
 ghost use Rattle.std.specs.FinSet as set;
 ghost use Rattle.kernel_state.specs.SimModel.Configuration.{instance_at};
 ghost use Rattle.kernel_state.specs.SimModel.Steps.{instance_taken};
 ghost use Rattle.kernel_state.specs.Kernel.{IsSound};
 ghost use Rattle.kernel_state.specs.Moves.{Moves, MovesAt, Lives};
-ghost use Rattle.kernel_phases.specs.Turns.{is_begun, restarted, begins_first};
+ghost use Rattle.kernel_phases.specs.Turns.{is_begun, begins_first};
 
 use kernel_state::Kernel;
-use kernel_state::kernel_processes_api::{Trigger, begin, take};
-
-/// Whether the body of an instance has begun.
-fn is_begun(k: &Kernel, p: u32) -> bool
-    ensures { result ≡ is_begun (map.get k.now.schedule.table.live p) }
-{
-    match k.schedule.table.get(p) {
-        Some(x) => x.started,
-        None => true,
-    }
-}
+use kernel_state::kernel_processes_api::{Trigger, take};
 
 /// What stands in a place is let go of.
 #[cold]
@@ -41,36 +31,27 @@ fn clear(place: &mut Option<Trigger>)
     }
 }
 
-/// The body of an instance is at its first statement, and no next trigger is set for it.
+/// The body of an instance begins at its first statement, and no next trigger is set for it, where it has not begun: all in one look
+/// at the instance. Where it has begun nothing changes.
 #[inline(always)]
-fn restart_body(k: &mut Kernel, p: u32)
+fn begin_first(k: &mut Kernel, p: u32)
     requires sound { IsSound k.old }
     requires lives { Lives k.old p }
-    ensures moves { MovesAt k.old k.new p (λ c i. restarted c p i) }
-    ensures lives { Lives k.new p }
+    ensures first { is_begun (map.get k.old.schedule.table.live p) ≡ false → MovesAt k.old k.new p (λ c i. begins_first c p i) }
+    ensures stays { is_begun (map.get k.old.schedule.table.live p) ≡ true → Moves k.old k.new (λ c. c) }
     ensures sound { IsSound k.new }
     ensures made { k.new.made ≡ k.old.made }
 {
     match k.schedule.table.get_mut(p) {
         Some(x) => {
-            clear(&mut x.body.body.trigger);
-            x.body.body.body.restart(k.program);
+            if !x.started {
+                x.started = true;
+                clear(&mut x.body.body.trigger);
+                x.body.body.body.restart(k.program);
+            }
         }
         None => {}
     }
-}
-
-/// The body of an instance begins, and no next trigger is set for it.
-#[inline(always)]
-fn begin_body(k: &mut Kernel, p: u32)
-    requires sound { IsSound k.old }
-    requires lives { Lives k.old p }
-    ensures moves { MovesAt k.old k.new p (λ c i. begins_first c p i) }
-    ensures sound { IsSound k.new }
-    ensures made { k.new.made ≡ k.old.made }
-{
-    restart_body(k, p);
-    begin(&mut k.schedule, p, true);
 }
 
 /// A runnable instance is taken: it is the only active one, and its body begins where it has not begun (IEEE 1666-2011,
@@ -84,7 +65,5 @@ pub fn turn(k: &mut Kernel, p: u32)
     ensures made { k.new.made ≡ k.old.made }
 {
     take(&mut k.schedule, p);
-    if !is_begun(k, p) {
-        begin_body(k, p);
-    }
+    begin_first(k, p);
 }

@@ -1,8 +1,9 @@
 -- What one part's change is, told serial by serial.
-use Rattle.std.proofs.Common.{◌≡◌, ◌≢◌, ◌+◌, ◌-◌, ℕ, zero, suc, Bool, true, false, not, ◌&&◌, ◌||◌, Option, Some, None, refl, sym, ap, ◌∙◌, arith, true≢false}
+use Rattle.std.proofs.Common.{◌≡◌, ◌≢◌, ◌+◌, ◌-◌, ℕ, zero, suc, Bool, true, false, not, List, ◌&&◌, ◌||◌, Option, Some, None, refl, sym, ap, ◌∙◌, arith, true≢false}
 use Rattle.std.specs.Prelude.{is_some, option_map, if◌then◌else◌}
 use Rattle.instance_table.specs.NumberedSlots.Numbered.{with_value}
 use Rattle.instance_table.specs.declared.instances.Instance.{Instance as Entry}
+use Rattle.wait_lists.specs.EventCore.declared.event.Ev.{Ev}
 use Rattle.kernel_processes.specs.declared.parts.Process.{Process}
 use Rattle.std.specs.Ordering.{nat_cmp}
 use Rattle.std.specs.Cmp.{nat_cmp_total}
@@ -15,7 +16,7 @@ use Rattle.timed_queue.specs.Timed.{Timed}
 use Rattle.ready_set.specs.Ready.{Ready, with_member, without_member}
 use Rattle.wait_lists.specs.Waits as lists
 use Rattle.kernel_processes.specs.InstanceViews.{Seen, seen}
-use Rattle.kernel_processes.specs.Moves.{with_entry, waiting_by, HasNoTimeOut, Changes}
+use Rattle.kernel_processes.specs.Moves.{with_entry, waiting_by, sensitive_of, HasNoTimeOut, Changes}
 use Rattle.kernel_processes.specs.declared.parts.Schedule.{Schedule}
 use Rattle.kernel_processes.specs.declared.parts.Trigger.{Trigger}
 
@@ -244,3 +245,19 @@ pub rests_at_once : {B : Type 0} (t : Trigger) (o : Option (Entry (Process B))) 
     ≡ option_map (λ (x : Entry (Process B)). record x { started = false }) (option_map (λ (x : Entry (Process B)). record x { wait = waiting_by t.wait; deadline = t.deadline }) o)
 rests_at_once t None = refl
 rests_at_once t (Some x) = refl
+
+-- a static wait and what is noted of it, at once
+module _ {B : Type 0} (s : Schedule B) (p : ℕ) (w : lists.Waits) (f : Entry (Process B) → Entry (Process B)) where
+  abbrev by_static : Seen B → Seen B
+  by_static v = with_entry f (record v { wait = lists.any_of (sensitive_of v.entry) })
+
+  pub listed_static : (x : Entry (Process B)) (es : List Ev) → map.get s.table.live p ≡ Some x → es ≡ x.body.sensitive → w ≡ lists.with_wait s.lists p (lists.any_of es)
+      → Changes p by_static s (record s { table = with_value s.table p (f x); lists = w })
+  listed_static x es at same is = told_as p _ by_static s _
+      (then_changes p (with_entry f) (λ v. record v { wait = lists.any_of es }) s (record s { table = with_value s.table p (f x) }) _ (rewritten s p f x (f x) at refl)
+      (put_lists (record s { table = with_value s.table p (f x) }) p w (lists.any_of es) is))
+      (ap (λ fs. record (seen s p) { entry = option_map f (seen s p).entry; wait = lists.any_of fs }) (same ∙ ap sensitive_of (sym at)))
+
+  pub listed_nowhere : map.get s.table.live p ≡ None → w ≡ lists.with_wait s.lists p None → Changes p by_static s (record s { lists = w })
+  listed_nowhere none is = told_as p _ by_static s _ (put_lists s p w None is)
+      (ap (λ o. record (seen s p) { entry = o; wait = None }) none ∙ sym (ap (λ o. record (seen s p) { entry = option_map f o; wait = lists.any_of (sensitive_of o) }) none))

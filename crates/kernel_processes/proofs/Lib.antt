@@ -3,6 +3,7 @@ pub mod Changed
 pub mod Places
 pub mod Rousing
 mod Emptiness
+mod Timing
 mod Meeting
 mod Firing
 pub mod Fired

@@ -7,10 +7,11 @@ use Rattle.instance_table.specs.declared.instances.Instance.{Instance as Entry}
 use Rattle.instance_table.specs.declared.instances.Waiting.TheVariants as waiting
 use Rattle.instance_table.specs.declared.instances.Deadline.TheVariants as due
 use Rattle.kernel_processes.specs.InstanceViews.{Seen, seen, is_on}
-use Rattle.kernel_processes.specs.Moves.{heard, met_by, met, met_if, Changes, HasPlaces, MeetsAll, MeetsSome}
+use Rattle.kernel_processes.specs.Moves.{heard, met_by, met, met_if, Changes, HasPlaces, IsTimedSo, MeetsAll, MeetsSome}
 use Rattle.kernel_processes.specs.declared.parts.Process.{Process}
 use Rattle.kernel_processes.specs.declared.parts.Schedule.{Schedule}
 use Rattle.kernel_processes.proofs.Rousing.{or-false, or-true}
+use Rattle.kernel_processes.proofs.Timing.{timed_met}
 
 -- ---- the last of a list
 
@@ -77,6 +78,10 @@ module _ {B : Type 0} where
       places = ch.places ∙ m.places;
       room = capacity ∙ m.room;
       still = places;
+      timed = λ q. ⊎_elim
+          (λ same. subst (λ n. IsTimedSo (seen u n)) (sym same) (subst IsTimedSo (sym ch.here) (timed_met (seen t p) (m.timed p))))
+          (λ apart. subst IsTimedSo (sym (ch.others q apart)) (m.timed q))
+          (cases_eq q p);
     }
       where
         here : (q : ℕ) → q ≡ p → met_if (is_on u.woken.items q) (seen u q) ≡ met_if (is_on s.woken.items q) (seen s q)

@@ -171,6 +171,14 @@ module _ {B : Type 0} where
         (sym (ap (λ b. set.contains s.ready.members p || b) (deaf_joins (is_on s.stack.items p) (seen s p) (map.get s.table.live p) refl deaf) ∙ or-false (set.contains s.ready.members p)))
         refl refl refl refl
 
+    -- it is as it was where it cannot hear
+    pub unheard_still : (t : Schedule B) → Changes p (λ x. x) s t → (is_on s.stack.items p || not (is_heard (map.get s.table.live p))) ≡ true → Woken t
+    unheard_still t ch deaf = woken_by t ch.others
+        (ap shown_in ch.here ∙ sym (deaf_shown (is_on s.stack.items p) (seen s p) (map.get s.table.live p) refl deaf))
+        (ap (λ x. x.ready) ch.here ∙ sym (ap (λ b. set.contains s.ready.members p || b) (deaf_joins (is_on s.stack.items p) (seen s p) (map.get s.table.live p) refl deaf) ∙ or-false (set.contains s.ready.members p)))
+        (ap (λ x. option_map (λ (e : Entry (Process B)). e.body.body) x.entry) ch.here)
+        ch.due ch.stack ch.next
+
     -- an instance that hears
     module _ (t : Schedule B) (y : Entry (Process B)) (at : map.get s.table.live p ≡ Some y) (on : y.disabled ≡ false) (resting : is_on s.stack.items p ≡ false) (ch : Changes p roused_seen s t) where
       pub woke : Woken t

@@ -6,6 +6,7 @@ use Rattle.wait_lists.specs.EventCore.declared.event.Ev.{Ev}
 use Rattle.instance_table.specs.declared.instances.Instance.{Instance as Entry}
 use Rattle.instance_table.specs.declared.instances.Waiting.{Waiting}
 use Rattle.instance_table.specs.declared.instances.Waiting.TheVariants as waiting
+use Rattle.instance_table.specs.declared.instances.Deadline.{Deadline}
 use Rattle.instance_table.specs.declared.instances.Deadline.TheVariants as due
 use Rattle.wait_lists.specs.Waits as lists
 use Rattle.sim_model.specs.Configuration.{Instance}
@@ -34,6 +35,12 @@ waiting_by how.Static = waiting.Static
 waiting_by (how.Any es) = waiting.Any
 waiting_by (how.All es) = waiting.All
 
+-- whether a wait is to end by time
+abbrev pub has_end : Deadline → Bool
+has_end due.None = false
+has_end due.Delta = true
+has_end (due.At t) = true
+
 module _ {B : Type 0} where
   -- the entry of an instance that hears a wake: its wait is over, and it is kept where it is suspended
   abbrev pub heard : Entry (Process B) → Entry (Process B)
@@ -54,7 +61,16 @@ module _ {B : Type 0} where
   is_heard None = false
   is_heard (Some x) = not x.disabled
 
-  -- and what is seen of it then
+  -- whether a time is to end its wait
+  abbrev pub is_timed : Option (Entry (Process B)) → Bool
+  is_timed None = false
+  is_timed (Some x) = has_end x.deadline
+
+  -- it has a time-out only where one is to
+  abbrev pub IsTimedSo : Seen B → Type 0
+  IsTimedSo x = is_timed x.entry ≡ false → (x.time ≡ None) × (x.zero ≡ false)
+
+  -- and what is seen of it once it heard a wake
   abbrev pub met_by : Option (Entry (Process B)) → Seen B → Seen B
   met_by None s = s
   met_by (Some x) s = if x.disabled then s else record s { entry = Some (heard x); time = None; zero = false; ready = s.ready || not x.suspended }
@@ -94,6 +110,13 @@ module _ {B : Type 0} where
 
   abbrev pub with_entry : (Entry (Process B) → Entry (Process B)) → Seen B → Seen B
   with_entry f x = record x { entry = option_map f x.entry }
+
+  -- how one waits in the lists, and how one does whose body has not begun
+  abbrev pub waits_in : Wait → Deadline → Seen B → Seen B
+  waits_in w d v = with_entry (λ e. record e { wait = waiting_by w; deadline = d }) (record v { wait = listed_as w (sensitive_of v.entry) })
+
+  abbrev pub rests_in : Wait → Deadline → Seen B → Seen B
+  rests_in w d v = with_entry (λ e. record e { wait = waiting_by w; deadline = d; started = false }) (record v { wait = listed_as w (sensitive_of v.entry) })
 
   -- no time ends its wait
   pub record HasNoTimeOut (p : ℕ) (s : Schedule B) : Type 0 where
@@ -155,3 +178,4 @@ module _ {B : Type 0} where
     pub places : set.len t.ready.members + t.ready.spare ≡ set.len s.ready.members + s.ready.spare
     pub room : vec_capacity t.woken ≡ vec_capacity s.woken
     pub still : HasPlaces t
+    pub timed : (q : ℕ) → IsTimedSo (seen t q)

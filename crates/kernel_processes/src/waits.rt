@@ -6,7 +6,7 @@ ghost use Rattle.kernel_processes.specs.Sound.{IsSound};
 ghost use Rattle.kernel_processes.specs.Moves.{events_of, sensitive_of, with_entry, HasNoTimeOut, Changes, MovesOne};
 ghost use Rattle.kernel_processes.specs.Moved.{HasRoom, IsTop, Stays, leaves_top, waits_as, rests_as, waiting_seen};
 
-use super::changes::{hold_room, mark_rest, mark_wait, put_time, put_wait};
+use super::changes::{hold_room, put_time, rest_in_lists, wait_in_lists};
 use super::turns::leave_stack;
 use crate::{Schedule, Trigger, count_events};
 use std::alloc::AllocError;
@@ -38,8 +38,7 @@ fn put<B>(s: &mut Schedule<B>, p: u32, t: &Trigger)
     ensures { Changes p (waiting_seen t.now) s.old s.new }
 {
     put_time(s, p, t.deadline);
-    put_wait(s, p, &t.wait);
-    mark_wait(s, p, t);
+    wait_in_lists(s, p, t);
 }
 
 /// The same of an instance whose body has not begun.
@@ -53,8 +52,7 @@ fn put_resting<B>(s: &mut Schedule<B>, p: u32, t: &Trigger)
     ensures { Changes p (λ v. with_entry (λ x. record x { started = false }) (waiting_seen t.now v)) s.old s.new }
 {
     put_time(s, p, t.deadline);
-    put_wait(s, p, &t.wait);
-    mark_rest(s, p, t);
+    rest_in_lists(s, p, t);
 }
 
 /// The instance on top leaves the stack and waits so (IEEE 1666-2011, 5.2.18). Where memory is refused nothing changes.

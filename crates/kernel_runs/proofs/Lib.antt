@@ -5,3 +5,4 @@ pub mod Choices
 pub mod Turns
 pub mod Evaluated
 pub mod Ruled
+pub mod Several

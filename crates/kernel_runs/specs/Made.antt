@@ -1,12 +1,12 @@
 -- What a step of a session has to be.
-use Rattle.std.specs.Prelude.{◌≡◌, ◌≤◌, ℕ, false, List, [], ◌∷◌, ◌++◌, slice_get, Option, Some, None, if◌then◌else◌}
+use Rattle.std.specs.Prelude.{◌≡◌, ◌≤◌, ℕ, zero, suc, false, List, [], ◌∷◌, ◌++◌, slice_get, Option, Some, None, if◌then◌else◌}
 use Rattle.flat_design.specs.declared.design.Visible.{Visible}
 use Rattle.flat_design.specs.declared.faults.RunFault.{RunFault}
 use Rattle.kernel_phases.specs.ReadySet.Ready.{in_order}
 use Rattle.kernel_phases.specs.SimModel.Clean.{times}
 use Rattle.kernel_phases.specs.SimModel.Configuration.{Config, Instance, Told, line, turn, instance_at, path_of}
 use Rattle.kernel_phases.specs.SimModel.Phases.{visible_value}
-use Rattle.kernel_phases.specs.SimModel.Steps.{Outcome, went, faulted, takes, ended, show_line, turn_line, taking}
+use Rattle.kernel_phases.specs.SimModel.Steps.{Outcome, went, faulted, takes, ended, step, show_line, turn_line, taking}
 use Rattle.kernel_phases.specs.SimModel.Waits.{holds}
 use Rattle.kernel_phases.specs.SimModel.declared.plain.Command.{Command}
 use Rattle.kernel_phases.specs.KernelState.Kernel.{StandsFor}
@@ -29,11 +29,15 @@ made_of (answer.Printed p s v) = made.Went (telling.Print p s v)
 made_of (answer.Fault f) = made.Fault f
 made_of answer.NoMemory = made.NoMemory
 
--- what became of a step, by its brief answer and what was said
-abbrev pub whole_of : Brief → Made → Made
+-- what became of a step, by its brief answer and what an instance answered
+abbrev pub whole_of : Brief → StepAnswer → Made
 whole_of brief.Went said = made.Went telling.Nothing
 whole_of (brief.Took p) said = made.Took p
-whole_of brief.Said said = said
+whole_of (brief.Shows n) said = made.Went (telling.Show n)
+whole_of brief.Ended said = made.Ended
+whole_of brief.NotReady said = made.NotReady
+whole_of brief.NoMemory said = made.NoMemory
+whole_of brief.Answered said = made_of said
 
 -- what a show tells: nothing where there is no such object
 abbrev pub told_by_show : Config → Option Visible → List Told
@@ -159,3 +163,22 @@ IsPlain made.Ended = Unit {0}
 IsPlain (made.Fault f) = Unit {0}
 IsPlain made.NotReady = ⊥
 IsPlain made.NoMemory = ⊥
+
+-- several steps
+module _ {C : Type 0} (picks : C → List ℕ → Option ℕ) (later : C → List ℕ → C) where
+  -- So many quiet steps lead from a kernel with this rest of the script and this chooser to another: each goes on, takes no process, and
+  -- nothing is told of it.
+  abbrev pub Quietly : Kernel → List Command → C → ℕ → Kernel → List Command → C → Type 0
+  Quietly old script held zero there left h = (there ≡ old) × (left ≡ script) × (h ≡ held)
+  Quietly old script held (suc n) there left h =
+      (k : Kernel) × (before : List Command) × (j : C) × Quietly old script held n k before j
+      × StepsOn k there before left (made.Went telling.Nothing) step × Asks picks later k j h (made.Went telling.Nothing) step
+
+  -- so many quiet steps, and then one that is this
+  pub record Stepped (old new : Kernel) (before after : List Command) (held next : C) (quiet : ℕ) (result : Made) : Type 0 where
+    pub there : Kernel
+    pub left : List Command
+    pub chooser : C
+    pub quietly : Quietly old before held quiet there left chooser
+    pub last : StepsOn there new left after result step
+    pub asks : Asks picks later there chooser next result step

@@ -1,6 +1,7 @@
 //! What a step of a session answers.
-ghost use Rattle.std.specs.Prelude.{◌≡◌};
+ghost use Rattle.std.specs.Prelude.{◌≡◌, true};
 ghost use Rattle.kernel_steps.specs.StepAnswers.{whole_step};
+ghost use Rattle.kernel_steps.specs.declared.answers.StepAnswer.{StepAnswer as Answer};
 ghost use Rattle.kernel_runs.specs.Made.{made_of, whole_of};
 
 use flat_design::{RunFault, StmtId};
@@ -42,38 +43,20 @@ pub(crate) enum Brief {
     Went,
     /// The process of this serial was taken.
     Took(u32),
-    /// What was said of it.
-    Said,
-}
-
-/// What became of a step, in a word or two where that says it, and else said.
-#[inline(always)]
-pub(crate) fn brief_of(made: &Made, said: &mut Made) -> Brief
-    ensures { whole_of result said.new ≡ made.now }
-{
-    match made {
-        Made::Went(Telling::Nothing) => Brief::Went,
-        Made::Took(p) => Brief::Took(*p),
-        Made::Went(_) | Made::Ended | Made::Fault(_) | Made::NotReady | Made::NoMemory => {
-            *said = *made;
-            Brief::Said
-        }
-    }
-}
-
-/// What became of a step, by its brief answer and what was said.
-#[inline(always)]
-pub(crate) fn whole_of(brief: Brief, said: &Made) -> Made
-    ensures { result ≡ whole_of brief said.now }
-{
-    match brief {
-        Brief::Went => Made::Went(Telling::Nothing),
-        Brief::Took(p) => Made::Took(p),
-        Brief::Said => *said,
-    }
+    /// The run went on, and the script shows this object.
+    Shows(u32),
+    /// There is no step: the session has ended.
+    Ended,
+    /// No process that is runnable was picked.
+    NotReady,
+    /// Memory was refused.
+    NoMemory,
+    /// What the step of an instance answered.
+    Answered,
 }
 
 /// The step of an instance as one of the session.
+#[inline(always)]
 fn of_answer(answer: &StepAnswer) -> Made
     ensures { result ≡ made_of answer.now }
 {
@@ -85,16 +68,68 @@ fn of_answer(answer: &StepAnswer) -> Made
     }
 }
 
-/// The step of an instance as one of the session, by its word and what was said.
+/// What became of a step, in a word or two where that says it, and else as what an instance answered.
 #[inline(always)]
-pub(crate) fn of_instance(step: StepBrief, answer: &StepAnswer, said: &mut Made) -> Brief
-    ensures { whole_of result said.new ≡ made_of (whole_step step answer.now) }
+pub(crate) fn brief_of(made: &Made, said: &mut StepAnswer) -> Brief
+    ensures { whole_of result said.new ≡ made.now }
+{
+    match made {
+        Made::Went(Telling::Nothing) => Brief::Went,
+        Made::Went(Telling::Show(n)) => Brief::Shows(*n),
+        Made::Went(Telling::Print(p, s, shown)) => {
+            *said = StepAnswer::Printed(*p, *s, *shown);
+            Brief::Answered
+        }
+        Made::Took(p) => Brief::Took(*p),
+        Made::Ended => Brief::Ended,
+        Made::Fault(fault) => {
+            *said = StepAnswer::Fault(*fault);
+            Brief::Answered
+        }
+        Made::NotReady => Brief::NotReady,
+        Made::NoMemory => Brief::NoMemory,
+    }
+}
+
+/// What became of a step, by its brief answer and what an instance answered.
+#[inline(always)]
+pub(crate) fn whole_of(brief: Brief, said: &StepAnswer) -> Made
+    ensures { result ≡ whole_of brief said.now }
+{
+    match brief {
+        Brief::Went => Made::Went(Telling::Nothing),
+        Brief::Took(p) => Made::Took(p),
+        Brief::Shows(n) => Made::Went(Telling::Show(n)),
+        Brief::Ended => Made::Ended,
+        Brief::NotReady => Made::NotReady,
+        Brief::NoMemory => Made::NoMemory,
+        Brief::Answered => of_answer(said),
+    }
+}
+
+/// The step of an instance as one of the session, by its word.
+#[inline(always)]
+pub(crate) fn of_instance(step: StepBrief) -> Brief
+    ensures { (said : Answer) → whole_of result said ≡ made_of (whole_step step said) }
 {
     match step {
         StepBrief::Went => Brief::Went,
-        StepBrief::Said => {
-            *said = of_answer(answer);
-            Brief::Said
-        }
+        StepBrief::Said => Brief::Answered,
+    }
+}
+
+/// Whether the run went on, and nothing is told of it.
+#[inline(always)]
+pub(crate) fn is_quiet(brief: Brief) -> bool
+    ensures { result ≡ true → (said : Answer) → whole_of brief said ≡ Made.Went Telling.Nothing }
+{
+    match brief {
+        Brief::Went => true,
+        Brief::Took(_) => false,
+        Brief::Shows(_) => false,
+        Brief::Ended => false,
+        Brief::NotReady => false,
+        Brief::NoMemory => false,
+        Brief::Answered => false,
     }
 }

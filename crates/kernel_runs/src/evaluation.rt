@@ -39,7 +39,7 @@ fn evaluate_next<C: Chooser>(k: &mut Kernel, chooser: &mut C) -> Made
 
 /// A step of the instance on top.
 #[inline(always)]
-fn step_of_top(k: &mut Kernel, alloc: Global, p: u32, said: &mut Made) -> Brief
+fn step_of_top(k: &mut Kernel, alloc: Global, p: u32, said: &mut StepAnswer) -> Brief
     requires sound { IsSound k.old }
     requires asked { MayStep k.old }
     requires room { k.old.made < 2 ^ 31 }
@@ -50,9 +50,8 @@ fn step_of_top(k: &mut Kernel, alloc: Global, p: u32, said: &mut Made) -> Brief
     ensures refused { whole_of result said.new ≡ Made.NoMemory → k.new.made ≡ k.old.made }
     ensures faulted { (f : RunFault) → whole_of result said.new ≡ Made.Fault f → k.new.made ≡ k.old.made }
 {
-    let mut answer = StepAnswer::Went;
-    let step = step_statement(k, alloc, p, &mut answer);
-    of_instance(step, &answer, said)
+    let step = step_statement(k, alloc, p, said);
+    of_instance(step)
 }
 
 /// A step of the evaluation phase (IEEE 1666-2011, 4.2.1.2): one of the instance on top; with none active, the taking of the
@@ -62,7 +61,7 @@ pub(crate) fn evaluate<C: Chooser>(
     k: &mut Kernel,
     alloc: Global,
     chooser: &mut C,
-    said: &mut Made,
+    said: &mut StepAnswer,
 ) -> Brief
     requires sound { IsSound k.old }
     requires asked { MayStep k.old }

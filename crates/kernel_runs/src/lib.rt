@@ -8,4 +8,4 @@ mod stepping;
 mod takings;
 
 pub use answers::{Made, Telling};
-pub use stepping::make_step;
+pub use stepping::{make_step, make_steps};

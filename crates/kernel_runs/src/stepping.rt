@@ -7,16 +7,17 @@ ghost use Rattle.kernel_phases.specs.SimModel.declared.plain.Phase.TheVariants a
 ghost use Rattle.kernel_phases.specs.KernelState.Kernel.{IsSound};
 ghost use Rattle.kernel_phases.specs.Due.{HasRoom};
 ghost use Rattle.kernel_phases.specs.Fresh.{IsFresh};
-ghost use Rattle.kernel_runs.specs.Premises.{MayStep};
-ghost use Rattle.kernel_runs.specs.Made.{Makes, StepsOn, Asks, whole_of};
+ghost use Rattle.kernel_runs.specs.Premises.{MayStep, MayGoOn};
+ghost use Rattle.kernel_runs.specs.Made.{Makes, StepsOn, Asks, Stepped, whole_of};
 
-use crate::answers::{Brief, Made, Telling, brief_of, whole_of};
+use crate::answers::{Brief, Made, Telling, brief_of, is_quiet, whole_of};
 use crate::commands::next_command;
 use crate::evaluation::evaluate;
 use kernel_phases::kernel_state_api::Kernel;
 use kernel_phases::sim_model_api::{Command, Phase};
 use kernel_phases::{Chooser, delta, initialize, timed};
 use kernel_start::SoundKernel;
+use kernel_steps::StepAnswer;
 use std::alloc::{AllocError, Global};
 
 /// Room for all events in a list without members.
@@ -94,7 +95,7 @@ fn go_on<C: Chooser>(
     alloc: Global,
     chooser: &mut C,
     events: &mut Vec<u32>,
-    said: &mut Made,
+    said: &mut StepAnswer,
 ) -> Brief
     requires sound { IsSound k.old }
     requires asked { MayStep k.old }
@@ -120,7 +121,7 @@ fn go_on<C: Chooser>(
 }
 
 /// The next step, of a kernel that is sound, answered in a word or two where nothing else is to be said of it.
-#[inline(never)]
+#[inline(always)]
 fn make<C: Chooser>(
     k: &mut Kernel,
     alloc: Global,
@@ -128,7 +129,7 @@ fn make<C: Chooser>(
     place: &mut usize,
     chooser: &mut C,
     events: &mut Vec<u32>,
-    said: &mut Made,
+    said: &mut StepAnswer,
 ) -> Brief
     requires sound { IsSound k.old }
     requires asked { MayStep k.old }
@@ -145,8 +146,7 @@ fn make<C: Chooser>(
     ensures faulted { (f : RunFault) → whole_of result said.new ≡ Made.Fault f → k.new.made ≡ k.old.made }
 {
     if k.cycle.stopped {
-        *said = Made::Ended;
-        return Brief::Said;
+        return Brief::Ended;
     }
     match k.cycle.phase {
         Phase::Idle => brief_of(&next_command(k, script, place), said),
@@ -180,7 +180,7 @@ pub fn make_step<C: Chooser>(
     ensures refused { result ≡ Made.NoMemory → k.new.kernel.made ≡ k.old.kernel.made }
     ensures faulted { (f : RunFault) → result ≡ Made.Fault f → k.new.kernel.made ≡ k.old.kernel.made }
 {
-    let mut said = Made::Ended;
+    let mut said = StepAnswer::Went;
     let brief = make(
         &mut k.kernel,
         alloc,
@@ -188,6 +188,89 @@ pub fn make_step<C: Chooser>(
         place,
         chooser,
         events,
+        &mut said,
+    );
+    whole_of(brief, &said)
+}
+
+/// The steps of a kernel that is sound, till one is more than a quiet one, or so many are made. `quiet` counts those before the last.
+#[inline(never)]
+fn make_some<C: Chooser>(
+    k: &mut Kernel,
+    alloc: Global,
+    script: &[Command],
+    place: &mut usize,
+    chooser: &mut C,
+    events: &mut Vec<u32>,
+    most: u64,
+    quiet: &mut u64,
+    said: &mut StepAnswer,
+) -> Brief
+    requires sound { IsSound k.old }
+    requires asked { MayGoOn C.picks C.later k.old (drop place.old script.now) chooser.old most }
+    requires some { 0 < most }
+    requires room { k.old.made + most ≤ 2 ^ 31 }
+    requires within { place.old ≤ length script.now }
+    requires none { events.old.items ≡ [] }
+    ensures stepped { Stepped C.picks C.later k.old k.new (drop place.old script.now) (drop place.new script.now) chooser.old chooser.new quiet.new (whole_of result said.new) }
+    ensures few { quiet.new < most }
+    ensures sound { IsSound k.new }
+    ensures within { place.new ≤ length script.now }
+    ensures none { events.new.items ≡ [] }
+    ensures made { k.new.made ≤ k.old.made + quiet.new + 1 }
+{
+    let mut brief = Brief::Went;
+    let mut many = 0;
+    let mut going = true;
+    'stepping: while going {
+        brief = make(k, alloc, script, place, chooser, events, said);
+        if is_quiet(brief) && many + 1 < most {
+            many += 1;
+        } else {
+            going = false;
+        }
+    }
+    *quiet = many;
+    brief
+}
+
+/// Makes steps of a session, as `make_step` does, till one of them is more than quiet: a quiet step goes on, takes no process, and nothing
+/// is told of it. At least one step is made, and `most` at most; the answer is what became of the last one, which may be quiet too where
+/// `most` were made, and `quiet` counts the others.
+///
+/// At most one instance, payload or reference to a payload is made at each step.
+#[inline(always)]
+pub fn make_steps<C: Chooser>(
+    k: &mut SoundKernel,
+    alloc: Global,
+    script: &[Command],
+    place: &mut usize,
+    chooser: &mut C,
+    events: &mut Vec<u32>,
+    most: u64,
+    quiet: &mut u64,
+) -> Made
+    requires asked { MayGoOn C.picks C.later k.old.kernel (drop place.old script.now) chooser.old most }
+    requires some { 0 < most }
+    requires room { k.old.kernel.made + most ≤ 2 ^ 31 }
+    requires within { place.old ≤ length script.now }
+    requires none { events.old.items ≡ [] }
+    ensures stepped { Stepped C.picks C.later k.old.kernel k.new.kernel (drop place.old script.now) (drop place.new script.now) chooser.old chooser.new quiet.new result }
+    ensures few { quiet.new < most }
+    ensures within { place.new ≤ length script.now }
+    ensures none { events.new.items ≡ [] }
+    ensures made { k.new.kernel.made ≤ k.old.kernel.made + quiet.new + 1 }
+{
+    let mut said = StepAnswer::Went;
+    let brief = make_some(
+        &mut k.kernel,
+        alloc,
+        script,
+        place,
+        chooser,
+        events,
+        most,
+        quiet,
         &mut said,
     );
     whole_of(brief, &said)

@@ -17,6 +17,7 @@ use Rattle.kernel_state.specs.KernelBodies.declared.layers.Open.TheVariants as l
 use Rattle.kernel_state.specs.KernelBodies.declared.layers.Saved.{Saved}
 use Rattle.kernel_state.specs.KernelBodies.declared.program.Program.{Program}
 use Rattle.kernel_state.specs.ProcessBodies.Bodies as bodies
+use Rattle.kernel_state.specs.ProcessState.Bodies.{IsOwnFirst}
 use Rattle.kernel_state.specs.ProcessBodies.declared.body.Body.{Body}
 use Rattle.kernel_state.specs.ProcessBodies.declared.body.Owed.{Owed}
 use Rattle.kernel_state.specs.KernelProcesses.InstanceViews.{Seen, seen}
@@ -154,6 +155,10 @@ room_prop a depths xs s x y = λ i. record {
   last = last_prop a depths xs s x.last y.last i;
 }
 
+own_prop : (xs : List Saved) → IsProp (IsOwnFirst xs)
+own_prop [] = Unit-prop
+own_prop (x ∷ xs) = statement_in_prop _ _
+
 owed_prop : (r : Residual) (o : Option Owed) → IsProp (bodies.Agrees r o)
 owed_prop r None = Unit-prop
 owed_prop r (Some o) = statement_in_prop _ _
@@ -162,9 +167,10 @@ body_prop : (p : Program) (b : Body) → IsProp (bodies.IsSound p b)
 body_prop p b x y = λ i. record {
   calls = record {
     room = room_prop (arena_of p.code) _ b.calls.frames.items b.calls.statement x.calls.room y.calls.room i;
+    own = own_prop b.calls.frames.items x.calls.own y.calls.own i;
+    rests = own_prop b.calls.resting.items x.calls.rests y.calls.rests i;
     locals = le_prop x.calls.locals y.calls.locals i;
     blocks = le_prop x.calls.blocks y.calls.blocks i;
-    first = le_prop x.calls.first y.calls.first i;
   };
   owed = owed_prop (bodies.left_in p (record b { owed = None })) b.owed x.owed y.owed i;
 }

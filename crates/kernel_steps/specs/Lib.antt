@@ -6,4 +6,5 @@ pub mod Ready
 pub mod Owing
 pub mod ExecControl
 pub mod Taking
+pub mod Usual
 pub mod ExecTransactions

@@ -1,5 +1,5 @@
 //! A statement of any form, carried out.
-ghost use Rattle.std.specs.Prelude.{◌≡◌, ◌≤◌, ◌<◌, ◌+◌, ◌-◌, ◌^◌, true, All, Some};
+ghost use Rattle.std.specs.Prelude.{◌≡◌, ◌≤◌, ◌<◌, ◌+◌, ◌-◌, ◌^◌, true, false, All, Some};
 ghost use Rattle.flat_design.specs.declared.faults.RunFault.{RunFault};
 ghost use Rattle.flat_design.specs.Code.{arena_of, statement_at, statement_of};
 ghost use Rattle.exec_channels.specs.KernelState.Kernel.{IsSound, whole_design};
@@ -11,17 +11,17 @@ ghost use Rattle.exec_control.specs.Thrown.{OthersHaveNoGoal};
 ghost use Rattle.exec_control.specs.Unwound.{ThrowsFree};
 ghost use Rattle.kernel_steps.specs.Taking.{takes_memory};
 ghost use Rattle.kernel_steps.specs.StepAnswers.{CarriesAll, whole_step};
+ghost use Rattle.kernel_steps.specs.Usual.{is_usual};
 
 use crate::answers::{StepAnswer, StepBrief, plain, taking};
-use crate::data::{if_step, print_step, var_step, while_step};
+use crate::data::{assign_step, if_step, print_step, var_step, while_step, write_step};
+use crate::events::{notify_after_step, trigger_step, wait_step};
 use exec_channels::kernel_state_api::{Kernel, top_lives};
 use exec_channels::{lock, nb_read, nb_write, post, read, sem_trywait, sem_wait, trylock, unlock};
-use exec_control::exec_data_api::{assign, return_value, write};
+use exec_control::exec_data_api::return_value;
 use exec_control::{begin_guard, begin_try, control, throw, throw_it};
 use exec_transactions::exec_calls_api::{call, spawn};
-use exec_transactions::exec_events_api::{
-    cancel_named, notify_after, notify_delta, notify_named, stop, trigger_statement, wait_statement,
-};
+use exec_transactions::exec_events_api::{cancel_named, notify_delta, notify_named, stop};
 use exec_transactions::{
     acquire, b_transport, carry, make, nb_transport, qk_global, qk_inc, qk_reset, qk_set, release,
 };
@@ -37,6 +37,9 @@ fn has_statement(k: &Kernel, p: u32, s: StmtId)
 }
 
 /// Statement s, which comes next in the body of the instance on top, is carried out. Memory is refused only where it may take any.
+///
+/// The usual forms are calls here that answer in a word; all others are carried out apart, so that the room that they need is not
+/// cleared for a usual one.
 pub(crate) fn carry_out(
     k: &mut Kernel,
     alloc: Global,
@@ -66,7 +69,57 @@ pub(crate) fn carry_out(
     has_statement(k, p, s);
     match statement {
         Statement::Var(n, t, e) => var_step(k, p, s, *n, *t, e, said),
-        Statement::Assign(to, e) => plain(assign(k, p, to, e), said),
+        Statement::Assign(to, e) => assign_step(k, p, s, to, e, said),
+        Statement::Write(to, t, e) => write_step(k, alloc, p, s, to, *t, e, said),
+        Statement::Print(text, e) => print_step(k, p, s, text, e, said),
+        Statement::Notify(n) => {
+            notify_named(k, p, *n);
+            StepBrief::Went
+        }
+        Statement::NotifyDelta(n) => {
+            notify_delta(k, p, *n);
+            StepBrief::Went
+        }
+        Statement::NotifyAfter(n, e) => notify_after_step(k, p, s, *n, e, said),
+        Statement::Wait(how) => wait_step(k, alloc, p, s, how, said),
+        Statement::NextTrigger(how) => trigger_step(k, alloc, p, s, how, said),
+        Statement::If(e, b, other) => if_step(k, p, s, e, *b, *other, said),
+        Statement::While(e, b) => while_step(k, p, s, e, *b, said),
+        _ => carry_rare(k, alloc, p, s, statement, said),
+    }
+}
+
+/// The same of a form that is not usual.
+#[inline(never)]
+fn carry_rare(
+    k: &mut Kernel,
+    alloc: Global,
+    p: u32,
+    s: StmtId,
+    statement: &Statement,
+    said: &mut StepAnswer,
+) -> StepBrief
+    requires sound { IsSound k.old }
+    requires top { IsOnTop k.old p }
+    requires names { NamesFit (whole_design k.old) }
+    requires numbers { NumbersEvents (whole_design k.old) }
+    requires room { k.old.made < 2 ^ 31 + 2 }
+    requires posts { All (λ v. v < 2 ^ 64 - 1) k.old.channels.semaphores }
+    requires next { Shows k.old p s }
+    requires there { statement_at (arena_of k.old.program.now.code) s ≡ Some (statement_of statement.now) }
+    requires rare { is_usual (statement_of statement.now) ≡ false }
+    requires free { ThrowsFree k.old p (statement_of statement.now) }
+    requires others { OthersHaveNoGoal k.old }
+    ensures carries { CarriesAll k.old k.new (whole_step result said.new) p s (statement_of statement.now) }
+    ensures sound { IsSound k.new }
+    ensures made { k.new.made ≤ k.old.made + 1 }
+    ensures refused { whole_step result said.new ≡ StepAnswer.NoMemory → k.new.made ≡ k.old.made }
+    ensures faulted { (f : RunFault) → whole_step result said.new ≡ StepAnswer.Fault f → k.new.made ≡ k.old.made }
+    ensures memory { whole_step result said.new ≡ StepAnswer.NoMemory → takes_memory (statement_of statement.now) ≡ true }
+{
+    top_lives(k, p);
+    has_statement(k, p, s);
+    match statement {
         Statement::Call(_, f, arguments) => {
             taking(call(k, alloc, p, s, *f, arguments.as_slice()), said)
         }
@@ -79,23 +132,10 @@ pub(crate) fn carry_out(
         Statement::NbTransport(_, socket, n, phase, d) => {
             taking(nb_transport(k, alloc, p, s, *socket, *n, *phase, *d), said)
         }
-        Statement::Write(to, t, e) => taking(write(k, alloc, p, to, *t, e), said),
-        Statement::Print(text, e) => print_step(k, p, s, text, e, said),
-        Statement::Notify(n) => {
-            notify_named(k, p, *n);
-            StepBrief::Went
-        }
-        Statement::NotifyDelta(n) => {
-            notify_delta(k, p, *n);
-            StepBrief::Went
-        }
-        Statement::NotifyAfter(n, e) => plain(notify_after(k, p, *n, e), said),
         Statement::Cancel(n) => {
             cancel_named(k, p, *n);
             StepBrief::Went
         }
-        Statement::Wait(how) => taking(wait_statement(k, alloc, p, how), said),
-        Statement::NextTrigger(how) => taking(trigger_statement(k, alloc, p, how), said),
         Statement::Lock(at) => taking(lock(k, alloc, p, at), said),
         Statement::SemWait(at) => taking(sem_wait(k, alloc, p, at), said),
         Statement::Post(at) => plain(post(k, p, at), said),
@@ -123,8 +163,6 @@ pub(crate) fn carry_out(
             stop(k, p);
             StepBrief::Went
         }
-        Statement::If(e, b, other) => if_step(k, p, s, e, *b, *other, said),
-        Statement::While(e, b) => while_step(k, p, s, e, *b, said),
         Statement::Guard(b, u) => {
             begin_guard(k, p, s, *b, *u);
             StepBrief::Went
@@ -133,5 +171,16 @@ pub(crate) fn carry_out(
             begin_try(k, p, s, *b);
             StepBrief::Went
         }
+        Statement::Var(_, _, _) => unreachable!(),
+        Statement::Assign(_, _) => unreachable!(),
+        Statement::Write(_, _, _) => unreachable!(),
+        Statement::Print(_, _) => unreachable!(),
+        Statement::Notify(_) => unreachable!(),
+        Statement::NotifyDelta(_) => unreachable!(),
+        Statement::NotifyAfter(_, _) => unreachable!(),
+        Statement::Wait(_) => unreachable!(),
+        Statement::NextTrigger(_) => unreachable!(),
+        Statement::If(_, _, _) => unreachable!(),
+        Statement::While(_, _) => unreachable!(),
     }
 }

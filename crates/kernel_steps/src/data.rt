@@ -1,18 +1,20 @@
 //! Statements of data, whole: their expressions are evaluated, and then the statement acts.
 ghost use Rattle.std.specs.Prelude.{◌≡◌, ◌≢◌, Some, option_map};
 ghost use Rattle.flat_design.specs.Code as code;
-ghost use Rattle.flat_design.specs.Code.{arena_of, statement_at, term_of};
-ghost use Rattle.exec_channels.specs.KernelState.Kernel.{IsSound};
+ghost use Rattle.flat_design.specs.Code.{arena_of, channel_term, destination_term, statement_at, term_of};
+ghost use Rattle.exec_channels.specs.KernelState.Kernel.{IsSound, whole_design};
 ghost use Rattle.exec_channels.specs.KernelState.Moves.{HasStatement, IsOnTop};
 ghost use Rattle.exec_control.specs.ExecData.Entered.{Shows};
+ghost use Rattle.exec_control.specs.ExecData.Written.{NamesFit};
 ghost use Rattle.kernel_steps.specs.StepAnswers.{Carries, CarriesAll, whole_step};
 
-use crate::answers::{StepAnswer, StepBrief, plain};
+use crate::answers::{StepAnswer, StepBrief, plain, taking};
 use exec_channels::kernel_state_api::{Kernel, top_lives};
 use exec_channels::kernel_view_api::{eval_at, eval_if_at};
 use exec_channels::model_tree_api::PrintText;
-use exec_control::exec_data_api::{if_then, var, while_do};
-use flat_design::{BlockId, Expr, StmtId, ValueType};
+use exec_control::exec_data_api::{assign, if_then, var, while_do, write};
+use flat_design::{BlockId, ChannelUse, Destination, Expr, StmtId, ValueType};
+use std::alloc::Global;
 
 /// `var`.
 pub(crate) fn var_step(
@@ -35,6 +37,48 @@ pub(crate) fn var_step(
     top_lives(k, p);
     let value = eval_if_at(k, p, e);
     plain(var(k, p, n, t, value), said)
+}
+
+/// An assignment.
+pub(crate) fn assign_step(
+    k: &mut Kernel,
+    p: u32,
+    s: StmtId,
+    to: &Destination,
+    e: &Expr,
+    said: &mut StepAnswer,
+) -> StepBrief
+    requires sound { IsSound k.old }
+    requires top { IsOnTop k.old p }
+    requires statement { HasStatement k.old p }
+    ensures carries { Carries k.old k.new (whole_step result said.new) p s (code.assign (destination_term to.now) (term_of e.now)) }
+    ensures takes_none { whole_step result said.new ≢ StepAnswer.NoMemory }
+    ensures sound { IsSound k.new }
+    ensures made { k.new.made ≡ k.old.made }
+{
+    plain(assign(k, p, to, e), said)
+}
+
+/// `write`.
+pub(crate) fn write_step(
+    k: &mut Kernel,
+    alloc: Global,
+    p: u32,
+    s: StmtId,
+    to: &ChannelUse,
+    t: ValueType,
+    e: &Expr,
+    said: &mut StepAnswer,
+) -> StepBrief
+    requires sound { IsSound k.old }
+    requires top { IsOnTop k.old p }
+    requires statement { HasStatement k.old p }
+    requires names { NamesFit (whole_design k.old) }
+    ensures carries { Carries k.old k.new (whole_step result said.new) p s (code.write (channel_term to.now) t (term_of e.now)) }
+    ensures sound { IsSound k.new }
+    ensures made { k.new.made ≡ k.old.made }
+{
+    taking(write(k, alloc, p, to, t, e), said)
 }
 
 /// `print`.

@@ -4,6 +4,7 @@
 mod answers;
 mod carrying;
 mod data;
+mod events;
 mod leaving;
 mod owing;
 mod stepping;

@@ -55,8 +55,16 @@ fn home_of(k: &Kernel, kept: &Kept) -> u32
     // Within no transport call nothing has to fall away to know that.
     match kept.body.within_now() {
         None => kept.home,
-        Some(_) => home_within(&k.design, kept.home, kept.body.within(k.program)),
+        Some(_) => home_in_call(k, kept),
     }
+}
+
+/// The same within a transport call.
+#[inline(never)]
+fn home_in_call(k: &Kernel, kept: &Kept) -> u32
+    ensures { result ≡ reading.home_of_via k.now.design kept.now.home (residual.within (settled_in k.now.program.now kept.now.body)) }
+{
+    home_within(&k.design, kept.home, kept.body.within(k.program))
 }
 
 /// Where the next statement of an instance stands, where the instance has not ended.

@@ -1,9 +1,9 @@
 -- The marks of the slots that hold the value of their own number.
-use Rattle.std.proofs.Common.{nat_cmp, ◌≡◌, ◌≢◌, ℕ, zero, suc, Bool, true, false, cond, List, [], ◌∷◌, ◌++◌, Some, None, length, set, slice_get, refl, sym, ap, ◌∙◌, ◌⊎◌, inl, inr, ⊎_elim, arith}
+use Rattle.std.proofs.Common.{nat_cmp, ◌≡◌, ◌≢◌, ◌+◌, ◌<◌, ◌≤◌, ℕ, zero, suc, Bool, true, false, cond, List, [], ◌∷◌, ◌++◌, Some, None, length, set, slice_get, refl, sym, ap, ◌∙◌, ◌⊎◌, inl, inr, ⊎_elim, arith}
 use Rattle.std.specs.Prelude.{◌==◌}
-use Rattle.std.proofs.lemmas.Bool.{false≢true, cond_both, eqb-true}
+use Rattle.std.proofs.lemmas.Bool.{cases_eq, false≢true, cond_both, eqb-true}
 use Rattle.std.specs.BTreeMap as tree
-use Rattle.numbered_slots.specs.Layout.{TellsHomes}
+use Rattle.numbered_slots.specs.Layout.{TellsHomes, AreHome}
 use Rattle.numbered_slots.proofs.SlotLemmas.{other_key, none_some}
 
 is_Some : {A : Type 0} {x y : A} → Some x ≡ Some y → x ≡ y
@@ -53,3 +53,28 @@ pub tells-removed : (at_home new : List Bool) (m keys : tree.BTreeMap ℕ ℕ) (
 tells-removed at_home new m keys number tells cut is k at =
     let was = get_struck at_home number k (ap (λ flags. slice_get flags k) (sym is) ∙ at) in
     other_key m keys number _ cut k was.0 ∙ tells k was.1
+
+-- ---- the number below which each stands at home
+
+pub homes-inserted : (homes new : ℕ) (m keys : tree.BTreeMap ℕ ℕ) (next slot : ℕ) → AreHome homes m → tree.get nat_cmp m next ≡ None
+    → tree.Updates nat_cmp m keys next (Some slot) → (new ≡ homes) ⊎ ((new ≡ next + 1) × (homes ≡ next) × (slot ≡ next)) → AreHome new keys
+homes-inserted homes new m keys next slot are fresh put told k h = ⊎_elim
+    (λ same. before (omega (arith, h, same)))
+    (λ more.
+    let is : new ≡ next + 1 = more.0 in
+    let at : homes ≡ next = more.1 in
+    ⊎_elim
+    (λ e. ap (tree.get nat_cmp keys) e ∙ put.1 ∙ ap (λ x. Some x) (more.2 ∙ sym e))
+    (λ apart. before (omega (arith, h, is, at, apart)))
+    (cases_eq k next))
+    told
+  where
+    before : k < homes → tree.get nat_cmp keys k ≡ Some k
+    before less =
+        let was = are k less in
+        other_key m keys next _ put k (λ same. none_some fresh (sym (ap (tree.get nat_cmp m) same) ∙ was)) ∙ was
+
+pub homes-removed : (homes new : ℕ) (m keys : tree.BTreeMap ℕ ℕ) (number : ℕ) → AreHome homes m → tree.Updates nat_cmp m keys number None → new ≤ homes → new ≤ number
+    → AreHome new keys
+homes-removed homes new m keys number are cut less low k h =
+    other_key m keys number _ cut k (λ same. omega (arith, h, low, same)) ∙ are k (omega (arith, h, less))

@@ -1,5 +1,5 @@
 -- How `Slots` keeps its values. No public clause cites this module.
-use Rattle.std.specs.Prelude.{◌≡◌, ℕ, ◌≤◌, Bool, List, [], ◌∷◌, true, Option, Some, None, is_some, slice_get, slice_index_or}
+use Rattle.std.specs.Prelude.{◌≡◌, ℕ, ◌≤◌, ◌<◌, Bool, List, [], ◌∷◌, true, Option, Some, None, is_some, slice_get, slice_index_or}
 use Rattle.std.specs.Ordering.{nat_cmp}
 use Rattle.std.specs.BTreeMap as tree
 use Rattle.std.specs.FinMap as map
@@ -28,3 +28,7 @@ module _ {T : Type 0} where
 -- a slot that is marked holds the value of its own number
 abbrev pub TellsHomes : List Bool → tree.BTreeMap ℕ ℕ → Type 0
 TellsHomes at_home keys = (k : ℕ) → slice_get at_home k ≡ Some true → tree.get nat_cmp keys k ≡ Some k
+
+-- each number below this one has its own slot
+abbrev pub AreHome : ℕ → tree.BTreeMap ℕ ℕ → Type 0
+AreHome homes keys = (k : ℕ) → k < homes → tree.get nat_cmp keys k ≡ Some k

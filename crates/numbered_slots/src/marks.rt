@@ -66,6 +66,7 @@ impl Marks {
     }
 
     /// Whether no number is marked.
+    #[inline(always)]
     pub fn is_empty(&self) -> bool
         ensures { IsTrue result ↔ (list_any (λ mark. mark) self.now ≡ false) }
     {

@@ -1,11 +1,11 @@
 //! Values under numbers that rise by one and are never given twice.
-ghost use Rattle.std.specs.Prelude.{◌≡◌, ◌-◌, ◌^◌, ◌<◌, ◌≤◌, ◌++◌, ◌==◌, [], ◌∷◌, ℕ, false, None, IsSome, IfNone, OnOk, OnErr, IfOk, IfErr, length, option_copied, if◌then◌else◌, slice_set, vec_len, vec_capacity};
+ghost use Rattle.std.specs.Prelude.{◌≡◌, ◌⊎◌, ◌+◌, ◌-◌, ◌^◌, ◌<◌, ◌≤◌, ◌++◌, ◌==◌, [], ◌∷◌, ℕ, false, None, IsSome, IfNone, OnOk, OnErr, IfOk, IfErr, length, option_copied, if◌then◌else◌, slice_set, vec_len, vec_capacity};
 ghost use Rattle.std.specs.Option.{option_copied_mut};
 ghost use Rattle.std.specs.Borrow.{sem};
 ghost use Rattle.std.specs.FinMap as map;
 ghost use Rattle.std.specs.BTreeMap as tree;
 ghost use Rattle.std.specs.Ordering.{nat_cmp};
-ghost use Rattle.numbered_slots.specs.Layout.{TellsHomes};
+ghost use Rattle.numbered_slots.specs.Layout.{TellsHomes, AreHome};
 
 use slab::Slab;
 use std::alloc::{AllocFailed, Global};
@@ -24,6 +24,8 @@ pub struct Slots<T> {
     slots: Slab<T>,
     // The slot of each live number.
     keys: BTreeMap<u32, usize>,
+    // Each number below this one is live, and its value stands in its own slot.
+    homes: u32,
     // For each slot, whether it holds the value of its own number.
     at_home: Vec<bool>,
     next: u32,
@@ -36,22 +38,34 @@ impl<T> Model for Slots<T> {
 
     ghost coded = { numbered_code T.code };
 
-    ghost use Rattle.numbered_slots.specs.Layout.{shown, IsSound, TellsHomes};
+    ghost use Rattle.numbered_slots.specs.Layout.{shown, IsSound, TellsHomes, AreHome};
 
     ghost view = { λ s. shown s.slots.slots s.keys.entries s.next };
 
-    ghost invariant = { λ s. IsSound s.slots s.keys s.next × TellsHomes s.at_home.items s.keys };
+    ghost invariant = { λ s. IsSound s.slots s.keys s.next × TellsHomes s.at_home.items s.keys × AreHome s.homes s.keys };
+}
+
+// The slot of a live number whose value stands in no slot of its own, by a search.
+#[inline(never)]
+fn searched_slot(keys: &BTreeMap<u32, usize>, number: u32) -> Option<usize>
+    ensures { result ≡ tree.get nat_cmp keys.now number }
+{
+    keys.get(&number).copied()
 }
 
 // The slot of a live number, with no search where the value stands in the number's own slot.
 #[inline(always)]
-fn slot_of(keys: &BTreeMap<u32, usize>, at_home: &[bool], number: u32) -> Option<usize>
-    requires { TellsHomes at_home.now keys.now }
+fn slot_of(keys: &BTreeMap<u32, usize>, at_home: &[bool], homes: u32, number: u32) -> Option<usize>
+    requires told { TellsHomes at_home.now keys.now }
+    requires below { AreHome homes keys.now }
     ensures { result ≡ tree.get nat_cmp keys.now number }
 {
+    if number < homes {
+        return Some(number as usize);
+    }
     match at_home.get(number as usize).copied() {
         Some(true) => Some(number as usize),
-        Some(false) | None => keys.get(&number).copied(),
+        Some(false) | None => searched_slot(keys, number),
     }
 }
 
@@ -75,6 +89,27 @@ fn leave_home(at_home: &mut Vec<bool>, number: u32)
     }
 }
 
+// The number below which each stands at home, once this one was inserted into this slot.
+fn homes_with(homes: u32, key: usize, number: u32) -> u32
+    requires { number < 2 ^ 32 - 1 }
+    ensures { (result ≡ homes) ⊎ ((result ≡ number + 1) × (homes ≡ number) × (key ≡ number)) }
+{
+    if homes == number {
+        if key == number as usize {
+            return number + 1;
+        }
+    }
+    homes
+}
+
+// The same, once this one was taken out.
+fn homes_without(homes: u32, number: u32) -> u32
+    ensures less { result ≤ homes }
+    ensures low { result ≤ number }
+{
+    if number < homes { number } else { homes }
+}
+
 impl<T> Slots<T> {
     ghost use Rattle.numbered_slots.specs.Numbered.{HasFreshNext, with_inserted, without};
     ghost use Rattle.numbered_slots.specs.Lends.{lends_value};
@@ -87,6 +122,7 @@ impl<T> Slots<T> {
         Slots {
             slots: Slab::new(alloc),
             keys: BTreeMap::new(alloc),
+            homes: 0,
             at_home: Vec::new(alloc),
             next: 0,
         }
@@ -113,8 +149,8 @@ impl<T> Slots<T> {
         ensures value { option_copied result ≡ map.get self.now.live number }
         ensures given { IsSome result → number < self.now.next }
     {
-        match slot_of(&self.keys, self.at_home.as_slice(), number) {
-            Some(key) => self.slots.get(key),
+        match slot_of(&self.keys, self.at_home.as_slice(), self.homes, number) {
+            Some(key) => Some(&self.slots[key]),
             None => None,
         }
     }
@@ -125,8 +161,8 @@ impl<T> Slots<T> {
         ensures* writes_back { sem 𝓛 (lends_value T.row self.entry number result) }
         ensures value { option_copied_mut result ≡ map.get self.old.live number }
     {
-        let key = slot_of(&self.keys, self.at_home.as_slice(), number)?;
-        self.slots.get_mut(key)
+        let key = slot_of(&self.keys, self.at_home.as_slice(), self.homes, number)?;
+        Some(&mut self.slots[key])
     }
 
     /// Adds a value under the next number, and answers that number. Where memory is refused nothing changes and the value is handed back.
@@ -157,6 +193,8 @@ impl<T> Slots<T> {
         }
         self.slots.insert_reserved(value);
         note_first(&mut self.at_home, key, number);
+        let homes = homes_with(self.homes, key, number);
+        self.homes = homes;
         self.next = number + 1;
         Ok(number)
     }
@@ -170,6 +208,8 @@ impl<T> Slots<T> {
         match self.keys.remove(&number) {
             Some(key) => {
                 leave_home(&mut self.at_home, number);
+                let homes = homes_without(self.homes, number);
+                self.homes = homes;
                 Some(self.slots.remove(key))
             }
             None => None,

@@ -153,6 +153,7 @@ impl Body {
     }
 
     /// Another value for a local variable of the innermost call.
+    #[inline(always)]
     pub fn set_local(&mut self, number: usize, value: Value)
         ensures left { (a : Arena) → left_of a self.new ≡ in_innermost (with_local number value) (left_of a self.old) }
         ensures sound { (p : Whole) → IsSound p self.old → IsSound p self.new }

@@ -79,6 +79,7 @@ impl Body {
     }
 
     /// The innermost transport call, of what is left as it stands.
+    #[inline(always)]
     pub fn within_now(&self) -> Option<Via>
         ensures { (a : Arena) → result ≡ residual.within (left_of a self.now) }
     {

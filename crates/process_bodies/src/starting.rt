@@ -47,6 +47,7 @@ impl Body {
     }
 
     /// Makes the body one that was not begun. It keeps its first arguments, and takes no memory.
+    #[inline(always)]
     pub fn idle(&mut self)
         ensures left { (a : Arena) → left_of a self.new ≡ skip }
         ensures sound { (p : Whole) → IsSound p self.old → IsSound p self.new }

@@ -16,7 +16,7 @@ use Rattle.kernel_bodies.proofs.Settling.{IsLeft, inside_append, frames_append}
 use Rattle.kernel_bodies.proofs.Passing.{through_frames, through_goal, through_both}
 use Rattle.kernel_bodies.proofs.Lands.{held_none, held_some}
 use Rattle.kernel_bodies.proofs.Rooms.{fits_none}
-use Rattle.process_state.specs.Bodies.{EndsIn}
+use Rattle.process_state.specs.Bodies.{EndsIn, IsOwnFirst}
 
 pub le_to : (n x y : ℕ) → x ≡ y → n ≤ y → n ≤ x
 le_to n x y e h = let P : ℕ → Type 0 = λ m. n ≤ m in subst P (sym e) h
@@ -79,7 +79,7 @@ put_in a g xs r n h = (through_both a (under g) (inside_frames a xs) (through_go
 
 -- the end that shows
 
-no_more : (ls : List Open) → ls ++ [] ≡ ls
+pub no_more : (ls : List Open) → ls ++ [] ≡ ls
 no_more [] = refl
 no_more (l ∷ ls) = ap (λ ms. l ∷ ms) (no_more ls)
 
@@ -151,6 +151,65 @@ own_changed m xs zs front x y e f s = ap (own_locals m) f ∙ last_own m front x
 
 pub blocks_changed : (m : ℕ) (xs zs front : List Saved) (x y : Saved) → xs ≡ front ++ x ∷ [] → zs ≡ front ++ y ∷ [] → SameRoom x y → own_blocks m xs ≤ own_blocks m zs
 blocks_changed m xs zs front x y e f s = omega (arith, ap (own_blocks m) e, ap (own_blocks m) f, last_blocks m front x y s)
+
+-- the body's own call, the outermost
+
+pub own_take : (n : ℕ) (xs : List Saved) → IsOwnFirst xs → IsOwnFirst (take n xs)
+own_take zero xs h = tt
+own_take (suc n) [] h = tt
+own_take (suc n) (x ∷ xs) h = h
+
+own_front : (xs ys : List Saved) → IsOwnFirst (xs ++ ys) → IsOwnFirst xs
+own_front [] ys h = tt
+own_front (x ∷ xs) ys h = h
+
+pub own_outside : (xs front : List Saved) (x : Saved) → xs ≡ front ++ x ∷ [] → IsOwnFirst xs → IsOwnFirst front
+own_outside xs front x e h = let P : List Saved → Type 0 = IsOwnFirst in own_front front (x ∷ []) (subst P e h)
+
+pub own_more : (xs front : List Saved) (x : Saved) → xs ≡ front ++ x ∷ [] → 0 < length front → IsOwnFirst front → IsOwnFirst xs
+own_more xs front x e some h = let P : List Saved → Type 0 = IsOwnFirst in subst P (sym e) (joined front some h)
+  where
+    joined : (front : List Saved) → 0 < length front → IsOwnFirst front → IsOwnFirst (front ++ x ∷ [])
+    joined [] some h = absurd (omega (arith, some))
+    joined (z ∷ front) some h = h
+
+own_last : (front : List Saved) (x y : Saved) → y.frame.call ≡ x.frame.call → IsOwnFirst (front ++ x ∷ []) → IsOwnFirst (front ++ y ∷ [])
+own_last [] x y e h = e ∙ h
+own_last (z ∷ front) x y e h = h
+
+pub own_first : (xs zs front : List Saved) (x y : Saved) → xs ≡ front ++ x ∷ [] → zs ≡ front ++ y ∷ [] → SameRoom x y → IsOwnFirst xs → IsOwnFirst zs
+own_first xs zs front x y e f s h = let P : List Saved → Type 0 = IsOwnFirst in subst P (sym f) (own_last front x y s.call (subst P e h))
+
+own_room : (o : Option ℕ) (n j k : ℕ) → o ≡ None → room_of_own o n j ≡ room_of_own o n k
+own_room o n j k e = ap (λ p. room_of_own p n j) e ∙ sym (ap (λ p. room_of_own p n k) e)
+
+pub own_kept : (m n k : ℕ) (xs : List Saved) → 0 < length xs → IsOwnFirst xs → (own_locals m (take (suc k) xs) ≡ own_locals n xs) × (own_blocks m (take (suc k) xs) ≡ own_blocks n xs)
+own_kept m n k [] some h = absurd (omega (arith, some))
+own_kept m n k (x ∷ xs) some h =
+    (own_room x.frame.call (vec_capacity x.frame.locals) (own_locals m (take k xs)) (own_locals n xs) h, own_room x.frame.call (vec_capacity x.blocks) (own_blocks m (take k xs)) (own_blocks n xs) h)
+
+pub own_any : (m n : ℕ) (xs : List Saved) → 0 < length xs → IsOwnFirst xs → (own_locals m xs ≡ own_locals n xs) × (own_blocks m xs ≡ own_blocks n xs)
+own_any m n [] some h = absurd (omega (arith, some))
+own_any m n (x ∷ xs) some h =
+    (own_room x.frame.call (vec_capacity x.frame.locals) (own_locals m xs) (own_locals n xs) h, own_room x.frame.call (vec_capacity x.blocks) (own_blocks m xs) (own_blocks n xs) h)
+
+pub own_at : (m : ℕ) (xs : List Saved) (d : Saved) → 0 < length xs → d ≡ get_or xs 0 d → IsOwnFirst xs → (own_locals m xs ≡ vec_capacity d.frame.locals) × (own_blocks m xs ≡ vec_capacity d.blocks)
+own_at m [] d some is h = absurd (omega (arith, some))
+own_at m (x ∷ xs) d some is h =
+    (ap (λ o. room_of_own o (vec_capacity x.frame.locals) (own_locals m xs)) h ∙ ap (λ (z : Saved). vec_capacity z.frame.locals) (sym is), ap (λ o. room_of_own o (vec_capacity x.blocks) (own_blocks m xs)) h ∙ ap (λ (z : Saved). vec_capacity z.blocks) (sym is))
+
+pub own_alone : (m : ℕ) (xs : List Saved) (x : Saved) → xs ≡ x ∷ [] → x.frame.call ≡ None → (own_locals m xs ≡ vec_capacity x.frame.locals) × (own_blocks m xs ≡ vec_capacity x.blocks)
+own_alone m xs x e h =
+    (ap (own_locals m) e ∙ ap (λ o. room_of_own o (vec_capacity x.frame.locals) m) h, ap (own_blocks m) e ∙ ap (λ o. room_of_own o (vec_capacity x.blocks) m) h)
+
+pub none_left : (xs : List Saved) → length xs ≡ 0 → xs ≡ []
+none_left [] e = refl
+none_left (x ∷ xs) e = absurd (omega (arith, e))
+
+-- where some room is kept, a frame has it
+pub some_kept : (xs : List Saved) → 0 < own_blocks 0 xs → 0 < length xs
+some_kept [] h = absurd (omega (arith, h))
+some_kept (x ∷ xs) h = omega arith
 
 -- a frame that is no body's own
 

@@ -1,25 +1,24 @@
 -- A statement inside a call stands, and then it is past.
-use Rattle.std.proofs.Common.{◌≡◌, ◌+◌, ◌<◌, ℕ, zero, suc, Bool, true, false, List, [], ◌∷◌, ◌++◌, Option, Some, None, length, take, get_or, set, refl, sym, ap, subst, ◌∙◌, arith}
-use Rattle.std.specs.Prelude.{is_some, slice_get, IfSome}
-use Rattle.kernel_bodies.specs.FlatDesign.Code.{Arena, block_at}
+use Rattle.std.proofs.Common.{◌≡◌, ◌<◌, ℕ, zero, suc, Bool, true, false, List, [], ◌∷◌, ◌++◌, Option, Some, None, length, take, get_or, set, refl, sym, ap, subst, ◌∙◌, arith}
+use Rattle.std.specs.Prelude.{is_some, IfSome, IfNone}
+use Rattle.std.specs.Vec.{vec_capacity}
+use Rattle.kernel_bodies.specs.FlatDesign.Code.{Arena, arena_of}
 use Rattle.kernel_bodies.specs.SimModel.Residual as residual
-use Rattle.kernel_bodies.specs.SimModel.Residual.{Residual, skip, one, put, settle, next_of, then_on}
+use Rattle.kernel_bodies.specs.SimModel.Residual.{Residual, Frame, skip, one, frame, put, settle, next_of, frame_end}
 use Rattle.kernel_bodies.specs.SimModel.declared.plain.Goal.{Goal}
+use Rattle.kernel_bodies.specs.declared.program.Program.{Program}
 use Rattle.kernel_bodies.specs.declared.layers.Saved.{Saved}
 use Rattle.kernel_bodies.specs.declared.layers.Frame.{Frame as Kept}
+use Rattle.kernel_bodies.specs.declared.layers.Next.{Next}
 use Rattle.kernel_bodies.specs.declared.layers.Open.{Open}
-use Rattle.kernel_bodies.specs.declared.layers.Open.TheVariants as layer
-use Rattle.kernel_bodies.specs.declared.around.Cursor.{Cursor}
-use Rattle.kernel_bodies.specs.Layers.{call_of, around, inside, wrapped, inside_frames, under, held, standing, shown, rest_at, IsComing}
-use Rattle.kernel_bodies.specs.Depths.{depth_of}
-use Rattle.kernel_bodies.specs.Room.{Fits, FitsLayer, SameCall, kept_along}
-use Rattle.kernel_bodies.proofs.Passing.{Passes, through_frames, through_goal, through_both, through_call, through_blocks}
-use Rattle.kernel_bodies.proofs.Blocks.{rest_some}
+use Rattle.kernel_bodies.specs.Layers.{call_of, around, inside, wrapped, whole, inside_frames, under, held, standing, shown, IsComing, Settled}
+use Rattle.kernel_bodies.specs.Room.{Fits, FitsIn, FitsLayer, FitsFrames, EachFitsIn, SameCall, kept_along}
+use Rattle.kernel_bodies.proofs.Passing.{Passes, through_frames, through_goal, through_both, through_call, through_blocks, settled_through}
 use Rattle.kernel_bodies.proofs.Lands.{held_some}
-use Rattle.kernel_bodies.proofs.Rooms.{fits_less, fits_more}
-use Rattle.kernel_bodies.proofs.Settling.{IsLeft, inside_append, settle_followed}
-use Rattle.process_state.specs.Bodies.{IsStatement, IsBehindFirst, IsFirstOf, ComesIn}
-use Rattle.process_state.proofs.Frames.{put_statement, left_nothing, frames_last, last_is, last_set}
+use Rattle.kernel_bodies.proofs.Rooms.{fits_less, fits_more, fits_none}
+use Rattle.kernel_bodies.proofs.Settling.{inside_append}
+use Rattle.process_state.specs.Bodies.{IsStatement, ComesIn}
+use Rattle.process_state.proofs.Frames.{put_statement, put_in, left_nothing, frames_last, last_is, last_set, changed_left, inside_some, fits_join, each_take}
 
 pub through_all : (a : Arena) (g : Option Goal) (xs : List Saved) → Passes a (λ r. under g (inside_frames a xs r))
 through_all a g xs = through_both a (under g) (inside_frames a xs) (through_goal a g) (through_frames a xs)
@@ -44,11 +43,11 @@ past_left a g (x ∷ xs) o s e h =
     ap (λ p. under g (inside_frames a zs (standing p))) e ∙ sym (stands_settled a g zs s) ∙ ap (λ p. settle a (under g (inside_frames a zs (standing p)))) (sym e) in
     left_nothing a g zs ∙ sym (put_statement a g zs o s (settle a (under g (inside_frames a zs (standing (held zs o))))) skip settled e (omega arith))
 
--- the first statement of a block is past
+pub some_frames : (a : Arena) (g : Option Goal) (xs : List Saved) (o : Option ℕ) → IsStatement (shown (next_of (settle a (under g (inside_frames a xs (standing (held xs o))))))) → 0 < length xs
+some_frames a g [] o h = absurd (nothing_stands a g h)
+some_frames a g (x ∷ xs) o h = omega arith
 
-behind_settled : (a : Arena) (l : Open) (c : Cursor) → (w : IsBehindFirst a l c) → settle a (around a l skip) ≡ around a (layer.Rest c) (one w.first)
-behind_settled a l c w =
-    ap (λ m. settle a (around a m skip)) w.rest ∙ settle_followed a skip (rest_at a w.at) ∙ ap (then_on skip) w.behind
+-- what comes in the innermost block of a call
 
 blocks_last : (ls : List Open) (i : ℕ) (l : Open) → suc i ≡ length ls → l ≡ get_or ls i l → ls ≡ take i ls ++ l ∷ []
 blocks_last [] i l e is = absurd (omega (arith, e))
@@ -56,54 +55,84 @@ blocks_last (m ∷ []) zero l e is = ap (λ k. k ∷ []) (sym is)
 blocks_last (m ∷ n ∷ ls) zero l e is = absurd (omega (arith, e))
 blocks_last (m ∷ ls) (suc i) l e is = ap (λ ks. m ∷ ks) (blocks_last ls i l (omega (arith, e)) is)
 
-blocks_set : (ls : List Open) (i : ℕ) (l : Open) → suc i ≡ length ls → set ls i l ≡ take i ls ++ l ∷ []
+pub blocks_set : (ls : List Open) (i : ℕ) (l : Open) → suc i ≡ length ls → set ls i l ≡ take i ls ++ l ∷ []
 blocks_set [] i l e = absurd (omega (arith, e))
 blocks_set (m ∷ []) zero l e = refl
 blocks_set (m ∷ n ∷ ls) zero l e = absurd (omega (arith, e))
 blocks_set (m ∷ ls) (suc i) l e = ap (λ ks. m ∷ ks) (blocks_set ls i l (omega (arith, e)))
 
-module _ (a : Arena) (ls : List Open) (i : ℕ) (l : Open) (c : Cursor) (last : suc i ≡ length ls) (at : l ≡ get_or ls i l) (w : IsBehindFirst a l c) where
-  pub blocks_passed : settle a (inside a ls skip) ≡ inside a (set ls i (layer.Rest c)) (one w.first)
-  blocks_passed =
-      ap (λ ms. settle a (inside a ms skip)) (blocks_last ls i l last at)
+module _ (a : Arena) (ls : List Open) (i : ℕ) (l : Open) (ms : List Open) (s : ℕ) (last : suc i ≡ length ls) (at : l ≡ get_or ls i l) where
+  pub blocks_taken : settle a (around a l skip) ≡ inside a ms (one s) → settle a (inside a ls skip) ≡ inside a (take i ls ++ ms) (one s)
+  blocks_taken e =
+      ap (λ ks. settle a (inside a ks skip)) (blocks_last ls i l last at)
       ∙ ap (settle a) (inside_append a (take i ls) (l ∷ []) skip)
-      ∙ (through_blocks a (take i ls)).settles (around a l skip) (around a (layer.Rest c) (one w.first)) (behind_settled a l c w) ((through_blocks a (layer.Rest c ∷ [])).left (one w.first) tt)
-      ∙ sym (inside_append a (take i ls) (layer.Rest c ∷ []) (one w.first))
-      ∙ ap (λ ms. inside a ms (one w.first)) (sym (blocks_set ls i (layer.Rest c) last))
+      ∙ (through_blocks a (take i ls)).settles (around a l skip) (inside a ms (one s)) e ((through_blocks a ms).left (one s) tt)
+      ∙ sym (inside_append a (take i ls) ms (one s))
 
-  pub blocks_fit : (depths : List ℕ) (most : ℕ) → Fits a depths most 1 0 ls None → Fits a depths most 1 0 (set ls i (layer.Rest c)) None
-  blocks_fit depths most h =
-      let P : List Open → Type 0 = λ ms. Fits a depths most 1 0 ms None in
-      let L : Open → Type 0 = λ m. FitsLayer a depths most (kept_along 1 (take i ls)) (length (take i ls)) m in
+  pub comes_here : settle a (around a l skip) ≡ inside a ms (one s) → ComesIn a ls s
+  comes_here e = record { blocks = take i ls ++ ms; settles = blocks_taken e }
+
+  pub blocks_fit : (depths : List ℕ) (most : ℕ) → ((n t j : ℕ) → FitsLayer a depths n t j l → Fits a depths n t j ms (Some s)) → Fits a depths most 1 0 ls None → Fits a depths most 1 0 (take i ls ++ ms) (Some s)
+  blocks_fit depths most room h =
+      let P : List Open → Type 0 = λ ks. Fits a depths most 1 0 ks None in
       let f = fits_less a depths most (take i ls) l None (subst P (blocks_last ls i l last at) h) in
-      let room = subst L w.rest f.1 in
-      let same : depth_of depths c.block ≡ depth_of depths w.at.block = ap (depth_of depths) w.block in
-      subst P (sym (blocks_set ls i (layer.Rest c) last))
-      (fits_more a depths most (take i ls) (layer.Rest c ∷ []) None f.0.0 ((omega (arith, room, same), tt), omega (arith, room, same)))
+      fits_more a depths most (take i ls) ms (Some s) f.0.0 (room most (kept_along 1 (take i ls)) (length (take i ls)) f.1)
 
-module _ (a : Arena) (g : Option Goal) (xs zs : List Saved) (o : Option ℕ) (i : ℕ) (d y : Saved) (s : ℕ) (none : o ≡ None) (last : suc i ≡ length xs) (at : d ≡ get_or xs i d)
-    (new : zs ≡ set xs i y) (same : SameCall d y) (passed : settle a (inside a d.blocks.items skip) ≡ inside a y.blocks.items (one s)) where
-  pub passed_left : under g (inside_frames a zs (standing (held zs o))) ≡ put (settle a (under g (inside_frames a xs (standing (held xs o))))) skip
-  passed_left =
+module _ (a : Arena) (g : Option Goal) (xs zs : List Saved) (o : Option ℕ) (i : ℕ) (d y : Saved) (none : o ≡ None) (last : suc i ≡ length xs) (at : d ≡ get_or xs i d) (new : zs ≡ set xs i y) (same : SameCall d y) where
+  new_is : zs ≡ take i xs ++ y ∷ []
+  new_is = new ∙ last_set xs i y last
+
+  taken_settles : (s : ℕ) → settle a (inside a d.blocks.items skip) ≡ inside a y.blocks.items (one s) → settle a (under g (inside_frames a xs (standing (held xs o)))) ≡ under g (inside_frames a zs (one s))
+  taken_settles s passed =
       let C : Residual → Residual = λ r. under g (inside_frames a (take i xs) (wrapped d.shell (call_of d.frame) r)) in
       let through : Passes a C =
       through_both a (under g) (λ r. inside_frames a (take i xs) (wrapped d.shell (call_of d.frame) r)) (through_goal a g)
       (through_both a (inside_frames a (take i xs)) (wrapped d.shell (call_of d.frame)) (through_frames a (take i xs)) (through_call a d.shell (call_of d.frame))) in
       let q : Residual = inside a y.blocks.items (one s) in
-      let left : IsLeft q = (through_blocks a y.blocks.items).left (one s) tt in
-      let old : settle a (under g (inside_frames a xs (standing (held xs o)))) ≡ C q =
+      let now : under g (inside_frames a zs (one s)) ≡ C q =
+      ap (under g)
+      (frames_last a zs (take i xs) y (one s) new_is
+      ∙ ap (inside_frames a (take i xs)) (ap (λ b. wrapped b (call_of y.frame) q) same.shell ∙ ap (λ (f : Kept). wrapped d.shell (call_of f) q) same.frame)) in
       ap (λ p. settle a (under g (inside_frames a xs (standing (held xs p))))) none
       ∙ ap (settle a) (left_nothing a g xs ∙ ap (under g) (frames_last a xs (take i xs) d skip (last_is xs i d last at)))
-      ∙ through.settles (inside a d.blocks.items skip) q passed left in
-      let now : under g (inside_frames a zs (standing (held zs o))) ≡ C (inside a y.blocks.items skip) =
+      ∙ through.settles (inside a d.blocks.items skip) q passed ((through_blocks a y.blocks.items).left (one s) tt)
+      ∙ sym now
+
+  pub taken_settles_if : (q : Option ℕ) → IfSome q (λ s. settle a (inside a d.blocks.items skip) ≡ inside a y.blocks.items (one s)) → IfSome q (λ s. settle a (under g (inside_frames a xs (standing (held xs o)))) ≡ under g (inside_frames a zs (one s)))
+  taken_settles_if None h = tt
+  taken_settles_if (Some s) h = taken_settles s h
+
+  pub taken_fits_if : (ds : List ℕ) (q : Option ℕ) → EachFitsIn a ds xs → FitsIn a ds d None → IfSome q (λ s. FitsIn a ds d None → FitsIn a ds y (Some s)) → IfSome q (λ s. FitsFrames a ds zs (Some s))
+  taken_fits_if ds None each h room = tt
+  taken_fits_if ds (Some s) each h room = fits_join a ds zs (take i xs) y (Some s) new_is (each_take a ds i xs each) (room h)
+
+  pub taken_none : (ds : List ℕ) (q : Option ℕ) → FitsIn a ds d None → IfSome q (λ s. FitsIn a ds d None → FitsIn a ds y (Some s)) → IfNone q (y ≡ d) → FitsIn a ds y None
+  taken_none ds None h room stays = let P : Saved → Type 0 = λ z. FitsIn a ds z None in subst P (sym stays) h
+  taken_none ds (Some s) h room stays = fits_none a ds (vec_capacity y.blocks) y.blocks.items (Some s) (room h)
+
+  pub taken_there : (q : Option ℕ) → IfSome q (λ _. 0 < length zs)
+  taken_there None = tt
+  taken_there (Some s) = inside_some zs (take i xs) y new_is
+
+  pub taken_stays : (q : Option ℕ) → IfNone q (y ≡ d) → IfNone q (under g (inside_frames a zs (standing (held zs o))) ≡ under g (inside_frames a xs (standing (held xs o))))
+  taken_stays None e =
       ap (λ p. under g (inside_frames a zs (standing (held zs p)))) none
       ∙ left_nothing a g zs
-      ∙ ap (under g)
-      (frames_last a zs (take i xs) y skip (new ∙ last_set xs i y last)
-      ∙ ap (inside_frames a (take i xs))
-      (ap (λ b. wrapped b (call_of y.frame) (inside a y.blocks.items skip)) same.shell
-      ∙ ap (λ (f : Kept). wrapped d.shell (call_of f) (inside a y.blocks.items skip)) same.frame)) in
-      now ∙ sym (ap (λ r. put r skip) old ∙ through.puts q skip left ∙ ap C ((through_blocks a y.blocks.items).puts (one s) skip tt))
+      ∙ ap (under g) (changed_left a xs zs i d y skip skip last at new (ap (λ z. whole a z skip) e))
+      ∙ sym (ap (λ p. under g (inside_frames a xs (standing (held xs p)))) none ∙ left_nothing a g xs)
+  taken_stays (Some s) e = tt
+
+-- a statement that is in place inside these frames: it comes next, is past, and another residual stands in its place
+
+module _ (a : Arena) (g : Option Goal) (zs : List Saved) (s : ℕ) (r : Residual) (settles : r ≡ under g (inside_frames a zs (one s))) where
+  pub next_taken : next_of r ≡ residual.statement s
+  next_taken = ap next_of settles ∙ (through_all a g zs).comes (one s) tt
+
+  pub put_taken : (e : Residual) → under g (inside_frames a zs e) ≡ put r e
+  put_taken e = sym (ap (λ q. put q e) settles ∙ put_in a g zs (one s) e tt)
+
+  pub passed_taken : (o : Option ℕ) → o ≡ None → under g (inside_frames a zs (standing (held zs o))) ≡ put r skip
+  passed_taken o none = ap (λ p. under g (inside_frames a zs (standing (held zs p)))) none ∙ left_nothing a g zs ∙ put_taken skip
 
 pub none_is : (o : Option ℕ) (b : Bool) → b ≡ is_some o → b ≡ false → o ≡ None
 none_is None b e h = refl
@@ -111,27 +140,18 @@ none_is (Some s) b e h = cc
 
 -- the statement that comes where nothing falls away before it
 
-pub statement_settles : (a : Arena) (g : Option Goal) (xs : List Saved) (o : Option ℕ) (s : ℕ) → o ≡ Some s → 0 < length xs → settle a (under g (inside_frames a xs (standing (held xs o)))) ≡ under g (inside_frames a xs (one s))
+statement_settles : (a : Arena) (g : Option Goal) (xs : List Saved) (o : Option ℕ) (s : ℕ) → o ≡ Some s → 0 < length xs → settle a (under g (inside_frames a xs (standing (held xs o)))) ≡ under g (inside_frames a xs (one s))
 statement_settles a g xs o s is some = ap (λ p. settle a (under g (inside_frames a xs (standing p)))) (held_some xs o some ∙ is) ∙ stands_settled a g xs s
 
 pub statement_shows : (a : Arena) (g : Option Goal) (xs : List Saved) (o : Option ℕ) (s : ℕ) → o ≡ Some s → 0 < length xs → next_of (settle a (under g (inside_frames a xs (standing (held xs o))))) ≡ residual.statement s
 statement_shows a g xs o s is some = ap next_of (statement_settles a g xs o s is some) ∙ (through_all a g xs).comes (one s) tt
 
-pub first_if : (a : Arena) (l : Open) (c : Cursor) → l ≡ layer.Rest c → (o : Option ℕ) → o ≡ slice_get (block_at a c.block) c.place → IfSome o (IsFirstOf a l)
-first_if a l c is None found = tt
-first_if a l c is (Some s) found = record {
-  cursor = record { block = c.block; place = c.place + 1 };
-  behind = record { at = c; first = s; rest = is; block = refl; behind = rest_some (block_at a c.block) c.place s (sym found) };
-  is = refl;
-}
-
-pub comes_if : (a : Arena) (ls : List Open) (i : ℕ) (l : Open) → suc i ≡ length ls → l ≡ get_or ls i l → (o : Option ℕ) → IfSome o (IsFirstOf a l) → IfSome o (ComesIn a ls)
-comes_if a ls i l last at None h = tt
-comes_if a ls i l last at (Some s) h =
-    record { blocks = set ls i (layer.Rest h.cursor); settles = blocks_passed a ls i l h.cursor last at h.behind ∙ ap (λ n. inside a (set ls i (layer.Rest h.cursor)) (one n)) h.is }
+pub stands : (a : Arena) (g : Option Goal) (xs : List Saved) (o : Option ℕ) (s : ℕ) → o ≡ Some s → 0 < length xs
+    → under g (inside_frames a xs (standing (held xs o))) ≡ settle a (under g (inside_frames a xs (standing (held xs o))))
+stands a g xs o s is some = ap (λ p. under g (inside_frames a xs (standing p))) (held_some xs o some ∙ is) ∙ sym (statement_settles a g xs o s is some)
 
 module _ (a : Arena) (g : Option Goal) (xs : List Saved) (o : Option ℕ) (i : ℕ) (d : Saved) (none : o ≡ None) (last : suc i ≡ length xs) (at : d ≡ get_or xs i d) where
-  pub first_settles : (s : ℕ) (w : ComesIn a d.blocks.items s)
+  first_settles : (s : ℕ) (w : ComesIn a d.blocks.items s)
       → settle a (under g (inside_frames a xs (standing (held xs o)))) ≡ under g (inside_frames a (take i xs) (wrapped d.shell (call_of d.frame) (inside a w.blocks (one s))))
   first_settles s w =
       let C : Residual → Residual = λ r. under g (inside_frames a (take i xs) (wrapped d.shell (call_of d.frame) r)) in
@@ -157,3 +177,38 @@ module _ (a : Arena) (g : Option Goal) (xs : List Saved) (o : Option ℕ) (i : �
   pub first_shows_if : (q : Option ℕ) → IfSome q (ComesIn a d.blocks.items) → IfSome q (λ s. next_of (settle a (under g (inside_frames a xs (standing (held xs o))))) ≡ residual.statement s)
   first_shows_if None h = tt
   first_shows_if (Some s) h = first_shows s h
+
+-- the end of a call in which nothing is open
+
+frame_coming : (o : Option ℕ) (f : Frame) → IsComing (frame_end o f)
+frame_coming None f = tt
+frame_coming (Some s) f = tt
+
+pub end_settled : (a : Arena) (x : Saved) (o : Option ℕ) → x.shell ≡ false → length x.blocks.items ≡ 0 → x.frame.call ≡ o → Settled a (whole a x skip) (whole a x skip) (shown (frame_end o (call_of x.frame)))
+end_settled a x o alive few is =
+    let e : whole a x skip ≡ frame skip (call_of x.frame) = ap (λ b. wrapped b (call_of x.frame) (inside a x.blocks.items skip)) alive ∙ ap (λ ls. frame (inside a ls skip) (call_of x.frame)) (no_blocks x.blocks.items few) in
+    let P : residual.Next → Type 0 = IsComing in record {
+      settles = ap (settle a) e ∙ sym e;
+      shows = ap (λ q. shown (next_of q)) e ∙ ap (λ p. shown (frame_end p (call_of x.frame))) is;
+      coming = subst P (sym (ap next_of e)) (frame_coming x.frame.call (call_of x.frame));
+    }
+  where
+    no_blocks : (ls : List Open) → length ls ≡ 0 → ls ≡ []
+    no_blocks [] h = refl
+    no_blocks (l ∷ ls) h = absurd (omega (arith, h))
+
+ended_shows : (a : Arena) (g : Option Goal) (xs : List Saved) (o : Option ℕ) (i : ℕ) (d : Saved) → o ≡ None → suc i ≡ length xs → d ≡ get_or xs i d → (n : Next) → Settled a (whole a d skip) (whole a d skip) n
+    → n ≡ shown (next_of (settle a (under g (inside_frames a xs (standing (held xs o))))))
+ended_shows a g xs o i d none last at n w =
+    let C : Residual → Residual = λ r. under g (inside_frames a (take i xs) r) in
+    let v = settled_through a C (whole a d skip) (whole a d skip) n (through_all a g (take i xs)) w in
+    let old : settle a (under g (inside_frames a xs (standing (held xs o)))) ≡ C (whole a d skip) =
+    ap (λ p. settle a (under g (inside_frames a xs (standing (held xs p))))) none
+    ∙ ap (settle a) (left_nothing a g xs ∙ ap (under g) (frames_last a xs (take i xs) d skip (last_is xs i d last at)))
+    ∙ v.settles in
+    sym (ap (λ q. shown (next_of q)) old ∙ v.shows)
+
+pub ended_shows_if : (g : Option Goal) (xs : List Saved) (o : Option ℕ) (i : ℕ) (d : Saved) → o ≡ None → suc i ≡ length xs → d ≡ get_or xs i d → (q : Option Next) → IfSome q (λ n. (a : Arena) → Settled a (whole a d skip) (whole a d skip) n)
+    → IfSome q (λ n. (p : Program) → n ≡ shown (next_of (settle (arena_of p.code) (under g (inside_frames (arena_of p.code) xs (standing (held xs o)))))))
+ended_shows_if g xs o i d none last at None h = tt
+ended_shows_if g xs o i d none last at (Some n) h = λ p. ended_shows (arena_of p.code) g xs o i d none last at n (h (arena_of p.code))

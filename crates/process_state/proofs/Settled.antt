@@ -1,5 +1,5 @@
 -- A body that has settled: the frames that stand, with what has begun in the innermost of them.
-use Rattle.std.proofs.Common.{◌≡◌, ℕ, ◌+◌, ◌≤◌, suc, List, [], ◌∷◌, ◌++◌, Option, Some, None, length, take, get_or, set, refl, sym, ap, ◌∙◌, subst, arith, length-append, inl}
+use Rattle.std.proofs.Common.{◌≡◌, ℕ, ◌+◌, ◌<◌, ◌≤◌, suc, List, [], ◌∷◌, ◌++◌, Option, Some, None, length, take, get_or, set, refl, sym, ap, ◌∙◌, subst, arith, length-append, inl}
 use Rattle.std.specs.Vec.{vec_capacity}
 use Rattle.kernel_bodies.specs.FlatDesign.Code.{Arena}
 use Rattle.kernel_bodies.specs.SimModel.Residual.{Residual, skip, settle, next_of}
@@ -13,8 +13,8 @@ use Rattle.kernel_bodies.specs.Layers.{cut, inside_frames, under, held, standing
 use Rattle.kernel_bodies.specs.Room.{Fits, FitsFrames, SameCall, own_locals, own_blocks}
 use Rattle.kernel_bodies.proofs.Passing.{through_goal, settled_through}
 use Rattle.kernel_bodies.proofs.Rooms.{fits_at_cap, fits_length}
-use Rattle.process_state.specs.Bodies.{EndsIn}
-use Rattle.process_state.proofs.Frames.{same_there, front_at, front_set, front_is, frames_last, held_last, whole_cut, ends_in, each_take, fits_join, same_room, own_changed, blocks_changed}
+use Rattle.process_state.specs.Bodies.{EndsIn, IsOwnFirst, IsStatement}
+use Rattle.process_state.proofs.Frames.{same_there, front_at, front_set, front_is, frames_last, held_last, whole_cut, ends_in, each_take, fits_join, same_room, own_take, own_first, own_kept, own_changed, blocks_changed}
 use Rattle.process_state.proofs.Stepping.{under_nothing}
 
 pub one_more : (i : ℕ) → i + 1 ≡ suc i
@@ -70,11 +70,21 @@ module _ (a : Arena) (ds : List ℕ) (g : Option Goal) (xs : List Saved) (s : Op
           fits_join a ds zs (take l.outside xs) y (statement_of l.comes) land_frames (each_take a ds l.outside xs f.each)
           (fits_at_cap a ds (vec_capacity d.blocks) (vec_capacity y.blocks) (take l.blocks d.blocks.items ++ layers_of l.comes) y.blocks.items (statement_of l.comes) (statement_of l.comes) same.room filled refl (land_room f))
 
+      pub land_own : IsOwnFirst xs → IsOwnFirst zs
+      land_own h = let P : List Saved → Type 0 = IsOwnFirst in own_first ys zs (take l.outside xs) d y land_front land_frames (same_room d y same) (subst P (sym kept) (own_take (l.outside + 1) xs h))
+
       pub land_locals : (m : ℕ) → own_locals m zs ≡ own_locals m ys
       land_locals m = own_changed m ys zs (take l.outside xs) d y land_front land_frames (same_room d y same)
 
       pub land_blocks : (m : ℕ) → own_blocks m ys ≤ own_blocks m zs
       land_blocks m = blocks_changed m ys zs (take l.outside xs) d y land_front land_frames (same_room d y same)
+
+-- the outermost frame stands
+pub land_kept : (m : ℕ) (xs ys : List Saved) (i : ℕ) → i < length xs → ys ≡ take (i + 1) xs → IsOwnFirst xs → (own_locals m ys ≡ own_locals m xs) × (own_blocks m ys ≡ own_blocks m xs)
+land_kept m xs ys i h kept own =
+    let w = own_kept m m i xs (omega (arith, h)) own in
+    let e : ys ≡ take (suc i) xs = kept ∙ ap (λ n. take n xs) (one_more i) in
+    (ap (own_locals m) e ∙ w.0, ap (own_blocks m) e ∙ w.1)
 
 -- where all frames fall away
 
@@ -87,3 +97,7 @@ falls_shows a g xs r e = ap (λ q. shown (next_of q)) (falls_settled a g xs r e)
 pub falls_ends : (g : Option Goal) (xs : List Saved) → xs ≡ [] → EndsIn g xs (under_goal g comes.Nothing)
 falls_ends None xs e = tt
 falls_ends (Some k) xs e = inl (e, refl)
+
+pub falls_never : (g : Option Goal) → IsStatement (shown (next_of (under g skip))) → ⊥
+falls_never None h = h
+falls_never (Some k) h = h

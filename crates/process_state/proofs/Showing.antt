@@ -1,19 +1,25 @@
 -- What a body shows of what is left.
-use Rattle.std.proofs.Common.{◌≡◌, ℕ, ◌+◌, ◌<◌, suc, length, get_or, Bool, true, false, List, [], ◌∷◌, Option, Some, None, take, refl, sym, ap, ◌∙◌}
-use Rattle.std.specs.Prelude.{◌||◌, is_some, IfSome}
-use Rattle.kernel_bodies.specs.FlatDesign.Code.{Arena}
-use Rattle.kernel_bodies.specs.SimModel.Residual.{Residual, Frame, skip, one, innermost, or_frame, within, or_via, in_nb, has_goal, open_frames, counted_call, settle}
+use Rattle.std.proofs.Common.{◌≡◌, ℕ, ◌+◌, suc, length, get_or, Bool, true, false, List, [], ◌∷◌, Option, Some, None, take, refl, sym, ap, ◌∙◌}
+use Rattle.std.specs.Prelude.{◌||◌, is_some}
+use Rattle.kernel_bodies.specs.FlatDesign.Code.{Arena, block_at}
+use Rattle.kernel_bodies.specs.FlatDesign.declared.code.Handler.{Handler}
+use Rattle.kernel_bodies.specs.SimModel.Residual as residual
+use Rattle.kernel_bodies.specs.SimModel.Residual.{Residual, Frame, skip, frame, block, followed, statements, then_on, then_owed, in_run, in_guard, in_try, innermost, or_frame, within, or_via, in_nb, has_goal, open_frames, counted_call, settle}
+use Rattle.kernel_bodies.specs.SimModel.declared.plain.Via.{Via}
 use Rattle.kernel_bodies.specs.SimModel.declared.plain.Goal.{Goal}
 use Rattle.kernel_bodies.specs.SimModel.Unwinding.{catches}
+use Rattle.kernel_bodies.specs.Depths.{handlers_of}
 use Rattle.kernel_bodies.specs.declared.layers.Saved.{Saved}
+use Rattle.kernel_bodies.specs.declared.layers.Open.{Open}
+use Rattle.kernel_bodies.specs.declared.layers.Open.TheVariants as layer
 use Rattle.kernel_bodies.specs.declared.layers.Landing.{Landing}
 use Rattle.kernel_bodies.specs.Landings.{Lands}
-use Rattle.kernel_bodies.specs.Layers.{call_of, inside, wrapped, whole, cut, inside_frames, under, held, standing, landed}
+use Rattle.kernel_bodies.specs.Layers.{call_of, inside, wrapped, whole, cut, inside_frames, under, held, standing, landed, rest_at}
 use Rattle.kernel_bodies.specs.Sought.{among, has_handler, is_handling, unwinds, is_open_nonblocking, last_call, last_via, many_calls}
-use Rattle.kernel_bodies.proofs.Seeking.{innermost_inside, innermost_cut, innermost_whole, innermost_frames, within_cut, within_whole, within_frames, calls_cut, calls_whole, calls_frames, nb_frames, goal_frames, catches_inside, catches_wrapped, catches_whole}
-use Rattle.process_state.specs.Bodies.{ComesIn}
+use Rattle.kernel_bodies.proofs.Seeking.{innermost_cut, innermost_whole, innermost_frames, within_cut, within_whole, within_frames, calls_cut, calls_whole, calls_frames, nb_frames, goal_frames, catches_inside, catches_wrapped, catches_whole}
+use Rattle.kernel_bodies.proofs.Settling.{settle_around, settled_around}
 use Rattle.process_state.proofs.Frames.{frames_last, front_is, last_is}
-use Rattle.process_state.proofs.Passed.{statement_settles, first_settles}
+use Rattle.process_state.proofs.Passed.{through_all}
 use Rattle.process_state.proofs.Settled.{under_settled}
 use Rattle.process_state.proofs.Stepping.{innermost_landed, within_landed, calls_landed, catches_landed, innermost_standing, within_standing, nb_standing, goal_standing}
 
@@ -128,31 +134,106 @@ module _ (a : Arena) (ds : List ℕ) (g : Option Goal) (xs : List Saved) (s : Op
       ∙ catches_inside a e (take l.blocks lands.inner.blocks.items) (landed a l.comes)
       ∙ ap (λ b. b || among (is_handling a e) (take l.blocks lands.inner.blocks.items)) (catches_landed a l.comes e))
 
--- where nothing falls away before the statement that comes
+-- what blocks and statements do not change, settling them does not either
 
-pub statement_calls : (a : Arena) (g : Option Goal) (xs : List Saved) (o : Option ℕ) (s : ℕ) → o ≡ Some s → 0 < length xs → last_call xs ≡ innermost (settle a (under g (inside_frames a xs (standing (held xs o)))))
-statement_calls a g xs o s is some = sym (ap innermost (statement_settles a g xs o s is some) ∙ innermost_left a g xs (Some s))
+record Blind (A : Type 0) (f : Residual → A) : Type 0 where
+  on_one : (s : ℕ) → f (residual.one s) ≡ f skip
+  on_seq : (r : Residual) (s : ℕ) (ss : List ℕ) → f (residual.seq r (s ∷ ss)) ≡ f r
+  on_owing : (r : Residual) (u : ℕ) → f (residual.owing r 0 u) ≡ f r
+  on_guard : (r : Residual) (u : ℕ) → f (residual.guard r 0 u) ≡ f r
+  on_try : (r : Residual) (hs : List Handler) → f (residual.try_ r hs) ≡ f r
+  on_run : (r : Residual) → f (residual.run 0 r) ≡ f r
+  on_goal : (r : Residual) (k : Goal) → f (residual.goal r k) ≡ f r
 
-module _ (a : Arena) (g : Option Goal) (xs : List Saved) (o : Option ℕ) (i : ℕ) (d : Saved) (none : o ≡ None) (last : suc i ≡ length xs) (at : d ≡ get_or xs i d) where
-  of_call : (b : Bool) (f : Frame) (r : Residual) → innermost r ≡ None → innermost (wrapped b f r) ≡ Some f
-  of_call false f r e = ap (λ p. or_frame p f) e
-  of_call true f r e = ap (λ p. or_frame p f) e
+module _ (A : Type 0) (f : Residual → A) (blind : Blind A f) where
+  after : (r : Residual) (ss : List ℕ) → f (followed r ss) ≡ f r
+  after r [] = refl
+  after r (s ∷ ss) = blind.on_seq r s ss
 
-  first_calls : (s : ℕ) → ComesIn a d.blocks.items s → last_call xs ≡ innermost (settle a (under g (inside_frames a xs (standing (held xs o)))))
-  first_calls s w =
-      let p : Residual = wrapped d.shell (call_of d.frame) (inside a w.blocks (one s)) in
-      let same : innermost p ≡ innermost (whole a d skip) =
-      of_call d.shell (call_of d.frame) (inside a w.blocks (one s)) (innermost_inside a w.blocks (one s)) ∙ sym (of_call d.shell (call_of d.frame) (inside a d.blocks.items skip) (innermost_inside a d.blocks.items skip)) in
+  of_statements : (ss : List ℕ) → f (statements ss) ≡ f skip
+  of_statements [] = refl
+  of_statements (s ∷ ss) = after (residual.one s) ss ∙ blind.on_one s
+
+  after_it : (q : Residual) (ss : List ℕ) → f q ≡ f skip → f (then_on q ss) ≡ f skip
+  after_it skip ss h = of_statements ss
+  after_it q ss h = after q ss ∙ h
+
+  in_a_run : (q : Residual) → f q ≡ f skip → f (in_run 0 q) ≡ f skip
+  in_a_run skip h = refl
+  in_a_run q h = blind.on_run q ∙ h
+
+  before_owed : (a : Arena) (q : Residual) (u : ℕ) → f q ≡ f skip → f (then_owed a q 0 u) ≡ f skip
+  before_owed a skip u h = in_a_run (block a u) (of_statements (block_at a u))
+  before_owed a q u h = blind.on_owing q u ∙ h
+
+  in_a_guard : (q : Residual) (u : ℕ) → f q ≡ f skip → f (in_guard q 0 u) ≡ f skip
+  in_a_guard skip u h = refl
+  in_a_guard q u h = blind.on_guard q u ∙ h
+
+  in_a_try : (q : Residual) (hs : List Handler) → f q ≡ f skip → f (in_try q hs) ≡ f skip
+  in_a_try skip hs h = refl
+  in_a_try q hs h = blind.on_try q hs ∙ h
+
+  in_a_block : (a : Arena) (l : Open) (q : Residual) → f q ≡ f skip → f (settled_around a l q) ≡ f skip
+  in_a_block a (layer.Rest c) q h = after_it q (rest_at a c) h
+  in_a_block a (layer.Again s) q h = after_it q (s ∷ []) h
+  in_a_block a (layer.Owed u) q h = before_owed a q u h
+  in_a_block a (layer.Guard u) q h = in_a_guard q u h
+  in_a_block a (layer.Try s) q h = in_a_try q (handlers_of a s) h
+  in_a_block a layer.Run q h = in_a_run q h
+  in_a_block a (layer.Goal k) q h = blind.on_goal q k ∙ h
+
+  in_standing : (a : Arena) (o : Option ℕ) → f (settle a (standing o)) ≡ f skip
+  in_standing a None = refl
+  in_standing a (Some s) = blind.on_one s
+
+  in_blocks : (a : Arena) (ls : List Open) (o : Option ℕ) → f (settle a (inside a ls (standing o))) ≡ f skip
+  in_blocks a [] o = in_standing a o
+  in_blocks a (l ∷ ls) o = ap f (settle_around a l (inside a ls (standing o))) ∙ in_a_block a l (settle a (inside a ls (standing o))) (in_blocks a ls o)
+
+-- all frames stand, where the innermost is not being unwound
+
+module _ (a : Arena) (g : Option Goal) (xs : List Saved) (o : Option ℕ) (i : ℕ) (d : Saved) (alive : d.shell ≡ false) (last : suc i ≡ length xs) (at : d ≡ get_or xs i d) where
+  abbrev settled_call : Residual
+  settled_call = frame (settle a (inside a d.blocks.items (standing (held xs o)))) (call_of d.frame)
+
+  open_settles : settle a (under g (inside_frames a xs (standing (held xs o)))) ≡ under g (inside_frames a (take i xs) settled_call)
+  open_settles =
+      ap (λ r. settle a (under g r)) (frames_last a xs (take i xs) d (standing (held xs o)) (last_is xs i d last at))
+      ∙ (through_all a g (take i xs)).settles (whole a d (standing (held xs o))) settled_call (ap (λ b. settle a (wrapped b (call_of d.frame) (inside a d.blocks.items (standing (held xs o))))) alive) tt
+
+  pub calls_open : last_call xs ≡ innermost (settle a (under g (inside_frames a xs (standing (held xs o)))))
+  calls_open =
+      let blind : Blind (Option Frame) innermost = record { on_one = λ s. refl; on_seq = λ r s ss. refl; on_owing = λ r u. refl; on_guard = λ r u. refl; on_try = λ r hs. refl; on_run = λ r. refl; on_goal = λ r k. refl } in
+      let same : innermost settled_call ≡ innermost (whole a d skip) = ap (λ p. or_frame p (call_of d.frame)) (in_blocks (Option Frame) innermost blind a d.blocks.items (held xs o)) ∙ sym (innermost_whole a d skip) in
       sym
-      (ap innermost (first_settles a g xs o i d none last at s w)
-      ∙ innermost_under g (inside_frames a (take i xs) p)
-      ∙ same_innermost a (take i xs) p (whole a d skip) same
+      (ap innermost open_settles
+      ∙ innermost_under g (inside_frames a (take i xs) settled_call)
+      ∙ same_innermost a (take i xs) settled_call (whole a d skip) same
       ∙ ap innermost (sym (frames_last a xs (take i xs) d skip (last_is xs i d last at)))
       ∙ innermost_frames a xs skip refl)
 
-  pub first_calls_if : (q : Option ℕ) → IfSome q (ComesIn a d.blocks.items) → IfSome q (λ _. last_call xs ≡ innermost (settle a (under g (inside_frames a xs (standing (held xs o))))))
-  first_calls_if None h = tt
-  first_calls_if (Some s) h = first_calls s h
+  pub transports_open : last_via xs ≡ within (settle a (under g (inside_frames a xs (standing (held xs o)))))
+  transports_open =
+      let blind : Blind (Option Via) within = record { on_one = λ s. refl; on_seq = λ r s ss. refl; on_owing = λ r u. refl; on_guard = λ r u. refl; on_try = λ r hs. refl; on_run = λ r. refl; on_goal = λ r k. refl } in
+      let same : within settled_call ≡ within (whole a d skip) = ap (λ p. or_via p d.frame.via) (in_blocks (Option Via) within blind a d.blocks.items (held xs o)) ∙ sym (within_whole a d skip) in
+      sym
+      (ap within open_settles
+      ∙ within_under g (inside_frames a (take i xs) settled_call)
+      ∙ same_within a (take i xs) settled_call (whole a d skip) same
+      ∙ ap within (sym (frames_last a xs (take i xs) d skip (last_is xs i d last at)))
+      ∙ within_frames a xs skip refl)
+
+  pub many_open : many_calls xs ≡ open_frames (settle a (under g (inside_frames a xs (standing (held xs o)))))
+  many_open =
+      let blind : Blind ℕ open_frames = record { on_one = λ s. refl; on_seq = λ r s ss. refl; on_owing = λ r u. refl; on_guard = λ r u. refl; on_try = λ r hs. refl; on_run = λ r. refl; on_goal = λ r k. refl } in
+      let same : open_frames settled_call ≡ open_frames (whole a d skip) = ap (λ n. n + counted_call d.frame.call) (in_blocks ℕ open_frames blind a d.blocks.items (held xs o)) ∙ sym (calls_whole a d skip) in
+      sym
+      (ap open_frames open_settles
+      ∙ calls_under g (inside_frames a (take i xs) settled_call)
+      ∙ same_calls a (take i xs) settled_call (whole a d skip) same
+      ∙ ap open_frames (sym (frames_last a xs (take i xs) d skip (last_is xs i d last at)))
+      ∙ calls_frames a xs skip refl)
 
 pub or_first : (x y z : Bool) → x ≡ true → x ≡ y → x ≡ (y || z)
 or_first x y z e is = e ∙ ap (λ b. b || z) (sym e ∙ is)

@@ -1,10 +1,15 @@
 -- One step of a body: what comes, and what shows of it.
 use Rattle.std.proofs.Common.{◌≡◌, ℕ, false, List, [], ◌∷◌, Option, Some, None, refl, ap, ◌∙◌}
-use Rattle.kernel_bodies.specs.FlatDesign.Code.{Arena}
+use Rattle.kernel_bodies.specs.LogicValues.declared.kinds.Value.{Value}
+use Rattle.kernel_bodies.specs.FlatDesign.Code.{Arena, body_at}
+use Rattle.kernel_bodies.specs.FlatDesign.declared.code.CodeBody.{CodeBody}
 use Rattle.kernel_bodies.specs.SimModel.Residual as residual
-use Rattle.kernel_bodies.specs.SimModel.Residual.{Residual, Frame, skip, one, followed, settle, next_of, innermost, in_innermost, within, in_nb, has_goal, open_frames}
+use Rattle.kernel_bodies.specs.SimModel.Residual.{Residual, Frame, skip, one, followed, settle, next_of, innermost, in_innermost, within, in_nb, has_goal, open_frames, first_locals}
 use Rattle.kernel_bodies.specs.SimModel.Unwinding.{has_exit, returned, catches, left_by_unw, left_by_raise, unw}
 use Rattle.kernel_bodies.specs.SimModel.declared.plain.Goal.{Goal}
+use Rattle.kernel_bodies.specs.SimModel.declared.plain.Via.{Via}
+use Rattle.kernel_bodies.specs.Depths.{locals_at, locals_in}
+use Rattle.kernel_bodies.specs.Room.{begun_in}
 use Rattle.kernel_bodies.specs.Strip.{strip}
 use Rattle.kernel_bodies.specs.declared.around.Around.{Around}
 use Rattle.kernel_bodies.specs.declared.around.Around.TheVariants as enclosing
@@ -199,3 +204,13 @@ shown_nothing (residual.leaves x) e = cc
 shown_nothing residual.done e = cc
 shown_nothing (residual.reaches g) e = cc
 shown_nothing residual.nothing e = refl
+
+-- what a call begins with
+
+pub entered_is : (a : Arena) (f : ℕ) (args : List Value) (call : Option ℕ) (via : Option Via)
+    → residual.frame (begun_in a (body_at a f)) (record { body = f; locals = first_locals args (locals_at a f); answer = None; call = call; via = via }) ≡ residual.entered a f args call via
+entered_is a f args call via = of_body (body_at a f)
+  where
+    of_body : (o : Option CodeBody) → residual.frame (begun_in a o) (record { body = f; locals = first_locals args (locals_in o); answer = None; call = call; via = via }) ≡ residual.entered_in a f args call via o
+    of_body None = refl
+    of_body (Some b) = refl

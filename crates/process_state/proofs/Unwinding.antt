@@ -15,6 +15,7 @@ use Rattle.kernel_bodies.specs.Layers.{call_of, around, inside, wrapped, whole, 
 use Rattle.kernel_bodies.specs.Sought.{NoneIs, LastIs, among, is_handling, has_handler, unwinds}
 use Rattle.kernel_bodies.specs.Unwound.{unwound_all, IsUnwound, AreUnwound, left_all}
 use Rattle.kernel_bodies.specs.Room.{FitsIn, EachFitsIn, room_of_own, own_locals, own_blocks, SameCall, SameRoom}
+use Rattle.process_state.specs.Bodies.{IsOwnFirst}
 use Rattle.kernel_bodies.proofs.Passing.{through_block, through_frame, if_true, if_false}
 use Rattle.kernel_bodies.proofs.Seeking.{among_none, among_last, none_is, catches_inside, catches_frames, goal_frames, left_frames, left_inside}
 use Rattle.kernel_bodies.proofs.Unwinds.{unw_inside, fits_unwound}
@@ -181,6 +182,18 @@ unwound_each a ds n [] (y ∷ ys) u h = absurd u
 unwound_each a ds n (x ∷ xs) [] u h = absurd u
 unwound_each a ds zero (x ∷ xs) (y ∷ ys) u h = (unwound_fits a ds x y u.0 h.0, unwound_each a ds zero xs ys u.1 h.1)
 unwound_each a ds (suc n) (x ∷ xs) (y ∷ ys) u h = let P : Saved → Type 0 = λ z. FitsIn a ds z None in (subst P (sym u.0) h.0, unwound_each a ds n xs ys u.1 h.1)
+
+pub unwound_own : (n : ℕ) (xs ys : List Saved) → AreUnwound n xs ys → IsOwnFirst xs → IsOwnFirst ys
+unwound_own n [] [] u h = tt
+unwound_own n [] (y ∷ ys) u h = absurd u
+unwound_own n (x ∷ xs) [] u h = absurd u
+unwound_own zero (x ∷ xs) (y ∷ ys) u h = ap (λ (f : Kept). f.call) u.0.frame ∙ h
+unwound_own (suc n) (x ∷ xs) (y ∷ ys) u h = ap (λ (z : Saved). z.frame.call) u.0 ∙ h
+
+pub set_own : (xs : List Saved) (i : ℕ) (d y : Saved) → SameRoom (get_or xs i d) y → IsOwnFirst xs → IsOwnFirst (set xs i y)
+set_own [] i d y s h = h
+set_own (x ∷ xs) zero d y s h = s.call ∙ h
+set_own (x ∷ xs) (suc i) d y s h = h
 
 pub unwound_locals : (m n : ℕ) (xs ys : List Saved) → AreUnwound n xs ys → own_locals m ys ≡ own_locals m xs
 unwound_locals m n [] [] u = refl

@@ -71,13 +71,19 @@ settled_in p b = settle (arena_of p.code) (left_in p b)
 abbrev pub next_in : Program → Body → Next
 next_in p b = shown (next_of (settled_in p b))
 
+-- the outermost of these frames is the body's own call
+abbrev pub IsOwnFirst : List Saved → Type 0
+IsOwnFirst [] = Unit {0}
+IsOwnFirst (x ∷ xs) = x.frame.call ≡ None
+
 -- A body has room for all that may come inside its frames, for its own call when it begins again, and for its first blocks
--- then.
+-- then: in the vectors of that call, which is the outermost open frame, or else rests.
 pub record IsSound (p : Program) (b : Body) : Type 0 where
   pub room : FitsFrames (arena_of p.code) p.depths.items b.frames.items b.statement
-  pub locals : locals_with (arena_of p.code) b.code b.arguments.items ≤ own_locals (vec_capacity b.spare.locals) b.frames.items
-  pub blocks : body_depth p.depths.items (body_at (arena_of p.code) b.code) + 3 ≤ own_blocks (vec_capacity b.spare.blocks) b.frames.items
-  pub first : 1 ≤ vec_capacity b.frames
+  pub own : IsOwnFirst b.frames.items
+  pub rests : IsOwnFirst b.resting.items
+  pub locals : locals_with (arena_of p.code) b.code b.arguments.items ≤ own_locals (own_locals 0 b.resting.items) b.frames.items
+  pub blocks : body_depth p.depths.items (body_at (arena_of p.code) b.code) + 3 ≤ own_blocks (own_blocks 0 b.resting.items) b.frames.items
 
 -- a body keeps the number of its code and its first arguments
 pub record Keeps (old new : Body) : Type 0 where
@@ -149,19 +155,14 @@ pub record Begins (p : Program) (old : List Saved) (frame : Kept) (most : ℕ) (
   pub left : whole (arena_of p.code) inner (standing s) ≡ residual.frame (begun_in (arena_of p.code) (body_at (arena_of p.code) frame.body)) (call_of frame)
   pub fits : FitsIn (arena_of p.code) p.depths.items inner s
 
--- the cursor c stands behind the first statement of the rest of a block that l is
-pub record IsBehindFirst (a : Arena) (l : Open) (c : Cursor) : Type 0 where
-  pub at : Cursor
-  pub first : ℕ
-  pub rest : l ≡ layer.Rest at
-  pub block : c.block ≡ at.block
-  pub behind : rest_at a at ≡ first ∷ rest_at a c
-
--- s is the first statement of the rest of a block that l is
-pub record IsFirstOf (a : Arena) (l : Open) (s : ℕ) : Type 0 where
-  pub cursor : Cursor
-  pub behind : IsBehindFirst a l cursor
-  pub is : behind.first ≡ s
+-- the end of a call, or of the body
+abbrev pub IsEnd : Next → Type 0
+IsEnd (next.Statement s) = ⊥
+IsEnd (next.Batch s q) = ⊥
+IsEnd next.Leave = Unit {0}
+IsEnd next.Done = Unit {0}
+IsEnd (next.Goal k) = ⊥
+IsEnd next.Nothing = ⊥
 
 -- inside these blocks, with nothing left inside the innermost, s comes first
 pub record ComesIn (a : Arena) (ls : List Open) (s : ℕ) : Type 0 where

@@ -18,10 +18,35 @@ use kernel_bodies::{
     some_nonblocking, some_unwinds,
 };
 
+/// Whether a call is being unwound.
+#[inline(always)]
+fn is_shell(saved: &Saved) -> bool
+    ensures { result ≡ saved.now.shell }
+{
+    saved.shell
+}
+
 impl Body {
-    /// The frames that stand once finished parts have fallen away.
-    #[inline(never)]
+    /// The frames that stand once finished parts have fallen away: all of them, where the innermost is not being unwound.
+    #[inline(always)]
     fn standing(&self, program: &Program) -> &[Saved]
+        ensures calls { last_call result.now ≡ residual.innermost (settled_in program.now self.now) }
+        ensures transports { last_via result.now ≡ residual.within (settled_in program.now self.now) }
+        ensures many { many_calls result.now ≡ residual.open_frames (settled_in program.now self.now) }
+    {
+        let many = self.frames.len();
+        if many == 0 {
+            return self.standing_landed(program);
+        }
+        if is_shell(&self.frames[many - 1]) {
+            return self.standing_landed(program);
+        }
+        self.frames.as_slice()
+    }
+
+    /// The same, whatever falls away.
+    #[inline(never)]
+    fn standing_landed(&self, program: &Program) -> &[Saved]
         ensures calls { last_call result.now ≡ residual.innermost (settled_in program.now self.now) }
         ensures transports { last_via result.now ≡ residual.within (settled_in program.now self.now) }
         ensures many { many_calls result.now ≡ residual.open_frames (settled_in program.now self.now) }
@@ -37,6 +62,7 @@ impl Body {
     }
 
     /// The value of a local variable of the innermost call, once finished parts have fallen away, if there is such a variable.
+    #[inline(always)]
     pub fn local(&self, program: &Program, number: usize) -> Option<Value>
         ensures { result ≡ slice_get (locals_of (residual.innermost (settled_in program.now self.now))) number }
     {
@@ -58,9 +84,6 @@ impl Body {
     pub fn innermost(&self, program: &Program) -> Option<&Frame>
         ensures { option_map (λ x. call_of x.now) result ≡ residual.innermost (settled_in program.now self.now) }
     {
-        if self.next_in_place(program).is_some() {
-            return last_call(self.frames.as_slice());
-        }
         last_call(self.standing(program))
     }
 
@@ -83,6 +106,7 @@ impl Body {
     }
 
     /// The innermost transport call, of what is left as it stands.
+    #[inline(always)]
     pub fn within_now(&self) -> Option<Via>
         ensures { (a : Arena) → result ≡ residual.within (left_of a self.now) }
     {

@@ -1,5 +1,5 @@
 //! Bodies that start, begin again and become idle, and calls that are entered.
-ghost use Rattle.std.specs.Prelude.{◌≡◌, ℕ, ◌+◌, ◌<◌, ◌≤◌, ◌++◌, ◌∷◌, [], List, length, Some, OnOk, OnErr, IfOk, IsOk, Err, vec_len, vec_capacity, alloc_error};
+ghost use Rattle.std.specs.Prelude.{◌≡◌, ℕ, ◌+◌, ◌<◌, ◌≤◌, ◌++◌, ◌∷◌, [], List, length, None, Some, OnOk, OnErr, IfOk, IsOk, Err, vec_len, vec_capacity, alloc_error};
 ghost use Rattle.kernel_bodies.specs.LogicValues.declared.kinds.Value.{Value as Kept};
 ghost use Rattle.kernel_bodies.specs.FlatDesign.Code.{Arena, arena_of, body_at};
 ghost use Rattle.kernel_bodies.specs.SimModel.Residual as residual;
@@ -7,17 +7,17 @@ ghost use Rattle.kernel_bodies.specs.SimModel.Residual.{next_of, put, skip, begu
 ghost use Rattle.kernel_bodies.specs.SimModel.Calls.{frame_limit};
 ghost use Rattle.kernel_bodies.specs.Depths.{locals_at};
 ghost use Rattle.kernel_bodies.specs.declared.program.Program.{Program as Whole};
-ghost use Rattle.kernel_bodies.specs.Layers.{call_of};
-ghost use Rattle.kernel_bodies.specs.Room.{locals_with, body_depth, begun_in};
-ghost use Rattle.process_state.specs.Bodies.{left_of, left_in, settled_in, next_in, IsSound, Keeps, IsStatement, HasRoomFor, Begins};
+ghost use Rattle.kernel_bodies.specs.Layers.{call_of, standing, whole};
+ghost use Rattle.kernel_bodies.specs.Room.{locals_with, body_depth, begun_in, own_locals, own_blocks, FitsIn};
+ghost use Rattle.process_state.specs.Bodies.{left_of, left_in, settled_in, next_in, IsSound, IsOwnFirst, Keeps, IsStatement, HasRoomFor, Begins};
 
-use crate::body::Body;
+use crate::body::{Body, keep_outer, put_by};
 use kernel_bodies::flat_design_api::{CodeId, Local, StmtId};
 use kernel_bodies::logic_values_api::Value;
 use kernel_bodies::sim_model_api::Via;
 use kernel_bodies::{
-    Frame, Open, Program, Saved, Spare, add_layers, add_locals, body_begins, depth_in, keep_frames,
-    locals_in, many_locals, place,
+    Frame, Open, Program, Saved, add_layers, add_locals, body_begins, depth_in, locals_in,
+    many_locals, place,
 };
 use std::alloc::{AllocError, Global};
 use std::mem;
@@ -96,13 +96,75 @@ fn begin_locals(values: &mut Vec<Value>, arguments: &[Value], locals: &[Local])
     add_locals(values, locals);
 }
 
-/// The vector for local variables that is kept. An empty one stays.
-fn take_locals(spare: &mut Spare) -> Vec<Value>
-    ensures taken { result ≡ spare.old.locals }
-    ensures blocks { spare.new.blocks ≡ spare.old.blocks }
+/// The body's own call begins with its first arguments, in the vectors that it has, and gives its first statement.
+#[inline(always)]
+fn begin_own(
+    program: &Program,
+    saved: &mut Saved,
+    code: CodeId,
+    arguments: &[Value],
+) -> Option<StmtId>
+    requires locals { locals_with (arena_of program.now.code) code arguments.now ≤ vec_capacity saved.old.frame.locals }
+    requires blocks { body_depth program.now.depths.items (body_at (arena_of program.now.code) code) + 3 ≤ vec_capacity saved.old.blocks }
+    ensures left { whole (arena_of program.now.code) saved.new (standing result) ≡ begun (arena_of program.now.code) code arguments.now }
+    ensures fits { FitsIn (arena_of program.now.code) program.now.depths.items saved.new result }
+    ensures own { saved.new.frame.call ≡ None }
+    ensures locals { vec_capacity saved.old.frame.locals ≤ vec_capacity saved.new.frame.locals }
+    ensures blocks { vec_capacity saved.old.blocks ≤ vec_capacity saved.new.blocks }
 {
-    let none = Vec::new(*spare.locals.allocator());
-    mem::replace(&mut spare.locals, none)
+    begin_locals(&mut saved.frame.locals, arguments, locals_in(program, code));
+    saved.frame.body = code;
+    saved.frame.answer = None;
+    saved.frame.call = None;
+    saved.frame.via = None;
+    saved.shell = false;
+    saved.blocks.clear();
+    let comes = body_begins(program, code);
+    add_layers(&mut saved.blocks, comes)
+}
+
+/// The body's own call that rests, with these vectors, in a vector that has room for it.
+fn rest_in(place_of: Vec<Saved>, code: CodeId, locals: Vec<Value>, blocks: Vec<Open>) -> Vec<Saved>
+    requires none { place_of.items ≡ [] }
+    requires room { 1 ≤ vec_capacity place_of }
+    ensures own { IsOwnFirst result.items }
+    ensures locals { own_locals 0 result.items ≡ vec_capacity locals }
+    ensures blocks { own_blocks 0 result.items ≡ vec_capacity blocks }
+{
+    let mut resting = place_of;
+    place(
+        &mut resting,
+        Saved {
+            frame: Frame {
+                body: code,
+                locals,
+                answer: None,
+                call: None,
+                via: None,
+            },
+            shell: false,
+            blocks,
+        },
+    );
+    resting
+}
+
+/// Where no frame is open, the body's own call is taken up from where it rests.
+#[inline(always)]
+fn take_up(frames: &mut Vec<Saved>, resting: &mut Vec<Saved>)
+    requires own { IsOwnFirst frames.old.items }
+    requires rests { IsOwnFirst resting.old.items }
+    requires there { 0 < own_blocks (own_blocks 0 resting.old.items) frames.old.items }
+    ensures some { 0 < vec_len frames.new }
+    ensures own { IsOwnFirst frames.new.items }
+    ensures rests { IsOwnFirst resting.new.items }
+    ensures locals { own_locals 0 frames.new.items ≡ own_locals (own_locals 0 resting.old.items) frames.old.items }
+    ensures blocks { own_blocks 0 frames.new.items ≡ own_blocks (own_blocks 0 resting.old.items) frames.old.items }
+{
+    let many = frames.len();
+    if many == 0 {
+        mem::swap(frames, resting);
+    }
 }
 
 /// The vector for what stands open in a call. An empty one stays.
@@ -125,7 +187,7 @@ impl Body {
         ensures sound { IfOk result (λ b. IsSound program.now b) }
         ensures kept { IfOk result (λ b. (b.code ≡ code) × (b.arguments.items ≡ arguments.items)) }
     {
-        let frames = Vec::with_capacity(alloc, 1)?;
+        let resting = Vec::with_capacity(alloc, 1)?;
         let blocks = Vec::with_capacity(alloc, depth_in(program, code) + 3)?;
         let many = many_locals(program, code, arguments.as_slice());
         let locals = Vec::with_capacity(alloc, many)?;
@@ -133,9 +195,9 @@ impl Body {
             code,
             arguments,
             goal: None,
-            frames,
+            frames: Vec::new(alloc),
             statement: None,
-            spare: Spare { locals, blocks },
+            resting: rest_in(resting, code, locals, blocks),
             room: Vec::new(alloc),
         })
     }
@@ -147,32 +209,25 @@ impl Body {
         ensures sound { IsSound program.now self.new }
         ensures kept { Keeps self.old self.new }
     {
-        keep_frames(&mut self.frames, &mut self.spare, 0);
         self.goal = None;
-        begin_locals(
-            &mut self.spare.locals,
+        take_up(&mut self.frames, &mut self.resting);
+        keep_outer(&mut self.frames, 1);
+        self.statement = begin_own(
+            program,
+            &mut self.frames[0],
+            self.code,
             self.arguments.as_slice(),
-            locals_in(program, self.code),
         );
-        let locals = take_locals(&mut self.spare);
-        let blocks = take_blocks(&mut self.spare.blocks);
-        let frame = Frame {
-            body: self.code,
-            locals,
-            answer: None,
-            call: None,
-            via: None,
-        };
-        self.statement = begin_call(program, &mut self.frames, frame, blocks);
     }
 
     /// Makes the body one that was not begun. It keeps its first arguments, and takes no memory.
+    #[inline(always)]
     pub fn idle(&mut self)
         ensures left { (a : Arena) → left_of a self.new ≡ skip }
         ensures sound { (p : Whole) → IsSound p self.old → IsSound p self.new }
         ensures kept { Keeps self.old self.new }
     {
-        keep_frames(&mut self.frames, &mut self.spare, 0);
+        put_by(&mut self.frames, &mut self.resting);
         self.goal = None;
         self.statement = None;
     }

@@ -11,5 +11,5 @@ mod rows;
 mod shows;
 
 pub use closings::closing;
-pub use prints::{print_in, turn_text};
+pub use prints::{print_in, print_within, turn_text};
 pub use shows::show;

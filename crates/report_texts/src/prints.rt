@@ -1,5 +1,5 @@
 //! The lines of prints and of takings.
-ghost use Rattle.std.specs.Prelude.{◌≡◌, ◌++◌, ℕ, List, Option, Some, OnOk, IfOk};
+ghost use Rattle.std.specs.Prelude.{◌≡◌, ◌≤◌, ◌++◌, ℕ, List, Option, Some, IfSome, OnOk, IfOk, length, drop};
 ghost use Rattle.flat_design.specs.Code as code;
 ghost use Rattle.flat_design.specs.Code.{Term, arena_of, statement_at, statement_of};
 ghost use Rattle.kernel_state.specs.SimModel.Steps as step;
@@ -16,9 +16,6 @@ use std::alloc::{AllocError, Global};
 
 /// So many bytes have room in a line from the first: the line of most prints and takings.
 const USUAL: usize = 64;
-
-/// So many bytes has the line of a print that is made in one piece, at most.
-const ROOM: usize = 128;
 
 /// The text of a statement that is a print.
 fn print_text(statement: &Statement) -> &[u8]
@@ -79,24 +76,6 @@ fn push_print(
     push_end_of_print(alloc, line, value)
 }
 
-/// Adds the line of a print of this text, in terms of the kernel: by way of a room for a usual one, where it has room there.
-fn push_row(
-    alloc: Global,
-    line: &mut Vec<u8>,
-    k: &Kernel,
-    p: u32,
-    text: &[u8],
-    value: Option<Value>,
-) -> Result<(), AllocError>
-    ensures { OnOk result (line.new.items ≡ line.old.items ++ print_line k.now.cycle.now.0 (path_at k.now p) text.now value) }
-{
-    let mut room = [0; ROOM];
-    match row_of_print(&mut room, k, p, text, value) {
-        Some(start) => line.extend_from_slice(&room[start..]),
-        None => push_print(alloc, line, k, p, text, value),
-    }
-}
-
 /// The line of a taking, in terms of the kernel.
 fn line_of_turn(alloc: Global, k: &Kernel, p: u32) -> Result<Line, AllocError>
     ensures { IfOk result (λ line. line ≡ step.turn_line k.now.cycle.now.0 (path_at k.now p) p) }
@@ -128,7 +107,22 @@ pub fn print_in(
     ensures { OnOk result (IsPrintLine k.now p s value line.new.items) }
 {
     line.clear();
-    push_row(alloc, line, k, p, text_at(k, s), value)
+    push_print(alloc, line, k, p, text_at(k, s), value)
+}
+
+/// Writes the line of such a print at the end of a room, and tells where in the room it begins. There is none where the line is
+/// longer than the room, or may be, or where the value is no truth value, number or time; then the room holds anything.
+#[inline(always)]
+pub fn print_within(
+    k: &Kernel,
+    p: u32,
+    s: StmtId,
+    value: Option<Value>,
+    room: &mut [u8],
+) -> Option<usize>
+    ensures { IfSome result (λ start. (start ≤ length room.new) × IsPrintLine k.now p s value (drop start room.new)) }
+{
+    row_of_print(room, k, p, text_at(k, s), value)
 }
 
 /// The line of a taking of an instance, which a report that tells the turns gets: the simulated time in picoseconds, the path

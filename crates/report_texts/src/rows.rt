@@ -33,12 +33,15 @@ fn byte_before(room: &mut [u8], end: usize, byte: u8) -> Option<usize>
     Some(end - 1)
 }
 
-/// Writes bytes before what stands from `end` on.
+/// Writes bytes before what stands from `end` on. One byte is put there by itself.
 #[inline(always)]
 fn bytes_before(room: &mut [u8], end: usize, piece: &[u8]) -> Option<usize>
     requires { end ≤ length room.old }
     ensures { IfSome result (Before room.old end piece.now room.new) }
 {
+    if piece.len() == 1 {
+        return byte_before(room, end, piece[0]);
+    }
     if piece.len() > end {
         return None;
     }
@@ -195,7 +198,7 @@ fn instance_before(room: &mut [u8], end: usize, k: &Kernel, p: u32) -> Option<us
 }
 
 /// Writes the line of a print of this text at the end of the room, in terms of the kernel.
-#[inline(never)]
+#[inline(always)]
 pub(crate) fn row_of_print(
     room: &mut [u8],
     k: &Kernel,

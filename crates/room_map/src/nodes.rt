@@ -40,6 +40,7 @@ impl<K: Copy + Default, V: Copy + Default> Node<K, V> {
 }
 
 // The node that the link leads to.
+#[inline(always)]
 pub(crate) fn node_at<K: Copy, V: Copy>(nodes: &[Node<K, V>], at: u32) -> Option<Node<K, V>>
     ensures { result ≡ slice_get nodes.now at }
 {
@@ -47,6 +48,7 @@ pub(crate) fn node_at<K: Copy, V: Copy>(nodes: &[Node<K, V>], at: u32) -> Option
 }
 
 // Puts the node at the place.
+#[inline(always)]
 pub(crate) fn put<K: Copy, V: Copy>(nodes: &mut [Node<K, V>], at: u32, node: Node<K, V>)
     requires { at < length nodes.old }
     ensures there { slice_get nodes.new at ≡ Some node }
@@ -56,6 +58,7 @@ pub(crate) fn put<K: Copy, V: Copy>(nodes: &mut [Node<K, V>], at: u32, node: Nod
 }
 
 // How many entries hang from the link.
+#[inline(always)]
 pub(crate) fn len<K: Copy, V: Copy>(nodes: &[Node<K, V>], at: u32) -> u32
     ensures { (t : Shape K V) → Under nodes.now at t → result ≡ length (entries t) }
 {
@@ -66,6 +69,7 @@ pub(crate) fn len<K: Copy, V: Copy>(nodes: &[Node<K, V>], at: u32) -> u32
 }
 
 // How many nodes stand on the longest way down from the link.
+#[inline(always)]
 pub(crate) fn height<K: Copy, V: Copy>(nodes: &[Node<K, V>], at: u32) -> u32
     ensures { (t : Shape K V) → Under nodes.now at t → result ≡ height t }
 {
@@ -76,6 +80,7 @@ pub(crate) fn height<K: Copy, V: Copy>(nodes: &[Node<K, V>], at: u32) -> u32
 }
 
 // Puts the entry at its place, over these two sides, and gives the place.
+#[inline(always)]
 pub(crate) fn close<K: Copy, V: Copy>(
     nodes: &mut [Node<K, V>],
     left: u32,

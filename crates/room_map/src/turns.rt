@@ -6,6 +6,7 @@ ghost use Rattle.room_map.specs.Nodes.{Under, Changed, AreThree, AreNear, IsEven
 use crate::nodes::{Node, Spot, close, height, node_at};
 
 // Two entries over three sides: the second stands above the first.
+#[inline(always)]
 pub(crate) fn stack_left<K: Copy, V: Copy>(
     nodes: &mut [Node<K, V>],
     a: u32,
@@ -23,6 +24,7 @@ pub(crate) fn stack_left<K: Copy, V: Copy>(
 }
 
 // Two entries over three sides: the first stands above the second.
+#[inline(always)]
 pub(crate) fn stack_right<K: Copy, V: Copy>(
     nodes: &mut [Node<K, V>],
     a: u32,
@@ -40,6 +42,7 @@ pub(crate) fn stack_right<K: Copy, V: Copy>(
 }
 
 // Two entries over three sides: the uppermost entry of the middle side stands above both.
+#[inline(always)]
 pub(crate) fn spread<K: Copy, V: Copy>(
     nodes: &mut [Node<K, V>],
     a: u32,
@@ -68,6 +71,8 @@ pub(crate) fn spread<K: Copy, V: Copy>(
 }
 
 // The entry over two sides, of which the left one is higher by two.
+#[cold]
+#[inline(never)]
 fn lower_left<K: Copy, V: Copy>(
     nodes: &mut [Node<K, V>],
     left: u32,
@@ -95,6 +100,8 @@ fn lower_left<K: Copy, V: Copy>(
 }
 
 // The entry over two sides, of which the right one is higher by two.
+#[cold]
+#[inline(never)]
 fn lower_right<K: Copy, V: Copy>(
     nodes: &mut [Node<K, V>],
     left: u32,
@@ -122,6 +129,7 @@ fn lower_right<K: Copy, V: Copy>(
 }
 
 // The entry over two sides that differ by at most two in height. The result is the link to the tree of all.
+#[inline(always)]
 pub(crate) fn balance<K: Copy, V: Copy>(
     nodes: &mut [Node<K, V>],
     left: u32,

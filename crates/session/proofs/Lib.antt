@@ -5,4 +5,5 @@ pub mod Idle
 pub mod Going
 pub mod Texts
 pub mod Turning
+mod Quietly
 pub mod SimIo

@@ -70,6 +70,8 @@ fn let_go_into<S: Shelf>(held: &mut Held, file: Option<u32>, shelf: &mut S)
 }
 
 /// Writes what is held of each text, as far as it can be written.
+#[cold]
+#[inline(never)]
 pub(crate) fn let_go<S: Shelf, O: Sink>(
     held: &mut Buffers,
     vcd: Option<u32>,

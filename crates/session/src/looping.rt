@@ -1,5 +1,5 @@
 //! The steps of a session, one after another.
-ghost use Rattle.std.specs.Prelude.{◌≡◌, ◌≤◌, ◌<◌, ◌-◌, ◌^◌, All, [], ◌∷◌, ◌++◌, length, IfOk, IfSome, OnOk, vec_len, vec_capacity};
+ghost use Rattle.std.specs.Prelude.{◌≡◌, ◌≤◌, ◌<◌, ◌-◌, ◌^◌, All, [], ◌∷◌, ◌++◌, length, IfOk, IfSome, IsSome, OnOk, vec_len, vec_capacity};
 ghost use Rattle.flat_design.specs.Sound.{SoundDesign};
 ghost use Rattle.flat_design.specs.declared.design.SemaphorePart.{SemaphorePart};
 ghost use Rattle.kernel_start.specs.InstanceTable.declared.TheConstants.{MAX_LIVE};
@@ -18,7 +18,7 @@ use crate::laws::{runs_may_step, sound_runs_go_on};
 use crate::plans::{Outcome, Plan};
 use crate::recording::{record_begin, record_step, record_turn};
 use flat_design::{Choices, Design};
-use kernel_runs::{Made, make_step};
+use kernel_runs::{Made, make_steps};
 use kernel_start::{SoundKernel, SplitDesign, apart, first_kernel};
 use laws_reached::kernel_phases_api::Choosing;
 use laws_reached::runs_begin;
@@ -45,6 +45,20 @@ fn add_choice(choices: &mut Vec<u32>, choice: u32)
     ensures { choices.new.items ≡ choices.old.items ++ choice ∷ [] }
 {
     let _ = choices.push(choice);
+}
+
+/// How many of the steps that are left may be made before something is given of them: a trace may have a point behind each.
+#[inline(always)]
+fn at_once(vcd: Option<u32>, left: u64) -> u64
+    requires { 0 < left }
+    ensures some { 0 < result }
+    ensures within { result ≤ left }
+    ensures alone { IsSome vcd → result ≡ 1 }
+{
+    match vcd {
+        None => left,
+        Some(_) => 1,
+    }
 }
 
 /// Carries a script out until it ends, the budget is used up, or a step is a fault.
@@ -84,6 +98,7 @@ fn run_on<S: Shelf, O: Sink>(
     let mut events = Vec::new(alloc);
     let mut steps = 0;
     let mut place = 0;
+    let mut quiet = 0;
     match record_begin(alloc, &k.kernel, vcd, list, &mut held, shelf, out) {
         Ok(()) => {}
         Err(trouble) => return Outcome::cut(trouble, Choices::from_vec(choices), steps),
@@ -96,8 +111,19 @@ fn run_on<S: Shelf, O: Sink>(
             Ok(()) => {}
             Err(_) => return cut_between(choices, steps, vcd, list, &mut held, shelf, out),
         }
-        match make_step(k, alloc, script, &mut place, &mut choosing, &mut events) {
+        let most = at_once(vcd, budget - steps);
+        match make_steps(
+            k,
+            alloc,
+            script,
+            &mut place,
+            &mut choosing,
+            &mut events,
+            most,
+            &mut quiet,
+        ) {
             Made::Went(told) => {
+                steps += quiet;
                 steps += 1;
                 match record_step(
                     alloc,
@@ -117,6 +143,7 @@ fn run_on<S: Shelf, O: Sink>(
             }
             Made::Took(serial) => {
                 add_choice(&mut choices, serial);
+                steps += quiet;
                 steps += 1;
                 match record_turn(
                     alloc, &k.kernel, log, serial, vcd, list, &mut held, shelf, out,
@@ -126,6 +153,7 @@ fn run_on<S: Shelf, O: Sink>(
                 }
             }
             Made::Ended => {
+                steps += quiet;
                 let ending = ended_as(&k.kernel);
                 return finish(
                     alloc,
@@ -142,6 +170,7 @@ fn run_on<S: Shelf, O: Sink>(
                 );
             }
             Made::Fault(fault) => {
+                steps += quiet;
                 let ending = Stop::Fault(fault);
                 return finish(
                     alloc,
@@ -158,6 +187,7 @@ fn run_on<S: Shelf, O: Sink>(
                 );
             }
             Made::NotReady => {
+                steps += quiet;
                 let ending = not_ready(choices.as_slice());
                 return finish(
                     alloc,
@@ -173,7 +203,10 @@ fn run_on<S: Shelf, O: Sink>(
                     out,
                 );
             }
-            Made::NoMemory => return cut_between(choices, steps, vcd, list, &mut held, shelf, out),
+            Made::NoMemory => {
+                steps += quiet;
+                return cut_between(choices, steps, vcd, list, &mut held, shelf, out);
+            }
         }
     }
     held.hold_little();

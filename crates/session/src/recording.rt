@@ -42,6 +42,7 @@ fn give_step<S: Shelf, O: Sink>(
 }
 
 /// Gives what a taking adds, by the kernel after it: its line, where the report tells the turns, and then the line of its choice.
+#[inline(always)]
 fn give_turn<S: Shelf, O: Sink>(
     alloc: Global,
     k: &Kernel,
@@ -153,6 +154,7 @@ pub(crate) fn record_step<S: Shelf, O: Sink>(
 }
 
 /// Gives what a taking adds, by the kernel after it. What cuts it lets go what is held.
+#[inline(always)]
 pub(crate) fn record_turn<S: Shelf, O: Sink>(
     alloc: Global,
     k: &Kernel,

@@ -1,5 +1,5 @@
 //! What a report tells of a step.
-ghost use Rattle.std.specs.Prelude.{◌≡◌, [], IfOk, OnOk, Err};
+ghost use Rattle.std.specs.Prelude.{◌≡◌, ◌≤◌, [], OnOk, Err, length, drop};
 ghost use Rattle.sim_io.specs.Cause.{RoseIf};
 ghost use Rattle.sim_io.specs.Contents.{Grew};
 ghost use Rattle.sim_io.specs.Moved.{SinkTook};
@@ -10,27 +10,21 @@ use flat_design::logic_values_api::Value;
 use flat_design::{Line, StmtId};
 use kernel_runs::Telling;
 use kernel_start::kernel_state_api::Kernel;
-use report_texts::{closing, print_in, show, turn_text};
+use report_texts::{closing, print_in, print_within, show, turn_text};
 use sim_io::{Held, Sink, Trouble};
-use std::alloc::{AllocError, Global};
+use std::alloc::Global;
 use vcd_trace::sim_model_api::{Log, Stop};
 
-/// The text that a taking adds to a report, where it tells the turns, by the kernel after it.
-pub(crate) fn text_of_turn(
-    alloc: Global,
-    k: &Kernel,
-    log: Log,
-    p: u32,
-) -> Result<Option<Line>, AllocError>
-    ensures { IfOk result (λ text. TextOfTurn k.now log p (text_if text)) }
+/// A line of so many bytes is made on the way.
+const USUAL: usize = 128;
+
+/// What stands in a room from a place on.
+#[inline(always)]
+fn past(room: &[u8], start: usize) -> &[u8]
+    requires { start ≤ length room.now }
+    ensures { result.now ≡ drop start room.now }
 {
-    match log {
-        Log::Prints => Ok(None),
-        Log::Turns => match turn_text(alloc, k, p) {
-            Ok(line) => Ok(Some(line)),
-            Err(_) => Err(AllocError),
-        },
-    }
+    &room[start..]
 }
 
 /// Gives the text of a line, where there is one.
@@ -45,8 +39,9 @@ fn write_text<O: Sink>(held: &mut Held, out: &mut O, text: &Option<Line>) -> Res
 }
 
 /// Gives the line of a print that shows this value, by the kernel after it. The line is made in `line`.
+#[cold]
 #[inline(never)]
-fn tell_print<O: Sink>(
+fn tell_long_print<O: Sink>(
     alloc: Global,
     k: &Kernel,
     p: u32,
@@ -62,6 +57,28 @@ fn tell_print<O: Sink>(
     match print_in(alloc, line, k, p, s, value) {
         Ok(()) => held.put(out, line.as_slice()),
         Err(_) => Err(Trouble::NoMemory),
+    }
+}
+
+/// Gives the line of a print that shows this value, by the kernel after it. A line of no usual length is made in `line`.
+#[inline(always)]
+fn tell_print<O: Sink>(
+    alloc: Global,
+    k: &Kernel,
+    p: u32,
+    s: StmtId,
+    value: Option<Value>,
+    line: &mut Vec<u8>,
+    held: &mut Held,
+    out: &mut O,
+) -> Result<(), Trouble>
+    ensures tells { Into (TextOf k.now (Telling.Print p s value)) (Grew (O.holds out.old) (O.holds out.new)) held.old held.new result }
+    ensures cause { RoseIf (O.faults out.old) (O.faults out.new) (result ≡ Err Trouble.Failed) }
+{
+    let mut room = [0; USUAL];
+    match print_within(k, p, s, value, &mut room) {
+        Some(start) => held.put(out, past(&room, start)),
+        None => tell_long_print(alloc, k, p, s, value, line, held, out),
     }
 }
 
@@ -103,7 +120,25 @@ pub(crate) fn tell<O: Sink>(
     }
 }
 
-/// Gives what a taking adds to a report, by the kernel after it.
+/// Gives the line of a taking, by the kernel after it.
+#[inline(never)]
+fn tell_taking<O: Sink>(
+    alloc: Global,
+    k: &Kernel,
+    p: u32,
+    held: &mut Held,
+    out: &mut O,
+) -> Result<(), Trouble>
+    ensures tells { Into (TextOfTurn k.now Log.Turns p) (Grew (O.holds out.old) (O.holds out.new)) held.old held.new result }
+    ensures cause { RoseIf (O.faults out.old) (O.faults out.new) (result ≡ Err Trouble.Failed) }
+{
+    match turn_text(alloc, k, p) {
+        Ok(line) => held.put(out, line.as_slice()),
+        Err(_) => Err(Trouble::NoMemory),
+    }
+}
+
+/// Gives what a taking adds to a report, by the kernel after it: its line, where the report tells the turns.
 #[inline(always)]
 pub(crate) fn tell_turn<O: Sink>(
     alloc: Global,
@@ -116,12 +151,9 @@ pub(crate) fn tell_turn<O: Sink>(
     ensures tells { Into (TextOfTurn k.now log p) (Grew (O.holds out.old) (O.holds out.new)) held.old held.new result }
     ensures cause { RoseIf (O.faults out.old) (O.faults out.new) (result ≡ Err Trouble.Failed) }
 {
-    if let Log::Prints = log {
-        return Ok(());
-    }
-    match text_of_turn(alloc, k, log, p) {
-        Ok(text) => write_text(held, out, &text),
-        Err(_) => Err(Trouble::NoMemory),
+    match log {
+        Log::Prints => Ok(()),
+        Log::Turns => tell_taking(alloc, k, p, held, out),
     }
 }
 

@@ -111,7 +111,28 @@ fn line_of(alloc: Global, choice: u32) -> Result<String, AllocError>
     Ok(format!(in alloc; "{choice}\n")?)
 }
 
+/// Gives the line of a choice to this file.
+#[inline(never)]
+fn list_line<S: Shelf>(
+    alloc: Global,
+    choice: u32,
+    id: u32,
+    held: &mut Held,
+    shelf: &mut S,
+) -> Result<(), Trouble>
+    requires created { S.created shelf.old id }
+    ensures lists { Into (IsLineOf choice) (FileGrew S.files S.stands shelf.old shelf.new (Some id)) held.old held.new result }
+    ensures kept { WriteKeeps S.files S.reads S.reading S.created S.stands shelf.old shelf.new }
+    ensures cause { RoseIf (S.writes shelf.old) (S.writes shelf.new) (result ≡ Err Trouble.Failed) }
+{
+    match line_of(alloc, choice) {
+        Ok(line) => held.put_file(shelf, id, line.as_bytes()),
+        Err(_) => Err(Trouble::NoMemory),
+    }
+}
+
 /// Gives the line of a choice, where there is a file for it.
+#[inline(always)]
 pub(crate) fn list_choice<S: Shelf>(
     alloc: Global,
     choice: u32,
@@ -126,10 +147,7 @@ pub(crate) fn list_choice<S: Shelf>(
 {
     match list {
         None => Ok(()),
-        Some(id) => match line_of(alloc, choice) {
-            Ok(line) => held.put_file(shelf, id, line.as_bytes()),
-            Err(_) => Err(Trouble::NoMemory),
-        },
+        Some(id) => list_line(alloc, choice, id, held, shelf),
     }
 }
 

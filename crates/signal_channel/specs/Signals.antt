@@ -68,3 +68,11 @@ change_of s = record {
   pos = differs s && is_one s.next;
   neg = differs s && is_zero s.next;
 }
+
+-- the same of an old and a new value, of a signal that asked or did not, and that is a buffer or is not
+abbrev pub change_between : Bool → Bool → Value → Value → Changed
+change_between asked buffer old new = record {
+  changed = asked && (buffer || not (is_same old new));
+  pos = (asked && not (is_same old new)) && is_one new;
+  neg = (asked && not (is_same old new)) && is_zero new;
+}

@@ -1,5 +1,6 @@
 //! Signals and buffers.
 ghost use Rattle.std.specs.Prelude.{◌≡◌, None, Some, OnOk, IfErr};
+ghost use Rattle.logic_values.specs.declared.kinds.Value.TheVariants as value;
 ghost use Rattle.signal_channel.specs.Signals as spec;
 
 use crate::values::{is_one, is_zero};
@@ -53,6 +54,7 @@ pub struct Signal {
     pub writer: Option<u32>,
 }
 
+#[inline(always)]
 fn conflict_of(p: Option<u32>, writer: Option<u32>) -> Option<WriterConflict>
     ensures { result ≡ spec.conflict_of p writer }
 {
@@ -68,6 +70,7 @@ fn conflict_of(p: Option<u32>, writer: Option<u32>) -> Option<WriterConflict>
     }
 }
 
+#[inline(always)]
 fn writer_after(p: Option<u32>, writer: Option<u32>) -> Option<u32>
     ensures { result ≡ spec.writer_after p writer }
 {
@@ -77,7 +80,21 @@ fn writer_after(p: Option<u32>, writer: Option<u32>) -> Option<u32>
     }
 }
 
+// What an update announces where both values are truth values.
+#[inline(always)]
+fn truth_change(asked: bool, buffer: bool, old: bool, new: bool) -> Changed
+    ensures { result ≡ spec.change_between asked buffer (value.Bool old) (value.Bool new) }
+{
+    let differs = asked && old != new;
+    Changed {
+        changed: differs || asked && buffer,
+        pos: differs && new,
+        neg: differs && !new,
+    }
+}
+
 impl Policy {
+    #[inline(always)]
     fn is_buffer(self) -> bool
         ensures { result ≡ spec.is_buffer self }
     {
@@ -87,6 +104,7 @@ impl Policy {
         }
     }
 
+    #[inline(always)]
     fn is_many(self) -> bool
         ensures { result ≡ spec.is_many self }
     {
@@ -113,6 +131,7 @@ impl Signal {
 
     /// Writes the value for the process of this serial, or for none, whose write is never refused.
     /// It is read after the next update. Another writer than the one that stands is refused, and that changes nothing.
+    #[inline(always)]
     pub fn write(&mut self, p: Option<u32>, v: Value) -> Result<(), WriterConflict>
         ensures ok { OnOk result (spec.conflict_of p self.old.writer ≡ None) }
         ensures refused { IfErr result (λ c. spec.conflict_of p self.old.writer ≡ Some c) }
@@ -129,13 +148,16 @@ impl Signal {
         }
     }
 
+    #[inline(always)]
     fn differs(&self) -> bool
         ensures { result ≡ spec.differs self.now }
     {
         self.asked && !is_same(self.value, self.next)
     }
 
-    fn change(&self) -> Changed
+    // What an update of values that are not both truth values announces.
+    #[inline(always)]
+    fn other_change(&self) -> Changed
         ensures { result ≡ spec.change_of self.now }
     {
         let differs = self.differs();
@@ -143,6 +165,18 @@ impl Signal {
             changed: differs || self.asked && self.policy.is_buffer(),
             pos: differs && is_one(self.next),
             neg: differs && is_zero(self.next),
+        }
+    }
+
+    #[inline(always)]
+    fn change(&self) -> Changed
+        ensures { result ≡ spec.change_of self.now }
+    {
+        match (self.value, self.next) {
+            (Value::Bool(old), Value::Bool(new)) => {
+                truth_change(self.asked, self.policy.is_buffer(), old, new)
+            }
+            _ => self.other_change(),
         }
     }
 
@@ -164,6 +198,7 @@ impl Signal {
     }
 
     /// The value.
+    #[inline(always)]
     pub fn read(&self) -> Value
         ensures { result ≡ self.now.value }
     {

@@ -4,6 +4,7 @@ ghost use Rattle.signal_channel.specs.Edges as spec;
 use logic_values::{Digit, Value};
 
 // Whether the value is a 1, as an edge knows it.
+#[inline(always)]
 pub(crate) fn is_one(value: Value) -> bool
     ensures { result ≡ spec.is_one value }
 {
@@ -15,6 +16,7 @@ pub(crate) fn is_one(value: Value) -> bool
 }
 
 // Whether the value is a 0, as an edge knows it.
+#[inline(always)]
 pub(crate) fn is_zero(value: Value) -> bool
     ensures { result ≡ spec.is_zero value }
 {

@@ -57,6 +57,7 @@ impl Held {
     }
 
     /// Holds a piece behind what is held.
+    #[inline(always)]
     fn keep(&mut self, piece: &[u8])
         requires { Fits self.old piece.now }
         ensures { self.new ≡ self.old ++ piece.now }
@@ -76,7 +77,22 @@ impl Held {
         written
     }
 
+    /// Writes what is held to a sink, and then a piece.
+    #[cold]
+    #[inline(never)]
+    fn pass<O: Sink>(&mut self, sink: &mut O, piece: &[u8]) -> Result<(), Trouble>
+        ensures took { SinkTook (O.holds sink.old) (O.holds sink.new) self.old piece.now self.new result }
+        ensures empty { self.new ≡ [] }
+        ensures cause { RoseIf (O.faults sink.old) (O.faults sink.new) (IsErrOf result Trouble.Failed) }
+    {
+        match self.flush(sink) {
+            Ok(()) => write_all(sink, piece),
+            Err(trouble) => Err(trouble),
+        }
+    }
+
     /// Takes a piece for a sink: holds it, or writes what is held and then the piece.
+    #[inline(always)]
     pub fn put<O: Sink>(&mut self, sink: &mut O, piece: &[u8]) -> Result<(), Trouble>
         ensures took { SinkTook (O.holds sink.old) (O.holds sink.new) self.old piece.now self.new result }
         ensures bound { length self.new ≤ 65536 }
@@ -88,10 +104,7 @@ impl Held {
             self.keep(piece);
             return Ok(());
         }
-        match self.flush(sink) {
-            Ok(()) => write_all(sink, piece),
-            Err(trouble) => Err(trouble),
-        }
+        self.pass(sink, piece)
     }
 
     /// Writes what is held to a created file. Where nothing is held no call is made.

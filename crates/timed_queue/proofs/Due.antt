@@ -160,6 +160,14 @@ module _ (m : maps.FinMap nat_cmp Time) (t : Time) where
 pub none_due : (m : maps.FinMap nat_cmp Time) (t : Time) → maps.len m ≡ 0 → (q : ℕ) → is_due m t q ≡ false
 none_due m t none q = ap (is_at t) (ap (λ n. maps.get n q) (maps.empty_of_len m none) ∙ maps.get-empty nat_cmp q)
 
+-- nor where each name has a later time
+pub none_early : (m : maps.FinMap nat_cmp Time) (t : Time) (bound : ℕ) → ((name : ℕ) (other : Time) → maps.get m name ≡ Some other → bound ≤ other.0) → t.0 < bound → (q : ℕ) → is_due m t q ≡ false
+none_early m t bound from early q = by_case (maps.get m q) refl
+  where
+    by_case : (o : Option Time) → maps.get m q ≡ o → is_at t o ≡ false
+    by_case None h = refl
+    by_case (Some u) h = ne_eqb u.0 t.0 (λ same. let later = from q u h in omega (arith, later, early, same))
+
 pub left_none : (q : Timed) (t : Time) → ((p : ℕ) → is_due q.times t p ≡ false) → without_due q t ≡ q
 left_none q t none = λ i. record {
   times = all_stay q.times t none i;

@@ -145,6 +145,7 @@ impl Queue {
     }
 
     // A time that no name's time is before, in the time of a few tests: the first time of the first place that holds a name.
+    #[inline(always)]
     pub(crate) fn not_before(&self) -> Option<Time>
         ensures none { IsNone result ↔ (self.now.times ≡ map.empty) }
         ensures bound { IfSome result (λ t. (name : ℕ) (other : Time) → map.get self.now.times name ≡ Some other → t.0 ≤ other.0) }
@@ -152,6 +153,22 @@ impl Queue {
         match self.wheel.bound() {
             Some(t) => Some(Time(t)),
             None => None,
+        }
+    }
+
+    // Whether a name may have a time so early: the first place that holds one begins no later.
+    #[inline(always)]
+    fn reaches(&self, t: Time) -> bool
+        ensures { result ≡ false → (p : ℕ) → is_due self.now.times t p ≡ false }
+    {
+        match self.not_before() {
+            Some(bound) => {
+                if t.0 < bound.0 {
+                    return false;
+                }
+                true
+            }
+            None => false,
         }
     }
 
@@ -207,6 +224,9 @@ impl Queue {
         ensures order { out.new.items ≡ out.old.items ++ map.keys (due_at self.old.times t) }
         ensures capacity { vec_capacity out.new ≡ vec_capacity out.old }
     {
+        if !self.reaches(t) {
+            return;
+        }
         let had = out.len();
         self.move_due(t, out);
         self.follow(t);

@@ -1,10 +1,11 @@
 -- An event goes along its list.
-use Rattle.std.proofs.Common.{◌≡◌, ℕ, ◌+◌, ◌<◌, ◌≤◌, ◌≢◌, Bool, true, false, true≢false, cond, not, ◌||◌, List, [], ◌∷◌, ◌++◌, length, Option, Some, None, refl, sym, ap, ◌∙◌, subst, arith, ne_eqb, ⊎_elim, append-nil}
+use Rattle.std.proofs.Common.{◌≡◌, ℕ, ◌+◌, ◌<◌, ◌≤◌, ◌≢◌, Bool, true, false, true≢false, cond, not, ◌||◌, List, [], ◌∷◌, ◌++◌, length, drop, Option, Some, None, refl, sym, ap, ◌∙◌, subst, arith, ne_eqb, ⊎_elim, append-nil}
 use Rattle.std.specs.Prelude.{slice_get, ◌==◌, is_none, is_some}
 use Rattle.std.specs.Ordering.{nat_cmp}
 use Rattle.std.specs.FinMap as maps
 use Rattle.std.specs.FinSet as sets
 use Rattle.std.specs.List.{sum_by}
+use Rattle.std.specs.List.Sorted.{IsStrictlyIncreasing}
 use Rattle.std.proofs.lemmas.Bool.{cases_eq}
 use Rattle.std.proofs.lemmas.List.{length-append}
 use Rattle.std.proofs.lemmas.List.Sums.{sum_by-append}
@@ -12,7 +13,7 @@ use Rattle.event_core.specs.declared.event.Ev.{Ev}
 use Rattle.wait_lists.specs.declared.layout.Kept.{Kept}
 use Rattle.wait_lists.specs.Waits.{Wait, has, named_by, waits_for, waits_naming}
 use Rattle.wait_lists.specs.Shown.{Shown, listed, wait_of, passed_by, mark_of, shown_at, told, waits_of}
-use Rattle.wait_lists.specs.Chains.{none, Link, has_tag, walk}
+use Rattle.wait_lists.specs.Chains.{none, Link, has_tag, next_of, walk}
 use Rattle.wait_lists.specs.Nodes.{code_of, event_of, by_event, by_wait, first_in, events_at, shown_of}
 use Rattle.wait_lists.specs.Layout.{IsSound, IsOf, IsUsed, IsNodes, IsShorter, IsCutAt, IsOver, last_in, first_from, shown_by, waits_by}
 use Rattle.wait_lists.proofs.Counted.{times, times-same, times-other}
@@ -26,7 +27,8 @@ use Rattle.wait_lists.proofs.Rewritten.{used-of}
 use Rattle.wait_lists.proofs.Telling.{shown-serial}
 use Rattle.wait_lists.proofs.ByPlace.{get-waits, contains-marks}
 use Rattle.wait_lists.proofs.Passing.{Passed, passed_none, room-more, passed_more}
-use Rattle.wait_lists.proofs.Struck.{last-within, named-listed, named-unless, neither, starts, of-same, of-within, goes-split, last-next, waits-s, waits-struck, ends-same, none-left-is, wait-left, waits-over, ends-over}
+use Rattle.wait_lists.proofs.Struck.{last-within, named-listed, named-unless, neither, starts, of-same, of-within, goes-split, last-next, waits-s, waits-struck, ends-same, none-left-is, wait-left, waits-over, ends-over, behind-stays}
+use Rattle.wait_lists.proofs.Risen.{none-behind, one-behind}
 
 -- the event has gone over the nodes xs, which stay since it passes their waiters by, and goes over ys yet
 pub record Going (first now : Kept) (e : Ev) (code : ℕ) (old new : List ℕ) (stays i : ℕ) : Type 0 where
@@ -429,3 +431,36 @@ module _ (first now after : Kept) (e : Ev) (code : ℕ) (old new more : List ℕ
       all_kind : (b : Bool) → not b ≡ false → b ≡ true
       all_kind true is = refl
       all_kind false is = absurd (true≢false is)
+
+-- the only node of a list is struck, which stands in a wait for any
+module _ (k after : Kept) (e : Ev) (code : ℕ) (old more : List ℕ) (i at : ℕ) (s : Shown) (going : Going k k e code old old none i) (some : i ≢ none) (of : IsOf k at i) (here : slice_get (shown_by k) at ≡ Some s)
+    (last : next_of (by_event k.nodes.items i) ≡ none) (kind : s.for_all ≡ false) (after_sound : IsSound after) (after_places : after.places ≡ k.places)
+    (passes : passed_by s ≡ true → (after ≡ k) × (more ≡ old)) (ends : passed_by s ≡ false → s.for_all ≡ false → IsOver k after at s × (more ≡ old ++ s.serial ∷ [])) where
+  same_by : (b : Bool) → passed_by s ≡ b → after.nodes ≡ k.nodes
+  same_by true mark = ap (λ (x : Kept). x.nodes) (passes mark).0
+  same_by false active = (ends active kind).0.nodes
+
+  behind_only : (xs ys : List ℕ) → IsNodes after code (xs ++ ys) → last_in none xs ≡ i → none ≡ first_from ys
+  behind_only xs ys list is =
+      sym (ap (λ j. next_of (by_event after.nodes.items j)) is ∙ ap (λ v. next_of (by_event v.items i)) (same_by (passed_by s) refl) ∙ last)
+      ∙ behind-stays after after_sound code xs ys list (λ gone. some (sym is ∙ gone))
+
+  stays_there : (passed_by s || not s.for_all) ≡ true
+  stays_there = ap (λ b. passed_by s || not b) kind ∙ or_true (passed_by s)
+    where
+      or_true : (b : Bool) → (b || true) ≡ true
+      or_true true = refl
+      or_true false = refl
+
+  pub going-only : Going k after e code old more i none
+  going-only = (step-stays k k after e code old old more none i i none going some at s of here behind_only stays_there after_sound after_places passes ends refl).0
+
+  pub only-rises : (n : ℕ) → n ≡ length old → IsStrictlyIncreasing (drop n more)
+  only-rises n is = by (passed_by s) refl
+    where
+      P : List ℕ → Type 0
+      P l = IsStrictlyIncreasing (drop n l)
+
+      by : (b : Bool) → passed_by s ≡ b → IsStrictlyIncreasing (drop n more)
+      by true mark = subst P (sym (passes mark).1) (none-behind old n is)
+      by false active = subst P (sym (ends active kind).1) (one-behind old s.serial n is)

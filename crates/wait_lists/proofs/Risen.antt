@@ -1,5 +1,5 @@
 -- What is sorted and has no number twice rises.
-use Rattle.std.proofs.Common.{◌≡◌, ℕ, zero, suc, ◌+◌, ◌<◌, ◌≤◌, Bool, cond, List, [], ◌∷◌, ◌++◌, length, get_or, take, drop, refl, sym, ap, ◌∙◌, subst, arith, ⊎_elim}
+use Rattle.std.proofs.Common.{◌≡◌, ℕ, zero, suc, ◌+◌, ◌<◌, ◌≤◌, Bool, cond, List, [], ◌∷◌, ◌++◌, length, get_or, take, drop, refl, sym, ap, ◌∙◌, subst, arith, ⊎_elim, append-nil}
 use Rattle.std.specs.Prelude.{◌==◌}
 use Rattle.std.specs.Ordering.{nat_cmp}
 use Rattle.std.specs.List.Sorted.{IsStrictlyIncreasing, IsPermutation, IsSorted}
@@ -28,6 +28,18 @@ strictly xs sorted once k inside =
     (λ (e : get_or xs k 0 ≡ get_or xs (k + 1) 0). absurd (omega (arith, twice xs k inside e, once (get_or xs k 0))))
     (λ apart. omega (arith, le, apart))
     (cases_eq (get_or xs k 0) (get_or xs (k + 1) 0))
+
+-- behind the whole of a list nothing stands
+pub none-behind : (xs : List ℕ) (n : ℕ) → n ≡ length xs → IsStrictlyIncreasing (drop n xs)
+none-behind xs n is =
+    let P : List ℕ → Type 0 = λ l. IsStrictlyIncreasing l in
+    subst P (sym (ap (drop n) (sym (append-nil xs)) ∙ drop_at xs [] n (sym is))) (λ k inside. absurd (omega arith))
+
+-- behind it one alone rises
+pub one-behind : (xs : List ℕ) (x n : ℕ) → n ≡ length xs → IsStrictlyIncreasing (drop n (xs ++ x ∷ []))
+one-behind xs x n is =
+    let P : List ℕ → Type 0 = λ l. IsStrictlyIncreasing l in
+    subst P (sym (drop_at xs (x ∷ []) n (sym is))) (λ k inside. absurd (omega arith))
 
 -- the numbers that were added, in another order
 pub adds-sorted : (old new sorted : List ℕ) (test : ℕ → Bool) (adds : AddsEach old new test) → IsPermutation adds.added sorted → AddsEach old (old ++ sorted) test

@@ -5,7 +5,8 @@ ghost use Rattle.std.specs.Ordering.{nat_cmp};
 ghost use Rattle.std.specs.FinMap as map;
 ghost use Rattle.wait_lists.specs.Waits.{waits_naming, wait_after, is_met_by, AddsEach};
 ghost use Rattle.wait_lists.specs.Shown.{Shown, passed_by};
-ghost use Rattle.wait_lists.specs.Chains.{none};
+ghost use Rattle.wait_lists.specs.Chains.{none, next_of};
+ghost use Rattle.wait_lists.specs.Nodes.{by_event, code_of, first_in};
 ghost use Rattle.wait_lists.specs.Layout.{IsSound, IsUsed, IsOf, IsNodes, IsShorter, IsCutAt, IsOver, last_in, first_from, shown_by, waits_by};
 
 use crate::layout::{Kept, drop_node, end_at, event_code, first_node};
@@ -118,10 +119,36 @@ fn next_behind(kept: &Kept, stays: u32, code: u64) -> u32
     kept.nodes[stays as usize].next
 }
 
-// Strikes the event from each wait, and adds the serials of those that are met.
+// The node behind this one in the list of its event.
 #[inline(always)]
-fn strike_each(kept: &mut Kept, e: Ev, out: &mut Vec<u32>)
+fn next_node(kept: &Kept, i: u32) -> u32
+    requires { i < length kept.now.nodes.items }
+    ensures { result ≡ next_of (by_event kept.now.nodes.items i) }
+{
+    kept.nodes[i as usize].next
+}
+
+// Whether the node is the last of its list and stands in a wait for any.
+#[inline(always)]
+fn is_last_of_any(kept: &Kept, i: u32) -> bool
+    requires sound { IsSound kept.now }
+    requires used { IsUsed kept.now i }
+    ensures last { result ≡ true → next_of (by_event kept.now.nodes.items i) ≡ none }
+    ensures any { result ≡ true → (at : ℕ) (s : Shown) → IsOf kept.now at i → slice_get (shown_by kept.now) at ≡ Some s → s.for_all ≡ false }
+{
+    let at = owner(kept, i);
+    let whose = waiter_at(kept, at);
+    if whose.for_all {
+        return false;
+    }
+    next_node(kept, i) == NONE
+}
+
+// Strikes the event, whose list begins with this node, from each wait, and adds the serials of those that are met.
+#[inline(always)]
+fn strike_each(kept: &mut Kept, e: Ev, head: u32, out: &mut Vec<u32>)
     requires sound { IsSound kept.old }
+    requires begins { head ≡ first_in kept.old.heads.events kept.old.heads.free (code_of e) }
     requires room { vec_len out.old + map.len (waits_naming (waits_by kept.old) e) ≤ vec_capacity out.old }
     ensures sound { IsSound kept.new }
     ensures struck { (p : ℕ) → map.get (waits_by kept.new).waits p ≡ wait_after (waits_by kept.old) p e }
@@ -131,7 +158,7 @@ fn strike_each(kept: &mut Kept, e: Ev, out: &mut Vec<u32>)
 {
     let code = event_code(e);
     let mut stays = NONE;
-    let mut i = kept.heads.first(code);
+    let mut i = head;
     while i != NONE {
         if strike(kept, i, out) {
             stays = i;
@@ -151,7 +178,28 @@ fn sort_from(list: &mut [u32], from: usize)
     }
 }
 
-// Strikes the event from each wait, and adds the serials of those that are met, by rising serials.
+// Strikes the event, whose list begins with this node, from each wait, and adds the serials of those that are met, by rising
+// serials.
+#[inline(never)]
+fn strike_listed(kept: &mut Kept, e: Ev, head: u32, out: &mut Vec<u32>)
+    requires sound { IsSound kept.old }
+    requires begins { head ≡ first_in kept.old.heads.events kept.old.heads.free (code_of e) }
+    requires room { vec_len out.old + map.len (waits_naming (waits_by kept.old) e) ≤ vec_capacity out.old }
+    ensures sound { IsSound kept.new }
+    ensures struck { (p : ℕ) → map.get (waits_by kept.new).waits p ≡ wait_after (waits_by kept.old) p e }
+    ensures kept { waits_by kept.new ≡ record (waits_by kept.old) { waits = (waits_by kept.new).waits } }
+    ensures met { AddsEach out.old.items out.new.items (λ p. is_met_by (waits_by kept.old) p e) }
+    ensures rising { IsStrictlyIncreasing (drop (vec_len out.old) out.new.items) }
+    ensures capacity { vec_capacity out.new ≡ vec_capacity out.old }
+{
+    let old = out.len();
+    strike_each(kept, e, head, out);
+    sort_from(out.as_mut_slice(), old);
+}
+
+// Strikes the event from each wait, and adds the serials of those that are met, by rising serials. Where no node stands for the event,
+// or one alone in a wait for any, no list is gone along.
+#[inline(always)]
 pub(crate) fn strike_all(kept: &mut Kept, e: Ev, out: &mut Vec<u32>)
     requires sound { IsSound kept.old }
     requires room { vec_len out.old + map.len (waits_naming (waits_by kept.old) e) ≤ vec_capacity out.old }
@@ -162,7 +210,14 @@ pub(crate) fn strike_all(kept: &mut Kept, e: Ev, out: &mut Vec<u32>)
     ensures rising { IsStrictlyIncreasing (drop (vec_len out.old) out.new.items) }
     ensures capacity { vec_capacity out.new ≡ vec_capacity out.old }
 {
-    let old = out.len();
-    strike_each(kept, e, out);
-    sort_from(out.as_mut_slice(), old);
+    let code = event_code(e);
+    let head = kept.heads.first(code);
+    if head == NONE {
+        return;
+    }
+    if is_last_of_any(kept, head) {
+        strike(kept, head, out);
+        return;
+    }
+    strike_listed(kept, e, head, out);
 }

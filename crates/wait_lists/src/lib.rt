@@ -125,6 +125,7 @@ impl WaitLists {
     }
 
     /// Strikes the event from each wait of an instance that is not muted, and adds the instances whose wait is met to `out`, by rising serials: those are in no list any more.
+    #[inline(always)]
     pub fn fire(&mut self, e: Ev, out: &mut Vec<u32>)
         requires { vec_len out.old + map.len (waits_naming self.old e) ≤ vec_capacity out.old }
         ensures struck { (p : ℕ) → map.get self.new.waits p ≡ wait_after self.old p e }

@@ -1,4 +1,4 @@
-use Rattle.std.proofs.Common.{ℕ, List, Option, refl, sym, ap, ◌∙◌, subst}
+use Rattle.std.proofs.Common.{ℕ, Option, sym, ap, ◌∙◌, subst}
 use Rattle.std.specs.FinMap as map
 use Rattle.exec_data.specs.InstanceTable.declared.instances.Instance.{Instance as Entry}
 use Rattle.exec_data.specs.KernelProcesses.Moved.{HasRoom, IsTop}

@@ -1,5 +1,4 @@
 use Rattle.std.proofs.Common.{subst}
-use Rattle.std.specs.Prelude.{Ok, Err}
 use Rattle.exec_data.specs.SimModel.Storing.{passes}
 use Rattle.exec_data.specs.SimModel.Control.{throw_call}
 use Rattle.exec_data.specs.KernelState.Moves.{Does}

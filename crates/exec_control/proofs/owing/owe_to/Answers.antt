@@ -2,7 +2,6 @@ use Rattle.std.proofs.Common.{reverse, sym, ap, ◌∙◌}
 use Rattle.std.specs.Option.{option_copied_mut}
 use Rattle.exec_data.specs.SimModel.Residual.{settle, put, batch}
 use Rattle.exec_data.specs.SimModel.Configuration.{arena}
-use Rattle.exec_data.specs.ProcessBodies.Bodies as bodies
 use Rattle.exec_data.proofs.KernelBodies.Strips.{strip-put}
 use Rattle.exec_data.proofs.KernelState.Frames.{one_body_sound, old_body_sound, steps_to, settled_before}
 use Rattle.exec_control.proofs.OneInstance.{was}

@@ -1,28 +1,23 @@
-use Rattle.flat_design.specs.Code.{await_term}
+use Rattle.std.proofs.Common.{◌≡◌, ◌∷◌, [], ℕ, length, None, Ok, option_map, sym, ap, ◌∙◌, subst, arith}
+use Rattle.flat_design.specs.Code as code
+use Rattle.flat_design.specs.Code.{AwaitTerm, await_term, event_terms, term_of}
 use Rattle.kernel_view.specs.SimModel.Residual.{settle}
 use Rattle.kernel_view.specs.SimModel.Configuration.{Trigger, arena}
 use Rattle.kernel_view.specs.SimModel.Statements.{settled_in}
 use Rattle.kernel_view.specs.SimModel.Storing.{passes}
+use Rattle.kernel_view.specs.SimModel.Values.{on_ok}
 use Rattle.kernel_view.specs.SimModel.Waiting.{awaited}
 use Rattle.kernel_view.specs.SimModel.Waits.{waits}
-use Rattle.kernel_view.specs.KernelProcesses.InstanceViews.{deadline_of}
-use Rattle.kernel_view.specs.KernelProcesses.Moved.{wait_as}
+use Rattle.kernel_view.specs.KernelState.Stopping.{FollowsBut, NoFault}
 use Rattle.kernel_view.specs.Standings.{next_here}
-use Rattle.exec_events.proofs.Doing.{goes_on, is_refused, is_at_fault}
+use Rattle.exec_events.proofs.Doing.{only_one}
 use Rattle.exec_events.proofs.statements.wait_statement.Goals as goal
 
-pub returns-in-Ok-wait_so-clause-does : goal.returns-in-Ok-wait_so-clause-does
-returns-in-Ok-wait_so-clause-does c = λ d i h there.
-    goes_on c.wait_so.new.k d (λ (t : Trigger). waits (passes (settled_in d c.args.p i.residual) c.args.p (settle (arena d) i.residual)) c.args.p t.wait t.deadline)
-    (record { wait = wait_as c.in-Ok-wait_of.wait; deadline = deadline_of c.in-Ok.deadline }) (awaited (next_here d c.args.p i) (await_term c.args.how.now))
-    (c.in-Ok.ensures d i h there) (c.in-Ok-wait_of.ensures d i h there) (c.in-Ok-wait_so.ensures.steps d i h there)
-
-pub returns-in-Err-clause-does : goal.returns-in-Err-clause-does
-returns-in-Err-clause-does c = λ d i h there.
-    is_at_fault c.args.k.now d (λ (t : Trigger). waits (passes (settled_in d c.args.p i.residual) c.args.p (settle (arena d) i.residual)) c.args.p t.wait t.deadline)
-    c.in-Err.fault (awaited (next_here d c.args.p i) (await_term c.args.how.now)) (c.in-Err.ensures d i h there) h
-
-pub returns-in-Err-wait_of-clause-does : goal.returns-in-Err-wait_of-clause-does
-returns-in-Err-wait_of-clause-does c = λ d i h there.
-    is_refused c.args.k.now d (λ (t : Trigger). waits (passes (settled_in d c.args.p i.residual) c.args.p (settle (arena d) i.residual)) c.args.p t.wait t.deadline)
-    (deadline_of c.in-Ok.deadline) (awaited (next_here d c.args.p i) (await_term c.args.how.now)) (c.in-Ok.ensures d i h there) h
+pub returns-then-len-eq1-clause-does : goal.returns-then-len-eq1-clause-does
+returns-then-len-eq1-clause-does c = λ d i h there.
+    let events = c.in-Any.events in
+    let one : ◌≡◌ {A = ℕ} (length events.items) 1 = omega (arith, c.len.ensures, events.ok.0, c.if-len-eq1.true) in
+    let only = only_one events.items c.index.result.now one c.index.ensures in
+    subst (λ w. FollowsBut NoFault c.wait_for_one.new.k c.wait_for_one.result d (on_ok (awaited (next_here d c.args.p i) w) (λ (t : Trigger). Ok (waits (passes (settled_in d c.args.p i.residual) c.args.p (settle (arena d) i.residual)) c.args.p t.wait t.deadline))))
+    (ap (λ es. code.any (event_terms es) None) (sym only) ∙ ap (λ t. code.any (event_terms events.items) (option_map term_of t)) (sym c.in-None.is) ∙ ap await_term (sym c.in-Any.is))
+    (c.wait_for_one.ensures.does d i h there)

@@ -21,6 +21,13 @@ returns-in-Err-NoMemory-clause-calls c = λ d i h there.
     (lacks c.reserve_call.new.k d (settled_in d c.args.p i.residual) via.hop via.payload (entry_of via c.args.asked.phase (complete_in d.transactions via.payload) true)
     (λ x. enters x c.args.p (settle (arena d) i.residual) c.args.s c.args.f c.args.values.now (Some via)) (c.reserve_call.ensures.stays d h))
 
+pub returns-in-Err-clause-calls : goal.returns-in-Err-clause-calls
+returns-in-Err-clause-calls c = λ d i h there.
+    let via = c.args.asked.via in
+    entered_by c.reserve_call.new.k c.args.p c.args.s c.args.f via c.args.asked.phase c.args.values.now c.reserve_call.new.k (Err stop.NoMemory) d i (c.in-Ok.ensures.depth d i h there)
+    (lacks c.reserve_call.new.k d (settled_in d c.args.p i.residual) via.hop via.payload (entry_of via c.args.asked.phase (complete_in d.transactions via.payload) true)
+    (λ x. enters x c.args.p (settle (arena d) i.residual) c.args.s c.args.f c.args.values.now (Some via)) (c.reserve_call.ensures.stays d h))
+
 pub enter_ready_call-requires-clause-sound : goal.enter_ready_call-requires-clause-sound
 enter_ready_call-requires-clause-sound c = board_sound c.reserve_call.new.k c.judge.new.board c.reserve_call.ensures.sound c.judge.ensures.within
 

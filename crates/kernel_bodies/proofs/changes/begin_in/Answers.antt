@@ -1,10 +1,8 @@
-use Rattle.std.proofs.Common.{◌≡◌, ℕ, ◌≤◌, ◌++◌, List, Option, length, subst, sym, ap, ◌∙◌, arith, length-append}
+use Rattle.std.proofs.Common.{◌≡◌, ◌≤◌, ◌++◌, length, sym, ap, ◌∙◌, arith, length-append}
 use Rattle.std.specs.Vec.{vec_capacity}
 use Rattle.sim_model.specs.FlatDesign.Code.{arena_of}
 use Rattle.sim_model.specs.Residual as residual
 use Rattle.sim_model.specs.Residual.{Residual}
-use Rattle.kernel_bodies.specs.Around.{around_at}
-use Rattle.kernel_bodies.specs.declared.layers.Open.{Open}
 use Rattle.kernel_bodies.specs.Layers.{inside, standing, landed, layers_of, layers_around, statement_of}
 use Rattle.kernel_bodies.proofs.Settling.{inside_append}
 use Rattle.kernel_bodies.proofs.Rooms.{fits_at_cap}

@@ -1,7 +1,8 @@
-use Rattle.sim_model.specs.FlatDesign.Code.{arena_of}
-use Rattle.kernel_bodies.proofs.Blocks.{in_block_fits}
+use Rattle.std.proofs.Common.{sym, ◌∙◌}
 use Rattle.kernel_bodies.proofs.frames.block_begins.Goals as goal
 
+pub returns-in-Some-clause-value : goal.returns-in-Some-clause-value
+returns-in-Some-clause-value c = c.in_block.ensures.value ∙ sym c.in-Some.ensures.value
+
 pub returns-in-Some-clause-room : goal.returns-in-Some-clause-room
-returns-in-Some-clause-room c = λ most t i h.
-    in_block_fits (arena_of c.args.program.now.code) c.args.program.now.depths.items c.args.program.now.deep most t i (record { block = c.args.block; place = 0 }) c.in-Some.rest c.in-Some.statement c.in-Some.ensures.of_block.0 c.in-Some.ensures.of_block.1 h
+returns-in-Some-clause-room c = λ most t i h. c.in_block.ensures.room (record { block = c.args.block; place = 0 }) most t i c.in-Some.ensures.of_block.0 c.in-Some.ensures.of_block.1 h

@@ -1,4 +1,4 @@
-use Rattle.std.proofs.Common.{◌≡◌, ℕ, ◌-◌, drop, subst, sym, ap, ◌∙◌, arith}
+use Rattle.std.proofs.Common.{◌≡◌, ℕ, ◌-◌, drop, subst, sym, ◌∙◌, arith}
 use Rattle.kernel_bodies.specs.Sought.{is_open_nonblocking, NoneIs}
 use Rattle.kernel_bodies.proofs.Seeking.{last_at, among_last, among_none}
 use Rattle.kernel_bodies.proofs.sought.some_nonblocking.Goals as goal

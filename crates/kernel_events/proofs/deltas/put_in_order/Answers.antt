@@ -1,5 +1,6 @@
-use Rattle.std.proofs.lemmas.List.Sorted.{IsNonDecreasingBy-from_sort}
+use Rattle.std.proofs.Common.{ℕ, List, subst}
+use Rattle.std.specs.List.Sorted.{IsNonDecreasing}
 use Rattle.kernel_events.proofs.deltas.put_in_order.Goals as goal
 
-pub returns-then-len-gt1-clause-sorted : goal.returns-then-len-gt1-clause-sorted
-returns-then-len-gt1-clause-sorted c = IsNonDecreasingBy-from_sort (λ x. x) c.sort_unstable.new.self.items c.sort_unstable.ensures.sorted
+pub returns-then-is_in_order-clause-sorted : goal.returns-then-is_in_order-clause-sorted
+returns-then-is_in_order-clause-sorted c = subst (λ (xs : List ℕ). IsNonDecreasing xs) c.as_slice.ensures.value (c.is_in_order.ensures c.if-is_in_order.true)

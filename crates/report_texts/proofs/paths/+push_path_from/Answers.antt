@@ -1,4 +1,3 @@
-use Rattle.std.proofs.Common.{◌≡◌, ◌++◌}
 use Rattle.std.proofs.lemmas.Result.{on_ok_weaker}
 use Rattle.report_texts.proofs.Upward.{path_at_top, path_grown}
 use Rattle.report_texts.proofs.paths.+push_path_from.Goals as goal

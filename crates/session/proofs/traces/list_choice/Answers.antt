@@ -1,7 +1,4 @@
-use Rattle.session.specs.Telling.{IsLineOf}
-use Rattle.session.proofs.Texts.{file_into}
 use Rattle.session.proofs.traces.list_choice.Goals as goal
 
-pub returns-in-Ok-clause-lists : goal.returns-in-Ok-clause-lists
-returns-in-Ok-clause-lists g c = rw c.in-Some.is
-    (file_into g.S.Shelf.files g.S.Shelf.stands c.args.shelf.now c.put_file.new.shelf c.in-Some.id (IsLineOf c.args.choice) _ _ _ c.put_file.result c.in-Ok.ensures (rw c.as_bytes.ensures.value at c.put_file.ensures.took))
+pub returns-in-Some-clause-lists : goal.returns-in-Some-clause-lists
+returns-in-Some-clause-lists g c = rw c.in-Some.is c.list_line.ensures.lists

@@ -2,6 +2,7 @@ use Rattle.std.proofs.Common.{ℕ, ◌≡◌, ◌<◌, length, not, refl, ap, �
 use Rattle.std.specs.Prelude.{vec_len}
 use Rattle.std.proofs.lemmas.List.{length-append}
 use Rattle.wait_lists.specs.Shown.{passed_by}
+use Rattle.wait_lists.specs.Nodes.{first_in}
 use Rattle.wait_lists.specs.Layout.{waits_by}
 use Rattle.wait_lists.proofs.Passing.{passed_struck, passed_met}
 use Rattle.wait_lists.proofs.Struck.{used-within, neither}
@@ -11,7 +12,8 @@ use Rattle.wait_lists.proofs.firing.strike_each.Goals.{then-strike, else-strike}
 
 pub loop-i-init : goal.loop-i-init
 loop-i-init c = record {
-  going = going-none c.args.kept.now c.requires.sound c.args.e c.event_code-code.result c.args.out.now.items c.first-i.result c.event_code-code.ensures c.first-i.ensures;
+  going = going-none c.args.kept.now c.requires.sound c.args.e c.event_code-code.result c.args.out.now.items c.args.head c.event_code-code.ensures
+      (c.requires.begins ∙ ap (first_in c.args.kept.now.heads.events c.args.kept.now.heads.free) (sym c.event_code-code.ensures));
   capacity = refl;
 }
 

@@ -6,28 +6,24 @@ use Rattle.kernel_events.specs.SignalChannel.Signals.{settled, change_of}
 use Rattle.kernel_events.specs.SignalChannel.declared.signal.Signal.{Signal}
 use Rattle.kernel_channels.specs.Codes.{Values}
 use Rattle.kernel_channels.specs.Announced.{told_by_signals}
-use Rattle.kernel_channels.proofs.Resting.{as_many}
-use Rattle.kernel_channels.proofs.Changing.{room_enough}
-use Rattle.kernel_channels.proofs.Updating.{visited_are, signals_left, signals_marked, signals_announced, signals_sound, stands}
+use Rattle.kernel_channels.specs.UpdateMarks.{asked_of}
+use Rattle.kernel_channels.proofs.AskedLists.{asked_are}
+use Rattle.kernel_channels.proofs.Updating.{signals_left, signals_marked, signals_announced, signals_sound, stands}
 use Rattle.kernel_channels.proofs.signals.SignalBank.update.Goals as goal
-
-pub take_all-requires : goal.take_all-requires
-take_all-requires c =
-    room_enough (length c.self.inside.signals.items) c.self.inside.visited c.self.inside.asked c.self.invariant.visits (as_many settled c.self.inside.signals.items c.self.inside.asked c.self.invariant.rests)
 
 pub invariant_of-self : goal.invariant_of-self
 invariant_of-self c =
     let ss = c.self.inside.signals.items in
-    let bs = c.self.inside.asked in
+    let asked = c.self.inside.asked in
     let cs = c.self.inside.changed in
     let ns = c.as_slice.result.now in
     let before = c.as_mut_slice.result.now in
-    let all = visited_are c.self.inside.visited (length ss) bs c.take_all.new.out.items ns c.self.invariant.visits c.take_all.ensures.taken c.as_slice.ensures.value in
-    let left = signals_left ss bs cs c.self.inside.visited c.self.invariant ns before all c.as_mut_slice.ensures.value c.update_each.new.signals c.update_each.ensures.left in
-    let marked = signals_marked ss bs cs c.self.inside.visited c.self.invariant ns before all c.as_mut_slice.ensures.value c.clear_all.new.self c.update_each.new.changed c.clear_all.ensures c.update_each.ensures.marked in
-    signals_sound ss bs cs c.self.inside.visited c.self.invariant ns before all c.as_mut_slice.ensures.value (vec_items (with_items c.self.inside.signals c.update_each.new.signals)) c.take_all.new.self c.update_each.new.changed c.clear.new.self
-    (stands c.self.inside.signals c.update_each.new.signals (ap length left ∙ length-map ss settled) ∙ left) c.take_all.ensures.left marked
-    c.clear.ensures.items (c.clear.ensures.capacity ∙ c.take_all.ensures.capacity)
+    let all = asked_are (asked_of ss) asked c.put_in_order.new.listed.items ns c.self.invariant.lists c.put_in_order.ensures.sorted c.put_in_order.ensures.moved c.as_slice.ensures.value in
+    let left = signals_left ss asked cs c.self.invariant ns before all c.as_mut_slice.ensures.value c.update_each.new.signals c.update_each.ensures.left in
+    let marked = signals_marked ss asked cs c.self.invariant ns before all c.as_mut_slice.ensures.value c.clear_all.new.self c.update_each.new.changed c.clear_all.ensures c.update_each.ensures.marked in
+    signals_sound ss asked cs c.self.invariant ns before all c.as_mut_slice.ensures.value (vec_items (with_items c.self.inside.signals c.update_each.new.signals)) c.clear.new.self c.update_each.new.changed
+    (stands c.self.inside.signals c.update_each.new.signals (ap length left ∙ length-map ss settled) ∙ left) marked
+    c.clear.ensures.items (c.clear.ensures.capacity ∙ c.put_in_order.ensures.capacity)
 
 abbrev updated : Values → Values
 updated v = record { signals = map settled v.signals; changed = map (λ (s : Signal). (change_of s).changed) v.signals }
@@ -35,23 +31,23 @@ updated v = record { signals = map settled v.signals; changed = map (λ (s : Sig
 pub returns-clause-left : goal.returns-clause-left
 returns-clause-left c =
     let ss = c.self.inside.signals.items in
-    let bs = c.self.inside.asked in
+    let asked = c.self.inside.asked in
     let cs = c.self.inside.changed in
     let ns = c.as_slice.result.now in
     let before = c.as_mut_slice.result.now in
-    let all = visited_are c.self.inside.visited (length ss) bs c.take_all.new.out.items ns c.self.invariant.visits c.take_all.ensures.taken c.as_slice.ensures.value in
-    let left = signals_left ss bs cs c.self.inside.visited c.self.invariant ns before all c.as_mut_slice.ensures.value c.update_each.new.signals c.update_each.ensures.left in
-    let marked = signals_marked ss bs cs c.self.inside.visited c.self.invariant ns before all c.as_mut_slice.ensures.value c.clear_all.new.self c.update_each.new.changed c.clear_all.ensures c.update_each.ensures.marked in
+    let all = asked_are (asked_of ss) asked c.put_in_order.new.listed.items ns c.self.invariant.lists c.put_in_order.ensures.sorted c.put_in_order.ensures.moved c.as_slice.ensures.value in
+    let left = signals_left ss asked cs c.self.invariant ns before all c.as_mut_slice.ensures.value c.update_each.new.signals c.update_each.ensures.left in
+    let marked = signals_marked ss asked cs c.self.invariant ns before all c.as_mut_slice.ensures.value c.clear_all.new.self c.update_each.new.changed c.clear_all.ensures c.update_each.ensures.marked in
     (λ i. record { signals = (stands c.self.inside.signals c.update_each.new.signals (ap length left ∙ length-map ss settled) ∙ left) i; changed = marked i })
     ∙ ap updated c.self.view_is
 
 pub returns-clause-announced : goal.returns-clause-announced
 returns-clause-announced c =
     let ss = c.self.inside.signals.items in
-    let bs = c.self.inside.asked in
+    let asked = c.self.inside.asked in
     let cs = c.self.inside.changed in
     let ns = c.as_slice.result.now in
     let before = c.as_mut_slice.result.now in
-    let all = visited_are c.self.inside.visited (length ss) bs c.take_all.new.out.items ns c.self.invariant.visits c.take_all.ensures.taken c.as_slice.ensures.value in
-    signals_announced ss bs cs c.self.inside.visited c.self.invariant ns before all c.as_mut_slice.ensures.value c.args.parts.now c.args.events.now c.update_each.new.events c.update_each.ensures.announced
+    let all = asked_are (asked_of ss) asked c.put_in_order.new.listed.items ns c.self.invariant.lists c.put_in_order.ensures.sorted c.put_in_order.ensures.moved c.as_slice.ensures.value in
+    signals_announced ss asked cs c.self.invariant ns before all c.as_mut_slice.ensures.value c.args.parts.now c.args.events.now c.update_each.new.events c.update_each.ensures.announced
     ∙ ap (λ (v : Values). told_by_signals c.args.parts.now v.signals c.args.events.now) c.self.view_is

@@ -5,7 +5,7 @@ use Rattle.numbered_slots.proofs.slots.Slots.get.Goals as goal
 
 pub returns-in-Some-clause-value : goal.returns-in-Some-clause-value
 returns-in-Some-clause-value g c =
-    c.get.ensures
+    sym c.index.ensures
     ∙ sym (get_found c.self.inside.slots c.self.inside.keys _ _ (sym c.in-Some.ensures))
     ∙ ap (λ s. map.get s.live c.args.number) c.self.view_is
 

@@ -2,7 +2,7 @@ use Rattle.std.proofs.Common.{le_refl, sym, ap, subst, ◌∙◌}
 use Rattle.numbered_slots.specs.Numbered.{with_inserted}
 use Rattle.numbered_slots.specs.Layout.{TellsHomes}
 use Rattle.numbered_slots.proofs.SlotLemmas.{has_fresh_next, is_sound-new, shown-new, one_entry_more}
-use Rattle.numbered_slots.proofs.HomeLemmas.{tells-inserted}
+use Rattle.numbered_slots.proofs.HomeLemmas.{tells-inserted, homes-inserted}
 use Rattle.numbered_slots.proofs.slots.Slots.insert.Goals as goal
 
 pub returns-in-Err-clause-fresh : goal.returns-in-Err-clause-fresh
@@ -22,6 +22,7 @@ invariant_of-self-2 g c =
           (c.insert_reserved.ensures.key ∙ sym c.vacant_key-key.ensures.value) c.insert_reserved.ensures.updates
           (one_entry_more c.self.inside.keys c.insert.new.self _ _ c.in-Ok-insert.ensures.old none c.in-Ok-insert.ensures.len) c.insert_reserved.ensures.len,
       tells-inserted _ _ c.self.inside.keys c.insert.new.self _ _ (subst (λ flags. TellsHomes flags c.self.inside.keys) (sym c.reserve-2.ensures.items) c.self.invariant.1) none c.in-Ok-insert.ensures.updates c.note_first.ensures,
+      homes-inserted c.self.inside.homes c.homes_with-homes.result c.self.inside.keys c.insert.new.self _ _ c.self.invariant.2 none c.in-Ok-insert.ensures.updates c.homes_with-homes.ensures,
     )
 
 pub returns-clause-fresh : goal.returns-clause-fresh

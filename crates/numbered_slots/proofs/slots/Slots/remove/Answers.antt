@@ -2,13 +2,14 @@ use Rattle.std.proofs.Common.{sym, ap, ◌∙◌}
 use Rattle.std.specs.FinMap as map
 use Rattle.numbered_slots.specs.Numbered.{without}
 use Rattle.numbered_slots.proofs.SlotLemmas.{get_found, get_absent, is_sound-removed, live-removed, live-absent, same_live}
-use Rattle.numbered_slots.proofs.HomeLemmas.{tells-removed}
+use Rattle.numbered_slots.proofs.HomeLemmas.{tells-removed, homes-removed}
 use Rattle.numbered_slots.proofs.slots.Slots.remove.Goals as goal
 
 pub invariant_of-self : goal.invariant_of-self
 invariant_of-self g c = (
   is_sound-removed _ _ _ _ _ _ _ c.self.invariant.0 (sym c.in-Some.ensures.value) c.in-Some.ensures.updates c.remove-in-Some.ensures.updates c.in-Some.ensures.len c.remove-in-Some.ensures.len,
   tells-removed _ _ c.self.inside.keys c.remove.new.self _ c.self.invariant.1 c.in-Some.ensures.updates c.leave_home.ensures,
+  homes-removed c.self.inside.homes c.homes_without-homes.result c.self.inside.keys c.remove.new.self _ c.self.invariant.2 c.in-Some.ensures.updates c.homes_without-homes.ensures.less c.homes_without-homes.ensures.low,
 )
 
 pub returns-in-Some-clause-value : goal.returns-in-Some-clause-value

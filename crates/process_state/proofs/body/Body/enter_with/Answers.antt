@@ -1,15 +1,17 @@
 use Rattle.std.proofs.Common.{◌≡◌, ℕ, ◌<◌, Option, Some, None, length, sym, ap, ◌∙◌, arith}
-use Rattle.std.specs.Vec.{vec_capacity}
 use Rattle.kernel_bodies.specs.FlatDesign.Code.{arena_of, body_at}
 use Rattle.kernel_bodies.specs.SimModel.Residual as residual
 use Rattle.kernel_bodies.specs.SimModel.Residual.{Residual, next_of}
 use Rattle.kernel_bodies.specs.declared.layers.Frame.{Frame as Kept}
 use Rattle.kernel_bodies.specs.Layers.{inside_frames, under, standing}
-use Rattle.kernel_bodies.specs.Room.{begun_in}
+use Rattle.kernel_bodies.specs.Room.{begun_in, own_locals, own_blocks}
 use Rattle.process_state.specs.Bodies.{settled_in}
-use Rattle.process_state.proofs.Frames.{ends_inside, put_statement, held_last, frames_last, fits_join, own_of_call}
+use Rattle.process_state.proofs.Frames.{ends_inside, put_statement, held_last, frames_last, fits_join, own_more, own_of_call}
 use Rattle.process_state.proofs.Stepping.{statement_comes, statement_same}
 use Rattle.process_state.proofs.body.Body.enter_with.Goals as goal
+
+pub begin_call-self-requires-clause-place : goal.begin_call-self-requires-clause-place
+begin_call-self-requires-clause-place c = omega (arith, c.requires.room.0, c.args.self.now.frames.ok.0, c.settle_to.ensures.fewer, c.settle_to.ensures.room c.requires.statement)
 
 pub returns-clause-left : goal.returns-clause-left
 returns-clause-left c = λ s next.
@@ -42,10 +44,11 @@ returns-clause-sound c =
     let zs = c.begin_call-self.new.frames.items in
     let h = c.settle_to.ensures.sound in
     let call : begun.inner.frame.call ≡ Some w.0 = ap (λ (f : Kept). f.call) begun.call ∙ calls in
-    let locals = (own_of_call (vec_capacity b.spare.locals) zs xs begun.inner w.0 begun.frames call).0 in
-    let blocks = (own_of_call (vec_capacity b.spare.blocks) zs xs begun.inner w.0 begun.frames call).1 in record {
+    let locals = (own_of_call (own_locals 0 b.resting.items) zs xs begun.inner w.0 begun.frames call).0 in
+    let blocks = (own_of_call (own_blocks 0 b.resting.items) zs xs begun.inner w.0 begun.frames call).1 in record {
       room = fits_join a ds zs xs begun.inner c.begin_call-self.result begun.frames h.room.each begun.fits;
+      own = own_more zs xs begun.inner begun.frames (ends_inside b.goal xs c.settle_to.result w.0 w.1 c.settle_to.ensures.ends) h.own;
+      rests = h.rests;
       locals = omega (arith, h.locals, locals);
       blocks = omega (arith, h.blocks, blocks);
-      first = omega (arith, h.first, c.begin_call-self.ensures.capacity);
     }

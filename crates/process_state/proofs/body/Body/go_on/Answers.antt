@@ -4,10 +4,10 @@ use Rattle.kernel_bodies.specs.FlatDesign.Code.{arena_of}
 use Rattle.kernel_bodies.specs.SimModel.Residual.{next_of}
 use Rattle.kernel_bodies.specs.declared.layers.Comes.{Comes}
 use Rattle.kernel_bodies.specs.Layers.{statement_of}
-use Rattle.kernel_bodies.specs.Room.{FitsIn, FitsFrames}
+use Rattle.kernel_bodies.specs.Room.{FitsIn, FitsFrames, own_locals, own_blocks}
 use Rattle.kernel_bodies.proofs.Rooms.{fits_at_cap, fits_take, fits_there}
 use Rattle.process_state.specs.Bodies.{settled_in, EndsIn}
-use Rattle.process_state.proofs.Frames.{le_to, last_set, last_is, fits_join, each_take, same_room, own_changed, blocks_changed}
+use Rattle.process_state.proofs.Frames.{le_to, last_set, last_is, fits_join, each_take, same_room, own_first, own_changed, blocks_changed}
 use Rattle.process_state.proofs.Leave.{goal_alone, goal_left}
 use Rattle.process_state.proofs.Stepping.{goal_comes}
 use Rattle.process_state.proofs.body.Body.go_on.Goals as goal
@@ -59,7 +59,8 @@ returns-else-many-eq0-clause-sound c =
     (fits_take a ds (vec_capacity d.blocks) n d.blocks.items None (fits_there a ds xs b.statement i d within c.index_mut.ensures.value h.room)) in
     let Q : Option ℕ → Type 0 = λ o. FitsFrames a ds zs o in record {
       room = subst Q (sym none) (fits_join a ds zs (take i xs) y None new (each_take a ds i xs h.room.each) fits);
-      locals = le_to _ _ _ (own_changed (vec_capacity b.spare.locals) xs zs (take i xs) d y old new same) h.locals;
-      blocks = omega (arith, h.blocks, blocks_changed (vec_capacity b.spare.blocks) xs zs (take i xs) d y old new same);
-      first = h.first;
+      own = own_first xs zs (take i xs) d y old new same h.own;
+      rests = h.rests;
+      locals = le_to _ _ _ (own_changed (own_locals 0 b.resting.items) xs zs (take i xs) d y old new same) h.locals;
+      blocks = omega (arith, h.blocks, blocks_changed (own_blocks 0 b.resting.items) xs zs (take i xs) d y old new same);
     }

@@ -1,12 +1,11 @@
 use Rattle.std.proofs.Common.{◌≡◌, ℕ, Option, None, subst, sym, ap, ◌∙◌, arith}
-use Rattle.std.specs.Vec.{vec_capacity}
 use Rattle.kernel_bodies.specs.FlatDesign.Code.{arena_of}
 use Rattle.kernel_bodies.specs.Layers.{statement_of}
 use Rattle.kernel_bodies.specs.declared.layers.Comes.{Comes}
-use Rattle.kernel_bodies.specs.Room.{FitsFrames}
+use Rattle.kernel_bodies.specs.Room.{FitsFrames, own_locals, own_blocks}
 use Rattle.process_state.specs.Bodies.{settled_in, EndsIn}
 use Rattle.process_state.proofs.Leave.{leave_some, leave_next, leave_left, leave_own, leave_each}
-use Rattle.process_state.proofs.Frames.{fits_nothing}
+use Rattle.process_state.proofs.Frames.{fits_nothing, own_outside}
 use Rattle.process_state.proofs.Stepping.{leave_comes}
 use Rattle.process_state.proofs.body.Body.leave.Goals as goal
 
@@ -46,9 +45,10 @@ returns-clause-sound c =
     let none : b.statement ≡ None = c.settle_to.ensures.statement ∙ ap statement_of is in
     let ends = subst P is c.settle_to.ensures.ends in
     let h = c.settle_to.ensures.sound in
-    let own = leave_own b.goal xs ys x (vec_capacity b.spare.locals) (vec_capacity b.spare.blocks) c.take_frame-frame.ensures.items ends in record {
+    let own = leave_own b.goal xs ys x (own_locals 0 b.resting.items) (own_blocks 0 b.resting.items) c.take_frame-frame.ensures.items ends in record {
       room = subst Q (sym none) (fits_nothing a ds ys (leave_each a ds xs ys x c.take_frame-frame.ensures.items h.room.each));
+      own = own_outside xs ys x c.take_frame-frame.ensures.items h.own;
+      rests = h.rests;
       locals = omega (arith, h.locals, own.0);
       blocks = omega (arith, h.blocks, own.1);
-      first = omega (arith, h.first, c.take_frame-frame.ensures.capacity);
     }

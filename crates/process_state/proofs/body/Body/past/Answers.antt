@@ -14,9 +14,10 @@ returns-then-is_some-clause-sound c =
     let p = c.args.program.now in
     let h = c.requires.sound in record {
       room = fits_nothing (arena_of p.code) p.depths.items c.args.self.now.frames.items h.room.each;
+      own = h.own;
+      rests = h.rests;
       locals = h.locals;
       blocks = h.blocks;
-      first = h.first;
     }
 
 pub past_inside-requires-clause-none : goal.past_inside-requires-clause-none

@@ -21,7 +21,8 @@ returns-clause-sound c =
     let p = c.args.program.now in
     let h = c.settle_to.ensures.sound in record {
       room = fits_nothing (arena_of p.code) p.depths.items c.settle_to.new.self.frames.items h.room.each;
+      own = h.own;
+      rests = h.rests;
       locals = h.locals;
       blocks = h.blocks;
-      first = h.first;
     }

@@ -1,12 +1,11 @@
 use Rattle.std.proofs.Common.{◌≡◌, ◌+◌, ◌<◌, ℕ, suc, true, List, None, length, set, subst, sym, ap, ◌∙◌, arith}
-use Rattle.std.specs.Vec.{vec_capacity}
 use Rattle.kernel_bodies.specs.FlatDesign.Code.{arena_of}
 use Rattle.kernel_bodies.specs.SimModel.Unwinding.{catches}
 use Rattle.kernel_bodies.specs.declared.layers.Saved.{Saved}
 use Rattle.kernel_bodies.specs.Layers.{inside_frames, held, standing, under}
 use Rattle.kernel_bodies.specs.Sought.{has_handler, unwinds, NoneIs, LastIs}
 use Rattle.kernel_bodies.specs.Unwound.{AreUnwound}
-use Rattle.kernel_bodies.specs.Room.{FitsIn, SameRoom}
+use Rattle.kernel_bodies.specs.Room.{FitsIn, SameRoom, own_locals, own_blocks}
 use Rattle.kernel_bodies.proofs.Lands.{held_none}
 use Rattle.kernel_bodies.proofs.Passing.{through_goal}
 use Rattle.kernel_bodies.proofs.Rooms.{each_at}
@@ -14,7 +13,7 @@ use Rattle.kernel_bodies.proofs.Seeking.{among_none, among_last, last_true, catc
 use Rattle.process_state.proofs.Frames.{le_to, fits_nothing, same_room}
 use Rattle.process_state.proofs.Settled.{one_more}
 use Rattle.process_state.proofs.Stepping.{catches_standing, goal_standing, unw_standing}
-use Rattle.process_state.proofs.Unwinding.{no_goal, catches_under, raise_frames, unwound_at, unwound_length, none_there, unwound_each, unwound_locals, unwound_blocks, each_set, set_locals, set_blocks}
+use Rattle.process_state.proofs.Unwinding.{no_goal, catches_under, raise_frames, unwound_at, unwound_length, none_there, unwound_each, unwound_own, unwound_locals, unwound_blocks, each_set, set_own, set_locals, set_blocks}
 use Rattle.process_state.proofs.body.Body.raise.Goals as goal
 
 pub index_mut-requires : goal.index_mut-requires
@@ -111,9 +110,10 @@ returns-in-Some-clause-sound c =
     let P : Saved → Type 0 = λ z. SameRoom z y in
     let same = subst P c.index_mut.ensures.value (same_room d y c.raise_in.ensures.same) in record {
       room = fits_nothing a ds zs (each_set a ds ys i y (unwound_each a ds (i + 1) xs ys u h.room.each) c.raise_in.ensures.room);
-      locals = le_to _ _ _ (set_locals (vec_capacity b.spare.locals) ys i d y same ∙ unwound_locals (vec_capacity b.spare.locals) (i + 1) xs ys u) h.locals;
-      blocks = omega (arith, h.blocks, set_blocks (vec_capacity b.spare.blocks) ys i d y same, unwound_blocks (vec_capacity b.spare.blocks) (i + 1) xs ys u);
-      first = omega (arith, h.first, c.unwind_frames.ensures.capacity);
+      own = set_own ys i d y same (unwound_own (i + 1) xs ys u h.own);
+      rests = h.rests;
+      locals = le_to _ _ _ (set_locals (own_locals 0 b.resting.items) ys i d y same ∙ unwound_locals (own_locals 0 b.resting.items) (i + 1) xs ys u) h.locals;
+      blocks = omega (arith, h.blocks, set_blocks (own_blocks 0 b.resting.items) ys i d y same, unwound_blocks (own_blocks 0 b.resting.items) (i + 1) xs ys u);
     }
 
 pub returns-in-None-clause-caught : goal.returns-in-None-clause-caught

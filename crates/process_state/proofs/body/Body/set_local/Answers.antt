@@ -4,9 +4,9 @@ use Rattle.kernel_bodies.specs.FlatDesign.Code.{arena_of}
 use Rattle.kernel_bodies.specs.SimModel.Storing.{with_local}
 use Rattle.kernel_bodies.specs.SimModel.Residual.{Frame, in_innermost}
 use Rattle.kernel_bodies.specs.Layers.{call_of, inside, inside_frames, under, standing, wrapped}
-use Rattle.kernel_bodies.specs.Room.{SameRoom}
+use Rattle.kernel_bodies.specs.Room.{SameRoom, own_locals, own_blocks}
 use Rattle.kernel_bodies.proofs.Rooms.{fits_at_cap, fits_last}
-use Rattle.process_state.proofs.Frames.{le_to, last_set, last_is, held_last, fits_join, each_take, own_changed, blocks_changed}
+use Rattle.process_state.proofs.Frames.{le_to, last_set, last_is, held_last, fits_join, each_take, own_first, own_changed, blocks_changed}
 use Rattle.process_state.proofs.Returning.{set_under, set_frames}
 use Rattle.process_state.proofs.Stepping.{innermost_standing, set_standing}
 use Rattle.process_state.proofs.body.Body.set_local.Goals as goal
@@ -56,7 +56,8 @@ returns-then-many-gt0-clause-sound c = λ p h.
       room =
           fits_join a ds zs (take i xs) y b.statement new (each_take a ds i xs h.room.each)
           (fits_at_cap a ds (vec_capacity d.blocks) (vec_capacity y.blocks) d.blocks.items y.blocks.items b.statement b.statement same.room (ap (λ v. v.items) c.set_local_in.ensures.blocks) refl (fits_last a ds xs b.statement i d last c.index_mut.ensures.value h.room));
-      locals = le_to _ _ _ (own_changed (vec_capacity b.spare.locals) xs zs (take i xs) d y old new same) h.locals;
-      blocks = omega (arith, h.blocks, blocks_changed (vec_capacity b.spare.blocks) xs zs (take i xs) d y old new same);
-      first = h.first;
+      own = own_first xs zs (take i xs) d y old new same h.own;
+      rests = h.rests;
+      locals = le_to _ _ _ (own_changed (own_locals 0 b.resting.items) xs zs (take i xs) d y old new same) h.locals;
+      blocks = omega (arith, h.blocks, blocks_changed (own_blocks 0 b.resting.items) xs zs (take i xs) d y old new same);
     }

@@ -1,11 +1,11 @@
-use Rattle.std.proofs.Common.{sym, ap, ◌∙◌, arith}
-use Rattle.std.specs.Vec.{vec_capacity}
+use Rattle.std.proofs.Common.{sym, ap, ◌∙◌}
 use Rattle.kernel_bodies.specs.FlatDesign.Code.{arena_of}
 use Rattle.kernel_bodies.specs.SimModel.Residual as residual
 use Rattle.kernel_bodies.specs.Layers.{inside_frames, held, standing}
+use Rattle.kernel_bodies.specs.Room.{own_locals, own_blocks}
 use Rattle.kernel_bodies.proofs.Lands.{held_none}
 use Rattle.process_state.proofs.Frames.{le_to, fits_nothing}
-use Rattle.process_state.proofs.Unwinding.{unw_under, unw_frames, unwound_each, unwound_locals, unwound_blocks}
+use Rattle.process_state.proofs.Unwinding.{unw_under, unw_frames, unwound_each, unwound_own, unwound_locals, unwound_blocks}
 use Rattle.process_state.proofs.Stepping.{unw_standing}
 use Rattle.process_state.proofs.body.Body.unwind.Goals as goal
 
@@ -28,7 +28,8 @@ returns-clause-sound c = λ p h.
     let ys = c.unwind_frames.new.frames.items in
     let u = c.unwind_frames.ensures.unwound in record {
       room = fits_nothing (arena_of p.code) p.depths.items ys (unwound_each (arena_of p.code) p.depths.items 0 xs ys u h.room.each);
-      locals = le_to _ _ _ (unwound_locals (vec_capacity b.spare.locals) 0 xs ys u) h.locals;
-      blocks = le_to _ _ _ (unwound_blocks (vec_capacity b.spare.blocks) 0 xs ys u) h.blocks;
-      first = omega (arith, h.first, c.unwind_frames.ensures.capacity);
+      own = unwound_own 0 xs ys u h.own;
+      rests = h.rests;
+      locals = le_to _ _ _ (unwound_locals (own_locals 0 b.resting.items) 0 xs ys u) h.locals;
+      blocks = le_to _ _ _ (unwound_blocks (own_blocks 0 b.resting.items) 0 xs ys u) h.blocks;
     }
