@@ -1,6 +1,6 @@
 -- The objects of an instance by their names.
-use Rattle.std.proofs.Common.{◌≡◌, ◌<◌, ◌≤◌, ℕ, zero, suc, ◌+◌, Bool, true, false, cond, List, [], ◌∷◌, ◌++◌, map, drop, length, get_or, Option, Some, None, refl, sym, ap, ◌∙◌, arith}
-use Rattle.std.specs.Prelude.{nat_lt, slice_get, unwrap_or, option_map}
+use Rattle.std.proofs.Common.{◌≡◌, ◌≤◌, ℕ, suc, ◌+◌, Bool, true, false, cond, List, [], ◌∷◌, ◌++◌, map, drop, length, Option, Some, None, refl, sym, ap, ◌∙◌, arith}
+use Rattle.std.specs.Prelude.{nat_lt, unwrap_or, option_map}
 use Rattle.std.specs.List.{position_from, position_or_len}
 use Rattle.std.proofs.lemmas.Bool.Decides.{nat_tests}
 use Rattle.std.proofs.lemmas.List.{map-append, length-drop}
@@ -12,14 +12,12 @@ use Rattle.elaborate_objects.specs.FlatDesign.declared.objects.ObjectForm.TheVar
 use Rattle.elaborate_objects.specs.FlatDesign.declared.design.Denoted.{Denoted}
 use Rattle.elaborate_objects.specs.FlatDesign.declared.design.Denoted.TheVariants as denoted
 use Rattle.elaborate_objects.specs.ModelRules.Meanings.{Declared, declaration, declarations, declared_name}
-use Rattle.elaborate_objects.specs.ModelRules.Members.{entry}
 use Rattle.elaborate_objects.specs.DesignRules.Listing.{is_child}
-use Rattle.elaborate_objects.specs.CheckNames.Tables.{Numbers}
 use Rattle.elaborate_objects.specs.DesignRules.declared.bindings.Joined.{Joined}
 use Rattle.elaborate_objects.specs.DesignRules.declared.counts.Counts.{Counts}
 use Rattle.elaborate_objects.specs.DesignRules.Counting.{behind, along}
 use Rattle.elaborate_objects.specs.DesignRules.Denoting.{denoted_by, object_denoted, named_in, names_in}
-use Rattle.elaborate_design.specs.Named.{AreNamed, table_at, denoted_if}
+use Rattle.elaborate_design.specs.Named.{denoted_if}
 
 -- the first place that passes, of a list whose places are numbered from k on
 

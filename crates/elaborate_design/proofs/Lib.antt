@@ -3,7 +3,6 @@ mod LinkLemmas
 mod Lasting
 mod ChildLemmas
 mod ChildEntries
-mod NamedEntries
 mod Firsts
 mod PortLemmas
 mod PartTurns

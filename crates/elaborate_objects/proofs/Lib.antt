@@ -3,9 +3,9 @@ mod Pushed
 pub mod Closed
 pub mod Having
 mod BodyLemmas
-mod RowLemmas
+pub mod RowLemmas
 mod Lasting
 mod Counts
-mod Parents
+pub mod Parents
 pub mod ModelRules
 pub mod DesignRules

@@ -69,7 +69,9 @@ pub mod kernel_transactions_api {
 
 /// What is passed on of kernel_view.
 pub mod kernel_view_api {
-    pub use exec_data::kernel_view_api::{denoted_at, eval_at, eval_if_at, named_at, payload_at};
+    pub use exec_data::kernel_view_api::{
+        denoted_at, eval_at, eval_if_at, keeper_number, memory_number, named_at, payload_at,
+    };
 }
 
 /// What is passed on of logic_values.

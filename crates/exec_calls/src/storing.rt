@@ -1,33 +1,16 @@
 //! Where values go that a call hands back.
 ghost use Rattle.std.specs.Prelude.{◌≡◌};
 ghost use Rattle.exec_data.specs.SimModel.Reading.{Here};
-ghost use Rattle.exec_data.specs.SimModel.Storing as storing;
 ghost use Rattle.exec_data.specs.SimModel.Storing.{set_denoted, set_name, stored_if};
 ghost use Rattle.exec_data.specs.KernelState.Kernel.{IsSound, whole_design};
 ghost use Rattle.exec_data.specs.KernelState.Moves.{Moves, Lives};
 
 use exec_data::expr_eval_api::cut_to;
-use exec_data::kernel_state_api::{Kernel, set_variable};
+use exec_data::kernel_state_api::{Kernel, set_local, set_variable};
 use exec_data::kernel_view_api::denoted_in;
 use exec_data::logic_values_api::Value;
 use exec_data::variable_number;
 use flat_design::{Denoted, NameUse, Store};
-
-/// A local variable of the innermost call of an instance gets a value.
-fn store_local(k: &mut Kernel, p: u32, n: u32, v: Value)
-    requires sound { IsSound k.old }
-    requires lives { Lives k.old p }
-    ensures moves { Moves k.old k.new (λ c. storing.set_local c p n v) }
-    ensures design { whole_design k.new ≡ whole_design k.old }
-    ensures lives { Lives k.new p }
-    ensures sound { IsSound k.new }
-    ensures made { k.new.made ≡ k.old.made }
-{
-    match k.schedule.table.get_mut(p) {
-        Some(x) => x.body.body.body.set_local(n as usize, v),
-        None => unreachable!(),
-    }
-}
 
 /// A value is stored in the variable that a name stands for; where it stands for none nothing is.
 fn store_denoted(k: &mut Kernel, p: u32, d: Denoted, v: Value)
@@ -57,7 +40,7 @@ pub fn store_in(k: &mut Kernel, p: u32, home: u32, n: NameUse, v: Value)
     ensures made { k.new.made ≡ k.old.made }
 {
     match n {
-        NameUse::Local(i) => store_local(k, p, i, v),
+        NameUse::Local(i) => set_local(k, p, i, v),
         NameUse::Declared(i) => {
             let denoted = denoted_in(&k.design, home, i);
             store_denoted(k, p, denoted, v);

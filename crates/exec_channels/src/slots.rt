@@ -5,7 +5,6 @@ ghost use Rattle.kernel_view.specs.LogicValues.Integers.{bits_of};
 ghost use Rattle.kernel_view.specs.FifoSync.Locks as locks;
 ghost use Rattle.kernel_view.specs.SimModel.Channels as channels;
 ghost use Rattle.kernel_view.specs.SimModel.Reading.{Here};
-ghost use Rattle.kernel_view.specs.SimModel.Storing as storing;
 ghost use Rattle.kernel_view.specs.SimModel.Storing.{passes, stored_if};
 ghost use Rattle.kernel_view.specs.SimModel.Values.{signed};
 ghost use Rattle.kernel_view.specs.KernelState.Kernel.{IsSound};
@@ -17,7 +16,7 @@ ghost use Rattle.exec_channels.specs.Slots.{slot_here, kept_in};
 use flat_design::{Denoted, NameUse, Store, ValueType};
 use kernel_view::denoted_at;
 use kernel_view::expr_eval_api::cut_to;
-use kernel_view::kernel_state_api::{Kernel, pass, set_variable, top_lives};
+use kernel_view::kernel_state_api::{Kernel, pass, set_local, set_variable, top_lives};
 use kernel_view::logic_values_api::Value;
 
 /// Where a result goes, once it is known what its name stands for.
@@ -81,21 +80,6 @@ pub(crate) fn slot_at(k: &Kernel, p: u32, target: Option<Store>) -> Slot
     match target {
         Some(x) => slot_named(k, p, x.name, x.value_type),
         None => Slot::Nowhere,
-    }
-}
-
-/// Another value for a local variable of the innermost call of an instance, which has not ended still.
-fn set_local(k: &mut Kernel, p: u32, n: u32, v: Value)
-    requires sound { IsSound k.old }
-    requires lives { Lives k.old p }
-    ensures moves { Moves k.old k.new (λ c. storing.set_local c p n v) }
-    ensures lives { Lives k.new p }
-    ensures sound { IsSound k.new }
-    ensures made { k.new.made ≡ k.old.made }
-{
-    match k.schedule.table.get_mut(p) {
-        Some(x) => x.body.body.body.set_local(n as usize, v),
-        None => {}
     }
 }
 

@@ -1,5 +1,5 @@
 -- An instance is suspended; and who is on top.
-use Rattle.std.proofs.Common.{◌≡◌, ◌≢◌, ◌==◌, ◌||◌, not, cond, ℕ, Bool, true, false, List, [], ◌∷◌, drop, reverse, Option, Some, None, refl, sym, ap, ◌∙◌, subst, true≢false, eqb-true, eq-eqb, ne_eqb}
+use Rattle.std.proofs.Common.{◌≡◌, ◌≢◌, ◌==◌, ◌||◌, ℕ, Bool, true, false, [], ◌∷◌, drop, reverse, Option, Some, None, refl, sym, ap, ◌∙◌, subst, true≢false, eqb-true, eq-eqb, ne_eqb}
 use Rattle.std.specs.Prelude.{is_some, if◌then◌else◌}
 use Rattle.std.proofs.lemmas.List.{reverse-append}
 use Rattle.std.specs.FinMap as map
@@ -21,6 +21,7 @@ use Rattle.exec_data.specs.KernelState.declared.kernel.Kept.{Kept}
 use Rattle.exec_data.specs.KernelState.declared.kernel.Kernel.{Kernel}
 use Rattle.exec_data.proofs.KernelState.ProcessFrames.{Agrees, moved_with, stack_same, stack_left}
 use Rattle.exec_data.proofs.KernelState.Frames.{change-twice, processes_move, schedule_sound, shown_where_lives}
+use Rattle.exec_data.proofs.KernelState.Pushing.{lacks_itself, has_others}
 use Rattle.exec_data.proofs.KernelState.Stacks.{on_top_is}
 
 -- ---- who is on top
@@ -38,24 +39,6 @@ module _ (k : Kernel) (c : Config) (h : StandsFor k c) (q : ℕ) where
       by : (b : Bool) → (p == q) ≡ b → (p == q) ≡ is_top c q
       by true is = is ∙ sym (on_top_is k c h q (subst (λ n. IsTop n k.schedule.stack.items) (eqb-true p q is) top))
       by false is = is ∙ sym (other_top p top (λ same. true≢false (sym (eq-eqb p q same) ∙ is)))
-
--- ---- lists without one
-
-cut_here : (b : Bool) (p x : ℕ) (xs : List ℕ) → (x == p) ≡ b → holds xs p ≡ false → holds (cond (not b) (x ∷ xs) xs) p ≡ false
-cut_here true p x xs is none = none
-cut_here false p x xs is none = ap (λ b. b || holds xs p) is ∙ none
-
-lacks_itself : (xs : List ℕ) (p : ℕ) → holds (without xs p) p ≡ false
-lacks_itself [] p = refl
-lacks_itself (x ∷ xs) p = cut_here (x == p) p x (without xs p) refl (lacks_itself xs p)
-
-cut_other : (b : Bool) (p q x : ℕ) (ys xs : List ℕ) → (x == p) ≡ b → q ≢ p → holds ys q ≡ holds xs q → holds (cond (not b) (x ∷ ys) ys) q ≡ holds (x ∷ xs) q
-cut_other true p q x ys xs is apart same = same ∙ sym (ap (λ b. b || holds xs q) (ne_eqb x q (λ here. apart (sym here ∙ eqb-true x p is))))
-cut_other false p q x ys xs is apart same = ap (λ b. (x == q) || b) same
-
-has_others : (xs : List ℕ) (p q : ℕ) → q ≢ p → holds (without xs p) q ≡ holds xs q
-has_others [] p q apart = refl
-has_others (x ∷ xs) p q apart = cut_other (x == p) p q x (without xs p) xs refl apart (has_others xs p q apart)
 
 -- ---- it is suspended
 

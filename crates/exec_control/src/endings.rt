@@ -65,7 +65,27 @@ fn count_rest(k: &Kernel, p: u32) -> Option<u32>
     }
 }
 
-/// Makes room for the wait by which the method on top rests once it has returned. Nothing else changes.
+/// Makes room for the wait by which the method on top rests once it has returned, which is for so many events. Nothing else changes.
+#[inline(always)]
+fn hold_counted(k: &mut Kernel, p: u32, n: u32) -> Result<(), AllocError>
+    requires sound { IsSound k.old }
+    requires top { IsOnTop k.old p }
+    requires counted { n ≡ rest_count (next_kept (map.get k.old.schedule.table.live p)) (map.get k.old.schedule.table.live p) }
+    ensures room { OnOk result (CanRest k.new p (next_kept (map.get k.new.schedule.table.live p))) }
+    ensures next { next_kept (map.get k.new.schedule.table.live p) ≡ next_kept (map.get k.old.schedule.table.live p) }
+    ensures stays { Moves k.old k.new (λ c. c) }
+    ensures top { IsOnTop k.new p }
+    ensures lives { Lives k.new p }
+    ensures sound { IsSound k.new }
+    ensures made { k.new.made ≡ k.old.made }
+{
+    match hold(&mut k.schedule, p, n) {
+        Ok(()) => Ok(()),
+        Err(_) => Err(AllocError),
+    }
+}
+
+/// The same, where the events are not too many to be counted.
 fn hold_rest(k: &mut Kernel, p: u32) -> Result<(), AllocError>
     requires sound { IsSound k.old }
     requires top { IsOnTop k.old p }
@@ -77,10 +97,7 @@ fn hold_rest(k: &mut Kernel, p: u32) -> Result<(), AllocError>
     ensures made { k.new.made ≡ k.old.made }
 {
     match count_rest(k, p) {
-        Some(n) => match hold(&mut k.schedule, p, n) {
-            Ok(()) => Ok(()),
-            Err(_) => Err(AllocError),
-        },
+        Some(n) => hold_counted(k, p, n),
         None => Err(AllocError),
     }
 }
@@ -281,27 +298,6 @@ fn ending_at(k: &Kernel, p: u32) -> Ending
     }
 }
 
-/// Makes room for the wait of the method on top by its static sensitivity, which has so many events. Nothing else changes.
-#[inline(always)]
-fn hold_statically(k: &mut Kernel, p: u32, n: u32) -> Result<(), AllocError>
-    requires sound { IsSound k.old }
-    requires top { IsOnTop k.old p }
-    requires unset { next_kept (map.get k.old.schedule.table.live p) ≡ None }
-    requires counted { n ≡ rest_count None (map.get k.old.schedule.table.live p) }
-    ensures room { OnOk result (CanRest k.new p None) }
-    ensures unset { next_kept (map.get k.new.schedule.table.live p) ≡ None }
-    ensures stays { Moves k.old k.new (λ c. c) }
-    ensures top { IsOnTop k.new p }
-    ensures lives { Lives k.new p }
-    ensures sound { IsSound k.new }
-    ensures made { k.new.made ≡ k.old.made }
-{
-    match hold(&mut k.schedule, p, n) {
-        Ok(()) => Ok(()),
-        Err(_) => Err(AllocError),
-    }
-}
-
 /// The method on top, for which no next trigger is set, waits by its static sensitivity. There is room for the wait.
 #[inline(always)]
 fn rest_unset(k: &mut Kernel, p: u32)
@@ -331,7 +327,7 @@ fn idle_statically(k: &mut Kernel, p: u32, n: u32) -> Result<(), AllocError>
     ensures sound { IsSound k.new }
     ensures made { k.new.made ≡ k.old.made }
 {
-    match hold_statically(k, p, n) {
+    match hold_counted(k, p, n) {
         Ok(()) => {}
         Err(_) => return Err(AllocError),
     }

@@ -16,12 +16,11 @@ ghost use Rattle.exec_control.specs.Others.{KeepsOthers};
 ghost use Rattle.exec_control.specs.Thrown.{past, injects, OthersHaveNoGoal};
 
 use crate::owing::owe;
-use crate::pushing::push;
 use crate::shown::{has_goal, is_begun_thread, lives};
 use crate::targets::target_at;
 use crate::{catches, raise_at};
 use exec_data::kernel_processes_api::is_active;
-use exec_data::kernel_state_api::{Kernel, StatementStop, Way, top_lives};
+use exec_data::kernel_state_api::{Kernel, StatementStop, Way, push, top_lives};
 use exec_data::kernel_transactions_api::left_calls_end;
 use exec_data::sim_model_api::Goal;
 use flat_design::{Controlled, NameId, RunFault, StmtId};

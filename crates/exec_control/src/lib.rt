@@ -12,7 +12,6 @@ mod goals;
 mod guards;
 mod instances;
 mod owing;
-mod pushing;
 mod shown;
 mod suspending;
 mod targets;

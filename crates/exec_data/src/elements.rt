@@ -3,7 +3,6 @@ ghost use Rattle.std.specs.Prelude.{◌≡◌, [], Ok, Some, length, slice_get, 
 ghost use Rattle.flat_design.specs.Code as code;
 ghost use Rattle.flat_design.specs.Code.{term_of};
 ghost use Rattle.kernel_view.specs.SimModel.Configuration.{Config};
-ghost use Rattle.kernel_view.specs.SimModel.Reading as reading;
 ghost use Rattle.kernel_view.specs.SimModel.Reading.{here, memory_at};
 ghost use Rattle.kernel_view.specs.SimModel.Storing as storing;
 ghost use Rattle.kernel_view.specs.SimModel.Storing.{passes, do_assign, set_memory};
@@ -12,34 +11,17 @@ ghost use Rattle.kernel_view.specs.SimModel.Values.{on_ok};
 ghost use Rattle.kernel_view.specs.KernelState.Kernel.{StandsFor, IsSound};
 ghost use Rattle.kernel_view.specs.KernelState.Moves.{Moves, Does, Lives, HasStatement};
 
-use flat_design::{Denoted, Expr, RunFault};
+use flat_design::{Expr, RunFault};
 use kernel_view::expr_eval_api::bits;
 use kernel_view::kernel_state_api::{Kernel, pass};
 use kernel_view::logic_values_api::{Bytes, Value};
-use kernel_view::{denoted_at, eval_at};
+use kernel_view::{denoted_at, eval_at, memory_number};
 
 /// The low 8 bits of a number.
 fn low_byte(v: Value) -> u8
     ensures { result ≡ storing.low_byte v }
 {
     (bits(v) % 256) as u8
-}
-
-/// The memory that a name stands for.
-fn memory_number(denoted: Denoted) -> Option<u32>
-    ensures { result ≡ reading.memory_number denoted }
-{
-    match denoted {
-        Denoted::Memory(m) => Some(m),
-        Denoted::Nothing
-        | Denoted::Channel(_)
-        | Denoted::Event(_)
-        | Denoted::Keeper(_)
-        | Denoted::Variable(_)
-        | Denoted::Port(_)
-        | Denoted::Process(_)
-        | Denoted::Socket { .. } => None,
-    }
 }
 
 /// An index below a size.

@@ -49,7 +49,7 @@ pub mod kernel_bodies_api {
 /// What is passed on of kernel_processes.
 pub mod kernel_processes_api {
     pub use kernel_view::kernel_processes_api::{
-        Trigger, Wait, begin, count_events, disable, end, fire, hold, is_active, push, rest_ready,
+        Trigger, Wait, begin, count_events, disable, end, fire, hold, is_active, rest_ready,
         resume, stay_kept, suspend, top,
     };
 }
@@ -57,8 +57,8 @@ pub mod kernel_processes_api {
 /// What is passed on of kernel_state.
 pub mod kernel_state_api {
     pub use kernel_view::kernel_state_api::{
-        Kept, Kernel, Offspring, StatementStop, Way, acquire, fire, kill, move_on, pass, release,
-        reset, set_variable, settle, spawn, targets, top_lives,
+        Kept, Kernel, Offspring, StatementStop, Way, acquire, fire, kill, move_on, pass, push,
+        release, reset, set_local, set_variable, settle, spawn, targets, top_lives,
     };
 }
 
@@ -72,7 +72,8 @@ pub mod kernel_transactions_api {
 /// What is passed on of kernel_view.
 pub mod kernel_view_api {
     pub use kernel_view::{
-        denoted_at, denoted_in, eval_at, eval_if_at, home_at, home_within, named_at, payload_at,
+        denoted_at, denoted_in, eval_at, eval_if_at, home_at, home_within, keeper_number,
+        memory_number, named_at, payload_at,
     };
 }
 

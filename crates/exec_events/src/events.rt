@@ -51,7 +51,7 @@ fn channel_event(member: EventMember, channel: ChannelId) -> Ev
 }
 
 /// The number of an event of the design's objects, where a name stands for one.
-fn event_number(denoted: Denoted) -> Option<u32>
+pub(crate) fn event_number(denoted: Denoted) -> Option<u32>
     ensures { result ≡ waiting.event_number denoted }
 {
     match denoted {

@@ -6,30 +6,14 @@ ghost use Rattle.kernel_view.specs.SimModel.Waiting as waiting;
 ghost use Rattle.kernel_view.specs.KernelState.Kernel.{IsSound};
 ghost use Rattle.kernel_view.specs.KernelState.Moves.{Does, Lives, HasStatement};
 
+use crate::events::event_number;
 use crate::{cancel, notify, notify_now};
-use flat_design::{Denoted, Expr, RunFault};
+use flat_design::{Expr, RunFault};
 use kernel_view::event_core_api::When;
 use kernel_view::expr_eval_api::moment;
 use kernel_view::kernel_state_api::{Kernel, pass};
 use kernel_view::sim_time_api::{Time, add};
 use kernel_view::{denoted_at, eval_at};
-
-/// The number of an event of the design's objects, where a name stands for one.
-fn event_number(denoted: Denoted) -> Option<u32>
-    ensures { result ≡ waiting.event_number denoted }
-{
-    match denoted {
-        Denoted::Event(e) => Some(e),
-        Denoted::Nothing
-        | Denoted::Channel(_)
-        | Denoted::Keeper(_)
-        | Denoted::Memory(_)
-        | Denoted::Variable(_)
-        | Denoted::Port(_)
-        | Denoted::Process(_)
-        | Denoted::Socket { .. } => None,
-    }
-}
 
 /// An event is notified at once (IEEE 1666-2011, 5.10.6).
 pub fn notify_named(k: &mut Kernel, p: u32, n: u32)

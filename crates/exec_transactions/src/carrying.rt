@@ -6,7 +6,6 @@ ghost use Rattle.exec_calls.specs.PayloadPool.declared.payload.Payload.{Payload 
 ghost use Rattle.exec_calls.specs.SimModel.Configuration.{Config, Transactions};
 ghost use Rattle.exec_calls.specs.SimModel.Payloads.{payload_of};
 ghost use Rattle.exec_calls.specs.SimModel.Values.{on_ok};
-ghost use Rattle.exec_calls.specs.SimModel.Reading as reading;
 ghost use Rattle.exec_calls.specs.SimModel.Reading.{here, live_payload, memory_at};
 ghost use Rattle.exec_calls.specs.SimModel.Storing.{passes, set_memory, set_payload};
 ghost use Rattle.exec_calls.specs.SimModel.Transport.{do_carry};
@@ -18,28 +17,11 @@ ghost use Rattle.exec_transactions.specs.Carried.{bytes_of, with_bytes};
 
 use exec_calls::kernel_state_api::{Kernel, pass};
 use exec_calls::kernel_transactions_api::{TransactionBoard, live_payloads_are_used};
-use exec_calls::kernel_view_api::{denoted_at, payload_at};
+use exec_calls::kernel_view_api::{denoted_at, memory_number, payload_at};
 use exec_calls::logic_values_api::{Bytes, Items};
-use flat_design::{Denoted, NameUse, RunFault};
+use flat_design::{NameUse, RunFault};
 use std::alloc::Global;
 use std::mem;
-
-/// The memory that a name stands for.
-fn memory_number(denoted: Denoted) -> Option<u32>
-    ensures { result ≡ reading.memory_number denoted }
-{
-    match denoted {
-        Denoted::Memory(m) => Some(m),
-        Denoted::Nothing
-        | Denoted::Channel(_)
-        | Denoted::Event(_)
-        | Denoted::Keeper(_)
-        | Denoted::Variable(_)
-        | Denoted::Port(_)
-        | Denoted::Process(_)
-        | Denoted::Socket { .. } => None,
-    }
-}
 
 /// The bytes at a place are taken out, and none are left there.
 #[tactic(auto, using(std::proofs::lemmas::List::set_past))]

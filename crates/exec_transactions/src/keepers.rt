@@ -2,7 +2,6 @@
 ghost use Rattle.std.specs.Prelude.{◌≡◌, Ok, Some};
 ghost use Rattle.exec_calls.specs.QuantumKeeper.Keepers.{after_inc, after_reset, with_local};
 ghost use Rattle.flat_design.specs.Code.{term_of};
-ghost use Rattle.exec_calls.specs.SimModel.Reading as reading;
 ghost use Rattle.exec_calls.specs.SimModel.Reading.{here, keeper_at};
 ghost use Rattle.exec_calls.specs.SimModel.Storing.{passes};
 ghost use Rattle.exec_calls.specs.SimModel.Transport.{do_qk_global, do_qk_inc, do_qk_reset, do_qk_set, kept, on_keeper, with_global, with_keeper};
@@ -11,26 +10,9 @@ ghost use Rattle.exec_calls.specs.KernelState.Moves.{Moves, Does, Lives, HasStat
 
 use exec_calls::expr_eval_api::moment;
 use exec_calls::kernel_state_api::{Kernel, pass};
-use exec_calls::kernel_view_api::{denoted_at, eval_at};
+use exec_calls::kernel_view_api::{denoted_at, eval_at, keeper_number};
 use exec_calls::sim_time_api::Time;
-use flat_design::{Denoted, Expr, RunFault};
-
-/// The keeper that a name stands for.
-fn keeper_number(denoted: Denoted) -> Option<u32>
-    ensures { result ≡ reading.keeper_number denoted }
-{
-    match denoted {
-        Denoted::Keeper(k) => Some(k),
-        Denoted::Nothing
-        | Denoted::Channel(_)
-        | Denoted::Event(_)
-        | Denoted::Memory(_)
-        | Denoted::Variable(_)
-        | Denoted::Port(_)
-        | Denoted::Process(_)
-        | Denoted::Socket { .. } => None,
-    }
-}
+use flat_design::{Expr, RunFault};
 
 /// Another global quantum.
 fn set_global(k: &mut Kernel, t: Time)

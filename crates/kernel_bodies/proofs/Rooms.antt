@@ -1,13 +1,11 @@
 -- The room of layers one after another.
-use Rattle.std.proofs.Common.{◌≡◌, ℕ, ◌+◌, ◌<◌, ◌≤◌, zero, suc, List, [], ◌∷◌, ◌++◌, Option, Some, None, length, take, drop, get_or, refl, sym, ap, ◌∙◌, subst, arith, length-append}
+use Rattle.std.proofs.Common.{◌≡◌, ℕ, ◌+◌, ◌<◌, ◌≤◌, zero, suc, List, [], ◌∷◌, ◌++◌, Option, Some, None, length, take, drop, get_or, refl, sym, subst, arith, length-append}
 use Rattle.std.proofs.lemmas.List.{take-append-drop}
 use Rattle.sim_model.specs.FlatDesign.Code.{Arena}
-use Rattle.std.specs.Vec.{vec_capacity}
 use Rattle.kernel_bodies.specs.declared.layers.Saved.{Saved}
-use Rattle.kernel_bodies.specs.declared.layers.Spare.{Spare}
 use Rattle.kernel_bodies.specs.declared.layers.Open.{Open}
 use Rattle.kernel_bodies.specs.declared.layers.Open.TheVariants as layer
-use Rattle.kernel_bodies.specs.Room.{FitsStatement, FitsLayer, FitsAll, Fits, FitsIn, EachFitsIn, FitsLast, FitsFrames, KeepsOwn, room_of_own, own_locals, own_blocks, kept_inside, kept_along}
+use Rattle.kernel_bodies.specs.Room.{FitsStatement, FitsLayer, FitsAll, Fits, FitsIn, EachFitsIn, FitsLast, FitsFrames, kept_inside, kept_along}
 
 pub kept_append : (t : ℕ) (ls ms : List Open) → kept_along t (ls ++ ms) ≡ kept_along (kept_along t ls) ms
 kept_append t [] ms = refl
@@ -153,23 +151,3 @@ fits_last a depths xs s i x e is f = let P : Saved → Type 0 = λ y. FitsIn a d
 
 pub fits_there : (a : Arena) (depths : List ℕ) (xs : List Saved) (s : Option ℕ) (i : ℕ) (x : Saved) → i < length xs → x ≡ get_or xs i x → FitsFrames a depths xs s → FitsIn a depths x None
 fits_there a depths xs s i x h is f = let P : Saved → Type 0 = λ y. FitsIn a depths y None in subst P (sym is) (each_at a depths xs i x h f.each)
-
--- the vectors of the body's own call
-
-locals_popped : (m : ℕ) (xs : List Saved) (x : Saved) → own_locals m (xs ++ x ∷ []) ≡ own_locals (room_of_own x.frame.call (vec_capacity x.frame.locals) m) xs
-locals_popped m [] x = refl
-locals_popped m (y ∷ xs) x = ap (room_of_own y.frame.call (vec_capacity y.frame.locals)) (locals_popped m xs x)
-
-blocks_popped : (m : ℕ) (xs : List Saved) (x : Saved) → own_blocks m (xs ++ x ∷ []) ≡ own_blocks (room_of_own x.frame.call (vec_capacity x.blocks) m) xs
-blocks_popped m [] x = refl
-blocks_popped m (y ∷ xs) x = ap (room_of_own y.frame.call (vec_capacity y.blocks)) (blocks_popped m xs x)
-
-pub popped_own : (sparing spare : Spare) (old new : List Saved) (x : Saved) → old ≡ new ++ x ∷ [] → vec_capacity spare.locals ≡ room_of_own x.frame.call (vec_capacity x.frame.locals) (vec_capacity sparing.locals)
-    → vec_capacity spare.blocks ≡ room_of_own x.frame.call (vec_capacity x.blocks) (vec_capacity sparing.blocks) → KeepsOwn sparing spare old new
-popped_own sparing spare old new x e l b = record {
-  locals = le_of (ap (own_locals (vec_capacity sparing.locals)) e ∙ locals_popped (vec_capacity sparing.locals) new x ∙ ap (λ n. own_locals n new) (sym l));
-  blocks = le_of (ap (own_blocks (vec_capacity sparing.blocks)) e ∙ blocks_popped (vec_capacity sparing.blocks) new x ∙ ap (λ n. own_blocks n new) (sym b));
-}
-  where
-    le_of : {m n : ℕ} → m ≡ n → m ≤ n
-    le_of {m} {n} e = omega (arith, e)

@@ -1,5 +1,5 @@
 -- The residual that saved frames stand for, the outermost first. Guards have no numbers here: each is 0.
-use Rattle.std.specs.Prelude.{◌≡◌, ℕ, List, [], ◌∷◌, ◌++◌, Bool, true, false, Option, Some, None, drop, take}
+use Rattle.std.specs.Prelude.{◌≡◌, ℕ, List, [], ◌∷◌, ◌++◌, Bool, true, false, Option, Some, None, drop, take, slice_get, is_some}
 use Rattle.sim_model.specs.FlatDesign.Code.{Arena, block_at}
 use Rattle.sim_model.specs.Residual as residual
 use Rattle.sim_model.specs.Residual.{Residual, Frame, skip, one, seq, owing, guard, try_, frame, shell, run, goal, followed, settle, next_of}
@@ -34,6 +34,17 @@ around a (layer.Guard u) r = guard r 0 u
 around a (layer.Try s) r = try_ r (handlers_of a s)
 around a layer.Run r = run 0 r
 around a (layer.Goal k) r = goal r k
+
+-- whether a statement comes in an open block with nothing left inside it: where one is there in the rest of a block, and where a loop
+-- begins again
+abbrev pub has_statement : Arena → Open → Bool
+has_statement a (layer.Rest c) = is_some (slice_get (block_at a c.block) c.place)
+has_statement a (layer.Again s) = true
+has_statement a (layer.Owed u) = false
+has_statement a (layer.Guard u) = false
+has_statement a (layer.Try s) = false
+has_statement a layer.Run = false
+has_statement a (layer.Goal k) = false
 
 -- open blocks, with what is left inside the innermost
 abbrev pub inside : Arena → List Open → Residual → Residual

@@ -9,7 +9,6 @@ use Rattle.kernel_bodies.specs.Depths.{blocks_of, depth_of, locals_at}
 use Rattle.kernel_bodies.specs.declared.layers.Comes.{Comes}
 use Rattle.kernel_bodies.specs.Layers.{layers_of, statement_of}
 use Rattle.kernel_bodies.specs.declared.layers.Saved.{Saved}
-use Rattle.kernel_bodies.specs.declared.layers.Spare.{Spare}
 use Rattle.kernel_bodies.specs.declared.layers.Open.{Open}
 use Rattle.kernel_bodies.specs.declared.layers.Open.TheVariants as layer
 
@@ -78,8 +77,7 @@ pub record FitsFrames (a : Arena) (depths : List ℕ) (xs : List Saved) (s : Opt
   pub each : EachFitsIn a depths xs
   pub last : FitsLast a depths xs s
 
--- How much the vectors of the body's own call have room for: those of the outermost frame that is no call, or else those that
--- are kept for it.
+-- How much the vectors of the body's own call have room for: those of the outermost frame that is no call, or else so much.
 abbrev pub room_of_own : Option ℕ → ℕ → ℕ → ℕ
 room_of_own None own other = own
 room_of_own (Some call) own other = other
@@ -91,11 +89,6 @@ own_locals spare (x ∷ xs) = room_of_own x.frame.call (vec_capacity x.frame.loc
 abbrev pub own_blocks : ℕ → List Saved → ℕ
 own_blocks spare [] = spare
 own_blocks spare (x ∷ xs) = room_of_own x.frame.call (vec_capacity x.blocks) (own_blocks spare xs)
-
--- the same vectors, or larger ones, are kept for the body's own call
-pub record KeepsOwn (sparing spare : Spare) (old new : List Saved) : Type 0 where
-  pub locals : own_locals (vec_capacity sparing.locals) old ≤ own_locals (vec_capacity spare.locals) new
-  pub blocks : own_blocks (vec_capacity sparing.blocks) old ≤ own_blocks (vec_capacity spare.blocks) new
 
 -- new is the frame old with other blocks, in as much memory; with another answer or other values of local variables too
 pub record SameCall (old new : Saved) : Type 0 where

@@ -9,78 +9,15 @@ ghost use Rattle.kernel_bodies.specs.Around.{around_at};
 ghost use Rattle.kernel_bodies.specs.Changed.{IsFrameSet};
 ghost use Rattle.kernel_bodies.specs.Depths.{blocks_of};
 ghost use Rattle.kernel_bodies.specs.Layers.{inside, whole, standing, layers_of, layers_around, statement_of};
-ghost use Rattle.kernel_bodies.specs.Room.{room_of_own, FitsIn, KeepsOwn, SameCall, SameRoom};
+ghost use Rattle.kernel_bodies.specs.Room.{FitsIn, SameCall, SameRoom};
 ghost use Rattle.kernel_bodies.specs.Sought.{is_exit};
 
 use crate::frames::{add_around, add_layers, block_begins};
-use crate::layers::{Comes, Frame, Saved, Spare};
+use crate::layers::{Comes, Frame, Saved};
 use crate::program::Program;
 use crate::sought::last_run;
 use sim_model::flat_design_api::{BlockId, StmtId};
 use sim_model::logic_values_api::Value;
-
-/// Lets a frame go. If it is the body's own call, its vectors are kept.
-#[inline(always)]
-fn put_by(saved: Saved, spare: &mut Spare)
-    ensures locals { vec_capacity spare.new.locals ≡ room_of_own saved.frame.call (vec_capacity saved.frame.locals) (vec_capacity spare.old.locals) }
-    ensures blocks { vec_capacity spare.new.blocks ≡ room_of_own saved.frame.call (vec_capacity saved.blocks) (vec_capacity spare.old.blocks) }
-{
-    let Saved {
-        frame,
-        shell: _,
-        blocks,
-    } = saved;
-    let Frame {
-        body: _,
-        locals,
-        answer: _,
-        call,
-        via: _,
-    } = frame;
-    match call {
-        Some(_) => {}
-        None => *spare = Spare { locals, blocks },
-    }
-}
-
-/// Pops the innermost frame. The vectors of the body's own call are kept.
-#[inline(always)]
-fn drop_frame(frames: &mut Vec<Saved>, spare: &mut Spare)
-    requires { 0 < vec_len frames.old }
-    ensures items { frames.new.items ≡ take (vec_len frames.old - 1) frames.old.items }
-    ensures capacity { vec_capacity frames.new ≡ vec_capacity frames.old }
-    ensures own { KeepsOwn spare.old spare.new frames.old.items frames.new.items }
-{
-    if let Some(saved) = frames.pop() {
-        put_by(saved, spare);
-    }
-}
-
-/// Pops frames till there are no more than so many.
-#[inline(never)]
-fn drop_frames(frames: &mut Vec<Saved>, spare: &mut Spare, many: usize)
-    requires { many ≤ vec_len frames.old }
-    ensures items { frames.new.items ≡ take many frames.old.items }
-    ensures capacity { vec_capacity frames.new ≡ vec_capacity frames.old }
-    ensures own { KeepsOwn spare.old spare.new frames.old.items frames.new.items }
-{
-    while frames.len() > many {
-        drop_frame(frames, spare);
-    }
-}
-
-/// Pops all but the outermost frames.
-#[inline(always)]
-pub fn keep_frames(frames: &mut Vec<Saved>, spare: &mut Spare, many: usize)
-    requires { many ≤ vec_len frames.old }
-    ensures items { frames.new.items ≡ take many frames.old.items }
-    ensures capacity { vec_capacity frames.new ≡ vec_capacity frames.old }
-    ensures own { KeepsOwn spare.old spare.new frames.old.items frames.new.items }
-{
-    if frames.len() > many {
-        drop_frames(frames, spare, many);
-    }
-}
 
 /// Pops all but the outermost blocks of a frame, adds those that come inside them, and gives the statement that comes.
 #[inline(always)]

@@ -1,11 +1,11 @@
 //! Where a body goes on once finished parts have fallen away.
-ghost use Rattle.std.specs.Prelude.{◌≡◌, ℕ, ◌+◌, ◌-◌, ◌<◌, ◌≤◌, ◌++◌, List, [], length, take, None, Some, IfNone, IfSome, Contains};
+ghost use Rattle.std.specs.Prelude.{◌≡◌, ℕ, ◌+◌, ◌-◌, ◌<◌, ◌≤◌, ◌++◌, List, [], length, take, slice_get, is_some, None, Some, IfNone, IfSome, Contains};
 ghost use Rattle.sim_model.specs.FlatDesign.Code.{Arena, arena_of, block_at};
 ghost use Rattle.sim_model.specs.Residual as residual;
 ghost use Rattle.sim_model.specs.Residual.{Residual};
 ghost use Rattle.kernel_bodies.specs.declared.around.Cursor.{Cursor as Place};
 ghost use Rattle.kernel_bodies.specs.Landings.{Lands, LandsIn};
-ghost use Rattle.kernel_bodies.specs.Layers.{around, inside, inside_frames, whole, held, standing, landed, layers_of, statement_of, begins, shown_by, rest_at, rest_if, first_then, frame_ends, end_shown, under_goal, IsBegun, Settled, EndsBlocks};
+ghost use Rattle.kernel_bodies.specs.Layers.{around, has_statement, inside, inside_frames, whole, held, standing, landed, layers_of, statement_of, begins, shown_by, rest_at, rest_if, first_then, frame_ends, end_shown, under_goal, IsBegun, Settled, EndsBlocks};
 ghost use Rattle.kernel_bodies.specs.Room.{Fits, FitsIf, FitsLayer};
 
 use crate::layers::{Comes, Landing, Next, Open, Saved, Stand};
@@ -43,6 +43,7 @@ fn end_shown(block: &Open) -> Option<Comes>
 pub fn first_of(program: &Program, cursor: Cursor) -> Option<(StmtId, Cursor)>
     ensures value { residual.statements (rest_at (arena_of program.now.code) cursor) ≡ first_then (arena_of program.now.code) result }
     ensures of_block { IfSome result (λ p. (p.1.block ≡ cursor.block) × Contains (block_at (arena_of program.now.code) cursor.block) p.0) }
+    ensures any { is_some result ≡ is_some (slice_get (block_at (arena_of program.now.code) cursor.block) cursor.place) }
 {
     match program.statement_at(cursor) {
         Some(statement) => Some((
@@ -69,11 +70,12 @@ fn rest_from(program: &Program, cursor: Cursor) -> Option<Cursor>
 }
 
 /// The statement that comes in a block with nothing left inside it, and the place behind it where another one is there: the first
-/// of the rest of a block, or a loop that follows. None where it is neither.
+/// of the rest of a block, or a loop that follows. None exactly where it is neither.
 #[inline(always)]
 pub fn comes_in(program: &Program, block: &Open) -> Option<(StmtId, Option<Cursor>)>
     ensures settles { IfSome result (λ p. residual.settle (arena_of program.now.code) (around (arena_of program.now.code) block.now residual.skip) ≡ inside (arena_of program.now.code) (rest_if p.1) (residual.one p.0)) }
     ensures room { IfSome result (λ p. (most t i : ℕ) → FitsLayer (arena_of program.now.code) program.now.depths.items most t i block.now → Fits (arena_of program.now.code) program.now.depths.items most t i (rest_if p.1) (Some p.0)) }
+    ensures any { is_some result ≡ has_statement (arena_of program.now.code) block.now }
 {
     match block {
         Open::Rest(cursor) => match first_of(program, *cursor) {

@@ -48,15 +48,6 @@ pub struct Saved {
     pub blocks: Vec<Open>,
 }
 
-/// The vectors of a body's own call, while they are not in use.
-#[derive(Drop)]
-pub struct Spare {
-    /// The one of its local variables.
-    pub locals: Vec<Value>,
-    /// The one of what stands open in it.
-    pub blocks: Vec<Open>,
-}
-
 /// What comes next in a body.
 #[derive(Clone, Copy, Debug, PartialEq, Eq)]
 pub enum Next {

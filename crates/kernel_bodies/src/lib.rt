@@ -20,10 +20,10 @@ mod stripped;
 mod unwinding;
 
 pub use around::{Around, Cursor};
-pub use changes::{begin_in, drop_block, end_in, fill, keep_frames, set_local_in, take_frame};
+pub use changes::{begin_in, drop_block, end_in, fill, set_local_in, take_frame};
 pub use frames::{add_layers, add_locals, body_begins, depth_in, locals_in, many_locals, place};
 pub use landing::{comes_in, land, next_shown, under_goal};
-pub use layers::{Comes, Frame, Landing, Next, Open, Saved, Spare, Stand};
+pub use layers::{Comes, Frame, Landing, Next, Open, Saved, Stand};
 pub use program::Program;
 pub use sought::{
     last_call, last_exit, last_handler, last_try, last_via, many_calls, some_nonblocking,

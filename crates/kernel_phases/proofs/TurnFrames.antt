@@ -1,5 +1,5 @@
 -- A runnable instance is taken, and its body begins.
-use Rattle.std.proofs.Common.{◌≡◌, ◌≢◌, ◌==◌, ◌||◌, not, cond, ℕ, zero, suc, Bool, true, false, List, [], ◌∷◌, slice_get, slice_set, Option, Some, None, option_map, refl, sym, ap, ◌∙◌, subst, true≢false, eqb-true, eq-eqb, ne_eqb, ⊎_elim, ◌+◌}
+use Rattle.std.proofs.Common.{◌≡◌, ◌≢◌, cond, ℕ, zero, suc, Bool, true, false, List, [], ◌∷◌, slice_get, slice_set, Option, Some, None, option_map, refl, sym, ap, ◌∙◌, subst, true≢false, eq-eqb, ne_eqb, ⊎_elim, ◌+◌}
 use Rattle.std.specs.Prelude.{is_some, reverse, unwrap_or, if◌then◌else◌}
 use Rattle.std.specs.Ordering.{nat_cmp}
 use Rattle.std.specs.Cmp.{nat_cmp_total, unsigned_tied}
@@ -11,7 +11,7 @@ use Rattle.kernel_state.specs.KernelBodies.Strip.{strip}
 use Rattle.kernel_state.specs.FlatDesign.Code.{arena_of}
 use Rattle.kernel_state.specs.SimModel.Residual.{begun}
 use Rattle.kernel_state.specs.SimModel.Configuration.{Config, Instance, turn, change, changed_at, change_instance, instance_at, with_stack, with_runnable, with_told, arena}
-use Rattle.kernel_state.specs.SimModel.Waits.{holds, without}
+use Rattle.kernel_state.specs.SimModel.Waits.{without}
 use Rattle.kernel_state.specs.SimModel.Control.{begins}
 use Rattle.kernel_state.specs.SimModel.Steps.{turn_line, instance_taken}
 use Rattle.kernel_state.proofs.KernelBodies.Strips.{strip-entered}
@@ -35,6 +35,7 @@ use Rattle.kernel_state.specs.declared.kernel.Kept.{Kept}
 use Rattle.kernel_state.specs.declared.kernel.Kernel.{Kernel}
 use Rattle.kernel_state.proofs.ProcessFrames.{moved_with, stack_same, stack_joined, put_stands}
 use Rattle.kernel_state.proofs.Frames.{change-twice, processes_move, trace_moves, schedule_sound, shown_where_lives, kept_sound, lives_by_kept}
+use Rattle.kernel_state.proofs.Pushing.{lacks_itself, has_others}
 use Rattle.kernel_phases.specs.Turns.{is_begun, restarted, begins_first}
 
 -- ---- what is shown of a live instance
@@ -232,22 +233,6 @@ module _ (k : Kernel) (p : ℕ) (x : Entry (Process Kept)) (b : Body) (t : Optio
       schedule_sound (record k { schedule = with_first k p x b t at keeps }) first with_begun (marks_sound k.schedule p x restarted_entry at first.schedule) m.bodies (ap (λ v. v.items) m.due) m.next
 
 -- ---- the taking
-
-cut_here : (b : Bool) (p x : ℕ) (xs : List ℕ) → (x == p) ≡ b → holds xs p ≡ false → holds (cond (not b) (x ∷ xs) xs) p ≡ false
-cut_here true p x xs is none = none
-cut_here false p x xs is none = ap (λ b. b || holds xs p) is ∙ none
-
-lacks_itself : (xs : List ℕ) (p : ℕ) → holds (without xs p) p ≡ false
-lacks_itself [] p = refl
-lacks_itself (x ∷ xs) p = cut_here (x == p) p x (without xs p) refl (lacks_itself xs p)
-
-cut_other : (b : Bool) (p q x : ℕ) (ys xs : List ℕ) → (x == p) ≡ b → q ≢ p → holds ys q ≡ holds xs q → holds (cond (not b) (x ∷ ys) ys) q ≡ holds (x ∷ xs) q
-cut_other true p q x ys xs is apart same = same ∙ sym (ap (λ b. b || holds xs q) (ne_eqb x q (λ here. apart (sym here ∙ eqb-true x p is))))
-cut_other false p q x ys xs is apart same = ap (λ b. (x == q) || b) same
-
-has_others : (xs : List ℕ) (p q : ℕ) → q ≢ p → holds (without xs p) q ≡ holds xs q
-has_others [] p q apart = refl
-has_others (x ∷ xs) p q apart = cut_other (x == p) p q x (without xs p) xs refl apart (has_others xs p q apart)
 
 set_same : {A : Type 0} (xs : List A) (n : ℕ) (x : A) → slice_get xs n ≡ Some x → slice_set xs n x ≡ xs
 set_same [] n x at = refl

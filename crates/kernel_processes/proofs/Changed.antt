@@ -251,11 +251,11 @@ module _ {B : Type 0} (s : Schedule B) (p : ℕ) (w : lists.Waits) (f : Entry (P
   abbrev by_static : Seen B → Seen B
   by_static v = with_entry f (record v { wait = lists.any_of (sensitive_of v.entry) })
 
-  pub listed_static : (x : Entry (Process B)) (es : List Ev) → map.get s.table.live p ≡ Some x → es ≡ x.body.sensitive → w ≡ lists.with_wait s.lists p (lists.any_of es)
-      → Changes p by_static s (record s { table = with_value s.table p (f x); lists = w })
-  listed_static x es at same is = told_as p _ by_static s _
-      (then_changes p (with_entry f) (λ v. record v { wait = lists.any_of es }) s (record s { table = with_value s.table p (f x) }) _ (rewritten s p f x (f x) at refl)
-      (put_lists (record s { table = with_value s.table p (f x) }) p w (lists.any_of es) is))
+  pub listed_static : (x y : Entry (Process B)) (es : List Ev) → map.get s.table.live p ≡ Some x → y ≡ f x → es ≡ x.body.sensitive → w ≡ lists.with_wait s.lists p (lists.any_of es)
+      → Changes p by_static s (record s { table = with_value s.table p y; lists = w })
+  listed_static x y es at noted same is = told_as p _ by_static s _
+      (then_changes p (with_entry f) (λ v. record v { wait = lists.any_of es }) s (record s { table = with_value s.table p y }) _ (rewritten s p f x y at noted)
+      (put_lists (record s { table = with_value s.table p y }) p w (lists.any_of es) is))
       (ap (λ fs. record (seen s p) { entry = option_map f (seen s p).entry; wait = lists.any_of fs }) (same ∙ ap sensitive_of (sym at)))
 
   pub listed_nowhere : map.get s.table.live p ≡ None → w ≡ lists.with_wait s.lists p None → Changes p by_static s (record s { lists = w })

@@ -35,6 +35,11 @@ waiting_by how.Static = waiting.Static
 waiting_by (how.Any es) = waiting.Any
 waiting_by (how.All es) = waiting.All
 
+-- whether the body has begun of one that waits: of one that rests it has not
+abbrev pub begun_still : Bool → Bool → Bool
+begun_still true begun = false
+begun_still false begun = begun
+
 -- whether a wait is to end by time
 abbrev pub has_end : Deadline → Bool
 has_end due.None = false
@@ -111,12 +116,12 @@ module _ {B : Type 0} where
   abbrev pub with_entry : (Entry (Process B) → Entry (Process B)) → Seen B → Seen B
   with_entry f x = record x { entry = option_map f x.entry }
 
-  -- how one waits in the lists, and how one does whose body has not begun
-  abbrev pub waits_in : Wait → Deadline → Seen B → Seen B
-  waits_in w d v = with_entry (λ e. record e { wait = waiting_by w; deadline = d }) (record v { wait = listed_as w (sensitive_of v.entry) })
+  -- how one waits, or rests, and how it does in the lists
+  abbrev pub waiting_as : Bool → Wait → Deadline → Entry (Process B) → Entry (Process B)
+  waiting_as rests w d e = record e { wait = waiting_by w; deadline = d; started = begun_still rests e.started }
 
-  abbrev pub rests_in : Wait → Deadline → Seen B → Seen B
-  rests_in w d v = with_entry (λ e. record e { wait = waiting_by w; deadline = d; started = false }) (record v { wait = listed_as w (sensitive_of v.entry) })
+  abbrev pub waits_in : Bool → Wait → Deadline → Seen B → Seen B
+  waits_in rests w d v = with_entry (waiting_as rests w d) (record v { wait = listed_as w (sensitive_of v.entry) })
 
   -- no time ends its wait
   pub record HasNoTimeOut (p : ℕ) (s : Schedule B) : Type 0 where

@@ -6,7 +6,7 @@ ghost use Rattle.instance_table.specs.declared.instances.Waiting.TheVariants as 
 ghost use Rattle.instance_table.specs.declared.instances.Deadline.TheVariants as due;
 ghost use Rattle.wait_lists.specs.Waits.{room_for};
 ghost use Rattle.kernel_processes.specs.Sound.{time_of, is_zero};
-ghost use Rattle.kernel_processes.specs.Moves.{Changes, with_entry, listed_as, events_of, sensitive_of, waiting_by, waits_in, rests_in, is_kept, HasNoTimeOut};
+ghost use Rattle.kernel_processes.specs.Moves.{Changes, with_entry, listed_as, events_of, sensitive_of, waiting_by, waiting_as, waits_in, begun_still, is_kept, HasNoTimeOut};
 
 use super::parts::{Schedule, Trigger, Wait};
 use instance_table::{Deadline, Waiting};
@@ -129,27 +129,37 @@ fn waiting_by(wait: &Wait) -> Waiting
     }
 }
 
-/// Notes how an instance waits.
+/// Whether the body of an instance that waits has begun: of one that rests it has not.
 #[inline(always)]
-pub(crate) fn mark_wait<B>(s: &mut Schedule<B>, p: u32, t: &Trigger)
-    ensures { Changes p (with_entry (λ x. record x { wait = waiting_by t.now.wait; deadline = t.now.deadline })) s.old s.new }
+fn begun_still(begun: bool, rests: bool) -> bool
+    ensures { result ≡ begun_still rests begun }
+{
+    if rests { false } else { begun }
+}
+
+/// Notes how an instance waits. Of one that rests the body has not begun.
+#[inline(always)]
+pub(crate) fn mark_wait<B>(s: &mut Schedule<B>, p: u32, t: &Trigger, rests: bool)
+    ensures { Changes p (with_entry (waiting_as rests t.now.wait t.now.deadline)) s.old s.new }
 {
     if let Some(x) = s.table.get_mut(p) {
         x.wait = waiting_by(&t.wait);
         x.deadline = t.deadline;
+        x.started = begun_still(x.started, rests);
     }
 }
 
 /// Lets an instance wait by its static sensitivity, in place of what it waited for, and notes that, in one look at it.
 #[inline(always)]
-fn wait_static<B>(s: &mut Schedule<B>, p: u32, deadline: Deadline)
+fn wait_static<B>(s: &mut Schedule<B>, p: u32, deadline: Deadline, rests: bool)
     requires { length (sensitive_of (map.get s.old.table.live p)) ≤ room_for s.old.lists p }
-    ensures { Changes p (waits_in Wait.Static deadline) s.old s.new }
+    ensures { Changes p (waits_in rests Wait.Static deadline) s.old s.new }
 {
     match s.table.get_mut(p) {
         Some(x) => {
             x.wait = Waiting::Static;
             x.deadline = deadline;
+            x.started = begun_still(x.started, rests);
             s.lists.wait_any(p, x.body.sensitive.as_slice());
         }
         None => s.lists.leave(p),
@@ -158,75 +168,23 @@ fn wait_static<B>(s: &mut Schedule<B>, p: u32, deadline: Deadline)
 
 /// Lets an instance wait in the lists, in place of what it waited for, and notes how.
 #[inline(always)]
-fn wait_listed<B>(s: &mut Schedule<B>, p: u32, t: &Trigger)
+fn wait_listed<B>(s: &mut Schedule<B>, p: u32, t: &Trigger, rests: bool)
     requires { length (events_of t.now.wait (sensitive_of (map.get s.old.table.live p))) ≤ room_for s.old.lists p }
-    ensures { Changes p (waits_in t.now.wait t.now.deadline) s.old s.new }
+    ensures { Changes p (waits_in rests t.now.wait t.now.deadline) s.old s.new }
 {
     put_wait(s, p, &t.wait);
-    mark_wait(s, p, t);
+    mark_wait(s, p, t, rests);
 }
 
 /// The same. One that waits by its static sensitivity is looked at once.
 #[inline(always)]
-pub(crate) fn wait_in_lists<B>(s: &mut Schedule<B>, p: u32, t: &Trigger)
+pub(crate) fn wait_in_lists<B>(s: &mut Schedule<B>, p: u32, t: &Trigger, rests: bool)
     requires { length (events_of t.now.wait (sensitive_of (map.get s.old.table.live p))) ≤ room_for s.old.lists p }
-    ensures { Changes p (waits_in t.now.wait t.now.deadline) s.old s.new }
+    ensures { Changes p (waits_in rests t.now.wait t.now.deadline) s.old s.new }
 {
     match &t.wait {
-        Wait::Static => wait_static(s, p, t.deadline),
-        _ => wait_listed(s, p, t),
-    }
-}
-
-/// Notes how an instance waits whose body has not begun.
-#[inline(always)]
-fn mark_rest<B>(s: &mut Schedule<B>, p: u32, t: &Trigger)
-    ensures { Changes p (with_entry (λ x. record x { wait = waiting_by t.now.wait; deadline = t.now.deadline; started = false })) s.old s.new }
-{
-    if let Some(x) = s.table.get_mut(p) {
-        x.wait = waiting_by(&t.wait);
-        x.deadline = t.deadline;
-        x.started = false;
-    }
-}
-
-/// Lets an instance whose body has not begun wait by its static sensitivity, in place of what it waited for, and notes that, in one look
-/// at it.
-#[inline(always)]
-fn rest_static<B>(s: &mut Schedule<B>, p: u32, deadline: Deadline)
-    requires { length (sensitive_of (map.get s.old.table.live p)) ≤ room_for s.old.lists p }
-    ensures { Changes p (rests_in Wait.Static deadline) s.old s.new }
-{
-    match s.table.get_mut(p) {
-        Some(x) => {
-            x.wait = Waiting::Static;
-            x.deadline = deadline;
-            x.started = false;
-            s.lists.wait_any(p, x.body.sensitive.as_slice());
-        }
-        None => s.lists.leave(p),
-    }
-}
-
-/// Lets an instance whose body has not begun wait in the lists, in place of what it waited for, and notes how.
-#[inline(always)]
-fn rest_listed<B>(s: &mut Schedule<B>, p: u32, t: &Trigger)
-    requires { length (events_of t.now.wait (sensitive_of (map.get s.old.table.live p))) ≤ room_for s.old.lists p }
-    ensures { Changes p (rests_in t.now.wait t.now.deadline) s.old s.new }
-{
-    put_wait(s, p, &t.wait);
-    mark_rest(s, p, t);
-}
-
-/// The same. One that waits by its static sensitivity is looked at once.
-#[inline(always)]
-pub(crate) fn rest_in_lists<B>(s: &mut Schedule<B>, p: u32, t: &Trigger)
-    requires { length (events_of t.now.wait (sensitive_of (map.get s.old.table.live p))) ≤ room_for s.old.lists p }
-    ensures { Changes p (rests_in t.now.wait t.now.deadline) s.old s.new }
-{
-    match &t.wait {
-        Wait::Static => rest_static(s, p, t.deadline),
-        _ => rest_listed(s, p, t),
+        Wait::Static => wait_static(s, p, t.deadline, rests),
+        Wait::Any(_) | Wait::All(_) => wait_listed(s, p, t, rests),
     }
 }
 

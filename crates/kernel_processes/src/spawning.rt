@@ -103,7 +103,7 @@ fn settle<B>(s: &mut Schedule<B>, p: u32, waits: bool)
         deadline: Deadline::None,
     };
     put_wait(s, p, &t.wait);
-    mark_wait(s, p, &t);
+    mark_wait(s, p, &t, false);
 }
 
 /// Adds an instance under the next serial, which is answered: it waits for its static sensitivity, or it is runnable at once

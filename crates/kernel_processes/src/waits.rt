@@ -6,7 +6,7 @@ ghost use Rattle.kernel_processes.specs.Sound.{IsSound};
 ghost use Rattle.kernel_processes.specs.Moves.{events_of, sensitive_of, with_entry, HasNoTimeOut, Changes, MovesOne};
 ghost use Rattle.kernel_processes.specs.Moved.{HasRoom, IsTop, Stays, leaves_top, waits_as, rests_as, waiting_seen};
 
-use super::changes::{hold_room, put_time, rest_in_lists, wait_in_lists};
+use super::changes::{hold_room, put_time, wait_in_lists};
 use super::turns::leave_stack;
 use crate::{Schedule, Trigger, count_events};
 use std::alloc::AllocError;
@@ -38,7 +38,7 @@ fn put<B>(s: &mut Schedule<B>, p: u32, t: &Trigger)
     ensures { Changes p (waiting_seen t.now) s.old s.new }
 {
     put_time(s, p, t.deadline);
-    wait_in_lists(s, p, t);
+    wait_in_lists(s, p, t, false);
 }
 
 /// The same of an instance whose body has not begun.
@@ -52,7 +52,7 @@ fn put_resting<B>(s: &mut Schedule<B>, p: u32, t: &Trigger)
     ensures { Changes p (λ v. with_entry (λ x. record x { started = false }) (waiting_seen t.now v)) s.old s.new }
 {
     put_time(s, p, t.deadline);
-    rest_in_lists(s, p, t);
+    wait_in_lists(s, p, t, true);
 }
 
 /// The instance on top leaves the stack and waits so (IEEE 1666-2011, 5.2.18). Where memory is refused nothing changes.

@@ -218,6 +218,8 @@ fn make_some<C: Chooser>(
     ensures within { place.new ≤ length script.now }
     ensures none { events.new.items ≡ [] }
     ensures made { k.new.made ≤ k.old.made + quiet.new + 1 }
+    ensures refused { whole_of result said.new ≡ Made.NoMemory → k.new.made ≤ k.old.made + quiet.new }
+    ensures faulted { (f : RunFault) → whole_of result said.new ≡ Made.Fault f → k.new.made ≤ k.old.made + quiet.new }
 {
     let mut brief = Brief::Went;
     let mut many = 0;
@@ -238,7 +240,7 @@ fn make_some<C: Chooser>(
 /// is told of it. At least one step is made, and `most` at most; the answer is what became of the last one, which may be quiet too where
 /// `most` were made, and `quiet` counts the others.
 ///
-/// At most one instance, payload or reference to a payload is made at each step.
+/// At most one instance, payload or reference to a payload is made at each step, and none at one that is refused or faulted.
 #[inline(always)]
 pub fn make_steps<C: Chooser>(
     k: &mut SoundKernel,
@@ -260,6 +262,8 @@ pub fn make_steps<C: Chooser>(
     ensures within { place.new ≤ length script.now }
     ensures none { events.new.items ≡ [] }
     ensures made { k.new.kernel.made ≤ k.old.kernel.made + quiet.new + 1 }
+    ensures refused { result ≡ Made.NoMemory → k.new.kernel.made ≤ k.old.kernel.made + quiet.new }
+    ensures faulted { (f : RunFault) → result ≡ Made.Fault f → k.new.kernel.made ≤ k.old.kernel.made + quiet.new }
 {
     let mut said = StepAnswer::Went;
     let brief = make_some(

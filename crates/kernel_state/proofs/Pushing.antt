@@ -20,7 +20,7 @@ cut_here : (b : Bool) (p x : ℕ) (xs : List ℕ) → (x == p) ≡ b → holds x
 cut_here true p x xs is none = none
 cut_here false p x xs is none = ap (λ b. b || holds xs p) is ∙ none
 
-lacks_itself : (xs : List ℕ) (p : ℕ) → holds (without xs p) p ≡ false
+pub lacks_itself : (xs : List ℕ) (p : ℕ) → holds (without xs p) p ≡ false
 lacks_itself [] p = refl
 lacks_itself (x ∷ xs) p = cut_here (x == p) p x (without xs p) refl (lacks_itself xs p)
 
@@ -28,7 +28,7 @@ cut_other : (b : Bool) (p q x : ℕ) (ys xs : List ℕ) → (x == p) ≡ b → q
 cut_other true p q x ys xs is apart same = same ∙ sym (ap (λ b. b || holds xs q) (ne_eqb x q (λ here. apart (sym here ∙ eqb-true x p is))))
 cut_other false p q x ys xs is apart same = ap (λ b. (x == q) || b) same
 
-has_others : (xs : List ℕ) (p q : ℕ) → q ≢ p → holds (without xs p) q ≡ holds xs q
+pub has_others : (xs : List ℕ) (p q : ℕ) → q ≢ p → holds (without xs p) q ≡ holds xs q
 has_others [] p q apart = refl
 has_others (x ∷ xs) p q apart = cut_other (x == p) p q x (without xs p) xs refl apart (has_others xs p q apart)
 

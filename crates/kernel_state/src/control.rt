@@ -90,7 +90,7 @@ fn clear_trigger(k: &mut Kernel, q: u32)
 
 /// An instance that is not active gets on top of the stack: what it waited for, its next trigger, its mark that it is kept
 /// and its place among the runnable ones are gone.
-fn push(k: &mut Kernel, q: u32)
+pub fn push(k: &mut Kernel, q: u32)
     requires sound { IsSound k.old }
     requires lives { Lives k.old q }
     requires rests { is_on k.old.schedule.stack.items q ≡ false }

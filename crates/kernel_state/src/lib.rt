@@ -13,7 +13,7 @@ mod statements;
 mod stops;
 mod ways;
 
-pub use control::{kill, reset};
+pub use control::{kill, push, reset};
 pub use kernel::{Cycle, Kept, Kernel, Offspring, PathOf};
 pub use laws::top_lives;
 pub use moves::{fire, notify, pass, set_local, set_variable, settle, wait};

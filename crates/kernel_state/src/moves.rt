@@ -5,7 +5,7 @@ ghost use Rattle.kernel_processes.specs.SimModel.Storing as storing;
 ghost use Rattle.kernel_processes.specs.SimModel.Waits as waiting;
 ghost use Rattle.kernel_processes.specs.InstanceViews.{deadline_of};
 ghost use Rattle.kernel_processes.specs.Moved.{wait_as};
-ghost use Rattle.kernel_state.specs.Kernel.{IsSound};
+ghost use Rattle.kernel_state.specs.Kernel.{IsSound, whole_design};
 ghost use Rattle.kernel_state.specs.Moves.{Moves, Steps, Lives, HasStatement, IsOnTop, KeepsBodies};
 
 use crate::kernel::Kernel;
@@ -98,16 +98,18 @@ pub fn settle(k: &mut Kernel, p: u32)
     }
 }
 
-/// Another value for a local variable of the innermost call of an instance.
+/// Another value for a local variable of the innermost call of an instance, which has not ended still.
 pub fn set_local(k: &mut Kernel, p: u32, n: u32, v: Value)
     requires sound { IsSound k.old }
     requires lives { Lives k.old p }
     ensures moves { Moves k.old k.new (λ c. storing.set_local c p n v) }
+    ensures design { whole_design k.new ≡ whole_design k.old }
+    ensures lives { Lives k.new p }
     ensures sound { IsSound k.new }
     ensures made { k.new.made ≡ k.old.made }
 {
     match k.schedule.table.get_mut(p) {
         Some(x) => x.body.body.body.set_local(n as usize, v),
-        None => {}
+        None => unreachable!(),
     }
 }

@@ -11,6 +11,7 @@ pub use channels::denoted_in;
 pub use evaluating::{
     channel_at, denoted_at, eval_at, eval_if_at, eval_place_at, home_at, named_at, payload_at,
 };
+pub use names::{keeper_number, memory_number};
 pub use standings::{Standing, home_within, standing_at};
 
 /// What is passed on of event_core.
@@ -41,7 +42,7 @@ pub mod kernel_channels_api {
 /// What is passed on of kernel_processes.
 pub mod kernel_processes_api {
     pub use kernel_state::kernel_processes_api::{
-        Trigger, Wait, begin, count_events, disable, end, fire, hold, is_active, push, rest_ready,
+        Trigger, Wait, begin, count_events, disable, end, fire, hold, is_active, rest_ready,
         resume, stay_kept, suspend, top,
     };
 }
@@ -50,7 +51,7 @@ pub mod kernel_processes_api {
 pub mod kernel_state_api {
     pub use kernel_state::{
         Kept, Kernel, Offspring, StatementStop, Way, acquire, block, fire, kill, move_on, notify,
-        pass, release, reset, set_byte, set_field, set_local, set_variable, settle, spawn,
+        pass, push, release, reset, set_byte, set_field, set_local, set_variable, settle, spawn,
         store_variable, targets, top_lives, wait_so, write_fifo,
     };
 }

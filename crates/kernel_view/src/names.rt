@@ -57,7 +57,7 @@ fn payload_in(value: Result<Value, RunFault>) -> Option<u32>
 }
 
 /// The memory that a name stands for.
-pub(crate) fn memory_number(denoted: Denoted) -> Option<u32>
+pub fn memory_number(denoted: Denoted) -> Option<u32>
     ensures { result ≡ reading.memory_number denoted }
 {
     match denoted {
@@ -74,7 +74,7 @@ pub(crate) fn memory_number(denoted: Denoted) -> Option<u32>
 }
 
 /// The quantum keeper that a name stands for.
-pub(crate) fn keeper_number(denoted: Denoted) -> Option<u32>
+pub fn keeper_number(denoted: Denoted) -> Option<u32>
     ensures { result ≡ reading.keeper_number denoted }
 {
     match denoted {

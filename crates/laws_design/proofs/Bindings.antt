@@ -21,7 +21,7 @@ use Rattle.elaborate_objects.specs.DesignRules.Formed.{HasForm, AreFormed}
 use Rattle.laws_design.proofs.FewObjects.{objects_few}
 use Rattle.laws_design.proofs.SizedObjects.{objects_sized}
 use Rattle.laws_design.proofs.Children.{head_in, tail_in}
-use Rattle.laws_design.proofs.Parents.{are_inside}
+use Rattle.elaborate_objects.proofs.Parents.{are_inside}
 use Rattle.laws_design.proofs.Firsts.{alone}
 use Rattle.laws_design.proofs.BoundEnds.{below, IsInstance, IsInside, both_ends, kept_at, distinct_at, inner, end_at}
 

@@ -41,7 +41,7 @@ use Rattle.laws_design.proofs.Children.{same_some}
 use Rattle.laws_design.proofs.FaultlessItems.{IsKept, ItemsKept, kept, names_differ, all_at}
 use Rattle.laws_design.proofs.NamedObjects.{row_found}
 use Rattle.laws_design.proofs.Models.{module_rows, child_of_model}
-use Rattle.laws_design.proofs.Parents.{are_inside}
+use Rattle.elaborate_objects.proofs.Parents.{are_inside}
 use Rattle.laws_design.proofs.Roles.{OwnLeft, ChildLeft, Role, RoleIf, off, item_role}
 use Rattle.laws_design.proofs.Firsts.{FormOf, Stands, first}
 

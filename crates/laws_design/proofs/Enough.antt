@@ -17,7 +17,7 @@ use Rattle.elaborate_objects.specs.DesignRules.Forms.{Around, around, items_at, 
 use Rattle.elaborate_objects.specs.DesignRules.ObjectFaults.{made_by, made_at, has_within, leads_to, first_of_itself, cycle_at, cycle_from, cycle_fault}
 use Rattle.elaborate_objects.specs.Rows.{Row, row_if, rows_in, rows_of}
 use Rattle.elaborate_objects.specs.Left.{rows_at}
-use Rattle.laws_design.proofs.RowLemmas.{rows_at_place}
+use Rattle.elaborate_objects.proofs.RowLemmas.{rows_at_place}
 use Rattle.elaborate_objects.specs.Marks.{is_marked, count_of, AreFound}
 use Rattle.elaborate_objects.proofs.Closed.{any_from, marked_only, none_marked, count_more, count_within, nothing_in}
 use Rattle.laws_design.proofs.Children.{Enough, all_append, all_map}

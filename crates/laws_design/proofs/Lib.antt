@@ -3,8 +3,6 @@ pub mod SizedObjects
 pub mod FewObjects
 pub mod Deep
 pub mod Own
-pub mod RowLemmas
-pub mod Parents
 pub mod Children
 pub mod Enough
 pub mod FaultlessItems

@@ -11,7 +11,7 @@ use Rattle.elaborate_objects.specs.DesignRules.Listing.{object_if, child, list_o
 use Rattle.elaborate_objects.specs.DesignRules.ObjectFaults.{cycle_fault}
 use Rattle.elaborate_objects.specs.Rows.{Row, row_if, rows_in, rows_of}
 use Rattle.elaborate_objects.specs.Left.{object_of, rows_within}
-use Rattle.laws_design.proofs.RowLemmas.{same_within, rows_at_place}
+use Rattle.elaborate_objects.proofs.RowLemmas.{same_within, rows_at_place}
 use Rattle.laws_design.proofs.Children.{in_instance, children_in, IsGiven, given_all}
 use Rattle.laws_design.proofs.Enough.{enough_at_top}
 use Rattle.laws_design.proofs.FaultlessItems.{all_at}

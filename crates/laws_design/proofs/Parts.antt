@@ -1,5 +1,5 @@
 -- The parts of a design of a model that breaks no rule: first values have their types, and sizes are in range.
-use Rattle.std.proofs.Common.{◌≡◌, ◌<◌, ◌≤◌, ℕ, zero, suc, ◌+◌, List, [], ◌∷◌, Option, Some, None, refl, sym, ap, ◌∙◌, subst, arith}
+use Rattle.std.proofs.Common.{◌≡◌, ◌<◌, ◌≤◌, ℕ, zero, suc, List, Some, None, refl, sym, ap, ◌∙◌, subst, arith}
 use Rattle.std.specs.Prelude.{slice_get, ◌⊎◌}
 use Rattle.elaborate_objects.specs.ModelTree.Tree as tree
 use Rattle.elaborate_objects.specs.FlatDesign.ValueTypes.{type_of_value}
@@ -18,7 +18,7 @@ use Rattle.elaborate_objects.specs.DesignRules.Parts.{signal_by, fifo_by, variab
 use Rattle.elaborate_objects.specs.DesignRules.Designs.{IsDesignOf}
 use Rattle.laws_design.proofs.Along.{same_some, before, from_place}
 use Rattle.laws_design.proofs.Numbered.{signals_step, fifos_step, variables_step}
-use Rattle.laws_design.proofs.Parents.{are_inside}
+use Rattle.elaborate_objects.proofs.Parents.{are_inside}
 use Rattle.laws_design.proofs.Forms.{IsRight, rights}
 
 signal_typed : (n : Counts) (f : ObjectForm) (i : ℕ) (p : SignalPart) → IsRight f → slice_get (signal_by n f) i ≡ Some p → type_of_value p.initial ≡ p.value_type

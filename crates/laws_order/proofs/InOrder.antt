@@ -15,7 +15,8 @@ use Rattle.laws_order.specs.Same.{Same}
 use Rattle.laws_order.specs.Evaluations.{Evaluates}
 use Rattle.laws_order.proofs.Stepping.{no-cons}
 use Rattle.laws_order.specs.Below.{OfTheSame, OfRuns}
-use Rattle.laws_order.proofs.Reached.{ComesTo, has-others, taken-runs, Takes, fits-at, unheard-at, free-at, turn-leaves}
+use Rattle.laws_order.proofs.Lists.{has_others}
+use Rattle.laws_order.proofs.Reached.{ComesTo, taken-runs, Takes, fits-at, unheard-at, free-at, turn-leaves}
 
 -- ---- there is one turn of a process
 
@@ -76,7 +77,7 @@ module _ (D : Design) (the : OfTheSame) (runs : OfRuns D) where
 
   others_run : (p n : ℕ) (c e : Config) → ComesTo D c → Evaluates c → Takes D p n c e → (q : ℕ) → q ≢ p → holds e.processes.runnable q ≡ holds c.processes.runnable q
   others_run p n c e here now t q apart =
-      let left = turn-leaves D runs p n c e here now t in ap (λ ps. holds ps q) left.runnable ∙ has-others c.processes.runnable p q apart
+      let left = turn-leaves D runs p n c e here now t in ap (λ ps. holds ps q) left.runnable ∙ has_others c.processes.runnable p q apart
 
   keeps : (p n : ℕ) (c e : Config) → IsBetween D c → Takes D p n c e → IsBetween D e
   keeps p n c e here t =

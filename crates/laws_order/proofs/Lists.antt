@@ -1,7 +1,8 @@
 -- Lists in which one element is changed, by what a view shows of their elements.
-use Rattle.std.proofs.Common.{◌≡◌, ◌≢◌, ℕ, zero, suc, List, [], ◌∷◌, slice_get, slice_set, Option, Some, None, option_map, refl, sym, ap, ◌∙◌}
+use Rattle.std.proofs.Common.{◌≡◌, ◌≢◌, ◌==◌, ◌||◌, not, cond, ℕ, zero, suc, Bool, true, false, List, [], ◌∷◌, slice_get, slice_set, Option, Some, None, option_map, refl, sym, ap, ◌∙◌, eqb-true, ne_eqb}
 use Rattle.std.proofs.lemmas.Option.{none-some, same_Some}
 use Rattle.sim_model.specs.Configuration.{change, changed_at}
+use Rattle.sim_model.specs.Waits.{holds, without}
 use Rattle.laws_order.specs.Sees.{AlikeAt}
 
 -- what stands at m once the element at n is changed, by what stood there
@@ -92,3 +93,21 @@ seen_kept f g keeps (suc n) (suc m) o = seen_kept f g keeps n m o
 -- a change that the view does not show
 pub change-kept : {A B : Type 0} (f : A → B) (g : A → A) → ((x : A) → f (g x) ≡ f x) → (xs : List A) (n m : ℕ) → AlikeAt f xs (change xs n g) m
 change-kept f g keeps xs n m = ap (option_map f) (change-get xs n m g) ∙ seen_kept f g keeps n m (slice_get xs m)
+
+-- ---- lists without one
+
+cut_here : (b : Bool) (p x : ℕ) (xs : List ℕ) → (x == p) ≡ b → holds xs p ≡ false → holds (cond (not b) (x ∷ xs) xs) p ≡ false
+cut_here true p x xs is none = none
+cut_here false p x xs is none = ap (λ b. b || holds xs p) is ∙ none
+
+pub lacks_itself : (xs : List ℕ) (p : ℕ) → holds (without xs p) p ≡ false
+lacks_itself [] p = refl
+lacks_itself (x ∷ xs) p = cut_here (x == p) p x (without xs p) refl (lacks_itself xs p)
+
+cut_other : (b : Bool) (p q x : ℕ) (ys xs : List ℕ) → (x == p) ≡ b → q ≢ p → holds ys q ≡ holds xs q → holds (cond (not b) (x ∷ ys) ys) q ≡ holds (x ∷ xs) q
+cut_other true p q x ys xs is apart same = same ∙ sym (ap (λ b. b || holds xs q) (ne_eqb x q (λ here. apart (sym here ∙ eqb-true x p is))))
+cut_other false p q x ys xs is apart same = ap (λ b. (x == q) || b) same
+
+pub has_others : (xs : List ℕ) (p q : ℕ) → q ≢ p → holds (without xs p) q ≡ holds xs q
+has_others [] p q apart = refl
+has_others (x ∷ xs) p q apart = cut_other (x == p) p q x (without xs p) xs refl apart (has_others xs p q apart)

@@ -1,5 +1,5 @@
 -- The configurations of the runs of a design that keeps the rule on the order of processes, between the turns of its processes.
-use Rattle.std.proofs.Common.{◌≡◌, ◌≢◌, ◌+◌, ◌==◌, ◌||◌, not, ℕ, zero, suc, Bool, true, false, cond, List, [], ◌∷◌, ◌++◌, Some, refl, sym, ap, ◌∙◌, subst, eqb-true, ne_eqb, true≢false}
+use Rattle.std.proofs.Common.{◌≡◌, ◌≢◌, ◌+◌, ℕ, zero, suc, Bool, true, false, List, [], ◌∷◌, ◌++◌, Some, refl, sym, ap, ◌∙◌, subst, true≢false}
 use Rattle.std.proofs.lemmas.Option.{none-some}
 use Rattle.sim_model.specs.FlatDesign.declared.design.Design.{Design}
 use Rattle.sim_model.specs.Configuration.{Config, Cycle, start}
@@ -30,14 +30,6 @@ pub comes-further : (D : Design) (c d : Config) → ComesTo D c → step c ≡ w
 comes-further D c d r is = comes-by D c d (suc zero) [] r (ap (λ o. and_then o c [] (after zero)) is)
 
 -- ---- a taking
-
-cut_other : (b : Bool) (p q x : ℕ) (ys xs : List ℕ) → (x == p) ≡ b → q ≢ p → holds ys q ≡ holds xs q → holds (cond (not b) (x ∷ ys) ys) q ≡ holds (x ∷ xs) q
-cut_other true p q x ys xs is apart same = same ∙ sym (ap (λ b. b || holds xs q) (ne_eqb x q (λ here. apart (sym here ∙ eqb-true x p is))))
-cut_other false p q x ys xs is apart same = ap (λ b. (x == q) || b) same
-
-pub has-others : (xs : List ℕ) (p q : ℕ) → q ≢ p → holds (without xs p) q ≡ holds xs q
-has-others [] p q apart = refl
-has-others (x ∷ xs) p q apart = cut_other (x == p) p q x (without xs p) xs refl apart (has-others xs p q apart)
 
 pub taken-runs : (c d : Config) (p : ℕ) → taking c p ≡ Some d → holds c.processes.runnable p ≡ true
 taken-runs c d p is = by (holds c.processes.runnable p) refl is

@@ -1,11 +1,12 @@
 -- Lists that show the same of each element, and lists of who is runnable that hold the same.
-use Rattle.std.proofs.Common.{◌≡◌, ◌≢◌, ◌==◌, ◌||◌, not, ℕ, zero, suc, Bool, true, false, cond, List, [], ◌∷◌, ◌++◌, map, slice_get, Option, Some, None, option_map, refl, sym, ap, ◌∙◌, subst, eqb-true, ne_eqb}
+use Rattle.std.proofs.Common.{◌≡◌, ◌≢◌, ◌==◌, ◌||◌, ℕ, zero, suc, Bool, true, false, cond, List, [], ◌∷◌, ◌++◌, map, slice_get, Option, Some, None, option_map, refl, sym, ap, ◌∙◌, subst, eqb-true}
 use Rattle.std.proofs.lemmas.Bool.{false≢true, eqb-false, eq-eqb}
 use Rattle.std.proofs.lemmas.Option.{none-some, same_Some, slice_get-map}
 use Rattle.sim_model.specs.Configuration.{change, changed_at}
 use Rattle.sim_model.specs.Waits.{holds, without, joined}
 use Rattle.sim_model.specs.Phases.{phase_after}
 use Rattle.laws_order.specs.Sees.{AlikeAt}
+use Rattle.laws_order.proofs.Lists.{lacks_itself, has_others}
 
 -- ---- what f shows of each element
 
@@ -75,22 +76,6 @@ joined_by false xs ys zs h = append-holds xs ys zs h
 
 pub joined-holds : (xs ys : List ℕ) (q : ℕ) → HoldSame xs ys → HoldSame (joined xs q) (joined ys q)
 joined-holds xs ys q h p = ap (λ b. holds (cond b ys (ys ++ q ∷ [])) p) (h q) ∙ joined_by (holds xs q) xs ys (q ∷ []) h p
-
-cut_here : (b : Bool) (p x : ℕ) (xs : List ℕ) → (x == p) ≡ b → holds xs p ≡ false → holds (cond (not b) (x ∷ xs) xs) p ≡ false
-cut_here true p x xs is none = none
-cut_here false p x xs is none = ap (λ b. b || holds xs p) is ∙ none
-
-lacks_itself : (xs : List ℕ) (p : ℕ) → holds (without xs p) p ≡ false
-lacks_itself [] p = refl
-lacks_itself (x ∷ xs) p = cut_here (x == p) p x (without xs p) refl (lacks_itself xs p)
-
-cut_other : (b : Bool) (p q x : ℕ) (ys xs : List ℕ) → (x == p) ≡ b → q ≢ p → holds ys q ≡ holds xs q → holds (cond (not b) (x ∷ ys) ys) q ≡ holds (x ∷ xs) q
-cut_other true p q x ys xs is apart same = same ∙ sym (ap (λ b. b || holds xs q) (ne_eqb x q (λ here. apart (sym here ∙ eqb-true x p is))))
-cut_other false p q x ys xs is apart same = ap (λ b. (x == q) || b) same
-
-has_others : (xs : List ℕ) (p q : ℕ) → q ≢ p → holds (without xs p) q ≡ holds xs q
-has_others [] p q apart = refl
-has_others (x ∷ xs) p q apart = cut_other (x == p) p q x (without xs p) xs refl apart (has_others xs p q apart)
 
 pub without-holds : (xs ys : List ℕ) (q : ℕ) → HoldSame xs ys → HoldSame (without xs q) (without ys q)
 without-holds xs ys q h p = by (p == q) refl

@@ -1,5 +1,5 @@
 -- Takings of processes, and turns one after another.
-use Rattle.std.proofs.Common.{◌≡◌, ◌≢◌, ◌==◌, ◌||◌, not, ℕ, Bool, true, false, cond, List, [], ◌∷◌, slice_get, Option, Some, None, option_map, refl, sym, ap, ◌∙◌, subst, eqb-true, ne_eqb}
+use Rattle.std.proofs.Common.{◌≡◌, ◌≢◌, ◌==◌, ℕ, Bool, true, false, cond, List, [], ◌∷◌, slice_get, Option, Some, None, option_map, refl, sym, ap, ◌∙◌, subst, eqb-true}
 use Rattle.std.proofs.lemmas.Bool.{eqb-false}
 use Rattle.std.proofs.lemmas.Option.{none-some, same_Some}
 use Rattle.sim_model.specs.EventCore.declared.event.Ev.{Ev}
@@ -29,24 +29,9 @@ use Rattle.laws_order.proofs.Changes.{same-change}
 use Rattle.laws_order.proofs.Unheard.{change-each}
 use Rattle.laws_order.proofs.Undriven.{all-past}
 use Rattle.laws_order.proofs.OneTurn.{goes-unheard, done-alike, turn-did, turn-unseen}
+use Rattle.laws_order.proofs.Lists.{lacks_itself, has_others}
 
 -- ---- who is runnable
-
-cut_here : (b : Bool) (p x : ℕ) (xs : List ℕ) → (x == p) ≡ b → holds xs p ≡ false → holds (cond (not b) (x ∷ xs) xs) p ≡ false
-cut_here true p x xs is none = none
-cut_here false p x xs is none = ap (λ b. b || holds xs p) is ∙ none
-
-lacks_itself : (xs : List ℕ) (p : ℕ) → holds (without xs p) p ≡ false
-lacks_itself [] p = refl
-lacks_itself (x ∷ xs) p = cut_here (x == p) p x (without xs p) refl (lacks_itself xs p)
-
-cut_other : (b : Bool) (p q x : ℕ) (ys xs : List ℕ) → (x == p) ≡ b → q ≢ p → holds ys q ≡ holds xs q → holds (cond (not b) (x ∷ ys) ys) q ≡ holds (x ∷ xs) q
-cut_other true p q x ys xs is apart same = same ∙ sym (ap (λ b. b || holds xs q) (ne_eqb x q (λ here. apart (sym here ∙ eqb-true x p is))))
-cut_other false p q x ys xs is apart same = ap (λ b. (x == q) || b) same
-
-has_others : (xs : List ℕ) (p q : ℕ) → q ≢ p → holds (without xs p) q ≡ holds xs q
-has_others [] p q apart = refl
-has_others (x ∷ xs) p q apart = cut_other (x == p) p q x (without xs p) xs refl apart (has_others xs p q apart)
 
 runnable_acted : (p : ℕ) (c : Config) (a : Act) → (acted p c a).processes.runnable ≡ c.processes.runnable
 runnable_acted p c (act.stores v y) = refl

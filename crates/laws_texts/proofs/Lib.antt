@@ -11,6 +11,8 @@ pub mod Blocks
 pub mod PrintedItems
 pub mod Depths
 pub mod Unprinted
+pub mod SameLeaves
+mod ChosenWords
 pub mod Meant
 pub mod Weighed
 pub mod Lengths

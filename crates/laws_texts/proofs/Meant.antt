@@ -1,20 +1,12 @@
 -- The tokens of a tree that keeps to its language are the same again, once they are cut as a text is and read in that language.
 use Rattle.std.proofs.Common.{◌≡◌, ℕ, Bool, true, false, ◌&&◌, ◌||◌, List, [], ◌∷◌, ◌++◌, Option, Some, None, refl, sym, ap, subst, ◌∙◌}
-use Rattle.std.specs.Prelude.{map, option_map, not, is_some}
+use Rattle.std.specs.Prelude.{not, is_some}
 use Rattle.std.specs.List.{flat_map, list_all}
 use Rattle.std.proofs.lemmas.Bool.{and_parts}
 use Rattle.std.proofs.lemmas.List.Folds.{list_all-append}
 use Rattle.model_print.specs.SimTime.declared.moments.Unit.{Unit as TimeUnit}
 use Rattle.model_print.specs.SimTime.declared.moments.Unit.TheVariants as unit
 use Rattle.model_print.specs.LogicValues.declared.kinds.Digit.{Digit}
-use Rattle.model_print.specs.ModelTree.declared.expressions.BinaryOp.{BinaryOp}
-use Rattle.model_print.specs.ModelTree.declared.expressions.BinaryOp.TheVariants as op
-use Rattle.model_print.specs.ModelTree.declared.expressions.UnaryOp.{UnaryOp}
-use Rattle.model_print.specs.ModelTree.declared.expressions.UnaryOp.TheVariants as sign
-use Rattle.model_print.specs.ModelTree.declared.expressions.Conversion.{Conversion}
-use Rattle.model_print.specs.ModelTree.declared.expressions.Conversion.TheVariants as conversion
-use Rattle.model_print.specs.ModelTree.declared.expressions.NamedConstant.{NamedConstant}
-use Rattle.model_print.specs.ModelTree.declared.expressions.NamedConstant.TheVariants as named_constant
 use Rattle.model_print.specs.ModelTree.declared.types.SignalType.{SignalType}
 use Rattle.model_print.specs.ModelTree.declared.types.TypeForm.{TypeForm}
 use Rattle.model_print.specs.ModelTree.declared.types.TypeForm.TheVariants as form
@@ -31,16 +23,8 @@ use Rattle.model_print.specs.ModelTree.declared.types.BoundRule.TheVariants as b
 use Rattle.model_print.specs.ModelTree.declared.types.PortSize.{PortSize}
 use Rattle.model_print.specs.ModelTree.declared.types.Parameter.{Parameter}
 use Rattle.model_print.specs.ModelTree.declared.types.End.{End}
-use Rattle.model_print.specs.ModelTree.declared.statements.Control.{Control}
-use Rattle.model_print.specs.ModelTree.declared.statements.Control.TheVariants as control
 use Rattle.model_print.specs.ModelTree.declared.statements.Who.{Who}
 use Rattle.model_print.specs.ModelTree.declared.statements.Who.TheVariants as who
-use Rattle.model_print.specs.ModelTree.declared.items.SignalKind.{SignalKind}
-use Rattle.model_print.specs.ModelTree.declared.items.SignalKind.TheVariants as signal_kind
-use Rattle.model_print.specs.ModelTree.declared.items.PlainKind.{PlainKind}
-use Rattle.model_print.specs.ModelTree.declared.items.PlainKind.TheVariants as plain_kind
-use Rattle.model_print.specs.ModelTree.declared.items.ProcessKind.{ProcessKind}
-use Rattle.model_print.specs.ModelTree.declared.items.ProcessKind.TheVariants as process_kind
 use Rattle.model_print.specs.ModelTree.declared.items.InitiatorRole.{InitiatorRole}
 use Rattle.model_print.specs.ModelTree.declared.items.InitiatorRole.TheVariants as initiator
 use Rattle.model_print.specs.ModelTree.declared.items.TargetRole.{TargetRole}
@@ -54,11 +38,9 @@ use Rattle.model_print.specs.ModelTree.declared.vocabulary.Word.TheVariants as w
 use Rattle.model_print.specs.ModelTree.declared.vocabulary.Symbol.{Symbol}
 use Rattle.model_print.specs.ModelTree.declared.vocabulary.Symbol.TheVariants as s
 use Rattle.model_print.specs.ModelTree.Vocabulary.{later_word_of}
-use Rattle.model_print.specs.ModelTree.Spelling.{unary_symbol, binary_symbol, truth_word, conversion_word, constant_word, control_word, signal_word, plain_word, process_word}
 use Rattle.model_print.specs.ModelTree.Tree as tree
 use Rattle.model_tree.specs.Parts as made
-use Rattle.model_tree.specs.Parts.{Part, changed_part, word_of_action, parts_of}
-use Rattle.model_tree.proofs.Parts.{changed_linked}
+use Rattle.model_tree.specs.Parts.{Part, word_of_action, parts_of}
 use Rattle.model_print.specs.ModelTree.Languages as leaf
 use Rattle.model_print.specs.ModelTree.Languages.{Leaf, Leaves, named, in_unit, descending, may_have}
 use Rattle.model_lexer.specs.Tokens.{Token, Tokens, name, number, logic, quoted, word, symbol, unit_token}
@@ -67,137 +49,8 @@ use Rattle.model_lexer.specs.Rules.{Rule, ◌⨾◌, At, Takes, Nothing, Never, 
 use Rattle.model_lexer.specs.Expressions.{Short, Parenthesized, DerivesAt, DerivesExpression}
 use Rattle.model_lexer.specs.Statements.{DerivesForm, DerivesType, DerivesVarTypeAt, DerivesVarType, DerivesPlace, DerivesChannel, DerivesMember, DerivesEvent, DerivesSensitive, DerivesArguments, DerivesIndex, DerivesTarget, NextName, NextExpression, DerivesOperation, DerivesResult, DerivesSpan, DerivesWaiting, DerivesNotification, DerivesHandle, DerivesSpawn, DerivesWho, DerivesPart, DerivesParts, DerivesAction, Braced, DerivesInitial, DerivesStatement, DerivesStatements, DerivesElse, HasHandler, DerivesHandlers}
 use Rattle.model_lexer.specs.Items.{DerivesConstantForm, DerivesFirstValue, DerivesTime, DerivesStart, DerivesFifoSize, DerivesInterface, DerivesBound, DerivesPortSize, DerivesHandler, DerivesInitiatorRole, DerivesTargetRole, DerivesEnd, DerivesMode, DerivesParameter, DerivesParameters, DerivesAnswer, DerivesItem, DerivesModule, DerivesTop, DerivesModel, DerivesResolution, DerivesHead, DerivesSource}
-use Rattle.laws_texts.specs.Unlined as unlined
+use Rattle.laws_texts.proofs.ChosenWords.{truth_same, conversion_same, constant_same, signal_same, kind_same, process_same, unary_calm, binary_calm, action_same}
 use Rattle.laws_texts.proofs.Reading.{as_cut}
-
--- without line numbers a tree has the same names, units and control
-
-same_flat : {A : Type 0} (un : A → A) (f : A → Leaves) → ((x : A) → f (un x) ≡ f x) → (xs : List A) → flat_map f (map un xs) ≡ flat_map f xs
-same_flat un f same [] = refl
-same_flat un f same (x ∷ xs) = rw (same x, same_flat un f same xs) refl
-
-same_expression : (e : tree.Expression) → leaf.in_expression (unlined.expression e) ≡ leaf.in_expression e
-same_expression (tree.paren line e) = same_expression e
-same_expression (tree.convert line c e) = same_expression e
-same_expression (tree.to_vector line width e) = same_expression e
-same_expression (tree.concat line upper lower) = rw (same_expression upper, same_expression lower) refl
-same_expression (tree.placed_by line x e) = rw (same_expression e) refl
-same_expression (tree.member e x) = rw (same_expression e) refl
-same_expression (tree.element e index) = rw (same_expression e, same_expression index) refl
-same_expression (tree.slice e high low) = same_expression e
-same_expression (tree.unary line o e) = same_expression e
-same_expression (tree.binary o left right) = rw (same_expression left, same_expression right) refl
-same_expression _ = refl
-
-same_option : (o : Option tree.Expression) → leaf.in_expression_if (option_map unlined.expression o) ≡ leaf.in_expression_if o
-same_option None = refl
-same_option (Some e) = same_expression e
-
-same_all : (es : List tree.Expression) → leaf.in_expressions (map unlined.expression es) ≡ leaf.in_expressions es
-same_all es = same_flat unlined.expression leaf.in_expression same_expression es
-
-same_place : (p : tree.Place) → leaf.in_place (unlined.place p) ≡ leaf.in_place p
-same_place tree.first = refl
-same_place (tree.place_number n) = refl
-same_place (tree.computed e) = same_expression e
-
-same_channel : (c : tree.Channel) → leaf.in_channel (unlined.channel c) ≡ leaf.in_channel c
-same_channel c = rw (same_place c.place) refl
-
-same_event : (e : tree.Event) → leaf.in_event (unlined.event e) ≡ leaf.in_event e
-same_event e = rw (same_place e.channel.place) refl
-
-same_events : (es : List tree.Event) → leaf.in_events (map unlined.event es) ≡ leaf.in_events es
-same_events es = same_flat unlined.event leaf.in_event same_event es
-
-same_waiting : (t : tree.Waiting) → leaf.in_waiting (unlined.waiting t) ≡ leaf.in_waiting t
-same_waiting tree.static = refl
-same_waiting tree.delta = refl
-same_waiting (tree.for_ e) = same_expression e
-same_waiting (tree.one e t) = rw (same_place e.channel.place, same_option t) refl
-same_waiting (tree.any es t) = rw (same_events es, same_option t) refl
-same_waiting (tree.all es t) = rw (same_events es, same_option t) refl
-
-same_notification : (t : tree.Notification) → leaf.in_notification (unlined.notification t) ≡ leaf.in_notification t
-same_notification tree.immediate = refl
-same_notification tree.next_delta = refl
-same_notification (tree.after e) = same_expression e
-
-same_operation : (o : tree.Operation) → leaf.in_operation (unlined.operation o) ≡ leaf.in_operation o
-same_operation (tree.call x es) = rw (same_all es) refl
-same_operation (tree.read c) = same_channel c
-same_operation (tree.nb_read c x) = rw (same_place c.place) refl
-same_operation (tree.nb_write c e) = rw (same_place c.place, same_expression e) refl
-same_operation (tree.trylock c) = same_channel c
-same_operation (tree.unlock c) = same_channel c
-same_operation (tree.sem_trywait c) = same_channel c
-same_operation (tree.nb_transport x p phase t) = refl
-
-same_who : (x : Who) → leaf.in_who (unlined.process x) ≡ leaf.in_who x
-same_who (who.Named line x) = refl
-same_who (who.Myself line) = refl
-
-same_part : (p : Part) → leaf.in_part (changed_part unlined.change p) ≡ leaf.in_part p
-same_part (made.term u e) = same_expression e
-same_part (made.term_if u e) = same_option e
-same_part (made.next_term u e) = same_expression e
-same_part (made.next_term_if u e) = same_option e
-same_part (made.channel u c) = same_channel c
-same_part (made.waiting t) = same_waiting t
-same_part (made.notification t) = same_notification t
-same_part (made.instance x) = rw (same_all x.arguments, same_events x.sensitive) refl
-same_part (made.process p) = same_who p
-same_part (made.reaching_process p all) = rw (same_who p) refl
-same_part _ = refl
-
-same_both : (xs ys us vs : Leaves) → xs ≡ us → ys ≡ vs → xs ++ ys ≡ us ++ vs
-same_both xs ys us vs a b = rw (a, b) refl
-
-same_action : (a : tree.Action) → leaf.in_action (unlined.action a) ≡ leaf.in_action a
-same_action a = changed_linked unlined.change (λ (xs us : Leaves). xs ≡ us) leaf.in_part leaf.in_part (λ xs ys. xs ++ ys) (λ xs ys. xs ++ ys) [] [] same_both same_part refl a
-
-mutual
-  same_statement : (x : tree.Statement) → leaf.in_statement (unlined.statement x) ≡ leaf.in_statement x
-  same_statement (tree.var line t x e) = rw (same_option e) refl
-  same_statement (tree.assign line t e) = rw (same_option t.index, same_expression e) refl
-  same_statement (tree.operate line x at o) = rw (same_operation o) refl
-  same_statement (tree.act line a) = same_action a
-  same_statement (tree.if_ line e body other) = rw (same_expression e, same_block body, same_else other) refl
-  same_statement (tree.while_ line e body) = rw (same_expression e, same_block body) refl
-  same_statement (tree.guard line body undo) = rw (same_block body, same_block undo) refl
-  same_statement (tree.try_ line body hs) = rw (same_block body, same_handlers hs) refl
-
-  same_block : (x : tree.Block) → leaf.in_block (unlined.block x) ≡ leaf.in_block x
-  same_block tree.over = refl
-  same_block (tree.then x xs) = rw (same_statement x, same_block xs) refl
-
-  same_else : (x : tree.Else) → leaf.in_else (unlined.otherwise x) ≡ leaf.in_else x
-  same_else tree.no_else = refl
-  same_else (tree.else_block body) = same_block body
-
-  same_handlers : (x : tree.Handlers) → leaf.in_handlers (unlined.handlers x) ≡ leaf.in_handlers x
-  same_handlers tree.no_more = refl
-  same_handlers (tree.handler x body more) = rw (same_block body, same_handlers more) refl
-
-same_constant : (o : Option Constant) → leaf.in_constant (option_map unlined.constant o) ≡ leaf.in_constant o
-same_constant None = refl
-same_constant (Some c) = refl
-
-same_parameters : (ps : List Parameter) → flat_map leaf.in_parameter (map unlined.parameter ps) ≡ flat_map leaf.in_parameter ps
-same_parameters ps = same_flat unlined.parameter leaf.in_parameter (λ p. refl) ps
-
-same_item : (i : tree.Item) → leaf.in_item (unlined.item i) ≡ leaf.in_item i
-same_item (tree.signal line x) = rw (same_constant x.initial) refl
-same_item (tree.variable line t x c) = rw (same_constant c) refl
-same_item (tree.function line f) = rw (same_parameters f.parameters, same_block f.body) refl
-same_item (tree.process line p) = rw (same_events p.sensitive, same_block p.body) refl
-same_item _ = refl
-
-same_module : (m : tree.Module) → leaf.in_module (unlined.module_ m) ≡ leaf.in_module m
-same_module m = rw (same_flat unlined.item leaf.in_item same_item m.items) refl
-
-pub same_leaves : (m : tree.Model) → leaf.leaves_of (unlined.model m) ≡ leaf.leaves_of m
-same_leaves m = rw (same_flat unlined.module_ leaf.in_module same_module m.modules) refl
 
 -- tokens as a text is cut into them, and these as their language has them, behind what stands in front
 
@@ -288,48 +141,6 @@ meant_descendants : (h : Head) → may_have h descending ≡ true → meant h be
 unfolding later_word_of
 meant_descendants head.First k = cc
 meant_descendants (head.Second r) k = refl
-
--- words and symbols that a tree chooses
-
-truth_same : (b : Bool) → as_cut (word (truth_word b)) ≡ word (truth_word b)
-truth_same true = refl
-truth_same false = refl
-
-conversion_same : (c : Conversion) → as_cut (word (conversion_word c)) ≡ word (conversion_word c)
-conversion_same conversion.Int = refl
-conversion_same _ = refl
-
-constant_same : (c : NamedConstant) → as_cut (word (constant_word c)) ≡ word (constant_word c)
-constant_same named_constant.Read = refl
-constant_same _ = refl
-
-control_same : (c : Control) → as_cut (word (control_word c)) ≡ word (control_word c)
-control_same control.Suspend = refl
-control_same _ = refl
-
-signal_same : (k : SignalKind) → as_cut (word (signal_word k)) ≡ word (signal_word k)
-signal_same signal_kind.Signal = refl
-signal_same _ = refl
-
-kind_same : (k : PlainKind) → as_cut (word (plain_word k)) ≡ word (plain_word k)
-kind_same plain_kind.Mutex = refl
-kind_same _ = refl
-
-process_same : (k : ProcessKind) → as_cut (word (process_word k)) ≡ word (process_word k)
-process_same process_kind.Thread = refl
-process_same _ = refl
-
-unary_calm : (o : UnaryOp) → behind_symbol (unary_symbol o) ≡ behind_other
-unary_calm sign.Negate = refl
-unary_calm _ = refl
-
-binary_calm : (o : BinaryOp) → behind_symbol (binary_symbol o) ≡ behind_other
-binary_calm op.OrElse = refl
-binary_calm _ = refl
-
-action_same : (a : tree.Action) → as_cut (word (word_of_action a)) ≡ word (word_of_action a)
-action_same (tree.control c x all) = control_same c
-action_same _ = refl
 
 -- parts of an action: whether a word or a name may stand behind one, and whether it begins with a comma
 abbrev is_calm : Part → Bool

@@ -22,7 +22,8 @@ use Rattle.laws_texts.proofs.Laid.{layout_cut}
 use Rattle.laws_texts.proofs.Spelled.{meanings}
 use Rattle.laws_texts.proofs.PrintedItems.{source_spelled}
 use Rattle.laws_texts.proofs.Depths.{same_brackets, sound_deep}
-use Rattle.laws_texts.proofs.Meant.{same_leaves, cut, language_told}
+use Rattle.laws_texts.proofs.SameLeaves.{same_leaves}
+use Rattle.laws_texts.proofs.Meant.{cut, language_told}
 use Rattle.laws_texts.proofs.Unprinted.{same_text}
 
 -- tokens on the lines of those that a text is cut into

@@ -170,8 +170,8 @@ lay_statement-returns-in_ok-deed-in-Act t c =
 
 -- statements that hold blocks
 
-pub lay_statement-add-requires-clause-inner : goal.lay_statement-add-requires-clause-inner
-lay_statement-add-requires-clause-inner t c =
+pub lay_statement-add-requires : goal.lay_statement-add-requires
+lay_statement-add-requires t c =
     let h = home_of c.args.home in
     let s = scope_of c.args.place.now in
     let start = c.args.laid.now in
@@ -181,36 +181,14 @@ lay_statement-add-requires-clause-inner t c =
     let b = c.in_ok-block-in-If.block in
     let first = c.in_ok-block-in-If.ensures in
     let term = code.term_of c.in_ok-term-in-If.term in
-    if_inner h s l l (λ a begins. begins) body b first.reads e tree.no_else term None (λ a begins. refl)
+    record {
+      inner = if_inner h s l l (λ a begins. begins) body b first.reads e tree.no_else term None (λ a begins. refl);
+      nested = first.nested;
+      next = next_grown start l c.args.ids.now (first.grows) c.requires.next;
+    }
 
-pub lay_statement-add-requires-clause-next : goal.lay_statement-add-requires-clause-next
-lay_statement-add-requires-clause-next t c =
-    let h = home_of c.args.home in
-    let s = scope_of c.args.place.now in
-    let start = c.args.laid.now in
-    let l = c.lay_block.new.laid in
-    let e = expression_of c.in-If.condition in
-    let body = body_of c.in-If.body.items in
-    let b = c.in_ok-block-in-If.block in
-    let first = c.in_ok-block-in-If.ensures in
-    let term = code.term_of c.in_ok-term-in-If.term in
-    next_grown start l c.args.ids.now (first.grows) c.requires.next
-
-pub lay_statement-returns-in_ok-add-in-None-clause-grows : goal.lay_statement-returns-in_ok-add-in-None-clause-grows
-lay_statement-returns-in_ok-add-in-None-clause-grows t c =
-    let h = home_of c.args.home in
-    let s = scope_of c.args.place.now in
-    let start = c.args.laid.now in
-    let l = c.lay_block.new.laid in
-    let e = expression_of c.in-If.condition in
-    let body = body_of c.in-If.body.items in
-    let b = c.in_ok-block-in-If.block in
-    let first = c.in_ok-block-in-If.ensures in
-    let term = code.term_of c.in_ok-term-in-If.term in
-    both_grow start l c.add.new.laid (first.grows) c.in_ok-add-in-None.ensures.grows
-
-pub lay_statement-returns-in_ok-add-in-None-clause-owned : goal.lay_statement-returns-in_ok-add-in-None-clause-owned
-lay_statement-returns-in_ok-add-in-None-clause-owned t c =
+pub lay_statement-returns-in_ok-add-in-None : goal.lay_statement-returns-in_ok-add-in-None
+lay_statement-returns-in_ok-add-in-None t c =
     let h = home_of c.args.home in
     let s = scope_of c.args.place.now in
     let start = c.args.laid.now in
@@ -221,45 +199,26 @@ lay_statement-returns-in_ok-add-in-None-clause-owned t c =
     let first = c.in_ok-block-in-If.ensures in
     let term = code.term_of c.in_ok-term-in-If.term in
     let add = c.in_ok-add-in-None.ensures in
-    added_owned (length start.blocks) l c.add.new.laid c.args.ids.now c.add.new.ids c.in_ok-add-in-None.field-0 (code.if_ term b None) add.grows add.blocks add.numbers add.at
-    (one_owned (length start.blocks) l b [] first.owned)
-
-pub lay_statement-returns-in_ok-add-in-None-clause-only : goal.lay_statement-returns-in_ok-add-in-None-clause-only
-lay_statement-returns-in_ok-add-in-None-clause-only t c =
-    let h = home_of c.args.home in
-    let s = scope_of c.args.place.now in
-    let start = c.args.laid.now in
-    let l = c.lay_block.new.laid in
-    let e = expression_of c.in-If.condition in
-    let body = body_of c.in-If.body.items in
-    let b = c.in_ok-block-in-If.block in
-    let first = c.in_ok-block-in-If.ensures in
-    let term = code.term_of c.in_ok-term-in-If.term in
-    let add = c.in_ok-add-in-None.ensures in
-    added_only start l c.add.new.laid c.args.ids.now c.add.new.ids c.in_ok-add-in-None.field-0 (code.if_ term b None) first.grows add.grows add.numbers add.at
-    (one_only (length start.blocks) l b first.only)
-
-pub lay_statement-returns-in_ok-add-in-None-clause-reads : goal.lay_statement-returns-in_ok-add-in-None-clause-reads
-lay_statement-returns-in_ok-add-in-None-clause-reads t c =
-    let h = home_of c.args.home in
-    let s = scope_of c.args.place.now in
-    let start = c.args.laid.now in
-    let l = c.lay_block.new.laid in
-    let e = expression_of c.in-If.condition in
-    let body = body_of c.in-If.body.items in
-    let b = c.in_ok-block-in-If.block in
-    let first = c.in_ok-block-in-If.ensures in
-    let term = code.term_of c.in_ok-term-in-If.term in
     let is = ap statement_of c.in-If.is ∙ sees_if c.in-If.field-0 c.in-If.condition c.in-If.body c.in-If.other ∙ ap (λ (o : Option (Vec Statement)). tree.if_ c.in-If.field-0 e body (other_of o)) c.in-None.is in
     let y = tree.if_ c.in-If.field-0 e body tree.no_else in
-    let add = c.in_ok-add-in-None.ensures in
     let new = c.add.new.laid in
     let ids = c.add.new.ids in
-    seen_reads h (statement_of c.args.statement.now) y is s new c.args.ids.now ids
-    (added l new c.args.ids.now ids (λ a ns rest. IsStatement y h a s ns rest) (code.if_ term b None) c.in_ok-add-in-None.field-0 add.grows (if_laid h s l l (λ a begins. begins) body b first.reads e tree.no_else term None (λ a begins. refl) c.in-If.field-0 c.in_ok-term-in-If.ensures) add.numbers add.at)
+    record {
+      grows = both_grow start l c.add.new.laid (first.grows) c.in_ok-add-in-None.ensures.grows;
+      nested = add.nested;
+      next = add.next;
+      owned = added_owned (length start.blocks) l c.add.new.laid c.args.ids.now c.add.new.ids c.in_ok-add-in-None.field-0 (code.if_ term b None) add.grows add.blocks add.numbers add.at
+          (one_owned (length start.blocks) l b [] first.owned);
+      only = added_only start l c.add.new.laid c.args.ids.now c.add.new.ids c.in_ok-add-in-None.field-0 (code.if_ term b None) first.grows add.grows add.numbers add.at
+          (one_only (length start.blocks) l b first.only);
+      moves = seen_moves h (statement_of c.args.statement.now) y is s (scope_of c.lay_block.new.place)
+          (sym (past_nothing (scope_of c.lay_block.new.place)) ∙ ap (past 0) first.moves ∙ past_past (locals_in_block body) 0 s);
+      reads = seen_reads h (statement_of c.args.statement.now) y is s new c.args.ids.now ids
+          (added l new c.args.ids.now ids (λ a ns rest. IsStatement y h a s ns rest) (code.if_ term b None) c.in_ok-add-in-None.field-0 add.grows (if_laid h s l l (λ a begins. begins) body b first.reads e tree.no_else term None (λ a begins. refl) c.in-If.field-0 c.in_ok-term-in-If.ensures) add.numbers add.at);
+    }
 
-pub lay_statement-add-requires-in-Some-clause-inner : goal.lay_statement-add-requires-in-Some-clause-inner
-lay_statement-add-requires-in-Some-clause-inner t c =
+pub lay_statement-add-requires-in-Some : goal.lay_statement-add-requires-in-Some
+lay_statement-add-requires-in-Some t c =
     let h = home_of c.args.home in
     let s = scope_of c.args.place.now in
     let start = c.args.laid.now in
@@ -274,46 +233,14 @@ lay_statement-add-requires-in-Some-clause-inner t c =
     let second = c.in_ok-otherwise-in-Some.ensures in
     let term = code.term_of c.in_ok-term-in-If.term in
     let more : FromNowOn l (λ a. IsElse (tree.else_block other) h a (past (locals_in_block body) s) (Some o)) = subst (λ (u : Scope). FromNowOn l (λ a. IsElse (tree.else_block other) h a u (Some o))) first.moves (λ a begins. (o, refl, second.reads a begins)) in
-    if_inner h s mid l second.grows body b first.reads e (tree.else_block other) term (Some o) more
+    record {
+      inner = if_inner h s mid l second.grows body b first.reads e (tree.else_block other) term (Some o) more;
+      nested = second.nested;
+      next = next_grown start l c.args.ids.now (both_grow start mid l first.grows second.grows) c.requires.next;
+    }
 
-pub lay_statement-add-requires-in-Some-clause-next : goal.lay_statement-add-requires-in-Some-clause-next
-lay_statement-add-requires-in-Some-clause-next t c =
-    let h = home_of c.args.home in
-    let s = scope_of c.args.place.now in
-    let start = c.args.laid.now in
-    let mid = c.lay_block.new.laid in
-    let l = c.lay_block-in-Some.new.laid in
-    let e = expression_of c.in-If.condition in
-    let body = body_of c.in-If.body.items in
-    let other = body_of c.in-Some.other.items in
-    let b = c.in_ok-block-in-If.block in
-    let o = c.in_ok-otherwise-in-Some.otherwise in
-    let first = c.in_ok-block-in-If.ensures in
-    let second = c.in_ok-otherwise-in-Some.ensures in
-    let term = code.term_of c.in_ok-term-in-If.term in
-    let more : FromNowOn l (λ a. IsElse (tree.else_block other) h a (past (locals_in_block body) s) (Some o)) = subst (λ (u : Scope). FromNowOn l (λ a. IsElse (tree.else_block other) h a u (Some o))) first.moves (λ a begins. (o, refl, second.reads a begins)) in
-    next_grown start l c.args.ids.now (both_grow start mid l first.grows second.grows) c.requires.next
-
-pub lay_statement-returns-in_ok-add-in-Some-clause-grows : goal.lay_statement-returns-in_ok-add-in-Some-clause-grows
-lay_statement-returns-in_ok-add-in-Some-clause-grows t c =
-    let h = home_of c.args.home in
-    let s = scope_of c.args.place.now in
-    let start = c.args.laid.now in
-    let mid = c.lay_block.new.laid in
-    let l = c.lay_block-in-Some.new.laid in
-    let e = expression_of c.in-If.condition in
-    let body = body_of c.in-If.body.items in
-    let other = body_of c.in-Some.other.items in
-    let b = c.in_ok-block-in-If.block in
-    let o = c.in_ok-otherwise-in-Some.otherwise in
-    let first = c.in_ok-block-in-If.ensures in
-    let second = c.in_ok-otherwise-in-Some.ensures in
-    let term = code.term_of c.in_ok-term-in-If.term in
-    let more : FromNowOn l (λ a. IsElse (tree.else_block other) h a (past (locals_in_block body) s) (Some o)) = subst (λ (u : Scope). FromNowOn l (λ a. IsElse (tree.else_block other) h a u (Some o))) first.moves (λ a begins. (o, refl, second.reads a begins)) in
-    both_grow start l c.add-in-Some.new.laid (both_grow start mid l first.grows second.grows) c.in_ok-add-in-Some.ensures.grows
-
-pub lay_statement-returns-in_ok-add-in-Some-clause-owned : goal.lay_statement-returns-in_ok-add-in-Some-clause-owned
-lay_statement-returns-in_ok-add-in-Some-clause-owned t c =
+pub lay_statement-returns-in_ok-add-in-Some : goal.lay_statement-returns-in_ok-add-in-Some
+lay_statement-returns-in_ok-add-in-Some t c =
     let h = home_of c.args.home in
     let s = scope_of c.args.place.now in
     let start = c.args.laid.now in
@@ -329,55 +256,26 @@ lay_statement-returns-in_ok-add-in-Some-clause-owned t c =
     let term = code.term_of c.in_ok-term-in-If.term in
     let more : FromNowOn l (λ a. IsElse (tree.else_block other) h a (past (locals_in_block body) s) (Some o)) = subst (λ (u : Scope). FromNowOn l (λ a. IsElse (tree.else_block other) h a u (Some o))) first.moves (λ a begins. (o, refl, second.reads a begins)) in
     let add = c.in_ok-add-in-Some.ensures in
-    added_owned (length start.blocks) l c.add-in-Some.new.laid c.args.ids.now c.add-in-Some.new.ids c.in_ok-add-in-Some.field-0 (code.if_ term b (Some o)) add.grows add.blocks add.numbers add.at
-    (both_owned (length start.blocks) mid l b (o ∷ []) second.grows first.owned (one_owned (length mid.blocks) l o [] second.owned))
-
-pub lay_statement-returns-in_ok-add-in-Some-clause-only : goal.lay_statement-returns-in_ok-add-in-Some-clause-only
-lay_statement-returns-in_ok-add-in-Some-clause-only t c =
-    let h = home_of c.args.home in
-    let s = scope_of c.args.place.now in
-    let start = c.args.laid.now in
-    let mid = c.lay_block.new.laid in
-    let l = c.lay_block-in-Some.new.laid in
-    let e = expression_of c.in-If.condition in
-    let body = body_of c.in-If.body.items in
-    let other = body_of c.in-Some.other.items in
-    let b = c.in_ok-block-in-If.block in
-    let o = c.in_ok-otherwise-in-Some.otherwise in
-    let first = c.in_ok-block-in-If.ensures in
-    let second = c.in_ok-otherwise-in-Some.ensures in
-    let term = code.term_of c.in_ok-term-in-If.term in
-    let more : FromNowOn l (λ a. IsElse (tree.else_block other) h a (past (locals_in_block body) s) (Some o)) = subst (λ (u : Scope). FromNowOn l (λ a. IsElse (tree.else_block other) h a u (Some o))) first.moves (λ a begins. (o, refl, second.reads a begins)) in
-    let add = c.in_ok-add-in-Some.ensures in
-    added_only start l c.add-in-Some.new.laid c.args.ids.now c.add-in-Some.new.ids c.in_ok-add-in-Some.field-0 (code.if_ term b (Some o)) (both_grow start mid l first.grows second.grows) add.grows add.numbers add.at
-    (both_only (length start.blocks) mid l b (o ∷ []) (blocks_grow start mid first.grows) second.grows first.only (one_only (length mid.blocks) l o second.only))
-
-pub lay_statement-returns-in_ok-add-in-Some-clause-reads : goal.lay_statement-returns-in_ok-add-in-Some-clause-reads
-lay_statement-returns-in_ok-add-in-Some-clause-reads t c =
-    let h = home_of c.args.home in
-    let s = scope_of c.args.place.now in
-    let start = c.args.laid.now in
-    let mid = c.lay_block.new.laid in
-    let l = c.lay_block-in-Some.new.laid in
-    let e = expression_of c.in-If.condition in
-    let body = body_of c.in-If.body.items in
-    let other = body_of c.in-Some.other.items in
-    let b = c.in_ok-block-in-If.block in
-    let o = c.in_ok-otherwise-in-Some.otherwise in
-    let first = c.in_ok-block-in-If.ensures in
-    let second = c.in_ok-otherwise-in-Some.ensures in
-    let term = code.term_of c.in_ok-term-in-If.term in
-    let more : FromNowOn l (λ a. IsElse (tree.else_block other) h a (past (locals_in_block body) s) (Some o)) = subst (λ (u : Scope). FromNowOn l (λ a. IsElse (tree.else_block other) h a u (Some o))) first.moves (λ a begins. (o, refl, second.reads a begins)) in
     let is = ap statement_of c.in-If.is ∙ sees_if c.in-If.field-0 c.in-If.condition c.in-If.body c.in-If.other ∙ ap (λ (o : Option (Vec Statement)). tree.if_ c.in-If.field-0 e body (other_of o)) c.in-Some.is in
     let y = tree.if_ c.in-If.field-0 e body (tree.else_block other) in
-    let add = c.in_ok-add-in-Some.ensures in
     let new = c.add-in-Some.new.laid in
     let ids = c.add-in-Some.new.ids in
-    seen_reads h (statement_of c.args.statement.now) y is s new c.args.ids.now ids
-    (added l new c.args.ids.now ids (λ a ns rest. IsStatement y h a s ns rest) (code.if_ term b (Some o)) c.in_ok-add-in-Some.field-0 add.grows (if_laid h s mid l second.grows body b first.reads e (tree.else_block other) term (Some o) more c.in-If.field-0 c.in_ok-term-in-If.ensures) add.numbers add.at)
+    record {
+      grows = both_grow start l c.add-in-Some.new.laid (both_grow start mid l first.grows second.grows) c.in_ok-add-in-Some.ensures.grows;
+      nested = add.nested;
+      next = add.next;
+      owned = added_owned (length start.blocks) l c.add-in-Some.new.laid c.args.ids.now c.add-in-Some.new.ids c.in_ok-add-in-Some.field-0 (code.if_ term b (Some o)) add.grows add.blocks add.numbers add.at
+          (both_owned (length start.blocks) mid l b (o ∷ []) second.grows first.owned (one_owned (length mid.blocks) l o [] second.owned));
+      only = added_only start l c.add-in-Some.new.laid c.args.ids.now c.add-in-Some.new.ids c.in_ok-add-in-Some.field-0 (code.if_ term b (Some o)) (both_grow start mid l first.grows second.grows) add.grows add.numbers add.at
+          (both_only (length start.blocks) mid l b (o ∷ []) (blocks_grow start mid first.grows) second.grows first.only (one_only (length mid.blocks) l o second.only));
+      moves = seen_moves h (statement_of c.args.statement.now) y is s (scope_of c.lay_block-in-Some.new.place)
+          (second.moves ∙ ap (past (locals_in_block other)) first.moves ∙ past_past (locals_in_block body) (locals_in_block other) s);
+      reads = seen_reads h (statement_of c.args.statement.now) y is s new c.args.ids.now ids
+          (added l new c.args.ids.now ids (λ a ns rest. IsStatement y h a s ns rest) (code.if_ term b (Some o)) c.in_ok-add-in-Some.field-0 add.grows (if_laid h s mid l second.grows body b first.reads e (tree.else_block other) term (Some o) more c.in-If.field-0 c.in_ok-term-in-If.ensures) add.numbers add.at);
+    }
 
-pub lay_statement-add-requires-in-While-clause-inner : goal.lay_statement-add-requires-in-While-clause-inner
-lay_statement-add-requires-in-While-clause-inner t c =
+pub lay_statement-add-requires-in-While : goal.lay_statement-add-requires-in-While
+lay_statement-add-requires-in-While t c =
     let h = home_of c.args.home in
     let s = scope_of c.args.place.now in
     let start = c.args.laid.now in
@@ -387,36 +285,14 @@ lay_statement-add-requires-in-While-clause-inner t c =
     let b = c.in_ok-block-in-While.block in
     let first = c.in_ok-block-in-While.ensures in
     let term = code.term_of c.in_ok-term-in-While.term in
-    while_inner h s l body b first.reads term
+    record {
+      inner = while_inner h s l body b first.reads term;
+      nested = first.nested;
+      next = next_grown start l c.args.ids.now first.grows c.requires.next;
+    }
 
-pub lay_statement-add-requires-in-While-clause-next : goal.lay_statement-add-requires-in-While-clause-next
-lay_statement-add-requires-in-While-clause-next t c =
-    let h = home_of c.args.home in
-    let s = scope_of c.args.place.now in
-    let start = c.args.laid.now in
-    let l = c.lay_block-in-While.new.laid in
-    let e = expression_of c.in-While.condition in
-    let body = body_of c.in-While.body.items in
-    let b = c.in_ok-block-in-While.block in
-    let first = c.in_ok-block-in-While.ensures in
-    let term = code.term_of c.in_ok-term-in-While.term in
-    next_grown start l c.args.ids.now first.grows c.requires.next
-
-pub lay_statement-returns-in_ok-add-in-While-clause-grows : goal.lay_statement-returns-in_ok-add-in-While-clause-grows
-lay_statement-returns-in_ok-add-in-While-clause-grows t c = λ a begins.
-    let h = home_of c.args.home in
-    let s = scope_of c.args.place.now in
-    let start = c.args.laid.now in
-    let l = c.lay_block-in-While.new.laid in
-    let e = expression_of c.in-While.condition in
-    let body = body_of c.in-While.body.items in
-    let b = c.in_ok-block-in-While.block in
-    let first = c.in_ok-block-in-While.ensures in
-    let term = code.term_of c.in_ok-term-in-While.term in
-    first.grows a (c.in_ok-add-in-While.ensures.grows a begins)
-
-pub lay_statement-returns-in_ok-add-in-While-clause-owned : goal.lay_statement-returns-in_ok-add-in-While-clause-owned
-lay_statement-returns-in_ok-add-in-While-clause-owned t c =
+pub lay_statement-returns-in_ok-add-in-While : goal.lay_statement-returns-in_ok-add-in-While
+lay_statement-returns-in_ok-add-in-While t c =
     let h = home_of c.args.home in
     let s = scope_of c.args.place.now in
     let start = c.args.laid.now in
@@ -427,45 +303,25 @@ lay_statement-returns-in_ok-add-in-While-clause-owned t c =
     let first = c.in_ok-block-in-While.ensures in
     let term = code.term_of c.in_ok-term-in-While.term in
     let add = c.in_ok-add-in-While.ensures in
-    added_owned (length start.blocks) l c.add-in-While.new.laid c.args.ids.now c.add-in-While.new.ids c.in_ok-add-in-While.field-0 (code.while_ term b) add.grows add.blocks add.numbers add.at
-    (one_owned (length start.blocks) l b [] first.owned)
-
-pub lay_statement-returns-in_ok-add-in-While-clause-only : goal.lay_statement-returns-in_ok-add-in-While-clause-only
-lay_statement-returns-in_ok-add-in-While-clause-only t c =
-    let h = home_of c.args.home in
-    let s = scope_of c.args.place.now in
-    let start = c.args.laid.now in
-    let l = c.lay_block-in-While.new.laid in
-    let e = expression_of c.in-While.condition in
-    let body = body_of c.in-While.body.items in
-    let b = c.in_ok-block-in-While.block in
-    let first = c.in_ok-block-in-While.ensures in
-    let term = code.term_of c.in_ok-term-in-While.term in
-    let add = c.in_ok-add-in-While.ensures in
-    added_only start l c.add-in-While.new.laid c.args.ids.now c.add-in-While.new.ids c.in_ok-add-in-While.field-0 (code.while_ term b) first.grows add.grows add.numbers add.at
-    (one_only (length start.blocks) l b first.only)
-
-pub lay_statement-returns-in_ok-add-in-While-clause-reads : goal.lay_statement-returns-in_ok-add-in-While-clause-reads
-lay_statement-returns-in_ok-add-in-While-clause-reads t c =
-    let h = home_of c.args.home in
-    let s = scope_of c.args.place.now in
-    let start = c.args.laid.now in
-    let l = c.lay_block-in-While.new.laid in
-    let e = expression_of c.in-While.condition in
-    let body = body_of c.in-While.body.items in
-    let b = c.in_ok-block-in-While.block in
-    let first = c.in_ok-block-in-While.ensures in
-    let term = code.term_of c.in_ok-term-in-While.term in
     let is = ap statement_of c.in-While.is ∙ sees_while c.in-While.field-0 c.in-While.condition c.in-While.body in
     let y = tree.while_ c.in-While.field-0 e body in
-    let add = c.in_ok-add-in-While.ensures in
     let new = c.add-in-While.new.laid in
     let ids = c.add-in-While.new.ids in
-    seen_reads h (statement_of c.args.statement.now) y is s new c.args.ids.now ids
-    (added l new c.args.ids.now ids (λ a ns rest. IsStatement y h a s ns rest) (code.while_ term b) c.in_ok-add-in-While.field-0 add.grows (while_laid h s l body b first.reads term c.in-While.field-0 e c.in_ok-term-in-While.ensures) add.numbers add.at)
+    record {
+      grows = both_grow start l new first.grows add.grows;
+      nested = add.nested;
+      next = add.next;
+      owned = added_owned (length start.blocks) l c.add-in-While.new.laid c.args.ids.now c.add-in-While.new.ids c.in_ok-add-in-While.field-0 (code.while_ term b) add.grows add.blocks add.numbers add.at
+          (one_owned (length start.blocks) l b [] first.owned);
+      only = added_only start l c.add-in-While.new.laid c.args.ids.now c.add-in-While.new.ids c.in_ok-add-in-While.field-0 (code.while_ term b) first.grows add.grows add.numbers add.at
+          (one_only (length start.blocks) l b first.only);
+      moves = seen_moves h (statement_of c.args.statement.now) y is s (scope_of c.lay_block-in-While.new.place) first.moves;
+      reads = seen_reads h (statement_of c.args.statement.now) y is s new c.args.ids.now ids
+          (added l new c.args.ids.now ids (λ a ns rest. IsStatement y h a s ns rest) (code.while_ term b) c.in_ok-add-in-While.field-0 add.grows (while_laid h s l body b first.reads term c.in-While.field-0 e c.in_ok-term-in-While.ensures) add.numbers add.at);
+    }
 
-pub lay_statement-add-requires-in-Guard-clause-inner : goal.lay_statement-add-requires-in-Guard-clause-inner
-lay_statement-add-requires-in-Guard-clause-inner t c =
+pub lay_statement-add-requires-in-Guard : goal.lay_statement-add-requires-in-Guard
+lay_statement-add-requires-in-Guard t c =
     let h = home_of c.args.home in
     let s = scope_of c.args.place.now in
     let start = c.args.laid.now in
@@ -478,42 +334,14 @@ lay_statement-add-requires-in-Guard-clause-inner t c =
     let first = c.in_ok-block-in-Guard.ensures in
     let second = c.in_ok-unwind-in-Guard.ensures in
     let more : FromNowOn l (λ a. AtBlock a u (IsBlock undo h a (in_unwind (past (locals_in_block body) s)))) = subst (λ (v : Scope). FromNowOn l (λ a. AtBlock a u (IsBlock undo h a (in_unwind v)))) first.moves second.reads in
-    guard_inner h s mid l second.grows body b first.reads undo u more
+    record {
+      inner = guard_inner h s mid l second.grows body b first.reads undo u more;
+      nested = second.nested;
+      next = next_grown start l c.args.ids.now (both_grow start mid l first.grows second.grows) c.requires.next;
+    }
 
-pub lay_statement-add-requires-in-Guard-clause-next : goal.lay_statement-add-requires-in-Guard-clause-next
-lay_statement-add-requires-in-Guard-clause-next t c =
-    let h = home_of c.args.home in
-    let s = scope_of c.args.place.now in
-    let start = c.args.laid.now in
-    let mid = c.lay_block-in-Guard.new.laid in
-    let l = c.lay_undo.new.laid in
-    let body = body_of c.in-Guard.body.items in
-    let undo = body_of c.in-Guard.undo.items in
-    let b = c.in_ok-block-in-Guard.block in
-    let u = c.in_ok-unwind-in-Guard.unwind in
-    let first = c.in_ok-block-in-Guard.ensures in
-    let second = c.in_ok-unwind-in-Guard.ensures in
-    let more : FromNowOn l (λ a. AtBlock a u (IsBlock undo h a (in_unwind (past (locals_in_block body) s)))) = subst (λ (v : Scope). FromNowOn l (λ a. AtBlock a u (IsBlock undo h a (in_unwind v)))) first.moves second.reads in
-    next_grown start l c.args.ids.now (both_grow start mid l first.grows second.grows) c.requires.next
-
-pub lay_statement-returns-in_ok-add-in-Guard-clause-grows : goal.lay_statement-returns-in_ok-add-in-Guard-clause-grows
-lay_statement-returns-in_ok-add-in-Guard-clause-grows t c =
-    let h = home_of c.args.home in
-    let s = scope_of c.args.place.now in
-    let start = c.args.laid.now in
-    let mid = c.lay_block-in-Guard.new.laid in
-    let l = c.lay_undo.new.laid in
-    let body = body_of c.in-Guard.body.items in
-    let undo = body_of c.in-Guard.undo.items in
-    let b = c.in_ok-block-in-Guard.block in
-    let u = c.in_ok-unwind-in-Guard.unwind in
-    let first = c.in_ok-block-in-Guard.ensures in
-    let second = c.in_ok-unwind-in-Guard.ensures in
-    let more : FromNowOn l (λ a. AtBlock a u (IsBlock undo h a (in_unwind (past (locals_in_block body) s)))) = subst (λ (v : Scope). FromNowOn l (λ a. AtBlock a u (IsBlock undo h a (in_unwind v)))) first.moves second.reads in
-    both_grow start l c.add-in-Guard.new.laid (both_grow start mid l first.grows second.grows) c.in_ok-add-in-Guard.ensures.grows
-
-pub lay_statement-returns-in_ok-add-in-Guard-clause-owned : goal.lay_statement-returns-in_ok-add-in-Guard-clause-owned
-lay_statement-returns-in_ok-add-in-Guard-clause-owned t c =
+pub lay_statement-returns-in_ok-add-in-Guard : goal.lay_statement-returns-in_ok-add-in-Guard
+lay_statement-returns-in_ok-add-in-Guard t c =
     let h = home_of c.args.home in
     let s = scope_of c.args.place.now in
     let start = c.args.laid.now in
@@ -527,48 +355,23 @@ lay_statement-returns-in_ok-add-in-Guard-clause-owned t c =
     let second = c.in_ok-unwind-in-Guard.ensures in
     let more : FromNowOn l (λ a. AtBlock a u (IsBlock undo h a (in_unwind (past (locals_in_block body) s)))) = subst (λ (v : Scope). FromNowOn l (λ a. AtBlock a u (IsBlock undo h a (in_unwind v)))) first.moves second.reads in
     let add = c.in_ok-add-in-Guard.ensures in
-    added_owned (length start.blocks) l c.add-in-Guard.new.laid c.args.ids.now c.add-in-Guard.new.ids c.in_ok-add-in-Guard.field-0 (code.guard b u) add.grows add.blocks add.numbers add.at
-    (both_owned (length start.blocks) mid l b (u ∷ []) second.grows first.owned (one_owned (length mid.blocks) l u [] second.owned))
-
-pub lay_statement-returns-in_ok-add-in-Guard-clause-only : goal.lay_statement-returns-in_ok-add-in-Guard-clause-only
-lay_statement-returns-in_ok-add-in-Guard-clause-only t c =
-    let h = home_of c.args.home in
-    let s = scope_of c.args.place.now in
-    let start = c.args.laid.now in
-    let mid = c.lay_block-in-Guard.new.laid in
-    let l = c.lay_undo.new.laid in
-    let body = body_of c.in-Guard.body.items in
-    let undo = body_of c.in-Guard.undo.items in
-    let b = c.in_ok-block-in-Guard.block in
-    let u = c.in_ok-unwind-in-Guard.unwind in
-    let first = c.in_ok-block-in-Guard.ensures in
-    let second = c.in_ok-unwind-in-Guard.ensures in
-    let more : FromNowOn l (λ a. AtBlock a u (IsBlock undo h a (in_unwind (past (locals_in_block body) s)))) = subst (λ (v : Scope). FromNowOn l (λ a. AtBlock a u (IsBlock undo h a (in_unwind v)))) first.moves second.reads in
-    let add = c.in_ok-add-in-Guard.ensures in
-    added_only start l c.add-in-Guard.new.laid c.args.ids.now c.add-in-Guard.new.ids c.in_ok-add-in-Guard.field-0 (code.guard b u) (both_grow start mid l first.grows second.grows) add.grows add.numbers add.at
-    (both_only (length start.blocks) mid l b (u ∷ []) (blocks_grow start mid first.grows) second.grows first.only (one_only (length mid.blocks) l u second.only))
-
-pub lay_statement-returns-in_ok-add-in-Guard-clause-reads : goal.lay_statement-returns-in_ok-add-in-Guard-clause-reads
-lay_statement-returns-in_ok-add-in-Guard-clause-reads t c =
-    let h = home_of c.args.home in
-    let s = scope_of c.args.place.now in
-    let start = c.args.laid.now in
-    let mid = c.lay_block-in-Guard.new.laid in
-    let l = c.lay_undo.new.laid in
-    let body = body_of c.in-Guard.body.items in
-    let undo = body_of c.in-Guard.undo.items in
-    let b = c.in_ok-block-in-Guard.block in
-    let u = c.in_ok-unwind-in-Guard.unwind in
-    let first = c.in_ok-block-in-Guard.ensures in
-    let second = c.in_ok-unwind-in-Guard.ensures in
-    let more : FromNowOn l (λ a. AtBlock a u (IsBlock undo h a (in_unwind (past (locals_in_block body) s)))) = subst (λ (v : Scope). FromNowOn l (λ a. AtBlock a u (IsBlock undo h a (in_unwind v)))) first.moves second.reads in
     let is = ap statement_of c.in-Guard.is ∙ sees_guard c.in-Guard.field-0 c.in-Guard.body c.in-Guard.undo in
     let y = tree.guard c.in-Guard.field-0 body undo in
-    let add = c.in_ok-add-in-Guard.ensures in
     let new = c.add-in-Guard.new.laid in
     let ids = c.add-in-Guard.new.ids in
-    seen_reads h (statement_of c.args.statement.now) y is s new c.args.ids.now ids
-    (added l new c.args.ids.now ids (λ a ns rest. IsStatement y h a s ns rest) (code.guard b u) c.in_ok-add-in-Guard.field-0 add.grows (guard_laid h s mid l second.grows body b first.reads undo u more c.in-Guard.field-0) add.numbers add.at)
+    record {
+      grows = both_grow start l c.add-in-Guard.new.laid (both_grow start mid l first.grows second.grows) c.in_ok-add-in-Guard.ensures.grows;
+      nested = add.nested;
+      next = add.next;
+      owned = added_owned (length start.blocks) l c.add-in-Guard.new.laid c.args.ids.now c.add-in-Guard.new.ids c.in_ok-add-in-Guard.field-0 (code.guard b u) add.grows add.blocks add.numbers add.at
+          (both_owned (length start.blocks) mid l b (u ∷ []) second.grows first.owned (one_owned (length mid.blocks) l u [] second.owned));
+      only = added_only start l c.add-in-Guard.new.laid c.args.ids.now c.add-in-Guard.new.ids c.in_ok-add-in-Guard.field-0 (code.guard b u) (both_grow start mid l first.grows second.grows) add.grows add.numbers add.at
+          (both_only (length start.blocks) mid l b (u ∷ []) (blocks_grow start mid first.grows) second.grows first.only (one_only (length mid.blocks) l u second.only));
+      moves = seen_moves h (statement_of c.args.statement.now) y is s (scope_of c.lay_undo.new.place)
+          (second.moves ∙ ap (past (locals_in_block undo)) first.moves ∙ past_past (locals_in_block body) (locals_in_block undo) s);
+      reads = seen_reads h (statement_of c.args.statement.now) y is s new c.args.ids.now ids
+          (added l new c.args.ids.now ids (λ a ns rest. IsStatement y h a s ns rest) (code.guard b u) c.in_ok-add-in-Guard.field-0 add.grows (guard_laid h s mid l second.grows body b first.reads undo u more c.in-Guard.field-0) add.numbers add.at);
+    }
 
 pub lay_statement-loop-name-init : goal.lay_statement-loop-name-init
 lay_statement-loop-name-init t c =
@@ -645,8 +448,8 @@ lay_statement-loop-name-preserved t c =
           step.grows (sym (ap (exception_number h) c.bytes.ensures.value) ∙ c.in_ok-exception-in-Try.ensures) step.moves step.reads pushed;
     }
 
-pub lay_statement-add-requires-in-Try-clause-inner : goal.lay_statement-add-requires-in-Try-clause-inner
-lay_statement-add-requires-in-Try-clause-inner t c =
+pub lay_statement-add-requires-in-Try : goal.lay_statement-add-requires-in-Try
+lay_statement-add-requires-in-Try t c =
     let h = home_of c.args.home in
     let s = scope_of c.args.place.now in
     let start = c.args.laid.now in
@@ -666,56 +469,14 @@ lay_statement-add-requires-in-Try-clause-inner t c =
     subst (λ (w : tree.Handlers). AreHandled h w entered l tree.no_more u found) same (subst (λ (xs : List (List ℕ × Vec Statement)). AreHandled h (handlers_list hs) entered l (handlers_list xs) u found) (drop_all c.loop-name.name-index hs c.loop-name-test.false) old.before)
     in
     let more : FromNowOn l (λ a. AreHandlers handlers h a (past (locals_in_block body) s) found) = subst (λ (v : Scope). FromNowOn l (λ a. AreHandlers handlers h a v found)) first.moves (handlers_end h handlers entered l u found ended) in
-    try_inner h s mid l old.grows body b first.reads handlers found more
+    record {
+      inner = try_inner h s mid l old.grows body b first.reads handlers found more;
+      nested = old.nested;
+      next = next_grown start l c.args.ids.now (both_grow start mid l first.grows old.grows) c.requires.next;
+    }
 
-pub lay_statement-add-requires-in-Try-clause-next : goal.lay_statement-add-requires-in-Try-clause-next
-lay_statement-add-requires-in-Try-clause-next t c =
-    let h = home_of c.args.home in
-    let s = scope_of c.args.place.now in
-    let start = c.args.laid.now in
-    let mid = c.lay_block-in-Try.new.laid in
-    let l = c.loop-name.laid in
-    let body = body_of c.in-Try.body.items in
-    let handlers = handlers_list c.in-Try.handlers.items in
-    let hs : List (List ℕ × Vec Statement) = c.deref-name-items.result.now in
-    let b = c.in_ok-block-in-Try.block in
-    let found = c.loop-name.found in
-    let first = c.in_ok-block-in-Try.ensures in
-    let old = c.loop-name.invariant in
-    let u = scope_of c.loop-name.place in
-    let entered = scope_of c.lay_block-in-Try.new.place in
-    let same : handlers_list hs ≡ handlers = ap handlers_list c.deref-name-items.ensures.value in
-    let ended : AreHandled h handlers entered l tree.no_more u found =
-    subst (λ (w : tree.Handlers). AreHandled h w entered l tree.no_more u found) same (subst (λ (xs : List (List ℕ × Vec Statement)). AreHandled h (handlers_list hs) entered l (handlers_list xs) u found) (drop_all c.loop-name.name-index hs c.loop-name-test.false) old.before)
-    in
-    let more : FromNowOn l (λ a. AreHandlers handlers h a (past (locals_in_block body) s) found) = subst (λ (v : Scope). FromNowOn l (λ a. AreHandlers handlers h a v found)) first.moves (handlers_end h handlers entered l u found ended) in
-    next_grown start l c.args.ids.now (both_grow start mid l first.grows old.grows) c.requires.next
-
-pub lay_statement-returns-in_ok-add-in-Try-clause-grows : goal.lay_statement-returns-in_ok-add-in-Try-clause-grows
-lay_statement-returns-in_ok-add-in-Try-clause-grows t c =
-    let h = home_of c.args.home in
-    let s = scope_of c.args.place.now in
-    let start = c.args.laid.now in
-    let mid = c.lay_block-in-Try.new.laid in
-    let l = c.loop-name.laid in
-    let body = body_of c.in-Try.body.items in
-    let handlers = handlers_list c.in-Try.handlers.items in
-    let hs : List (List ℕ × Vec Statement) = c.deref-name-items.result.now in
-    let b = c.in_ok-block-in-Try.block in
-    let found = c.loop-name.found in
-    let first = c.in_ok-block-in-Try.ensures in
-    let old = c.loop-name.invariant in
-    let u = scope_of c.loop-name.place in
-    let entered = scope_of c.lay_block-in-Try.new.place in
-    let same : handlers_list hs ≡ handlers = ap handlers_list c.deref-name-items.ensures.value in
-    let ended : AreHandled h handlers entered l tree.no_more u found =
-    subst (λ (w : tree.Handlers). AreHandled h w entered l tree.no_more u found) same (subst (λ (xs : List (List ℕ × Vec Statement)). AreHandled h (handlers_list hs) entered l (handlers_list xs) u found) (drop_all c.loop-name.name-index hs c.loop-name-test.false) old.before)
-    in
-    let more : FromNowOn l (λ a. AreHandlers handlers h a (past (locals_in_block body) s) found) = subst (λ (v : Scope). FromNowOn l (λ a. AreHandlers handlers h a v found)) first.moves (handlers_end h handlers entered l u found ended) in
-    both_grow start l c.add-in-Try.new.laid (both_grow start mid l first.grows old.grows) c.in_ok-add-in-Try.ensures.grows
-
-pub lay_statement-returns-in_ok-add-in-Try-clause-owned : goal.lay_statement-returns-in_ok-add-in-Try-clause-owned
-lay_statement-returns-in_ok-add-in-Try-clause-owned t c =
+pub lay_statement-returns-in_ok-add-in-Try : goal.lay_statement-returns-in_ok-add-in-Try
+lay_statement-returns-in_ok-add-in-Try t c =
     let h = home_of c.args.home in
     let s = scope_of c.args.place.now in
     let start = c.args.laid.now in
@@ -736,86 +497,22 @@ lay_statement-returns-in_ok-add-in-Try-clause-owned t c =
     in
     let more : FromNowOn l (λ a. AreHandlers handlers h a (past (locals_in_block body) s) found) = subst (λ (v : Scope). FromNowOn l (λ a. AreHandlers handlers h a v found)) first.moves (handlers_end h handlers entered l u found ended) in
     let add = c.in_ok-add-in-Try.ensures in
-    added_owned (length start.blocks) l c.add-in-Try.new.laid c.args.ids.now c.add-in-Try.new.ids c.in_ok-add-in-Try.field-0 (code.try_ b found) add.grows add.blocks add.numbers add.at
-    (both_owned (length start.blocks) mid l b (handler_blocks found) old.grows first.owned old.owned)
-
-pub lay_statement-returns-in_ok-add-in-Try-clause-only : goal.lay_statement-returns-in_ok-add-in-Try-clause-only
-lay_statement-returns-in_ok-add-in-Try-clause-only t c =
-    let h = home_of c.args.home in
-    let s = scope_of c.args.place.now in
-    let start = c.args.laid.now in
-    let mid = c.lay_block-in-Try.new.laid in
-    let l = c.loop-name.laid in
-    let body = body_of c.in-Try.body.items in
-    let handlers = handlers_list c.in-Try.handlers.items in
-    let hs : List (List ℕ × Vec Statement) = c.deref-name-items.result.now in
-    let b = c.in_ok-block-in-Try.block in
-    let found = c.loop-name.found in
-    let first = c.in_ok-block-in-Try.ensures in
-    let old = c.loop-name.invariant in
-    let u = scope_of c.loop-name.place in
-    let entered = scope_of c.lay_block-in-Try.new.place in
-    let same : handlers_list hs ≡ handlers = ap handlers_list c.deref-name-items.ensures.value in
-    let ended : AreHandled h handlers entered l tree.no_more u found =
-    subst (λ (w : tree.Handlers). AreHandled h w entered l tree.no_more u found) same (subst (λ (xs : List (List ℕ × Vec Statement)). AreHandled h (handlers_list hs) entered l (handlers_list xs) u found) (drop_all c.loop-name.name-index hs c.loop-name-test.false) old.before)
-    in
-    let more : FromNowOn l (λ a. AreHandlers handlers h a (past (locals_in_block body) s) found) = subst (λ (v : Scope). FromNowOn l (λ a. AreHandlers handlers h a v found)) first.moves (handlers_end h handlers entered l u found ended) in
-    let add = c.in_ok-add-in-Try.ensures in
-    added_only start l c.add-in-Try.new.laid c.args.ids.now c.add-in-Try.new.ids c.in_ok-add-in-Try.field-0 (code.try_ b found) (both_grow start mid l first.grows old.grows) add.grows add.numbers add.at
-    (both_only (length start.blocks) mid l b (handler_blocks found) (blocks_grow start mid first.grows) old.grows first.only old.only)
-
-pub lay_statement-returns-in_ok-add-in-Try-clause-moves : goal.lay_statement-returns-in_ok-add-in-Try-clause-moves
-lay_statement-returns-in_ok-add-in-Try-clause-moves t c =
-    let h = home_of c.args.home in
-    let s = scope_of c.args.place.now in
-    let start = c.args.laid.now in
-    let mid = c.lay_block-in-Try.new.laid in
-    let l = c.loop-name.laid in
-    let body = body_of c.in-Try.body.items in
-    let handlers = handlers_list c.in-Try.handlers.items in
-    let hs : List (List ℕ × Vec Statement) = c.deref-name-items.result.now in
-    let b = c.in_ok-block-in-Try.block in
-    let found = c.loop-name.found in
-    let first = c.in_ok-block-in-Try.ensures in
-    let old = c.loop-name.invariant in
-    let u = scope_of c.loop-name.place in
-    let entered = scope_of c.lay_block-in-Try.new.place in
-    let same : handlers_list hs ≡ handlers = ap handlers_list c.deref-name-items.ensures.value in
-    let ended : AreHandled h handlers entered l tree.no_more u found =
-    subst (λ (w : tree.Handlers). AreHandled h w entered l tree.no_more u found) same (subst (λ (xs : List (List ℕ × Vec Statement)). AreHandled h (handlers_list hs) entered l (handlers_list xs) u found) (drop_all c.loop-name.name-index hs c.loop-name-test.false) old.before)
-    in
-    let more : FromNowOn l (λ a. AreHandlers handlers h a (past (locals_in_block body) s) found) = subst (λ (v : Scope). FromNowOn l (λ a. AreHandlers handlers h a v found)) first.moves (handlers_end h handlers entered l u found ended) in
-    let is = ap statement_of c.in-Try.is ∙ sees_try c.in-Try.field-0 c.in-Try.body c.in-Try.handlers in
-    seen_moves h (statement_of c.args.statement.now) (tree.try_ c.in-Try.field-0 body handlers) is s u (sym (past_nothing u) ∙ ended.moves ∙ ap (past (locals_in_handlers handlers)) first.moves ∙ past_past (locals_in_block body) (locals_in_handlers handlers) s)
-
-pub lay_statement-returns-in_ok-add-in-Try-clause-reads : goal.lay_statement-returns-in_ok-add-in-Try-clause-reads
-lay_statement-returns-in_ok-add-in-Try-clause-reads t c =
-    let h = home_of c.args.home in
-    let s = scope_of c.args.place.now in
-    let start = c.args.laid.now in
-    let mid = c.lay_block-in-Try.new.laid in
-    let l = c.loop-name.laid in
-    let body = body_of c.in-Try.body.items in
-    let handlers = handlers_list c.in-Try.handlers.items in
-    let hs : List (List ℕ × Vec Statement) = c.deref-name-items.result.now in
-    let b = c.in_ok-block-in-Try.block in
-    let found = c.loop-name.found in
-    let first = c.in_ok-block-in-Try.ensures in
-    let old = c.loop-name.invariant in
-    let u = scope_of c.loop-name.place in
-    let entered = scope_of c.lay_block-in-Try.new.place in
-    let same : handlers_list hs ≡ handlers = ap handlers_list c.deref-name-items.ensures.value in
-    let ended : AreHandled h handlers entered l tree.no_more u found =
-    subst (λ (w : tree.Handlers). AreHandled h w entered l tree.no_more u found) same (subst (λ (xs : List (List ℕ × Vec Statement)). AreHandled h (handlers_list hs) entered l (handlers_list xs) u found) (drop_all c.loop-name.name-index hs c.loop-name-test.false) old.before)
-    in
-    let more : FromNowOn l (λ a. AreHandlers handlers h a (past (locals_in_block body) s) found) = subst (λ (v : Scope). FromNowOn l (λ a. AreHandlers handlers h a v found)) first.moves (handlers_end h handlers entered l u found ended) in
     let is = ap statement_of c.in-Try.is ∙ sees_try c.in-Try.field-0 c.in-Try.body c.in-Try.handlers in
     let y = tree.try_ c.in-Try.field-0 body handlers in
-    let add = c.in_ok-add-in-Try.ensures in
     let new = c.add-in-Try.new.laid in
     let ids = c.add-in-Try.new.ids in
-    seen_reads h (statement_of c.args.statement.now) y is s new c.args.ids.now ids
-    (added l new c.args.ids.now ids (λ a ns rest. IsStatement y h a s ns rest) (code.try_ b found) c.in_ok-add-in-Try.field-0 add.grows (try_laid h s mid l old.grows body b first.reads handlers found more c.in-Try.field-0) add.numbers add.at)
+    record {
+      grows = both_grow start l c.add-in-Try.new.laid (both_grow start mid l first.grows old.grows) c.in_ok-add-in-Try.ensures.grows;
+      nested = add.nested;
+      next = add.next;
+      owned = added_owned (length start.blocks) l c.add-in-Try.new.laid c.args.ids.now c.add-in-Try.new.ids c.in_ok-add-in-Try.field-0 (code.try_ b found) add.grows add.blocks add.numbers add.at
+          (both_owned (length start.blocks) mid l b (handler_blocks found) old.grows first.owned old.owned);
+      only = added_only start l c.add-in-Try.new.laid c.args.ids.now c.add-in-Try.new.ids c.in_ok-add-in-Try.field-0 (code.try_ b found) (both_grow start mid l first.grows old.grows) add.grows add.numbers add.at
+          (both_only (length start.blocks) mid l b (handler_blocks found) (blocks_grow start mid first.grows) old.grows first.only old.only);
+      moves = seen_moves h (statement_of c.args.statement.now) (tree.try_ c.in-Try.field-0 body handlers) is s u (sym (past_nothing u) ∙ ended.moves ∙ ap (past (locals_in_handlers handlers)) first.moves ∙ past_past (locals_in_block body) (locals_in_handlers handlers) s);
+      reads = seen_reads h (statement_of c.args.statement.now) y is s new c.args.ids.now ids
+          (added l new c.args.ids.now ids (λ a ns rest. IsStatement y h a s ns rest) (code.try_ b found) c.in_ok-add-in-Try.field-0 add.grows (try_laid h s mid l old.grows body b first.reads handlers found more c.in-Try.field-0) add.numbers add.at);
+    }
 
 -- blocks
 

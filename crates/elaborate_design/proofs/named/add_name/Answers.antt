@@ -2,7 +2,7 @@ use Rattle.std.proofs.Common.{◌<◌, [], ◌∷◌, ◌++◌, length, subst, s
 use Rattle.elaborate_objects.specs.ModelTree.Views.{item_of}
 use Rattle.elaborate_objects.specs.ModelRules.Members.{entry}
 use Rattle.elaborate_design.proofs.ChildEntries.{under_name, one_name, names_one}
-use Rattle.elaborate_design.proofs.NamedEntries.{index_table}
+use Rattle.elaborate_design.proofs.Entries.{index_table}
 use Rattle.elaborate_design.proofs.named.add_name.Goals as goal
 
 pub returns-in_ok-push-in-Some : goal.returns-in_ok-push-in-Some

@@ -6,7 +6,7 @@ use Rattle.exec_calls.proofs.storing.store_in.Goals as goal
 
 pub returns-in-Local-clause-moves : goal.returns-in-Local-clause-moves
 returns-in-Local-clause-moves c = λ h design home d stands.
-    subst (λ n. StandsFor c.store_local.new.k (set_name d c.args.p h n c.args.v)) (sym c.in-Local.is) (c.store_local.ensures.moves d stands)
+    subst (λ n. StandsFor c.set_local.new.k (set_name d c.args.p h n c.args.v)) (sym c.in-Local.is) (c.set_local.ensures.moves d stands)
 
 pub returns-in-Declared-clause-moves : goal.returns-in-Declared-clause-moves
 returns-in-Declared-clause-moves c = λ h design home d stands.

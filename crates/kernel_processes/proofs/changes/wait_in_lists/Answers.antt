@@ -14,4 +14,4 @@ wait_static-requires g c =
     subst P c.in-Static.is c.requires
 
 pub returns-in-Static : goal.returns-in-Static
-returns-in-Static g c = told_as c.args.p _ _ c.args.s.now _ c.wait_static.ensures (ap (λ w. waits_in w c.args.t.now.deadline (seen c.args.s.now c.args.p)) (sym c.in-Static.is))
+returns-in-Static g c = told_as c.args.p _ _ c.args.s.now _ c.wait_static.ensures (ap (λ w. waits_in c.args.rests w c.args.t.now.deadline (seen c.args.s.now c.args.p)) (sym c.in-Static.is))

@@ -9,5 +9,5 @@ pub returns : goal.returns
 returns g c =
     let s = c.args.s.now in
     let t = c.args.t.now in
-    told_as c.args.p _ _ s _ (then_changes c.args.p _ _ s _ _ c.put_time.ensures.changes c.rest_in_lists.ensures)
+    told_as c.args.p _ _ s _ (then_changes c.args.p _ _ s _ _ c.put_time.ensures.changes c.wait_in_lists.ensures)
     (ap (λ o. record (seen s c.args.p) { entry = o; wait = listed_as t.wait (sensitive_of (seen s c.args.p).entry); time = time_of t.deadline; zero = is_zero t.deadline }) (rests_at_once t (seen s c.args.p).entry))

@@ -1,4 +1,4 @@
-use Rattle.std.proofs.Common.{◌≡◌, ℕ, cond, drop, ap, arith}
+use Rattle.std.proofs.Common.{◌≡◌, ℕ, cond, drop, true≢false, sym, ap, ◌∙◌, arith}
 use Rattle.kernel_runs.specs.Made.{whole_of}
 use Rattle.kernel_runs.proofs.Several.{one_more, last_one}
 use Rattle.kernel_runs.proofs.stepping.make_some.Goals as goal
@@ -16,6 +16,8 @@ stepping-preserved-then-many-most g c =
       within = c.make-brief.ensures.within;
       none = c.make-brief.ensures.none;
       made = omega (arith, c.make-brief.ensures.made, c.stepping.invariant.made, going);
+      refused = λ stops is. absurd (true≢false (sym c.stepping-test.true ∙ stops));
+      faulted = λ f stops is. absurd (true≢false (sym c.stepping-test.true ∙ stops));
     }
 
 pub stepping-preserved : goal.stepping-preserved
@@ -30,4 +32,6 @@ stepping-preserved g c =
       within = c.make-brief.ensures.within;
       none = c.make-brief.ensures.none;
       made = omega (arith, c.make-brief.ensures.made, c.stepping.invariant.made, going);
+      refused = λ stops is. omega (arith, c.make-brief.ensures.refused is, c.stepping.invariant.made, going);
+      faulted = λ f stops is. omega (arith, c.make-brief.ensures.faulted f is, c.stepping.invariant.made, going);
     }

@@ -1,6 +1,8 @@
-use Rattle.std.proofs.Common.{◌≡◌, ◌≤◌, ◌<◌, ◌+◌, ◌-◌, ℕ, Bool, true, false, cond, List, [], length, drop, Option}
+use Rattle.std.proofs.Common.{◌≡◌, ◌≤◌, ◌<◌, ◌+◌, ◌-◌, false, cond, [], length, drop}
 use Rattle.kernel_phases.specs.KernelState.Kernel.{IsSound}
 use Rattle.kernel_runs.proofs.Several.{SoFar}
+use Rattle.flat_design.specs.declared.faults.RunFault.{RunFault}
+use Rattle.kernel_runs.specs.declared.answers.Made.TheVariants as became
 use Rattle.kernel_runs.specs.Made.{whole_of}
 use Rattle.kernel_runs.proofs.stepping.make_some.Given as goal
 
@@ -12,6 +14,8 @@ invariant-stepping g l = record {
   within : l.place ≤ length l.script;
   none : l.events.items ≡ [];
   made : l.k.made ≤ l.initial.k.made + l.many + cond l.going 0 1;
+  refused : l.going ≡ false → whole_of l.brief l.said ≡ became.NoMemory → l.k.made ≤ l.initial.k.made + l.many;
+  faulted : (f : RunFault) → l.going ≡ false → whole_of l.brief l.said ≡ became.Fault f → l.k.made ≤ l.initial.k.made + l.many;
 }
 
 abbrev pub decreases-stepping : goal.decreases-stepping

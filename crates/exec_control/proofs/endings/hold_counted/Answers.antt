@@ -1,20 +1,24 @@
-use Rattle.std.proofs.Common.{ℕ, None, sym, ap, ◌∙◌, subst}
+use Rattle.std.proofs.Common.{ℕ, Option, sym, ap, ◌∙◌, subst}
 use Rattle.std.specs.FinMap as map
+use Rattle.exec_data.specs.InstanceTable.declared.instances.Instance.{Instance as Entry}
 use Rattle.exec_data.specs.KernelProcesses.Moved.{HasRoom, IsTop}
+use Rattle.exec_data.specs.KernelProcesses.declared.parts.Process.{Process}
+use Rattle.exec_data.specs.KernelState.declared.kernel.Kept.{Kept}
 use Rattle.exec_data.proofs.KernelState.Frames.{stays_moves, stays_sound, lives_on_top, lives_still, keeps_bodies}
 use Rattle.exec_control.specs.Resting.{next_kept, rest_count}
-use Rattle.exec_control.proofs.endings.hold_statically.Goals as goal
+use Rattle.exec_control.proofs.endings.hold_counted.Goals as goal
 
 pub returns-in-Ok-clause-room : goal.returns-in-Ok-clause-room
 returns-in-Ok-clause-room c =
     let n : ℕ → Type 0 = λ m. HasRoom c.args.p m c.hold.new.s in
-    subst n (c.requires.counted ∙ ap (λ table. rest_count None (map.get table.live c.args.p)) (sym c.hold.ensures.table)) c.in-Ok.ensures.room
+    let t : Option (Entry (Process Kept)) → ℕ = λ x. rest_count (next_kept x) x in
+    subst n (c.requires.counted ∙ ap (λ table. t (map.get table.live c.args.p)) (sym c.hold.ensures.table)) c.in-Ok.ensures.room
 
-pub returns-in-Ok-clause-unset : goal.returns-in-Ok-clause-unset
-returns-in-Ok-clause-unset c = ap (λ table. next_kept (map.get table.live c.args.p)) c.hold.ensures.table ∙ c.requires.unset
+pub returns-in-Ok-clause-next : goal.returns-in-Ok-clause-next
+returns-in-Ok-clause-next c = ap (λ table. next_kept (map.get table.live c.args.p)) c.hold.ensures.table
 
-pub returns-in-Err-clause-unset : goal.returns-in-Err-clause-unset
-returns-in-Err-clause-unset c = ap (λ table. next_kept (map.get table.live c.args.p)) c.hold.ensures.table ∙ c.requires.unset
+pub returns-in-Err-clause-next : goal.returns-in-Err-clause-next
+returns-in-Err-clause-next c = ap (λ table. next_kept (map.get table.live c.args.p)) c.hold.ensures.table
 
 pub returns-in-Ok-clause-stays : goal.returns-in-Ok-clause-stays
 returns-in-Ok-clause-stays c = stays_moves c.args.k.now c.args.p c.requires.sound c.requires.top c.hold.new.s c.hold.ensures.sound c.hold.ensures.stays
