@@ -20,7 +20,7 @@ use kernel_view::kernel_channels_api::ChannelBoard;
 use kernel_view::kernel_state_api::{Kernel, StatementStop, block, pass, top_lives};
 use kernel_view::logic_values_api::Value;
 use kernel_view::{channel_at, eval_at, eval_place_at};
-use std::alloc::{AllocError, Global};
+use std::alloc::AllocError;
 
 /// Reads the oldest value of a fifo, if one can be read now, where the channel is a fifo.
 fn try_read(board: &mut ChannelBoard, channel: ChannelId) -> Option<Option<Value>>
@@ -150,7 +150,6 @@ pub fn nb_read(
 /// changes.
 fn read_channel(
     k: &mut Kernel,
-    alloc: Global,
     p: u32,
     target: Option<Store>,
     channel: ChannelId,
@@ -172,7 +171,7 @@ fn read_channel(
             put(k, p, slot, v);
             Ok(())
         }
-        Some(None) => match block(k, alloc, p, first_event(channel)) {
+        Some(None) => match block(k, p, first_event(channel)) {
             Ok(()) => Ok(()),
             Err(_) => Err(AllocError),
         },
@@ -191,7 +190,6 @@ fn read_channel(
 /// that. Then nothing changes.
 pub fn read(
     k: &mut Kernel,
-    alloc: Global,
     p: u32,
     target: Option<Store>,
     at: &ChannelUse,
@@ -206,7 +204,7 @@ pub fn read(
 {
     top_lives(k, p);
     match used_at(k, p, at) {
-        Ok(channel) => match read_channel(k, alloc, p, target, channel) {
+        Ok(channel) => match read_channel(k, p, target, channel) {
             Ok(()) => Ok(()),
             Err(_) => Err(StatementStop::NoMemory),
         },

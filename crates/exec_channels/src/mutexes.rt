@@ -17,7 +17,7 @@ use crate::uses::{first_event, mutex_number, used_at};
 use flat_design::{ChannelId, ChannelUse, RunFault, Store};
 use kernel_view::kernel_channels_api::ChannelBoard;
 use kernel_view::kernel_state_api::{Kernel, StatementStop, block, fire, pass, top_lives};
-use std::alloc::{AllocError, Global};
+use std::alloc::AllocError;
 
 /// Locks a mutex for an instance, if nobody owns it: says whether it did, where the channel is a mutex.
 fn try_lock(board: &mut ChannelBoard, channel: ChannelId, p: u32) -> Option<bool>
@@ -139,7 +139,7 @@ pub fn trylock(
 }
 
 /// A lock of a channel that is known. Memory is refused only where it is a mutex that somebody owns, and then nothing changes.
-fn lock_channel(k: &mut Kernel, alloc: Global, p: u32, channel: ChannelId) -> Result<(), AllocError>
+fn lock_channel(k: &mut Kernel, p: u32, channel: ChannelId) -> Result<(), AllocError>
     requires sound { IsSound k.old }
     requires top { IsOnTop k.old p }
     requires statement { HasStatement k.old p }
@@ -155,7 +155,7 @@ fn lock_channel(k: &mut Kernel, alloc: Global, p: u32, channel: ChannelId) -> Re
             pass(k, p);
             Ok(())
         }
-        Some(false) => match block(k, alloc, p, first_event(channel)) {
+        Some(false) => match block(k, p, first_event(channel)) {
             Ok(()) => Ok(()),
             Err(_) => Err(AllocError),
         },
@@ -172,7 +172,7 @@ fn lock_channel(k: &mut Kernel, alloc: Global, p: u32, channel: ChannelId) -> Re
 /// # Errors
 /// The fault of its place; a place past the last channel of a port; the instance would be blocked, and there is no memory for
 /// that. Then nothing changes.
-pub fn lock(k: &mut Kernel, alloc: Global, p: u32, at: &ChannelUse) -> Result<(), StatementStop>
+pub fn lock(k: &mut Kernel, p: u32, at: &ChannelUse) -> Result<(), StatementStop>
     requires sound { IsSound k.old }
     requires top { IsOnTop k.old p }
     requires statement { HasStatement k.old p }
@@ -183,7 +183,7 @@ pub fn lock(k: &mut Kernel, alloc: Global, p: u32, at: &ChannelUse) -> Result<()
 {
     top_lives(k, p);
     match used_at(k, p, at) {
-        Ok(channel) => match lock_channel(k, alloc, p, channel) {
+        Ok(channel) => match lock_channel(k, p, channel) {
             Ok(()) => Ok(()),
             Err(_) => Err(StatementStop::NoMemory),
         },

@@ -17,7 +17,7 @@ use crate::uses::{first_event, semaphore_number, used_at};
 use flat_design::{ChannelId, ChannelUse, RunFault, Store};
 use kernel_view::kernel_channels_api::ChannelBoard;
 use kernel_view::kernel_state_api::{Kernel, StatementStop, block, fire, pass, top_lives};
-use std::alloc::{AllocError, Global};
+use std::alloc::AllocError;
 
 /// Takes one of the value of a semaphore, if it is not used up: says whether it did, where the channel is a semaphore.
 fn try_take(board: &mut ChannelBoard, channel: ChannelId) -> Option<bool>
@@ -133,7 +133,7 @@ pub fn sem_trywait(
 
 /// A wait for a channel that is known. Memory is refused only where it is a semaphore of which nothing is left, and then nothing
 /// changes.
-fn wait_channel(k: &mut Kernel, alloc: Global, p: u32, channel: ChannelId) -> Result<(), AllocError>
+fn wait_channel(k: &mut Kernel, p: u32, channel: ChannelId) -> Result<(), AllocError>
     requires sound { IsSound k.old }
     requires top { IsOnTop k.old p }
     requires statement { HasStatement k.old p }
@@ -149,7 +149,7 @@ fn wait_channel(k: &mut Kernel, alloc: Global, p: u32, channel: ChannelId) -> Re
             pass(k, p);
             Ok(())
         }
-        Some(false) => match block(k, alloc, p, first_event(channel)) {
+        Some(false) => match block(k, p, first_event(channel)) {
             Ok(()) => Ok(()),
             Err(_) => Err(AllocError),
         },
@@ -166,7 +166,7 @@ fn wait_channel(k: &mut Kernel, alloc: Global, p: u32, channel: ChannelId) -> Re
 /// # Errors
 /// The fault of its place; a place past the last channel of a port; the instance would be blocked, and there is no memory for
 /// that. Then nothing changes.
-pub fn sem_wait(k: &mut Kernel, alloc: Global, p: u32, at: &ChannelUse) -> Result<(), StatementStop>
+pub fn sem_wait(k: &mut Kernel, p: u32, at: &ChannelUse) -> Result<(), StatementStop>
     requires sound { IsSound k.old }
     requires top { IsOnTop k.old p }
     requires statement { HasStatement k.old p }
@@ -177,7 +177,7 @@ pub fn sem_wait(k: &mut Kernel, alloc: Global, p: u32, at: &ChannelUse) -> Resul
 {
     top_lives(k, p);
     match used_at(k, p, at) {
-        Ok(channel) => match wait_channel(k, alloc, p, channel) {
+        Ok(channel) => match wait_channel(k, p, channel) {
             Ok(()) => Ok(()),
             Err(_) => Err(StatementStop::NoMemory),
         },

@@ -18,7 +18,7 @@ use kernel_view::expr_eval_api::{cut_to, eval, eval_place};
 use kernel_view::kernel_state_api::{Kernel, StatementStop, pass, top_lives, write_fifo};
 use kernel_view::logic_values_api::Value;
 use kernel_view::{Standing, standing_at};
-use std::alloc::{AllocError, Global};
+use std::alloc::AllocError;
 
 /// What a write is for, and what it writes.
 #[derive(Clone, Copy)]
@@ -72,14 +72,7 @@ fn what_is_written(
 /// A value is written to a fifo of the design, or the instance on top is blocked till one is read (IEEE 1666-2011, 6.23).
 /// Where memory is refused nothing changes.
 #[inline(never)]
-fn put_in_fifo(
-    k: &mut Kernel,
-    alloc: Global,
-    p: u32,
-    n: u32,
-    events: u32,
-    v: Value,
-) -> Result<(), AllocError>
+fn put_in_fifo(k: &mut Kernel, p: u32, n: u32, events: u32, v: Value) -> Result<(), AllocError>
     requires sound { IsSound k.old }
     requires top { IsOnTop k.old p }
     requires statement { HasStatement k.old p }
@@ -91,7 +84,7 @@ fn put_in_fifo(
     if events >= k.design.events.saturating_sub(1) {
         return Ok(());
     }
-    write_fifo(k, alloc, p, n, events, v)
+    write_fifo(k, p, n, events, v)
 }
 
 /// A value is written to a channel; a mutex and a semaphore take none.
@@ -99,13 +92,7 @@ fn put_in_fifo(
 /// # Errors
 /// Another process stands as the writer of a signal; no memory. Then nothing changes.
 #[inline(always)]
-fn write_channel(
-    k: &mut Kernel,
-    alloc: Global,
-    p: u32,
-    channel: ChannelId,
-    v: Value,
-) -> Result<(), StatementStop>
+fn write_channel(k: &mut Kernel, p: u32, channel: ChannelId, v: Value) -> Result<(), StatementStop>
     requires sound { IsSound k.old }
     requires top { IsOnTop k.old p }
     requires statement { HasStatement k.old p }
@@ -124,7 +111,7 @@ fn write_channel(
             Ok(()) => Ok(()),
             Err(_) => Err(StatementStop::NoMemory),
         },
-        ChannelId::Fifo { number, events } => match put_in_fifo(k, alloc, p, number, events, v) {
+        ChannelId::Fifo { number, events } => match put_in_fifo(k, p, number, events, v) {
             Ok(()) => Ok(()),
             Err(_) => Err(StatementStop::NoMemory),
         },
@@ -145,7 +132,6 @@ fn write_channel(
 #[inline(always)]
 pub fn write(
     k: &mut Kernel,
-    alloc: Global,
     p: u32,
     to: &ChannelUse,
     t: ValueType,
@@ -162,7 +148,7 @@ pub fn write(
 {
     top_lives(k, p);
     match what_is_written(k, p, to, t, e) {
-        Ok(x) => write_channel(k, alloc, p, x.channel, x.value),
+        Ok(x) => write_channel(k, p, x.channel, x.value),
         Err(fault) => Err(StatementStop::Fault(fault)),
     }
 }

@@ -8,7 +8,7 @@ use Rattle.kernel_view.specs.EventCore.declared.event.Ev.{Ev}
 use Rattle.kernel_view.specs.SimModel.Values.{on_ok}
 use Rattle.kernel_view.specs.SimModel.Configuration.{Config, Deadline, no_deadline, Trigger, waits_for_any}
 use Rattle.kernel_view.specs.SimModel.Reading.{Here, place_in}
-use Rattle.kernel_view.specs.SimModel.Waiting.{awaited, deadline_if, event_of, events_at}
+use Rattle.kernel_view.specs.SimModel.Waiting.{awaited, event_of, events_at}
 use Rattle.kernel_view.specs.KernelState.Kernel.{StandsFor}
 use Rattle.kernel_view.specs.KernelState.Stopping.{FollowsBut, NoFault}
 use Rattle.kernel_view.specs.KernelState.declared.kernel.Kernel.{Kernel}
@@ -61,10 +61,9 @@ module _ (h : Here) (e : EventTerm) where
         by_event (Ok x) = refl
         by_event (Err g) = refl
 
-    pub one_waits : (x : Ev) → Ok x ≡ event_there → (xs : List Ev) → xs ≡ x ∷ [] → StandsFor k (f (record { wait = waits_for_any xs; deadline = no_deadline }))
+    pub one_waits : (x : Ev) → Ok x ≡ event_there → StandsFor k (f (record { wait = waits_for_any (x ∷ []); deadline = no_deadline }))
         → FollowsBut NoFault k (Ok tt) c (on_ok (awaited h (code.any (e ∷ []) None)) (λ u. Ok (f u)))
-    one_waits x at xs is stands =
-        subst (FollowsBut NoFault k (Ok tt) c) (asked_for (Ok x) at) (subst (λ ys. StandsFor k (f (record { wait = waits_for_any ys; deadline = no_deadline }))) is stands)
+    one_waits x at stands = subst (FollowsBut NoFault k (Ok tt) c) (asked_for (Ok x) at) stands
 
     pub one_refused : (x : Ev) → Ok x ≡ event_there → StandsFor k c → FollowsBut NoFault k (Err stop.NoMemory) c (on_ok (awaited h (code.any (e ∷ []) None)) (λ u. Ok (f u)))
     one_refused x at stands = subst (FollowsBut NoFault k (Err stop.NoMemory) c) (asked_for (Ok x) at) stands

@@ -1,5 +1,5 @@
 -- One event more is looked up.
-use Rattle.std.proofs.Common.{◌≡◌, ◌<◌, ◌+◌, ℕ, Bool, List, ◌∷◌, length, get_or, drop, drop-cons, add-one, Option, option_map, Result, Ok, Err, refl, sym, ap, ◌∙◌, subst}
+use Rattle.std.proofs.Common.{◌≡◌, ◌<◌, ◌+◌, ℕ, Bool, List, ◌∷◌, length, get_or, drop, drop-cons, add-one, Option, option_map, Result, Ok, Err, refl, sym, ap, ◌∙◌}
 use Rattle.std.specs.Prelude.{IfOk}
 use Rattle.kernel_view.specs.EventCore.declared.event.Ev.{Ev}
 use Rattle.flat_design.specs.Code.{term_of, event_term, event_terms}
@@ -8,7 +8,7 @@ use Rattle.flat_design.specs.declared.faults.RunFault.{RunFault}
 use Rattle.kernel_view.specs.SimModel.Values.{on_ok}
 use Rattle.kernel_view.specs.SimModel.Reading.{Here, place_in}
 use Rattle.kernel_view.specs.SimModel.Waiting.{event_of}
-use Rattle.exec_events.specs.Named.{with_event, fault_of, first_fault, events_named}
+use Rattle.exec_events.specs.Named.{with_event, fault_of, first_fault}
 use Rattle.exec_events.proofs.Gathered.{faults, faults_more, no_place, adds, adds_one, adds_none}
 
 module _ (h : Here) (es : List EventUse) (i : ℕ) (e : EventUse) (within : i < length es) (is : e ≡ get_or es i e) where

@@ -1,5 +1,5 @@
 -- Events that are looked up one after another are those of the definition, which evaluates all places first.
-use Rattle.std.proofs.Common.{◌≡◌, ℕ, Bool, List, [], ◌∷◌, Option, Some, None, option_map, Result, Ok, Err, refl, sym, ap, ◌∙◌, subst}
+use Rattle.std.proofs.Common.{◌≡◌, ℕ, Bool, List, [], ◌∷◌, Option, Some, None, option_map, Result, Ok, Err, refl, sym, ap, ◌∙◌}
 use Rattle.std.specs.Prelude.{IfOk}
 use Rattle.kernel_view.specs.EventCore.declared.event.Ev.{Ev}
 use Rattle.kernel_view.specs.LogicValues.declared.kinds.Value.{Value}

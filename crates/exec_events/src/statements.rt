@@ -13,10 +13,8 @@ use crate::gathering::event_used;
 use crate::next_trigger;
 use crate::triggers::{end_of, wait_of};
 use flat_design::{Await, EventUse};
-use kernel_view::instance_table_api::Deadline;
-use kernel_view::kernel_processes_api::{Trigger, Wait};
-use kernel_view::kernel_state_api::{Kernel, StatementStop, top_lives, wait_so};
-use kernel_view::logic_values_api::Items;
+use kernel_view::kernel_processes_api::Trigger;
+use kernel_view::kernel_state_api::{Kernel, StatementStop, top_lives, wait_for_event, wait_so};
 use std::alloc::Global;
 
 /// `wait` for one event, without a time-out: the event is evaluated once.
@@ -24,12 +22,7 @@ use std::alloc::Global;
 /// # Errors
 /// The fault of its place; its own; want of memory, where there is no fault. Then nothing changes.
 #[inline(never)]
-fn wait_for_one(
-    k: &mut Kernel,
-    alloc: Global,
-    p: u32,
-    event: &EventUse,
-) -> Result<(), StatementStop>
+fn wait_for_one(k: &mut Kernel, p: u32, event: &EventUse) -> Result<(), StatementStop>
     requires sound { IsSound k.old }
     requires top { IsOnTop k.old p }
     requires statement { HasStatement k.old p }
@@ -43,16 +36,7 @@ fn wait_for_one(
         Ok(e) => e,
         Err(fault) => return Err(StatementStop::Fault(fault)),
     };
-    let mut events = Items::new(alloc);
-    match events.push(e) {
-        Ok(()) => {}
-        Err(_) => return Err(StatementStop::NoMemory),
-    }
-    let t = Trigger {
-        wait: Wait::Any(events),
-        deadline: Deadline::None,
-    };
-    match wait_so(k, p, &t) {
+    match wait_for_event(k, p, e) {
         Ok(()) => Ok(()),
         Err(_) => Err(StatementStop::NoMemory),
     }
@@ -112,7 +96,7 @@ pub fn wait_statement(
         match time {
             None => {
                 if events.len() == 1 {
-                    return wait_for_one(k, alloc, p, &events[0]);
+                    return wait_for_one(k, p, &events[0]);
                 }
             }
             Some(_) => {}

@@ -50,6 +50,10 @@ wait_as (how.All es) = model.waits_for_all es
 abbrev pub waits_as : Trigger → Instance → Instance
 waits_as t i = record i { wait = wait_as t.wait; deadline = deadline_of t.deadline }
 
+-- how one waits for this event alone, without a time-out
+abbrev pub for_event : Ev → Trigger
+for_event e = record { wait = how.Any (e ∷ []); deadline = due.None }
+
 abbrev pub started_as : Bool → Instance → Instance
 started_as on i = record i { started = on }
 

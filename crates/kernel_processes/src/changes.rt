@@ -1,5 +1,5 @@
 //! What a part of a schedule is changed by, for one instance at a time.
-ghost use Rattle.std.specs.Prelude.{◌≡◌, ◌≤◌, ◌<◌, ◌-◌, ◌^◌, ◌+◌, true, false, not, ◌||◌, Some, None, OnOk, IfSome, IsSome, option_map, length};
+ghost use Rattle.std.specs.Prelude.{◌≡◌, ◌≤◌, ◌<◌, ◌-◌, ◌^◌, ◌+◌, ◌∷◌, [], true, false, not, ◌||◌, Some, None, OnOk, IfSome, IsSome, option_map, length};
 ghost use Rattle.std.specs.FinMap as map;
 ghost use Rattle.std.specs.FinSet as set;
 ghost use Rattle.instance_table.specs.declared.instances.Waiting.TheVariants as waiting;
@@ -7,6 +7,7 @@ ghost use Rattle.instance_table.specs.declared.instances.Deadline.TheVariants as
 ghost use Rattle.wait_lists.specs.Waits.{room_for};
 ghost use Rattle.kernel_processes.specs.Sound.{time_of, is_zero};
 ghost use Rattle.kernel_processes.specs.Moves.{Changes, with_entry, listed_as, events_of, sensitive_of, waiting_by, waiting_as, waits_in, begun_still, is_kept, HasNoTimeOut};
+ghost use Rattle.kernel_processes.specs.declared.parts.Wait.TheVariants as how;
 
 use super::parts::{Schedule, Trigger, Wait};
 use instance_table::{Deadline, Waiting};
@@ -186,6 +187,37 @@ pub(crate) fn wait_in_lists<B>(s: &mut Schedule<B>, p: u32, t: &Trigger, rests: 
         Wait::Static => wait_static(s, p, t.deadline, rests),
         Wait::Any(_) | Wait::All(_) => wait_listed(s, p, t, rests),
     }
+}
+
+/// Lets an instance wait in the list of one event, in place of what it waited for.
+#[inline(always)]
+fn put_wait_for<B>(s: &mut Schedule<B>, p: u32, e: Ev)
+    requires { 1 ≤ room_for s.old.lists p }
+    ensures { Changes p (λ x. record x { wait = listed_as (how.Any (e ∷ [])) (sensitive_of x.entry) }) s.old s.new }
+{
+    let events = [e];
+    s.lists.wait_any(p, &events);
+}
+
+/// Notes that an instance waits for any of a list of events, without a time-out.
+#[inline(always)]
+fn mark_any<B>(s: &mut Schedule<B>, p: u32)
+    ensures { Changes p (with_entry (λ x. record x { wait = waiting.Any; deadline = due.None })) s.old s.new }
+{
+    if let Some(x) = s.table.get_mut(p) {
+        x.wait = Waiting::Any;
+        x.deadline = Deadline::None;
+    }
+}
+
+/// Lets an instance wait for one event, without a time-out, in place of what it waited for, and notes that.
+#[inline(always)]
+pub(crate) fn wait_for_one<B>(s: &mut Schedule<B>, p: u32, e: Ev)
+    requires { 1 ≤ room_for s.old.lists p }
+    ensures { Changes p (waits_in false (how.Any (e ∷ [])) due.None) s.old s.new }
+{
+    put_wait_for(s, p, e);
+    mark_any(s, p);
 }
 
 /// Notes that an instance waits for nothing, and is not kept.

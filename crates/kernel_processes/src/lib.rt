@@ -27,7 +27,7 @@ pub use parts::{Process, Schedule, Trigger, Wait};
 pub use spawning::spawn;
 pub use time::{earliest, not_before, take_due, take_zero, wake_due};
 pub use turns::{begin, initialize, take, top};
-pub use waits::{hold, rest_ready, wait as begin_wait};
+pub use waits::{hold, rest_ready, wait as begin_wait, wait_for as begin_wait_for};
 pub use wakes_told::{a_wake_reaches_one_instance, an_event_reaches_each_instance};
 pub use waking::{fire, is_active, wake};
 

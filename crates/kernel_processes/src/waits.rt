@@ -4,12 +4,14 @@ ghost use Rattle.std.specs.FinMap as map;
 ghost use Rattle.wait_lists.specs.Waits.{room_for};
 ghost use Rattle.kernel_processes.specs.Sound.{IsSound};
 ghost use Rattle.kernel_processes.specs.Moves.{events_of, sensitive_of, with_entry, HasNoTimeOut, Changes, MovesOne};
-ghost use Rattle.kernel_processes.specs.Moved.{HasRoom, IsTop, Stays, leaves_top, waits_as, rests_as, waiting_seen};
+ghost use Rattle.kernel_processes.specs.Moved.{HasRoom, IsTop, Stays, leaves_top, waits_as, for_event, rests_as, waiting_seen};
 
-use super::changes::{hold_room, put_time, wait_in_lists};
+use super::changes::{hold_room, put_time, wait_for_one, wait_in_lists};
 use super::turns::leave_stack;
 use crate::{Schedule, Trigger, count_events};
+use instance_table::Deadline;
 use std::alloc::AllocError;
+use wait_lists::event_core_api::Ev;
 
 /// Makes room for a wait of the instance.
 #[inline(always)]
@@ -55,6 +57,20 @@ fn put_resting<B>(s: &mut Schedule<B>, p: u32, t: &Trigger)
     wait_in_lists(s, p, t, true);
 }
 
+/// Puts an instance that has no time-out into the list of one event.
+#[inline(always)]
+fn put_for<B>(s: &mut Schedule<B>, p: u32, e: Ev)
+    requires below { p < 2 ^ 32 - 1 }
+    requires event { 1 ≤ room_for s.old.lists p }
+    requires times { 0 < s.old.deadlines.spare }
+    requires zeros { 0 < s.old.zero.spare }
+    requires untimed { HasNoTimeOut p s.old }
+    ensures { Changes p (waiting_seen (for_event e)) s.old s.new }
+{
+    put_time(s, p, Deadline::None);
+    wait_for_one(s, p, e);
+}
+
 /// The instance on top leaves the stack and waits so (IEEE 1666-2011, 5.2.18). Where memory is refused nothing changes.
 pub fn wait<B>(s: &mut Schedule<B>, p: u32, t: &Trigger) -> Result<(), AllocError>
     requires sound { IsSound s.old }
@@ -69,6 +85,24 @@ pub fn wait<B>(s: &mut Schedule<B>, p: u32, t: &Trigger) -> Result<(), AllocErro
     }
     leave_stack(s, p);
     put(s, p, t);
+    Ok(())
+}
+
+/// The instance on top leaves the stack and waits for one event, without a time-out (IEEE 1666-2011, 5.2.18). Where memory is refused
+/// nothing changes.
+pub fn wait_for<B>(s: &mut Schedule<B>, p: u32, e: Ev) -> Result<(), AllocError>
+    requires sound { IsSound s.old }
+    requires top { IsTop p s.old.stack.items }
+    ensures moves { OnOk result (MovesOne p (waits_as (for_event e)) false (leaves_top p) s.old s.new) }
+    ensures stays { OnErr result (Stays s.old s.new) }
+    ensures sound { IsSound s.new }
+{
+    match hold_room(s, p, 1) {
+        Ok(()) => {}
+        Err(_) => return Err(AllocError),
+    }
+    leave_stack(s, p);
+    put_for(s, p, e);
     Ok(())
 }
 

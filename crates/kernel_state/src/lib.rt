@@ -16,11 +16,11 @@ mod ways;
 pub use control::{kill, push, reset};
 pub use kernel::{Cycle, Kept, Kernel, Offspring, PathOf};
 pub use laws::top_lives;
-pub use moves::{fire, notify, pass, set_local, set_variable, settle, wait};
+pub use moves::{fire, notify, pass, set_local, set_variable, settle, wait, wait_for};
 pub use payloads::{acquire, release, set_byte, set_field};
 pub use reaching::targets;
 pub use spawning::spawn;
-pub use statements::{block, store_variable, wait_so, write_fifo};
+pub use statements::{block, store_variable, wait_for_event, wait_so, write_fifo};
 pub use stops::StatementStop;
 pub use ways::{Way, move_on};
 

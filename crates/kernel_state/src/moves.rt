@@ -1,6 +1,6 @@
 //! Moves of the processes: each carries the configuration that the kernel stands for as the definitions of a run do.
-ghost use Rattle.std.specs.Prelude.{◌≡◌, OnOk, OnErr};
-ghost use Rattle.kernel_processes.specs.SimModel.Configuration.{with_residual};
+ghost use Rattle.std.specs.Prelude.{◌≡◌, ◌∷◌, [], OnOk, OnErr};
+ghost use Rattle.kernel_processes.specs.SimModel.Configuration.{with_residual, waits_for_any, no_deadline};
 ghost use Rattle.kernel_processes.specs.SimModel.Storing as storing;
 ghost use Rattle.kernel_processes.specs.SimModel.Waits as waiting;
 ghost use Rattle.kernel_processes.specs.InstanceViews.{deadline_of};
@@ -55,6 +55,24 @@ pub fn wait(k: &mut Kernel, p: u32, t: &Trigger) -> Result<(), AllocError>
     ensures made { k.new.made ≡ k.old.made }
 {
     match kernel_processes::begin_wait(&mut k.schedule, p, t) {
+        Ok(()) => Ok(()),
+        Err(_) => Err(AllocError),
+    }
+}
+
+/// The active instance on top waits for one event, without a time-out, and leaves the stack (IEEE 1666-2011, 5.2.18). Where memory is
+/// refused nothing changes.
+#[inline(always)]
+pub fn wait_for(k: &mut Kernel, p: u32, e: Ev) -> Result<(), AllocError>
+    requires sound { IsSound k.old }
+    requires top { IsOnTop k.old p }
+    ensures moves { OnOk result (Moves k.old k.new (λ c. waiting.waits c p (waits_for_any (e ∷ [])) no_deadline)) }
+    ensures stays { OnErr result (Moves k.old k.new (λ c. c)) }
+    ensures kept { KeepsBodies k.old k.new }
+    ensures sound { IsSound k.new }
+    ensures made { k.new.made ≡ k.old.made }
+{
+    match kernel_processes::begin_wait_for(&mut k.schedule, p, e) {
         Ok(()) => Ok(()),
         Err(_) => Err(AllocError),
     }

@@ -1,7 +1,8 @@
 //! Statements, one of each theme: what can be refused comes first, then the part that moves, then the statement is past.
-ghost use Rattle.std.specs.Prelude.{◌≡◌, ◌<◌, ◌-◌, ◌^◌, OnOk, OnErr, slice_get};
+ghost use Rattle.std.specs.Prelude.{◌≡◌, ◌<◌, ◌-◌, ◌^◌, ◌∷◌, [], OnOk, OnErr, slice_get};
 ghost use Rattle.kernel_processes.specs.FlatDesign.declared.design.ChannelId.TheVariants as channel;
 ghost use Rattle.kernel_processes.specs.SimModel.Channels as channels;
+ghost use Rattle.kernel_processes.specs.SimModel.Configuration.{waits_for_any, no_deadline};
 ghost use Rattle.kernel_processes.specs.SimModel.Storing.{passes};
 ghost use Rattle.kernel_processes.specs.SimModel.Storing as storing;
 ghost use Rattle.kernel_processes.specs.SimModel.Waits.{waits};
@@ -11,12 +12,11 @@ ghost use Rattle.kernel_state.specs.Kernel.{IsSound};
 ghost use Rattle.kernel_state.specs.Moves.{Moves, Steps, Lives, HasStatement, IsOnTop};
 
 use crate::kernel::Kernel;
-use crate::moves::{pass, set_variable, settle, wait};
+use crate::moves::{pass, set_variable, settle, wait, wait_for};
+use kernel_processes::Trigger;
 use kernel_processes::event_core_api::Ev;
-use kernel_processes::instance_table_api::Deadline;
-use kernel_processes::logic_values_api::{Items, Value};
-use kernel_processes::{Trigger, Wait};
-use std::alloc::{AllocError, Global};
+use kernel_processes::logic_values_api::Value;
+use std::alloc::AllocError;
 
 /// A value is stored in a variable of an instance of a module.
 pub fn store_variable(k: &mut Kernel, p: u32, n: u32, v: Value)
@@ -50,9 +50,29 @@ pub fn wait_so(k: &mut Kernel, p: u32, t: &Trigger) -> Result<(), AllocError>
     }
 }
 
+/// The instance on top waits for one event, without a time-out: its statement is past (IEEE 1666-2011, 5.2.18). Where memory is refused
+/// nothing changes.
+pub fn wait_for_event(k: &mut Kernel, p: u32, e: Ev) -> Result<(), AllocError>
+    requires sound { IsSound k.old }
+    requires top { IsOnTop k.old p }
+    requires statement { HasStatement k.old p }
+    ensures steps { OnOk result (Steps k.old k.new p (λ c q i r. waits (passes c q r) q (waits_for_any (e ∷ [])) no_deadline)) }
+    ensures stays { OnErr result (Moves k.old k.new (λ c. c)) }
+    ensures sound { IsSound k.new }
+    ensures made { k.new.made ≡ k.old.made }
+{
+    match wait_for(k, p, e) {
+        Ok(()) => {
+            pass(k, p);
+            Ok(())
+        }
+        Err(_) => Err(AllocError),
+    }
+}
+
 /// The instance on top is blocked: the same statement stays, and it waits for an event. Where memory is refused nothing
 /// changes.
-pub fn block(k: &mut Kernel, alloc: Global, p: u32, e: Ev) -> Result<(), AllocError>
+pub fn block(k: &mut Kernel, p: u32, e: Ev) -> Result<(), AllocError>
     requires sound { IsSound k.old }
     requires top { IsOnTop k.old p }
     ensures steps { OnOk result (Steps k.old k.new p (λ c q i r. channels.blocks c q r e)) }
@@ -60,16 +80,7 @@ pub fn block(k: &mut Kernel, alloc: Global, p: u32, e: Ev) -> Result<(), AllocEr
     ensures sound { IsSound k.new }
     ensures made { k.new.made ≡ k.old.made }
 {
-    let mut events = Items::new(alloc);
-    match events.push(e) {
-        Ok(()) => {}
-        Err(_) => return Err(AllocError),
-    }
-    let t = Trigger {
-        wait: Wait::Any(events),
-        deadline: Deadline::None,
-    };
-    match wait(k, p, &t) {
+    match wait_for(k, p, e) {
         Ok(()) => {
             settle(k, p);
             Ok(())
@@ -80,14 +91,7 @@ pub fn block(k: &mut Kernel, alloc: Global, p: u32, e: Ev) -> Result<(), AllocEr
 
 /// A value is written to a fifo, or the instance on top is blocked till one is read (IEEE 1666-2011, 6.23). `events` is the
 /// fifo's first event. Where memory is refused nothing changes.
-pub fn write_fifo(
-    k: &mut Kernel,
-    alloc: Global,
-    p: u32,
-    n: u32,
-    events: u32,
-    v: Value,
-) -> Result<(), AllocError>
+pub fn write_fifo(k: &mut Kernel, p: u32, n: u32, events: u32, v: Value) -> Result<(), AllocError>
     requires sound { IsSound k.old }
     requires top { IsOnTop k.old p }
     requires statement { HasStatement k.old p }
@@ -102,7 +106,7 @@ pub fn write_fifo(
             pass(k, p);
             Ok(())
         }
-        Some(false) => match block(k, alloc, p, Ev::Fixed(events + 1)) {
+        Some(false) => match block(k, p, Ev::Fixed(events + 1)) {
             Ok(()) => Ok(()),
             Err(_) => Err(AllocError),
         },

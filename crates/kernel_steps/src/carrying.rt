@@ -70,7 +70,7 @@ pub(crate) fn carry_out(
     match statement {
         Statement::Var(n, t, e) => var_step(k, p, s, *n, *t, e, said),
         Statement::Assign(to, e) => assign_step(k, p, s, to, e, said),
-        Statement::Write(to, t, e) => write_step(k, alloc, p, s, to, *t, e, said),
+        Statement::Write(to, t, e) => write_step(k, p, s, to, *t, e, said),
         Statement::Print(text, e) => print_step(k, p, s, text, e, said),
         Statement::Notify(n) => {
             notify_named(k, p, *n);
@@ -123,7 +123,7 @@ fn carry_rare(
         Statement::Call(_, f, arguments) => {
             taking(call(k, alloc, p, s, *f, arguments.as_slice()), said)
         }
-        Statement::Read(target, at) => taking(read(k, alloc, p, *target, at), said),
+        Statement::Read(target, at) => taking(read(k, p, *target, at), said),
         Statement::NbRead(target, at, to) => plain(nb_read(k, p, *target, at, *to), said),
         Statement::NbWrite(target, at, t, e) => plain(nb_write(k, p, *target, at, *t, e), said),
         Statement::Trylock(target, at) => plain(trylock(k, p, *target, at), said),
@@ -136,8 +136,8 @@ fn carry_rare(
             cancel_named(k, p, *n);
             StepBrief::Went
         }
-        Statement::Lock(at) => taking(lock(k, alloc, p, at), said),
-        Statement::SemWait(at) => taking(sem_wait(k, alloc, p, at), said),
+        Statement::Lock(at) => taking(lock(k, p, at), said),
+        Statement::SemWait(at) => taking(sem_wait(k, p, at), said),
         Statement::Post(at) => plain(post(k, p, at), said),
         Statement::Make(n, e, more) => taking(make(k, p, *n, e, more), said),
         Statement::Acquire(n) => plain(acquire(k, p, *n), said),

@@ -14,7 +14,6 @@ use exec_channels::kernel_view_api::{eval_at, eval_if_at};
 use exec_channels::model_tree_api::PrintText;
 use exec_control::exec_data_api::{assign, if_then, var, while_do, write};
 use flat_design::{BlockId, ChannelUse, Destination, Expr, StmtId, ValueType};
-use std::alloc::Global;
 
 /// `var`.
 pub(crate) fn var_step(
@@ -62,7 +61,6 @@ pub(crate) fn assign_step(
 /// `write`.
 pub(crate) fn write_step(
     k: &mut Kernel,
-    alloc: Global,
     p: u32,
     s: StmtId,
     to: &ChannelUse,
@@ -78,7 +76,7 @@ pub(crate) fn write_step(
     ensures sound { IsSound k.new }
     ensures made { k.new.made ≡ k.old.made }
 {
-    taking(write(k, alloc, p, to, t, e), said)
+    taking(write(k, p, to, t, e), said)
 }
 
 /// `print`.

@@ -52,7 +52,7 @@ pub mod kernel_state_api {
     pub use kernel_state::{
         Kept, Kernel, Offspring, StatementStop, Way, acquire, block, fire, kill, move_on, notify,
         pass, push, release, reset, set_byte, set_field, set_local, set_variable, settle, spawn,
-        store_variable, targets, top_lives, wait_so, write_fifo,
+        store_variable, targets, top_lives, wait_for_event, wait_so, write_fifo,
     };
 }
 

@@ -1,4 +1,4 @@
 pub mod Rising
 pub mod Shown
 pub mod Least
-pub mod Alone
+pub mod Row

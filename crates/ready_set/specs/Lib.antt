@@ -1,3 +1,3 @@
 pub mod Ready
 pub mod Layout
-pub mod Alone
+pub mod Row

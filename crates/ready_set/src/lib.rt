@@ -15,10 +15,13 @@ use std::marker::Model;
 /// A set of serials, with room for some more.
 ///
 /// A call takes time in the logarithm of the number of members, but for `reserve`, which takes time in the room that it makes.
+/// While the serials of the members follow one another it takes a few instructions; the call after which they no longer do
+/// takes as long as to put each of them in.
 #[derive(Drop)]
 pub struct ReadySet {
-    // The only member, while no other has come since there was none.
-    only: Option<u32>,
+    // Where the members follow one another, which they mostly do: the first of them, and how many there are.
+    first: u32,
+    count: u32,
     // All of them, else.
     members: Members,
 }
@@ -30,11 +33,11 @@ impl Model for ReadySet {
 
     ghost coded = { ready_code };
 
-    ghost use Rattle.ready_set.specs.Alone.{with_only, MayBeAlone};
+    ghost use Rattle.ready_set.specs.Row.{with_row, IsRow};
 
-    ghost view = { λ s. with_only s.only s.members };
+    ghost view = { λ s. with_row s.first s.count s.members };
 
-    ghost invariant = { λ s. MayBeAlone s.only s.members };
+    ghost invariant = { λ s. IsRow s.first s.count s.members };
 }
 
 impl ReadySet {
@@ -45,7 +48,8 @@ impl ReadySet {
         ensures { result.members ≡ set.empty }
     {
         ReadySet {
-            only: None,
+            first: 0,
+            count: 0,
             members: Members::new(alloc),
         }
     }
@@ -58,12 +62,9 @@ impl ReadySet {
         ensures kept { self.new.members ≡ self.old.members }
         ensures err { OnErr result (self.new ≡ self.old) }
     {
-        match self.only {
-            None => self.members.reserve(n),
-            Some(_) => match n.checked_add(1) {
-                Some(all) => self.members.reserve(all),
-                None => Err(AllocError),
-            },
+        match n.checked_add(self.count) {
+            Some(all) => self.members.reserve(all),
+            None => Err(AllocError),
         }
     }
 
@@ -74,21 +75,22 @@ impl ReadySet {
         requires below { p < 2 ^ 32 - 1 }
         ensures { self.new ≡ with_member self.old p }
     {
-        match self.only {
-            None => {
-                if self.members.is_empty() {
-                    self.only = Some(p);
-                } else {
-                    self.members.insert(p);
-                }
+        if self.count == 0 {
+            if self.members.is_empty() {
+                self.first = p;
+                self.count = 1;
+            } else {
+                self.members.insert(p);
             }
-            Some(only) => {
-                if only != p {
-                    self.only = None;
-                    self.members.insert(only);
-                    self.members.insert(p);
-                }
-            }
+        } else if p == self.first + self.count {
+            self.count += 1;
+        } else if p + 1 == self.first {
+            self.first = p;
+            self.count += 1;
+        } else if p < self.first || self.first + self.count < p {
+            self.members.insert_row(self.first, self.count);
+            self.count = 0;
+            self.members.insert(p);
         }
     }
 
@@ -98,16 +100,23 @@ impl ReadySet {
         ensures answer { result ≡ set.contains self.old.members p }
         ensures left { self.new ≡ without_member self.old p }
     {
-        match self.only {
-            None => self.members.remove(p),
-            Some(only) => {
-                if only != p {
-                    return false;
-                }
-                self.only = None;
-                true
-            }
+        if self.count == 0 {
+            return self.members.remove(p);
         }
+        if p < self.first || self.first + self.count <= p {
+            return false;
+        }
+        if p == self.first {
+            self.first += 1;
+            self.count -= 1;
+        } else if p + 1 == self.first + self.count {
+            self.count -= 1;
+        } else {
+            self.members.insert_row(self.first, self.count);
+            self.count = 0;
+            self.members.remove(p);
+        }
+        true
     }
 
     /// How many members there are.
@@ -115,10 +124,10 @@ impl ReadySet {
     pub fn len(&self) -> u32
         ensures { result ≡ set.len self.now.members }
     {
-        match self.only {
-            None => self.members.len(),
-            Some(_) => 1,
+        if self.count == 0 {
+            return self.members.len();
         }
+        self.count
     }
 
     /// Whether the serial is a member.
@@ -126,10 +135,13 @@ impl ReadySet {
     pub fn has(&self, p: u32) -> bool
         ensures { result ≡ set.contains self.now.members p }
     {
-        match self.only {
-            None => self.members.has(p),
-            Some(only) => only == p,
+        if self.count == 0 {
+            return self.members.has(p);
         }
+        if p < self.first {
+            return false;
+        }
+        p < self.first + self.count
     }
 
     /// The member at place `k` of the rising order, counted from 0, or `None` where there are at most `k`.
@@ -137,9 +149,13 @@ impl ReadySet {
     pub fn kth(&self, k: u32) -> Option<u32>
         ensures { result ≡ slice_get (rising self.now.members) k }
     {
-        match self.only {
-            None => self.members.kth(k),
-            Some(only) => { if k == 0 { Some(only) } else { None } }
+        if self.count == 0 {
+            return self.members.kth(k);
+        }
+        if k < self.count {
+            Some(self.first + k)
+        } else {
+            None
         }
     }
 
@@ -148,20 +164,20 @@ impl ReadySet {
     pub fn least(&self) -> Option<u32>
         ensures { result ≡ slice_get (rising self.now.members) 0 }
     {
-        match self.only {
-            None => self.members.least(),
-            Some(only) => Some(only),
+        if self.count == 0 {
+            return self.members.least();
         }
+        Some(self.first)
     }
 
     /// The greatest member, or `None` where there is none.
     pub fn greatest(&self) -> Option<u32>
         ensures { result ≡ slice_get (rising self.now.members) (set.len self.now.members - 1) }
     {
-        match self.only {
-            None => self.members.greatest(),
-            Some(only) => Some(only),
+        if self.count == 0 {
+            return self.members.greatest();
         }
+        Some(self.first + (self.count - 1))
     }
 }
 

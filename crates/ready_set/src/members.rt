@@ -45,6 +45,7 @@ fn key_of(entry: Option<(u32, ())>) -> Option<u32>
 
 impl Members {
     ghost use Rattle.ready_set.specs.Ready.{rising, with_member, without_member};
+    ghost use Rattle.ready_set.specs.Row.{with_row, IsRow};
 
     // A set with no member. It takes no memory.
     pub(crate) fn new(alloc: Global) -> Members
@@ -77,6 +78,18 @@ impl Members {
             return;
         }
         self.kept.insert(p, ());
+    }
+
+    // Makes so many serials that follow one another members, where there is none yet.
+    #[inline(never)]
+    pub(crate) fn insert_row(&mut self, first: u32, count: u32)
+        requires row { IsRow first count self.old }
+        requires some { 0 < count }
+        ensures { self.new ≡ with_row first count self.old }
+    {
+        for p in first..first + count {
+            self.insert(p);
+        }
     }
 
     // Takes the serial out, and says whether it was a member.

@@ -1,7 +1,7 @@
 -- Places of times: their order is that of the times, and they stay where the origin moves past none of them.
-use Rattle.std.proofs.Common.{◌≡◌, ℕ, zero, suc, ◌+◌, ◌-◌, ◌*◌, ◌/◌, ◌%◌, ◌^◌, ◌≢◌, ◌≤◌, ◌<◌, cond, refl, sym, ap, ◌∙◌, ⊎_elim, arith, eq-eqb, ne_eqb, lit≤}
+use Rattle.std.proofs.Common.{◌≡◌, ℕ, zero, suc, ◌+◌, ◌-◌, ◌*◌, ◌/◌, ◌%◌, ◌^◌, ◌≢◌, ◌≤◌, ◌<◌, cond, refl, sym, ap, ◌∙◌, ⊎_elim, subst, arith, eq-eqb, ne_eqb, lit≤}
 use Rattle.std.proofs.lemmas.Bool.{cases_eq, cases_lt, lt-ltb, le-ltb}
-use Rattle.std.proofs.Math.Nat.{pow-succ'}
+use Rattle.std.proofs.Math.Nat.{pow-succ', mul_assoc, one-mul, one-le-pow, le-mul_of_pos_right, mul_comm}
 use Rattle.timed_queue.specs.Placing.{place_at, start_at}
 
 pub place_here : (n t o : ℕ) → t / 64 ≡ o / 64 → place_at n t o ≡ t % 64
@@ -159,3 +159,46 @@ place_own n t o low = ⊎_elim
     (λ (same : t / 64 ≡ o / 64). place_here (suc n) t t refl ∙ sym (place_here (suc n) t o same))
     (λ (apart : t / 64 ≢ o / 64). let e = place_above n t o apart in absurd (omega (arith, e, low)))
     (cases_eq (t / 64) (o / 64))
+
+-- ---- down the levels: how many times of the lowest one a time of this level is, and what stands in the place there
+
+pub record Down (p o unit levels left high : ℕ) : Type 0 where
+  pub start : unit * start_at levels left high ≡ start_at 10 p o
+  pub whole : unit * 64 ^ levels ≡ 64 ^ 10
+
+pub down_first : (p o : ℕ) → Down p o 1 10 p o
+down_first p o = record { start = one-mul (start_at 10 p o); whole = one-mul (64 ^ 10) }
+
+pow_more : (n : ℕ) → 0 < n → 64 ^ n ≡ 64 * 64 ^ (n - 1)
+pow_more zero some = absurd (omega (arith, some))
+pow_more (suc n) some = let e : suc n - 1 ≡ n = omega arith in pow-succ' 64 n ∙ ap (λ m. 64 * 64 ^ m) (sym e)
+
+module _ (p o unit levels left high : ℕ) (d : Down p o unit levels left high) where
+  pub down_more : 0 < levels → 64 ≤ left → Down p o (unit * 64) (levels - 1) (left - 64) (high / 64)
+  down_more some far = record {
+    start = mul_assoc unit 64 (start_at (levels - 1) (left - 64) (high / 64)) ∙ ap (λ x. unit * x) (sym (start_more levels left high some far)) ∙ d.start;
+    whole = mul_assoc unit 64 (64 ^ (levels - 1)) ∙ ap (λ x. unit * x) (sym (pow_more levels some)) ∙ d.whole;
+  }
+
+  pow_pos : (n : ℕ) → 0 < 64 ^ n
+  pow_pos n = one-le-pow n 64 (lit≤ tt)
+
+  pub down_fits : unit ≤ 64 ^ 10
+  down_fits = subst (λ x. unit ≤ x) d.whole (le-mul_of_pos_right unit (pow_pos levels))
+
+  unit_pos : 0 < unit
+  unit_pos = by_unit unit d.whole
+    where
+      by_unit : (u : ℕ) → u * 64 ^ levels ≡ 64 ^ 10 → 0 < u
+      by_unit zero e = absurd (omega (arith, e, pow_pos 10))
+      by_unit (suc u) e = omega arith
+
+  module _ (here : start_at levels left high ≡ high / 64 * 64 + left) where
+    pub down_last : unit * (high / 64 * 64 + left) ≡ start_at 10 p o
+    down_last = ap (λ x. unit * x) (sym here) ∙ d.start
+
+    pub down_low : high / 64 * 64 + left ≤ start_at 10 p o
+    down_low = subst (λ x. high / 64 * 64 + left ≤ x) (mul_comm (high / 64 * 64 + left) unit ∙ down_last) (le-mul_of_pos_right (high / 64 * 64 + left) unit_pos)
+
+pub unit_fits : (p o unit levels left high : ℕ) → Down p o unit levels left high → unit < 2 ^ 64
+unit_fits p o unit levels left high d = let e : 64 ^ 10 < 2 ^ 64 = lit≤ tt in omega (arith, down_fits p o unit levels left high d, e)

@@ -104,9 +104,11 @@ impl Noted {
         ensures kept { self.new.times ≡ self.old.times }
         ensures err { OnErr result (self.new ≡ self.old) }
     {
-        let names = self.queue.len() as usize + n as usize;
+        // for as many again, so that one name after another asks seldom
+        let more = n.max(self.queue.len());
+        let names = self.queue.len() as usize + more as usize;
         match grow(&mut self.flags, names) {
-            Ok(()) => self.queue.reserve(n),
+            Ok(()) => self.queue.reserve(more),
             Err(error) => Err(error),
         }
     }

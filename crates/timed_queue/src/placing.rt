@@ -30,20 +30,16 @@ pub(crate) fn start_of(place: u32, origin: u64) -> u64
     requires { start_at 10 place origin < 2 ^ 64 }
     ensures { result ≡ start_at 10 place origin }
 {
-    start_from(place, origin, 10)
-}
-
-// The same, with so many levels above this one.
-fn start_from(place: u32, origin: u64, levels: u32) -> u64
-    requires few { levels ≤ 10 }
-    requires fits { start_at levels place origin < 2 ^ 64 }
-    ensures { result ≡ start_at levels place origin }
-{
-    if levels == 0 {
-        return origin / 64 * 64 + u64::from(place);
+    // A time of the level that the place is on, as one of the lowest level: so many levels are above that.
+    let mut unit = 1u64;
+    let mut levels = 10u32;
+    let mut left = place;
+    let mut high = origin;
+    'down: while 0 < levels && 64 <= left {
+        unit *= 64;
+        levels -= 1;
+        left -= 64;
+        high /= 64;
     }
-    if place < 64 {
-        return origin / 64 * 64 + u64::from(place);
-    }
-    64 * start_from(place - 64, origin / 64, levels - 1)
+    unit * (high / 64 * 64 + u64::from(left))
 }

@@ -140,7 +140,8 @@ fn admit(kept: &mut Kept, p: u32, items: u32) -> Result<(), AllocError>
     ensures ok { OnOk result (waits_by kept.new ≡ with_room (waits_by kept.old) p items) }
     ensures err { OnErr result (waits_by kept.new ≡ waits_by kept.old) }
 {
-    kept.places.reserve(1)?;
+    // for as many again, so that one instance after another asks seldom
+    kept.places.reserve(kept.places.len().max(1))?;
     make_nodes(kept, items)?;
     make_place(kept)?;
     take_place(kept, p, items);

@@ -1,5 +1,4 @@
-use Rattle.std.proofs.Common.{Ok, None, Some, sym, ap, ◌∙◌, subst}
-use Rattle.flat_design.specs.Code.{term_of}
+use Rattle.std.proofs.Common.{Ok, sym, ap, ◌∙◌, subst}
 use Rattle.kernel_view.specs.SimModel.Values.{on_ok, moment}
 use Rattle.kernel_view.specs.SimModel.Residual.{settle}
 use Rattle.kernel_view.specs.SimModel.Configuration.{arena}

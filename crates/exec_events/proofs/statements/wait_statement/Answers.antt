@@ -1,4 +1,4 @@
-use Rattle.std.proofs.Common.{◌≡◌, ◌∷◌, [], ℕ, length, None, Ok, option_map, sym, ap, ◌∙◌, subst, arith}
+use Rattle.std.proofs.Common.{◌≡◌, ℕ, length, None, Ok, option_map, sym, ap, ◌∙◌, subst, arith}
 use Rattle.flat_design.specs.Code as code
 use Rattle.flat_design.specs.Code.{AwaitTerm, await_term, event_terms, term_of}
 use Rattle.kernel_view.specs.SimModel.Residual.{settle}

@@ -1,16 +1,17 @@
-use Rattle.std.proofs.Common.{◌≡◌, ◌-◌, sym, ap, ◌∙◌}
+use Rattle.std.proofs.Common.{◌<◌, ◌-◌, arith, sym, ap, ◌∙◌}
 use Rattle.std.specs.Prelude.{slice_get}
 use Rattle.std.specs.FinSet as set
-use Rattle.ready_set.specs.Ready.{Ready, rising, with_member}
-use Rattle.ready_set.specs.Alone.{IsAlone}
-use Rattle.ready_set.proofs.Alone.{is_alone, shown_alone, rising-alone, len-alone}
+use Rattle.ready_set.specs.Ready.{Ready, rising}
+use Rattle.ready_set.specs.Row.{with_row}
+use Rattle.ready_set.proofs.Row.{in-row, rising-shown, len-shown}
 use Rattle.ready_set.proofs.ReadySet.greatest.Goals as goal
 
-pub returns-in-Some : goal.returns-in-Some
-returns-in-Some c =
+pub returns : goal.returns
+returns c =
+    let a = c.self.inside.first in
+    let n = c.self.inside.count in
     let r = c.self.inside.members in
-    let alone : IsAlone c.in-Some.only r = is_alone r c.in-Some.is c.self.invariant in
-    let view : with_member r c.in-Some.only ≡ c.args.self.now = shown_alone r c.in-Some.is c.self.view_is in
-    let w = with_member r c.in-Some.only in
-    sym (ap (λ n. slice_get (rising w.members) (n - 1)) (len-alone c.in-Some.only r alone) ∙ ap (λ xs. slice_get xs 0) (rising-alone c.in-Some.only r alone))
-    ∙ ap (λ (w : Ready). slice_get (rising w.members) (set.len w.members - 1)) view
+    let some : 0 < n = omega (arith, c.if-self-eq0.false) in
+    sym (in-row a n (n - 1) (omega (arith, some))) ∙ sym (ap (λ xs. slice_get xs (n - 1)) (rising-shown a n some r))
+    ∙ sym (ap (λ m. slice_get (rising (with_row a n r).members) (m - 1)) (len-shown a n some r))
+    ∙ ap (λ (w : Ready). slice_get (rising w.members) (set.len w.members - 1)) c.self.view_is

@@ -1,13 +1,19 @@
-use Rattle.std.proofs.Common.{◌≡◌, ap, ◌∙◌}
-use Rattle.std.specs.FinSet as set
-use Rattle.ready_set.specs.Ready.{Ready, with_member}
-use Rattle.ready_set.specs.Alone.{IsAlone}
-use Rattle.ready_set.proofs.Alone.{is_alone, shown_alone, tells_alone}
+use Rattle.std.proofs.Common.{◌<◌, arith}
+use Rattle.ready_set.proofs.Row.{not_before, told_below}
 use Rattle.ready_set.proofs.ReadySet.has.Goals as goal
 
-pub returns-in-Some : goal.returns-in-Some
-returns-in-Some c =
+pub returns-then-p-self : goal.returns-then-p-self
+returns-then-p-self c =
+    let a = c.self.inside.first in
+    let n = c.self.inside.count in
     let r = c.self.inside.members in
-    let alone : IsAlone c.in-Some.only r = is_alone r c.in-Some.is c.self.invariant in
-    let view : with_member r c.in-Some.only ≡ c.args.self.now = shown_alone r c.in-Some.is c.self.view_is in
-    tells_alone c.in-Some.only r alone c.args.p ∙ ap (λ (w : Ready). set.contains w.members c.args.p) view
+    let some : 0 < n = omega (arith, c.if-self-eq0.false) in
+    not_before a n c.args.p r c.self.invariant some c.self.view_is c.if-p-self.true
+
+pub returns : goal.returns
+returns c =
+    let a = c.self.inside.first in
+    let n = c.self.inside.count in
+    let r = c.self.inside.members in
+    let some : 0 < n = omega (arith, c.if-self-eq0.false) in
+    told_below a n c.args.p r c.self.invariant some c.self.view_is (omega (arith, c.if-p-self.false))

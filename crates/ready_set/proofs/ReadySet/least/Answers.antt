@@ -1,13 +1,14 @@
-use Rattle.std.proofs.Common.{◌≡◌, sym, ap, ◌∙◌}
+use Rattle.std.proofs.Common.{◌<◌, Some, arith, sym, ap, ◌∙◌}
 use Rattle.std.specs.Prelude.{slice_get}
-use Rattle.ready_set.specs.Ready.{Ready, rising, with_member}
-use Rattle.ready_set.specs.Alone.{IsAlone}
-use Rattle.ready_set.proofs.Alone.{is_alone, shown_alone, rising-alone}
+use Rattle.ready_set.specs.Ready.{Ready, rising}
+use Rattle.ready_set.proofs.Row.{in-row, rising-shown}
 use Rattle.ready_set.proofs.ReadySet.least.Goals as goal
 
-pub returns-in-Some : goal.returns-in-Some
-returns-in-Some c =
+pub returns : goal.returns
+returns c =
+    let a = c.self.inside.first in
+    let n = c.self.inside.count in
     let r = c.self.inside.members in
-    let alone : IsAlone c.in-Some.only r = is_alone r c.in-Some.is c.self.invariant in
-    let view : with_member r c.in-Some.only ≡ c.args.self.now = shown_alone r c.in-Some.is c.self.view_is in
-    sym (ap (λ xs. slice_get xs 0) (rising-alone c.in-Some.only r alone)) ∙ ap (λ (w : Ready). slice_get (rising w.members) 0) view
+    let some : 0 < n = omega (arith, c.if-self-eq0.false) in
+    ap Some (omega arith) ∙ sym (in-row a n 0 some) ∙ sym (ap (λ xs. slice_get xs 0) (rising-shown a n some r))
+    ∙ ap (λ (w : Ready). slice_get (rising w.members) 0) c.self.view_is
