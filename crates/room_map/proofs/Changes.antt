@@ -1,5 +1,5 @@
 -- What a change of one side is to the whole tree.
-use Rattle.std.proofs.Common.{◌≡◌, ℕ, ◌+◌, ◌<◌, ◌≤◌, List, ◌∷◌, ◌++◌, length, Some, None, ⊎_elim, refl, sym, ap, ◌∙◌, subst, arith}
+use Rattle.std.proofs.Common.{◌≡◌, ℕ, ◌+◌, ◌<◌, ◌≤◌, ◌^◌, List, ◌∷◌, ◌++◌, length, Some, None, ⊎_elim, refl, sym, ap, ◌∙◌, subst, arith}
 use Rattle.std.specs.Prelude.{slice_get, max}
 use Rattle.std.proofs.lemmas.Bool.{cases_lt}
 use Rattle.std.proofs.lemmas.Option.{slice_get_past, slice_get_within}
@@ -8,9 +8,10 @@ use Rattle.std.specs.declared.cmp.Ordering.TheVariants.{Less, Greater}
 use Rattle.std.specs.Cmp.{IsTotalOrder}
 use Rattle.room_map.specs.declared.nodes.Node.{Node}
 use Rattle.room_map.specs.Shape.{Shape, Bare, Fork, is_at, entries, height, times, IsBalanced}
-use Rattle.room_map.specs.Nodes.{Under, Changed, AreNear, IsHighOver, IsEven, CanEnter, HasEntered}
-use Rattle.room_map.proofs.Sizes.{is_max}
-use Rattle.room_map.proofs.Held.{IsOver, bare, under_kept, changed_more, length-fork}
+use Rattle.room_map.specs.Nodes.{raised, Under, Changed, AreNear, IsHighOver, IsEven, CanEnter, HasEntered}
+use Rattle.room_map.proofs.Sizes.{is_max, at_itself}
+use Rattle.room_map.proofs.Held.{IsOver, bare, same_node, under_kept, changed_more, length-fork, count_of, raised_over}
+use Rattle.room_map.proofs.Even.{even_as_is}
 use Rattle.room_map.proofs.Maps.{length-put_new}
 use Rattle.room_map.proofs.Cuts.{cut_over, left_shorter, right_shorter, left_rises, right_rises, find_left, find_right, put_left, put_right}
 
@@ -40,6 +41,29 @@ over_shrinks_right a b c h near back less one w =
     let n = is_max a c in
     ⊎_elim (λ (far : c + 1 < a). (omega arith, omega arith)) (λ (close : a ≤ c + 1). let e = w.as_high close (omega arith) in (omega arith, omega arith)) (cases_lt (c + 1) a)
 
+-- a side that grew to the height c, beside one of the height b, under a node that is as high as before
+record GrewBelow (a b c h : ℕ) : Type 0 where
+  near : c ≤ b + 1
+  back : b ≤ c + 1
+  same : h ≡ max c b + 1
+
+grew_below : (a b c h : ℕ) → a ≤ b + 1 → b ≤ a + 1 → a ≤ c → c < h → h ≡ max a b + 1 → GrewBelow a b c h
+grew_below a b c h near back more low high =
+    let m = is_max a b in
+    let n = is_max c b in
+    record { near = omega arith; back = omega arith; same = omega arith }
+
+record GrewBelowRight (a b c h : ℕ) : Type 0 where
+  near : a ≤ c + 1
+  back : c ≤ a + 1
+  same : h ≡ max a c + 1
+
+grew_below_right : (a b c h : ℕ) → a ≤ b + 1 → b ≤ a + 1 → b ≤ c → c < h → h ≡ max a b + 1 → GrewBelowRight a b c h
+grew_below_right a b c h near back more low high =
+    let m = is_max a b in
+    let n = is_max a c in
+    record { near = omega arith; back = omega arith; same = omega arith }
+
 -- the sides of a balanced tree
 pub record SidesEven {K V : Type 0} (ns : List (Node K V)) (i : ℕ) (t : Shape K V) (n : Node K V) (o : IsOver ns i t n) : Type 0 where
   pub left : IsBalanced o.l
@@ -51,6 +75,18 @@ pub sides_even : {K V : Type 0} {ns : List (Node K V)} {i : ℕ} {t : Shape K V}
 sides_even {n = n} o even =
     let b = subst IsBalanced o.is even in
     record { left = b.0; right = b.1; near = b.2; back = b.3 }
+
+module _ {K V : Type 0} {R : K → K → Ordering} {ns : List (Node K V)} {i s : ℕ} {t : Shape K V} {key : K} where
+  one_longer : {value : V} {u : Shape K V} → IsTotalOrder R → CanEnter R ns i key s t → HasEntered R t s key value u → length (entries u) ≡ length (entries t) + 1
+  one_longer {value} ord e h = ap length h.has ∙ length-put_new ord key value (entries t) e.rises e.absent
+
+  -- a node stays where only one of its sides changes
+  pub node_stays : {n : Node K V} (side : Shape K V) {ms : List (Node K V)} → CanEnter R ns i key s t → slice_get ns i ≡ Some n → (o : IsOver ns i t n) → times i side ≤ times i o.l + times i o.r
+      → Changed (λ q. times q side + is_at s q) ns ms → slice_get ms i ≡ Some n
+  node_stays side e there o of d = d.others i (omega (arith, e.apart i, of, at_itself i, ap (times i) o.is)) ∙ there
+
+  pub count_small : {n : Node K V} (ms : List (Node K V)) → CanEnter R ns i key s t → slice_get ns i ≡ Some n → slice_get ms i ≡ Some n → (m : Node K V) → slice_get ms i ≡ Some m → m.count + 1 < 2 ^ 32
+  count_small ms e there stays m got = omega (arith, ap {A = Node K V} (λ n. n.count) (same_node (sym got ∙ stays)), count_of t e.under there, e.small)
 
 module _ {K V : Type 0} {R : K → K → Ordering} (ord : IsTotalOrder R) {ns : List (Node K V)} {i : ℕ} {n : Node K V} {t : Shape K V} {key : K} where
   -- ---- an entry more
@@ -84,9 +120,7 @@ module _ {K V : Type 0} {R : K → K → Ordering} (ord : IsTotalOrder R) {ns : 
   pub entered_near_left : {s j : ℕ} {value : V} {ms : List (Node K V)} {u : Shape K V} → CanEnter R ns i key s t → slice_get ns i ≡ Some n → (o : IsOver ns i t n) → R key n.key ≡ Less
       → Under ms j u → HasEntered R o.l s key value u → Changed (λ q. times q o.l + is_at s q) ns ms → AreNear ms j u i n.right o.r
   entered_near_left {s} {j} {value} {ms} {u} e there o less under h d =
-      let cut = cut_over R o e.rises in
-      let inner = enter_left e o less in
-      let long : length (entries u) ≡ length (entries o.l) + 1 = ap length h.has ∙ length-put_new ord key value (entries o.l) inner.rises inner.absent in
+      let long : length (entries u) ≡ length (entries o.l) + 1 = one_longer ord (enter_left e o less) h in
       let even = sides_even o e.balanced in
       record {
         sides = record {
@@ -105,9 +139,7 @@ module _ {K V : Type 0} {R : K → K → Ordering} (ord : IsTotalOrder R) {ns : 
   pub entered_near_right : {s j : ℕ} {value : V} {ms : List (Node K V)} {u : Shape K V} → CanEnter R ns i key s t → slice_get ns i ≡ Some n → (o : IsOver ns i t n) → R key n.key ≡ Greater
       → Under ms j u → HasEntered R o.r s key value u → Changed (λ q. times q o.r + is_at s q) ns ms → AreNear ms n.left o.l i j u
   entered_near_right {s} {j} {value} {ms} {u} e there o more under h d =
-      let cut = cut_over R o e.rises in
-      let inner = enter_right e o more in
-      let long : length (entries u) ≡ length (entries o.r) + 1 = ap length h.has ∙ length-put_new ord key value (entries o.r) inner.rises inner.absent in
+      let long : length (entries u) ≡ length (entries o.r) + 1 = one_longer ord (enter_right e o more) h in
       let even = sides_even o e.balanced in
       record {
         sides = record {
@@ -148,6 +180,32 @@ module _ {K V : Type 0} {R : K → K → Ordering} (ord : IsTotalOrder R) {ns : 
         low = omega (arith, g.0, ap height o.is);
         high = omega (arith, g.1, ap height o.is);
       }
+
+  -- ---- a node that counts an entry more
+
+  pub raised_left : {s : ℕ} {value : V} {ms os : List (Node K V)} {u : Shape K V} → CanEnter R ns i key s t → slice_get ns i ≡ Some n → (o : IsOver ns i t n) → R key n.key ≡ Less
+      → Under ms n.left u → HasEntered R o.l s key value u → Changed (λ q. times q o.l + is_at s q) ns ms → height u < n.height → slice_get os i ≡ Some (raised n) → Changed (is_at i) ms os
+      → Under os i (Fork i u n.key n.value o.r) × IsEven u i n.key n.value o.r (Fork i u n.key n.value o.r)
+  raised_left {u = u} e there o less under h d low written c =
+      let near = entered_near_left e there o less under h d in
+      let b = sides_even o e.balanced in
+      let long = one_longer ord (enter_left e o less) h in
+      let g = grew_below (height o.l) (height o.r) (height u) n.height b.near b.back h.low low (ap {A = Node K V} (λ n. n.height) o.node.node) in (
+        raised_over near.sides (omega (arith, ap {A = Node K V} (λ n. n.count) o.node.node, long)) g.same written c,
+        even_as_is i u n.key n.value o.r near.left_even near.right_even g.near g.back,
+      )
+
+  pub raised_right : {s : ℕ} {value : V} {ms os : List (Node K V)} {u : Shape K V} → CanEnter R ns i key s t → slice_get ns i ≡ Some n → (o : IsOver ns i t n) → R key n.key ≡ Greater
+      → Under ms n.right u → HasEntered R o.r s key value u → Changed (λ q. times q o.r + is_at s q) ns ms → height u < n.height → slice_get os i ≡ Some (raised n) → Changed (is_at i) ms os
+      → Under os i (Fork i o.l n.key n.value u) × IsEven o.l i n.key n.value u (Fork i o.l n.key n.value u)
+  raised_right {u = u} e there o more under h d low written c =
+      let near = entered_near_right e there o more under h d in
+      let b = sides_even o e.balanced in
+      let long = one_longer ord (enter_right e o more) h in
+      let g = grew_below_right (height o.l) (height o.r) (height u) n.height b.near b.back h.low low (ap {A = Node K V} (λ n. n.height) o.node.node) in (
+        raised_over near.sides (omega (arith, ap {A = Node K V} (λ n. n.count) o.node.node, long)) g.same written c,
+        even_as_is i o.l n.key n.value u near.left_even near.right_even g.near g.back,
+      )
 
 no_entry_here : {K V : Type 0} (R : K → K → Ordering) (s : ℕ) (key : K) (value : V) → HasEntered R Bare s key value (Fork s Bare key value Bare)
 no_entry_here R s key value =

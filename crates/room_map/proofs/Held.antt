@@ -5,7 +5,7 @@ use Rattle.std.proofs.lemmas.Bool.{cases_lt}
 use Rattle.std.proofs.lemmas.Option.{slice_get_past, slice_get_within}
 use Rattle.room_map.specs.declared.nodes.Node.{Node}
 use Rattle.room_map.specs.Shape.{Shape, Bare, Fork, is_at, entries, height, times}
-use Rattle.room_map.specs.Nodes.{top, node_over, IsHeld, Under, Changed, AreSides, AreThree, height_in, height_at}
+use Rattle.room_map.specs.Nodes.{top, node_over, raised, IsHeld, Under, Changed, AreSides, AreThree, height_in, height_at}
 use Rattle.room_map.proofs.Sizes.{at_itself, is_max, at_some}
 
 pub slice_get-set_same : {X : Type 0} (xs : List X) (i : ℕ) (w : X) → i < length xs → slice_get (set xs i w) i ≡ Some w
@@ -80,7 +80,7 @@ module _ {K V : Type 0} where
   no_node : (n : Node K V) → Some n ≡ None → ⊥
   no_node n h = cc
 
-  same_node : {x y : Node K V} → Some x ≡ Some y → x ≡ y
+  pub same_node : {x y : Node K V} → Some x ≡ Some y → x ≡ y
   same_node h = cc
 
   pub bare : {ns : List (Node K V)} {i : ℕ} (t : Shape K V) → Under ns i t → slice_get ns i ≡ None → t ≡ Bare
@@ -115,6 +115,18 @@ module _ {K V : Type 0} where
         r = r;
         is = λ p. Fork (sym u.is_top p) l (sym o.key p) (sym o.value p) r;
         node = record { left = o.left; right = o.right; key = refl; value = refl; node = o.node ∙ (λ p. node_over l (sym o.key p) (sym o.value p) r) };
+      }
+
+  -- a node over two sides that have an entry more than it counted, and are not higher than it allows
+  pub raised_over : {ns ms : List (Node K V)} {i : ℕ} {n : Node K V} {l r : Shape K V} → AreSides ns n.left l i n.right r → n.count ≡ length (entries l) + length (entries r) → n.height ≡ max (height l) (height r) + 1
+      → slice_get ms i ≡ Some (raised n) → Changed (is_at i) ns ms → Under ms i (Fork i l n.key n.value r)
+  raised_over {n = n} {l} {r} s count high written d =
+      let left = under_kept n.left l d (λ k. omega (arith, s.apart k)) s.left in
+      let right = under_kept n.right r d (λ k. omega (arith, s.apart k)) s.right in
+      record {
+        is_top = refl;
+        held = (written ∙ ap Some (node_is l n.key n.value r s.left.is_top s.right.is_top (omega (arith, count)) high), left.held, right.held);
+        few = left.few;
       }
 
   -- three trees: two of them, and then all

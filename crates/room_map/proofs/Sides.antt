@@ -1,15 +1,16 @@
 -- What a call on one side of a tree, and the balancing after it, make of the whole tree.
-use Rattle.std.proofs.Common.{◌≡◌, ℕ, ◌+◌, List, Some, ap, arith}
+use Rattle.std.proofs.Common.{◌≡◌, ℕ, ◌+◌, ◌<◌, ◌^◌, List, length, Some, ap, subst, arith}
 use Rattle.std.specs.Prelude.{slice_get}
+use Rattle.std.proofs.lemmas.Option.{slice_get_within}
 use Rattle.std.specs.declared.cmp.Ordering.{Ordering}
 use Rattle.std.specs.declared.cmp.Ordering.TheVariants.{Less, Equal, Greater}
 use Rattle.std.specs.Cmp.{IsTotalOrder}
 use Rattle.room_map.specs.declared.nodes.Node.{Node}
-use Rattle.room_map.specs.Shape.{Shape, Fork, is_at, times}
-use Rattle.room_map.specs.Nodes.{Under, Changed, AreNear, IsEven, CanSplit, IsSplit, CanJoin, IsJoined, CanEnter, HasEntered, HasKey, HasValue, CanLeave, HasLeft}
+use Rattle.room_map.specs.Shape.{Shape, Fork, is_at, height, times}
+use Rattle.room_map.specs.Nodes.{raised, Under, Changed, AreNear, IsEven, CanSplit, IsSplit, CanJoin, IsJoined, CanEnter, HasEntered, HasKey, HasValue, CanLeave, HasLeft}
 use Rattle.room_map.proofs.Held.{IsOver, forked, changed_both, changed_where}
 use Rattle.room_map.proofs.Cuts.{cut_over, absent_above}
-use Rattle.room_map.proofs.Changes.{enter_left, enter_right, entered_near_left, entered_near_right, entered_left, entered_right}
+use Rattle.room_map.proofs.Changes.{enter_left, enter_right, entered_near_left, entered_near_right, entered_left, entered_right, node_stays, count_small, raised_left, raised_right}
 use Rattle.room_map.proofs.Leavings.{split_left, split_near, split_done, join_split, join_near, join_done, key_left, key_right, leave_left, leave_right, leave_join, left_near_left, left_near_right, left_left, left_right, left_here, value_under_left, value_under_right, value_under_here, value_left, value_right, value_here}
 
 module _ {K V : Type 0} {ns : List (Node K V)} {i : ℕ} {n : Node K V} {t : Shape K V} where
@@ -93,6 +94,29 @@ module _ {K V : Type 0} {R : K → K → Ordering} (ord : IsTotalOrder R) {ns : 
           let all = balance done.0 o.r (entered_near_left ord e there o less done.1 done.2 done.3) in
           (all.0, all.1, entered_left ord e o less done.2 all.2, changed_where (changed_both done.3 all.3) (λ q none. omega (arith, none, done.2.places q, ap (times q) o.is)))
 
+  pub may_raise_left : {s j : ℕ} {value : V} {ms : List (Node K V)} → CanEnter R ns i key s t → slice_get ns i ≡ Some n → R key n.key ≡ Less
+      → ((l : Shape K V) → CanEnter R ns n.left key s l → (u : Shape K V) × Under ms j u × HasEntered R l s key value u × Changed (λ q. times q l + is_at s q) ns ms)
+      → (i < length ms) × ((m : Node K V) → slice_get ms i ≡ Some m → m.count + 1 < 2 ^ 32)
+  may_raise_left {ms = ms} e there less inner = over (forked t e.under there)
+    where
+      over : IsOver ns i t n → (i < length ms) × ((m : Node K V) → slice_get ms i ≡ Some m → m.count + 1 < 2 ^ 32)
+      over o =
+          let done = inner o.l (enter_left ord e o less) in
+          let stays = node_stays o.l e there o (omega arith) done.3 in
+          (slice_get_within ms i n stays, count_small ms e there stays)
+
+  pub raise_on_left : {s j : ℕ} {h : ℕ} {value : V} {ms os : List (Node K V)} → CanEnter R ns i key s t → slice_get ns i ≡ Some n → R key n.key ≡ Less
+      → ((l : Shape K V) → CanEnter R ns n.left key s l → (u : Shape K V) × Under ms j u × HasEntered R l s key value u × Changed (λ q. times q l + is_at s q) ns ms)
+      → j ≡ n.left → ((l : Shape K V) → Under ms j l → h ≡ height l) → h < n.height → ((m : Node K V) → slice_get ms i ≡ Some m → slice_get os i ≡ Some (raised m)) → Changed (is_at i) ms os
+      → (u : Shape K V) × Under os i u × HasEntered R t s key value u × Changed (λ q. times q t + is_at s q) ns os
+  raise_on_left {s} {j} {h} {value} {ms} {os} e there less inner same high low written c = over (forked t e.under there)
+    where
+      over : IsOver ns i t n → (u : Shape K V) × Under os i u × HasEntered R t s key value u × Changed (λ q. times q t + is_at s q) ns os
+      over o =
+          let done = inner o.l (enter_left ord e o less) in
+          let all = raised_left ord e there o less (subst (λ x. Under ms x done.0) same done.1) done.2 done.3 (omega (arith, high done.0 done.1, low)) (written n (node_stays o.l e there o (omega arith) done.3)) c in
+          (Fork i done.0 n.key n.value o.r, all.0, entered_left ord e o less done.2 all.1, changed_where (changed_both done.3 c) (λ q none. omega (arith, none, ap (times q) o.is)))
+
   pub may_enter_right : {s : ℕ} → CanEnter R ns i key s t → slice_get ns i ≡ Some n → (R key n.key ≡ Less → ⊥) → (u : Shape K V) × CanEnter R ns n.right key s u
   may_enter_right {s} e there more = over (forked t e.under there)
     where
@@ -120,6 +144,30 @@ module _ {K V : Type 0} {R : K → K → Ordering} (ord : IsTotalOrder R) {ns : 
           let done = inner o.r (enter_right ord e o (absent_above ord key (cut_over R o e.rises) e.absent more)) in
           let all = balance o.l done.0 (entered_near_right ord e there o (absent_above ord key (cut_over R o e.rises) e.absent more) done.1 done.2 done.3) in
           (all.0, all.1, entered_right ord e o (absent_above ord key (cut_over R o e.rises) e.absent more) done.2 all.2, changed_where (changed_both done.3 all.3) (λ q none. omega (arith, none, done.2.places q, ap (times q) o.is)))
+
+  pub may_raise_right : {s j : ℕ} {value : V} {ms : List (Node K V)} → CanEnter R ns i key s t → slice_get ns i ≡ Some n → (R key n.key ≡ Less → ⊥)
+      → ((l : Shape K V) → CanEnter R ns n.right key s l → (u : Shape K V) × Under ms j u × HasEntered R l s key value u × Changed (λ q. times q l + is_at s q) ns ms)
+      → (i < length ms) × ((m : Node K V) → slice_get ms i ≡ Some m → m.count + 1 < 2 ^ 32)
+  may_raise_right {ms = ms} e there more inner = over (forked t e.under there)
+    where
+      over : IsOver ns i t n → (i < length ms) × ((m : Node K V) → slice_get ms i ≡ Some m → m.count + 1 < 2 ^ 32)
+      over o =
+          let done = inner o.r (enter_right ord e o (absent_above ord key (cut_over R o e.rises) e.absent more)) in
+          let stays = node_stays o.r e there o (omega arith) done.3 in
+          (slice_get_within ms i n stays, count_small ms e there stays)
+
+  pub raise_on_right : {s j : ℕ} {h : ℕ} {value : V} {ms os : List (Node K V)} → CanEnter R ns i key s t → slice_get ns i ≡ Some n → (R key n.key ≡ Less → ⊥)
+      → ((l : Shape K V) → CanEnter R ns n.right key s l → (u : Shape K V) × Under ms j u × HasEntered R l s key value u × Changed (λ q. times q l + is_at s q) ns ms)
+      → j ≡ n.right → ((l : Shape K V) → Under ms j l → h ≡ height l) → h < n.height → ((m : Node K V) → slice_get ms i ≡ Some m → slice_get os i ≡ Some (raised m)) → Changed (is_at i) ms os
+      → (u : Shape K V) × Under os i u × HasEntered R t s key value u × Changed (λ q. times q t + is_at s q) ns os
+  raise_on_right {s} {j} {h} {value} {ms} {os} e there more inner same high low written c = over (forked t e.under there)
+    where
+      over : IsOver ns i t n → (u : Shape K V) × Under os i u × HasEntered R t s key value u × Changed (λ q. times q t + is_at s q) ns os
+      over o =
+          let greater = absent_above ord key (cut_over R o e.rises) e.absent more in
+          let done = inner o.r (enter_right ord e o greater) in
+          let all = raised_right ord e there o greater (subst (λ x. Under ms x done.0) same done.1) done.2 done.3 (omega (arith, high done.0 done.1, low)) (written n (node_stays o.r e there o (omega arith) done.3)) c in
+          (Fork i o.l n.key n.value done.0, all.0, entered_right ord e o greater done.2 all.1, changed_where (changed_both done.3 c) (λ q none. omega (arith, none, ap (times q) o.is)))
 
   -- ---- an entry less
 

@@ -23,6 +23,10 @@ module _ {K V : Type 0} where
   abbrev pub node_over : Shape K V → K → V → Shape K V → Node K V
   node_over l k v r = record { left = top l; right = top r; count = length (entries l) + 1 + length (entries r); height = max (height l) (height r) + 1; key = k; value = v }
 
+  -- the node with an entry more below it
+  abbrev pub raised : Node K V → Node K V
+  raised n = record { left = n.left; right = n.right; count = n.count + 1; height = n.height; key = n.key; value = n.value }
+
   -- each node of the tree stands at its place
   abbrev pub IsHeld : List (Node K V) → Shape K V → Type 0
   IsHeld ns Bare = ⊤

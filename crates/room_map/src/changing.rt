@@ -3,7 +3,7 @@ ghost use Rattle.std.specs.Prelude.{◌≡◌, ◌+◌};
 ghost use Rattle.room_map.specs.Shape.{Shape, is_at, times};
 ghost use Rattle.room_map.specs.Nodes.{Under, Changed, CanSplit, IsSplit, CanJoin, IsJoined, CanEnter, HasEntered, HasKey, HasValue, CanLeave, HasLeft};
 
-use crate::nodes::{NONE, Node, Spot, close_alone, len, node_at, put};
+use crate::nodes::{NONE, Node, Spot, close_alone, height, len, node_at, put, raise_count};
 use crate::turns::balance;
 use std::cmp::Ordering;
 
@@ -77,7 +77,8 @@ pub(crate) fn with_entry<K: Ord + Copy, V: Copy>(
     with_entry_below(nodes, at, spot)
 }
 
-// The same, by the way down to where the key goes.
+// The same, by the way down to where the key goes. A node over a side that stays under its link, and no higher than the node allows,
+// counts an entry more, and nothing else of it changes.
 fn with_entry_below<K: Ord + Copy, V: Copy>(
     nodes: &mut [Node<K, V>],
     at: u32,
@@ -97,11 +98,21 @@ fn with_entry_below<K: Ord + Copy, V: Copy>(
             match spot.key.cmp(&node.key) {
                 Ordering::Less => {
                     let left = with_entry_below(nodes, node.left, spot);
-                    balance(nodes, left, here, node.right)
+                    if left == node.left && height(nodes, left) < node.height {
+                        raise_count(nodes, at);
+                        at
+                    } else {
+                        balance(nodes, left, here, node.right)
+                    }
                 }
                 _ => {
                     let right = with_entry_below(nodes, node.right, spot);
-                    balance(nodes, node.left, here, right)
+                    if right == node.right && height(nodes, right) < node.height {
+                        raise_count(nodes, at);
+                        at
+                    } else {
+                        balance(nodes, node.left, here, right)
+                    }
                 }
             }
         }

@@ -1,7 +1,7 @@
 //! The nodes, which stand in one vector and name each other by their places.
-ghost use Rattle.std.specs.Prelude.{◌≡◌, ◌<◌, ◌^◌, Some, length, slice_get};
+ghost use Rattle.std.specs.Prelude.{◌≡◌, ◌+◌, ◌<◌, ◌^◌, Some, length, slice_get};
 ghost use Rattle.room_map.specs.Shape.{Shape, Bare, Fork, is_at, entries, height};
-ghost use Rattle.room_map.specs.Nodes.{Under, Changed, AreSides};
+ghost use Rattle.room_map.specs.Nodes.{raised, Under, Changed, AreSides};
 
 // The link that leads to no node.
 pub(crate) const NONE: u32 = u32::MAX;
@@ -55,6 +55,17 @@ pub(crate) fn put<K: Copy, V: Copy>(nodes: &mut [Node<K, V>], at: u32, node: Nod
     ensures changed { Changed (is_at at) nodes.old nodes.new }
 {
     nodes[at as usize] = node;
+}
+
+// Counts an entry more in the node at the place.
+#[inline(always)]
+pub(crate) fn raise_count<K: Copy, V: Copy>(nodes: &mut [Node<K, V>], at: u32)
+    requires within { at < length nodes.old }
+    requires small { (n : Node K V) → slice_get nodes.old at ≡ Some n → n.count + 1 < 2 ^ 32 }
+    ensures there { (n : Node K V) → slice_get nodes.old at ≡ Some n → slice_get nodes.new at ≡ Some (raised n) }
+    ensures changed { Changed (is_at at) nodes.old nodes.new }
+{
+    nodes[at as usize].count += 1;
 }
 
 // How many entries hang from the link.
